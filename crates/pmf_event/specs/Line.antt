@@ -1,0 +1,17 @@
+-- Cache lines: 64 bytes each, named by the address of the first (Intel SDM, CLWB: a write-back acts on
+-- the whole line that holds the address; the size is the project's own).
+use Rattle.std.specs.Prelude.{ℕ, ◌+◌, ◌-◌, ◌%◌, Bool, nat_lt, ◌&&◌, ◌==◌}
+use Rattle.pmf_event.specs.declared.span.TheConstants.{LINE_SIZE}
+use Rattle.pmf_event.specs.Span.{Extent}
+
+-- the line of a byte
+abbrev pub line_of_byte : ℕ → ℕ
+line_of_byte b = b - b % LINE_SIZE
+
+-- whether the two spans have a byte in common
+abbrev pub meets_span : Extent → Extent → Bool
+meets_span s t = nat_lt s.first (t.first + t.size) && nat_lt t.first (s.first + s.size)
+
+-- whether the address is a line's, and the span has a byte of that line
+abbrev pub meets_line : Extent → ℕ → Bool
+meets_line s l = l % LINE_SIZE == 0 && meets_span s (record { first = l; size = LINE_SIZE })

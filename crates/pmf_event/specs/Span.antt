@@ -1,0 +1,28 @@
+-- Spans of bytes: the first address and how many bytes. The limits are the project's own.
+use Rattle.std.specs.Prelude.{ℕ, ◌+◌, ◌-◌, ◌<◌, ◌≤◌, ◌^◌, Bool, nat_lt, nat_le, ◌&&◌, ◌==◌, Result, Ok, Err, if◌then◌else◌}
+use Rattle.pmf_event.specs.declared.span.TheConstants.{SPAN_LIMIT, ADDRESS_LIMIT}
+use Rattle.pmf_event.specs.declared.span.SpanFault.{SpanFault}
+use Rattle.pmf_event.specs.declared.span.SpanFault.TheVariants.{ZeroSize, TooLarge, PastEnd}
+
+-- a span as a value: the address of its first byte, and how many bytes it has
+pub record Extent : Type 0 where
+  pub first : ℕ
+  pub size : ℕ
+
+-- what the two numbers of a span meet
+pub record IsValidExtent (first size : ℕ) : Type 0 where
+  pub not_empty : 0 < size
+  pub small : size ≤ SPAN_LIMIT
+  pub ends : first + size ≤ ADDRESS_LIMIT
+
+-- the span of these two numbers, or the first fault that applies
+abbrev pub extent_of : ℕ → ℕ → Result Extent SpanFault
+extent_of first size =
+    if size == 0 then Err ZeroSize
+    else if nat_lt SPAN_LIMIT size then Err TooLarge
+    else if nat_lt ADDRESS_LIMIT (first + size) then Err PastEnd
+    else Ok (record { first = first; size = size })
+
+-- whether the byte is one of the span's
+abbrev pub covers_byte : Extent → ℕ → Bool
+covers_byte s b = nat_le s.first b && nat_lt b (s.first + s.size)

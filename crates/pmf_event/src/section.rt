@@ -1,0 +1,96 @@
+ghost use Rattle.std.specs.Prelude.{◌≡◌, ◌↔◌, ◌≤◌, ◌<◌, [], ◌∷◌, ◌++◌, length, IsTrue, OnOk, OnErr, IsErrOf};
+ghost use Rattle.pmf_event.specs.Section.{Trace};
+ghost use Rattle.pmf_event.specs.declared.section.TheConstants.{EVENT_LIMIT};
+
+use crate::event::Event;
+use crate::name::Name;
+use std::alloc::{AllocFailed, Global};
+use std::marker::Model;
+use thiserror::Error;
+
+/// The greatest number of events in a section: 2^20.
+pub const EVENT_LIMIT: usize = 1 << 20;
+
+/// A name, and the events of one thread on lines that no other thread writes meanwhile.
+#[derive(Debug, Drop)]
+pub struct Section {
+    name: Name,
+    events: Vec<Event>,
+}
+
+impl Model for Section {
+    ghost Value = { Trace };
+
+    ghost view = { λ s. record { name = s.name; events = s.events.items } };
+
+    ghost invariant = { λ s. length s.events.items ≤ EVENT_LIMIT };
+}
+
+/// Why an event was not added: the first that applies, in this order.
+#[derive(Clone, Copy, Debug, PartialEq, Eq, Error)]
+pub enum SectionFault {
+    /// The section holds [`EVENT_LIMIT`] events already.
+    #[error("too many events in the section")]
+    TooManyEvents,
+    /// The room for the event was refused.
+    #[error("out of memory")]
+    OutOfMemory,
+}
+
+impl<T: Drop> From<AllocFailed<T>> for SectionFault {
+    ghost use Rattle.pmf_event.specs.declared.section.SectionFault.TheVariants.{OutOfMemory};
+
+    ghost from_gives = { λ _ e. e ≡ OutOfMemory };
+
+    fn from(_refused: AllocFailed<T>) -> SectionFault {
+        SectionFault::OutOfMemory
+    }
+}
+
+impl Section {
+    /// A section of this name with no events yet. Takes no memory.
+    pub fn new(alloc: Global, name: Name) -> Section
+        ensures { result ≡ record { name = name; events = [] } }
+    {
+        Section {
+            name,
+            events: Vec::new(alloc),
+        }
+    }
+
+    /// Adds the event at the end. After either refusal the section is unchanged; only
+    /// [`SectionFault::OutOfMemory`] has asked for memory.
+    pub fn push(&mut self, event: Event) -> Result<(), SectionFault>
+        ensures ok { OnOk result (self.new ≡ record self.old { events = self.old.events ++ event ∷ [] }) }
+        ensures too_many { IsErrOf result SectionFault.TooManyEvents ↔ (length self.old.events ≡ EVENT_LIMIT) }
+        ensures unchanged { OnErr result (self.new ≡ self.old) }
+    {
+        if self.events.len() == EVENT_LIMIT {
+            return Err(SectionFault::TooManyEvents);
+        }
+        self.events.push(event)?;
+        Ok(())
+    }
+
+    /// The section's name.
+    pub fn name(&self) -> Name
+        ensures { result ≡ self.now.name }
+    {
+        self.name
+    }
+
+    /// The events in order; the event at place p stands at index p - 1.
+    pub fn events(&self) -> &[Event]
+        ensures value { result.now ≡ self.now.events }
+        ensures limit { length self.now.events ≤ EVENT_LIMIT }
+    {
+        &self.events
+    }
+
+    /// Whether both have the same name and the same events.
+    pub fn same_as(&self, other: &Section) -> bool
+        ensures { IsTrue result ↔ (self.now ≡ other.now) }
+    {
+        self.name == other.name && self.events.as_slice() == other.events.as_slice()
+    }
+}

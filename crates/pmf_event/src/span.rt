@@ -1,0 +1,101 @@
+ghost use Rattle.std.specs.Prelude.{◌≡◌, ◌+◌, ◌<◌, ◌≤◌, ◌^◌, ◌↔◌, IsTrue};
+ghost use Rattle.pmf_event.specs.Line.{line_of_byte, meets_span};
+ghost use Rattle.pmf_event.specs.Span.{Extent, IsValidExtent, covers_byte, extent_of};
+
+use std::marker::Model;
+use thiserror::Error;
+
+/// The bytes of a cache line. A line is named by the address of its first byte.
+pub const LINE_SIZE: u64 = 64;
+
+/// The greatest size of a span, in bytes.
+pub const SPAN_LIMIT: u64 = 65_536;
+
+/// Every span ends at or below this address.
+pub const ADDRESS_LIMIT: u64 = 1 << 63;
+
+/// A range of bytes: the first one's address and how many there are, at least one.
+#[derive(Clone, Copy, Debug, PartialEq, Eq)]
+pub struct Span {
+    first: u64,
+    size: u64,
+}
+
+impl Model for Span {
+    ghost Value = { Extent };
+
+    ghost view = { λ s. record { first = s.first; size = s.size } };
+
+    ghost invariant = { λ s. IsValidExtent s.first s.size };
+
+    ghost inverse = { λ e. record { first = e.first; size = e.size } };
+}
+
+/// Why two numbers are no span: the first that applies, in this order.
+#[derive(Clone, Copy, Debug, PartialEq, Eq, Error)]
+pub enum SpanFault {
+    /// The size is 0.
+    #[error("size is zero")]
+    ZeroSize,
+    /// The size is above [`SPAN_LIMIT`].
+    #[error("size is too large")]
+    TooLarge,
+    /// The span would end above [`ADDRESS_LIMIT`].
+    #[error("range ends past 2^63")]
+    PastEnd,
+}
+
+impl Span {
+    /// The span of `size` bytes from the address `first` on, or the first fault that applies.
+    pub fn make(first: u64, size: u64) -> Result<Span, SpanFault>
+        ensures { result ≡ extent_of first size }
+    {
+        if size == 0 {
+            return Err(SpanFault::ZeroSize);
+        }
+        if size > SPAN_LIMIT {
+            return Err(SpanFault::TooLarge);
+        }
+        if first > ADDRESS_LIMIT - size {
+            return Err(SpanFault::PastEnd);
+        }
+        Ok(Span { first, size })
+    }
+
+    /// The address of the first byte.
+    pub fn first(&self) -> u64
+        ensures value { result ≡ self.now.first }
+        ensures valid { IsValidExtent self.now.first self.now.size }
+    {
+        self.first
+    }
+
+    /// How many bytes there are.
+    pub fn size(&self) -> u64
+        ensures value { result ≡ self.now.size }
+        ensures valid { IsValidExtent self.now.first self.now.size }
+    {
+        self.size
+    }
+
+    /// Whether the byte at this address is one of the span's.
+    pub fn covers(&self, byte: u64) -> bool
+        ensures { result ≡ covers_byte self.now byte }
+    {
+        self.first <= byte && byte - self.first < self.size
+    }
+
+    /// Whether the two spans have a byte in common.
+    pub fn meets(&self, other: &Span) -> bool
+        ensures { result ≡ meets_span self.now other.now }
+    {
+        self.first < other.first + other.size && other.first < self.first + self.size
+    }
+}
+
+/// The cache line that holds the byte at this address, named by its first byte's address.
+pub fn line_of(byte: u64) -> u64
+    ensures { result ≡ line_of_byte byte }
+{
+    byte - byte % LINE_SIZE
+}
