@@ -1,1 +1,4 @@
+pub mod PlacesLemmas
+pub mod EventLemmas
+pub mod IntervalLemmas
 pub mod WorkedRows

@@ -1,11 +1,19 @@
 -- The persist interval of a byte (PMTest, ASPLOS 2019): from the epoch of its last store to the end of
 -- the epoch in which a fence completed a write-back of its line. A write-back that no fence follows
 -- closes nothing (Intel SDM, CLWB and SFENCE).
-use Rattle.std.specs.Prelude.{ℕ, ◌+◌, Bool, false, ◌&&◌, ◌==◌, List, Option, None, Some, is_none, if◌then◌else◌}
+use Rattle.std.specs.Prelude.{ℕ, ◌+◌, Bool, false, ◌&&◌, ◌==◌, nat_lt, List, Option, None, Some, is_none, if◌then◌else◌}
 use Rattle.pmf_event.specs.declared.event.Event.{Event}
 use Rattle.pmf_event.specs.Line.{line_of_byte}
 use Rattle.pmf_event.specs.Places.{least, some_between}
 use Rattle.pmf_event.specs.Store.{at, stores, flushes, is_fence, last, last_store, epoch_of}
+
+-- whether place w is a write-back of the line, after place k
+unfoldable pub writes_back : List Event → ℕ → ℕ → ℕ → Bool
+writes_back es line k w = nat_lt k w && at (flushes line) es w
+
+-- the first write-back of the line, at most p, after the last of these stores, or 0
+unfoldable pub first_write_back : (Event → Bool) → ℕ → List Event → ℕ → ℕ
+first_write_back stored line es p = least (writes_back es line (last stored es p)) p
 
 -- whether place f is a fence with a write-back of the line between place k and it
 unfoldable pub closes : List Event → ℕ → ℕ → ℕ → Bool
