@@ -28,8 +28,13 @@ module _ (es : List Event) (line k p : ℕ) where
       let found = some_between-found (at (flushes line) es) k fence is.1 in
       let bound = least-bound (closes es line k) p in
       record {
-        flush = found.place; fence = fence; after = found.after; before = omega (arith, found.within); within = bound;
-        is_flush = found.passes; is_fence = is.0
+        flush = found.place;
+        fence = fence;
+        after = found.after;
+        before = omega (arith, found.within);
+        within = bound;
+        is_flush = found.passes;
+        is_fence = is.0;
       }
 
   pub Closing-closes : Closing es line k p → 0 < least (closes es line k) p
@@ -60,7 +65,12 @@ module _ (es : List Event) (line k p : ℕ) where
       elim (cases_eq found.place w) [
         | inl same ↦ absurd (not_fence_and_flush es line w (ap (at is_fence es) (sym same) ∙ found.passes) is.1)
         | inr other ↦ record {
-            flush = w; fence = found.place; after = ltb-true k w is.0; before = omega (arith, found.after, other); within = found.within;
-            is_flush = is.1; is_fence = found.passes
-          }
+          flush = w;
+          fence = found.place;
+          after = ltb-true k w is.0;
+          before = omega (arith, found.after, other);
+          within = found.within;
+          is_flush = is.1;
+          is_fence = found.passes;
+        }
       ]

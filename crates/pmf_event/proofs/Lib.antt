@@ -1,4 +1,5 @@
 pub mod PlacesLemmas
 pub mod EventLemmas
+pub mod LineLemmas
 pub mod IntervalLemmas
 pub mod WorkedRows

@@ -71,9 +71,9 @@ module _ (test : ℕ → Bool) where
       elim (test (suc n)) as (λ v. test (suc n) ≡ v → k ≤ (if v then suc n else greatest test n)) [
         | true ↦ λ is. within
         | false ↦ λ is. elim (cases_lt n k) [
-            | inl above ↦ let here : k ≡ suc n = omega arith in cc
-            | inr below ↦ greatest-above n k positive below passes
-          ]
+          | inl above ↦ let here : k ≡ suc n = omega arith in cc
+          | inr below ↦ greatest-above n k positive below passes
+        ]
       ] refl
 
   pub least-bound : (n : ℕ) → least test n ≤ n
@@ -91,13 +91,13 @@ module _ (test : ℕ → Bool) where
   least-passes zero some = absurd (omega arith)
   least-passes (suc n) some =
       elim (nat_lt 0 (least test n)) as (λ u. nat_lt 0 (least test n) ≡ u →
-          0 < (if u then least test n else (if test (suc n) then suc n else 0)) →
-          test (if u then least test n else (if test (suc n) then suc n else 0)) ≡ true) [
+      0 < (if u then least test n else (if test (suc n) then suc n else 0)) →
+      test (if u then least test n else (if test (suc n) then suc n else 0)) ≡ true) [
         | true ↦ λ earlier more. least-passes n more
         | false ↦ λ earlier. elim (test (suc n)) as (λ v. test (suc n) ≡ v → 0 < (if v then suc n else 0) → test (if v then suc n else 0) ≡ true) [
-            | true ↦ λ is more. is
-            | false ↦ λ is more. absurd (omega arith)
-          ] refl
+          | true ↦ λ is more. is
+          | false ↦ λ is more. absurd (omega arith)
+        ] refl
       ] refl some
 
   -- where some place passes, the least that passes is there, and none before it
@@ -106,18 +106,18 @@ module _ (test : ℕ → Bool) where
   least-below zero k positive within passes = absurd (omega arith)
   least-below (suc n) k positive within passes =
       elim (nat_lt 0 (least test n)) as (λ u. nat_lt 0 (least test n) ≡ u →
-          (0 < (if u then least test n else (if test (suc n) then suc n else 0))) × ((if u then least test n else (if test (suc n) then suc n else 0)) ≤ k)) [
+      (0 < (if u then least test n else (if test (suc n) then suc n else 0))) × ((if u then least test n else (if test (suc n) then suc n else 0)) ≤ k)) [
         | true ↦ λ earlier. let some = ltb-true 0 (least test n) earlier in let bound = least-bound n in elim (cases_lt n k) [
-            | inl above ↦ (some, omega arith)
-            | inr below ↦ (some, (least-below n k positive below passes).1)
-          ]
+          | inl above ↦ (some, omega arith)
+          | inr below ↦ (some, (least-below n k positive below passes).1)
+        ]
         | false ↦ λ earlier. let none : least test n ≤ 0 = ltb-false 0 (least test n) earlier in elim (cases_lt n k) [
-            | inl above ↦ elim (test (suc n)) as (λ v. test (suc n) ≡ v → (0 < (if v then suc n else 0)) × ((if v then suc n else 0) ≤ k)) [
-                | true ↦ λ is. (omega arith, omega arith)
-                | false ↦ λ is. let here : k ≡ suc n = omega arith in cc
-              ] refl
-            | inr below ↦ let found = least-below n k positive below passes in absurd (omega (arith, found.0))
-          ]
+          | inl above ↦ elim (test (suc n)) as (λ v. test (suc n) ≡ v → (0 < (if v then suc n else 0)) × ((if v then suc n else 0) ≤ k)) [
+            | true ↦ λ is. (omega arith, omega arith)
+            | false ↦ λ is. let here : k ≡ suc n = omega arith in cc
+          ] refl
+          | inr below ↦ let found = least-below n k positive below passes in absurd (omega (arith, found.0))
+        ]
       ] refl
 
   pub count-mono : (m n : ℕ) → m ≤ n → count test m ≤ count test n
@@ -141,9 +141,9 @@ module _ (test : ℕ → Bool) where
   count-found m (suc n) more =
       elim (test (suc n)) as (λ v. test (suc n) ≡ v → count test m < (if v then suc (count test n) else count test n) → Found test m (suc n)) [
         | true ↦ λ is rose. elim (cases_lt m (suc n)) [
-            | inl before ↦ record { place = suc n; after = before; within = omega arith; passes = is }
-            | inr past ↦ let fewer = count-mono (suc n) m past in absurd (let step : count test (suc n) ≡ suc (count test n) = count-here (suc n) (omega arith) is ∙ rw sub-one refl in omega arith)
-          ]
+          | inl before ↦ record { place = suc n; after = before; within = omega arith; passes = is }
+          | inr past ↦ let fewer = count-mono (suc n) m past in absurd (let step : count test (suc n) ≡ suc (count test n) = count-here (suc n) (omega arith) is ∙ rw sub-one refl in omega arith)
+        ]
         | false ↦ λ is rose. let found = count-found m n rose in
             record { place = found.place; after = found.after; within = omega (arith, found.within); passes = found.passes }
       ] refl more

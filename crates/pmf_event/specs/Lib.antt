@@ -6,3 +6,4 @@ pub mod Store
 pub mod Interval
 pub mod Exclusion
 pub mod Persist
+pub mod Laws

@@ -10,6 +10,7 @@
 
 mod event;
 mod finding;
+pub mod laws;
 mod name;
 mod row;
 mod section;

@@ -1,0 +1,13 @@
+//! Laws of the definitions, each the clause of an empty function.
+
+ghost use Rattle.pmf_event.specs.Laws.{MeetsTheLinesOfItsBytes, MeetsWhereAByteIsShared};
+
+/// A span meets exactly the cache lines of the bytes that it covers.
+pub fn span_meets_the_lines_of_its_bytes()
+    ensures { MeetsTheLinesOfItsBytes }
+{}
+
+/// Two spans meet exactly where a byte is covered by both.
+pub fn spans_meet_where_a_byte_is_shared()
+    ensures { MeetsWhereAByteIsShared }
+{}
