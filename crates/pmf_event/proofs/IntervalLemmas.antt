@@ -1,13 +1,19 @@
 -- An interval is closed exactly where its first write-back lies in an epoch that a fence has ended.
-use Rattle.std.proofs.Common.{◌≡◌, ℕ, zero, suc, ◌+◌, ◌-◌, ◌<◌, ◌≤◌, Bool, true, false, ◌&&◌, nat_lt, List, refl, sym, ◌∙◌, ap, arith, ◌⊎◌, inl, inr}
+use Rattle.std.proofs.Common.{◌≡◌, ℕ, zero, suc, ◌+◌, ◌-◌, ◌<◌, ◌≤◌, Bool, true, false, not, ◌&&◌, ◌==◌, nat_lt, if◌then◌else◌, List, refl, sym, ◌∙◌, ap, arith, ◌⊎◌, inl, inr}
+use Rattle.std.specs.Prelude.{Option, Some, None}
 use Rattle.std.proofs.lemmas.Bool.{cases_eq}
+use Rattle.std.proofs.lemmas.Bool.Decides.{Decides-eqb}
 use borrow.Author.Tests.{ltb-true}
 use Rattle.pmf_event.specs.declared.event.Event.{Event}
+use Rattle.pmf_event.specs.Line.{line_of_byte}
 use Rattle.pmf_event.specs.Places.{least, count, some_between}
-use Rattle.pmf_event.specs.Store.{at, flushes, is_fence, last, epoch_of}
-use Rattle.pmf_event.specs.Interval.{writes_back, first_write_back, closes, closing_fence}
+use Rattle.pmf_event.specs.Store.{at, stores, flushes, is_fence, last, last_store, epoch_of}
+use Rattle.pmf_event.specs.Interval.{writes_back, first_write_back, closes, closing_fence, interval_at, is_open}
 use Rattle.pmf_event.proofs.PlacesLemmas.{Found, lt-ltb, least-bound, least-passes, least-below, count-mono, count-here, count-found, some_between-here, some_between-found}
 use Rattle.pmf_event.proofs.EventLemmas.{and-true, both-true, not_fence_and_flush}
+
+pub not_zero : (n : ℕ) → 0 < n → not (n == 0) ≡ true
+not_zero n some = elim (n == 0) as (λ v. (n == 0) ≡ v → not v ≡ true) [ true ↦ λ is. let zero_is : n ≡ 0 = (Decides-eqb n 0).0 is in absurd (omega arith) | false ↦ λ is. refl ] refl
 
 -- a write-back after k, and a later fence
 pub record Closing (es : List Event) (line k p : ℕ) : Type 0 where
@@ -74,3 +80,36 @@ module _ (es : List Event) (line k p : ℕ) where
           is_fence = found.passes;
         }
       ]
+
+interval-cases : (u v : Bool) (l o c : ℕ) →
+    is_open (if u then None else Some (record { last = l; opens = o; closed = if v then None else Some c })) ≡ (not u && v)
+interval-cases true v l o c = refl
+interval-cases false true l o c = refl
+interval-cases false false l o c = refl
+
+-- an interval is open where the byte is written and no fence closes it
+pub is_open-interval_at : (es : List Event) (p b : ℕ) →
+    is_open (interval_at es p b) ≡ (not (last_store es p b == 0) && (closing_fence (stores b) (line_of_byte b) es p == 0))
+is_open-interval_at es p b = interval-cases (last_store es p b == 0) (closing_fence (stores b) (line_of_byte b) es p == 0) _ _ _
+
+-- a written byte whose interval is not open has a write-back and a later fence
+pub Closing-from_closed : (es : List Event) (p b : ℕ) → 0 < last_store es p b → is_open (interval_at es p b) ≡ false →
+    Closing es (line_of_byte b) (last_store es p b) p
+unfolding closing_fence
+Closing-from_closed es p b written shut =
+    let fence = closing_fence (stores b) (line_of_byte b) es p in
+    elim (cases_eq fence 0) [
+      | inl none ↦
+          let found = both-true (not (last_store es p b == 0)) (fence == 0) (not_zero (last_store es p b) written) ((Decides-eqb fence 0).1 none) in
+          let bad : false ≡ true = sym shut ∙ is_open-interval_at es p b ∙ found in cc
+      | inr some ↦ Closing-found es (line_of_byte b) (last_store es p b) p (omega arith)
+    ]
+
+-- an open interval has none
+pub no_Closing-from_open : (es : List Event) (p b : ℕ) → is_open (interval_at es p b) ≡ true → Closing es (line_of_byte b) (last_store es p b) p → ⊥
+unfolding closing_fence
+no_Closing-from_open es p b gap found =
+    let fence = closing_fence (stores b) (line_of_byte b) es p in
+    let is = and-true (not (last_store es p b == 0)) (fence == 0) (sym (is_open-interval_at es p b) ∙ gap) in
+    let none : fence ≡ 0 = (Decides-eqb fence 0).0 is.1 in
+    let some : 0 < fence = Closing-closes es (line_of_byte b) (last_store es p b) p found in omega arith

@@ -1,0 +1,247 @@
+-- Soundness of closed intervals, the two images that are always there, and the image of an open interval.
+use Rattle.std.proofs.Common.{◌≡◌, ℕ, zero, suc, ◌+◌, ◌-◌, ◌<◌, ◌≤◌, true, false, ◌==◌, List, [], ◌∷◌, if◌then◌else◌, refl, sym, ◌∙◌, ap, arith, inl, inr}
+use Rattle.std.specs.Prelude.{Some, None, unwrap_or, slice_get}
+use Rattle.std.proofs.lemmas.Bool.{cases_lt, cases_eq, leb-true, le-leb}
+use Rattle.std.proofs.lemmas.Bool.Decides.{Decides-eqb}
+use borrow.Author.Tests.{ltb-true}
+use Rattle.pmf_event.specs.declared.event.Event.{Event}
+use Rattle.pmf_event.specs.declared.event.Event.TheVariants.{Store}
+use Rattle.pmf_event.specs.Line.{line_of_byte}
+use Rattle.pmf_event.specs.Places.{greatest, count, some_between}
+use Rattle.pmf_event.specs.Store.{event_at, passes, at, stores, stores_line, flushes, is_fence, last, last_store}
+use Rattle.pmf_event.specs.Interval.{interval_at, is_open}
+use Rattle.pmf_event.specs.Persist.{is_checked, is_exposed}
+use Rattle.pmf_event.proofs.PlacesLemmas.{greatest-bound, greatest-passes, greatest-above, count-zero, count-mono, count-here, count-found, some_between-here, some_between-found}
+use Rattle.pmf_event.proofs.EventLemmas.{and-true, both-true}
+use Rattle.pmf_event.proofs.LineLemmas.{stores-line, meets-bounds}
+use Rattle.pmf_event.proofs.IntervalLemmas.{Closing, Closing-from_closed, no_Closing-from_open}
+use Rattle.pmf_image.specs.Image.{count_of, is_fenced, floor_of, Image, value_of, is_in, cut_of, reach_of, reaches, shows}
+use Rattle.pmf_image.specs.Laws.{ClosedIntervalsHold, AllowsCuts, EveryPlaceHasImages, OpenIntervalsDoNotHold}
+
+-- ---- soundness
+
+-- a store before a fenced write-back of its line is below the floor
+below_the_floor : (es : List Event) (line k p n : ℕ) → p ≤ n → Closing es line k p → count_of es k line ≤ floor_of es n line
+unfolding floor_of count_of is_fenced
+below_the_floor es line k p n later c =
+    let fenced = both-true (at (flushes line) es c.flush) (some_between (at is_fence es) c.flush (n + 1)) c.is_flush
+    (some_between-here (at is_fence es) c.flush (n + 1) c.fence c.before (omega (arith, c.within)) c.is_fence) in
+    let above = greatest-above (is_fenced es n line) n c.flush (omega (arith, c.after)) (omega (arith, c.before, c.within)) fenced in
+    count-mono (at (stores_line line) es) k (greatest (is_fenced es n line) n - 1) (omega (arith, c.after))
+
+cut-reaches : (es : List Event) (n b : ℕ) (image : Image) → cut_of es n image (line_of_byte b) ≤ reach_of es n image b
+unfolding reach_of
+cut-reaches es n b image = omega arith
+
+-- a store that reaches its byte is shown, or a later one is
+reached-shown : (es : List Event) (n b k : ℕ) (image : Image) → 0 < k → k ≤ n → at (stores b) es k ≡ true →
+    count_of es k (line_of_byte b) ≤ reach_of es n image b → k ≤ shows es n image b
+unfolding shows reaches
+reached-shown es n b k image some within is reached =
+    greatest-above (reaches es n image b) n k some within (both-true _ _ is (le-leb (count_of es k (line_of_byte b)) (reach_of es n image b) reached))
+
+written-from_checked : (es : List Event) (p b : ℕ) → is_checked es p b ≡ true → 0 < last_store es p b
+unfolding is_checked
+written-from_checked es p b checked = ltb-true 0 (last_store es p b) (and-true _ _ checked).0
+
+last_store-stores : (es : List Event) (p b : ℕ) → 0 < last_store es p b → at (stores b) es (last_store es p b) ≡ true
+unfolding last
+last_store-stores es p b some = greatest-passes (at (stores b) es) p some
+
+last_store-bound : (es : List Event) (p b : ℕ) → last_store es p b ≤ p
+unfolding last
+last_store-bound es p b = greatest-bound (at (stores b) es) p
+
+pub holds-where_closed : ClosedIntervalsHold
+holds-where_closed es p s each n later within image allowed b covered checked =
+    let written = written-from_checked es p b checked in
+    let found = Closing-from_closed es p b written (each b covered checked) in
+    let floor = below_the_floor es (line_of_byte b) (last_store es p b) p n later found in
+    let cut = allowed.low (line_of_byte b) in
+    let reach = cut-reaches es n b image in
+    let bound = last_store-bound es p b in
+    reached-shown es n b (last_store es p b) image written (omega arith) (last_store-stores es p b written) (omega arith)
+
+-- ---- the two images
+
+floor-below_count : (es : List Event) (n line : ℕ) → floor_of es n line ≤ count_of es n line
+unfolding floor_of count_of
+floor-below_count es n line =
+    let bound = greatest-bound (is_fenced es n line) n in
+    count-mono (at (stores_line line) es) (greatest (is_fenced es n line) n - 1) n (omega arith)
+
+no_cuts : Image
+no_cuts = record { cuts = []; torn = [] }
+
+no_cuts-cut_of : (es : List Event) (n line : ℕ) → cut_of es n no_cuts line ≡ floor_of es n line
+unfolding no_cuts cut_of value_of
+no_cuts-cut_of es n line = refl
+
+is_in-empty : (b : ℕ) → is_in [] b ≡ true → ⊥
+unfolding is_in
+is_in-empty b some = let bad : false ≡ true = some in cc
+
+allows-untorn : (es : List Event) (n : ℕ) (cut : ℕ → ℕ) (image : Image) → image.torn ≡ [] → ((line : ℕ) → cut_of es n image line ≡ cut line) →
+    ((line : ℕ) → (floor_of es n line ≤ cut line) × (cut line ≤ count_of es n line)) → AllowsCuts es n cut
+allows-untorn es n cut image untorn cuts within = record {
+  image = image;
+  untorn = untorn;
+  cuts = cuts;
+  allowed = record {
+    low = λ line. rw (cuts line) (within line).0;
+    high = λ line. rw (cuts line) (within line).1;
+    torn = λ b some. absurd (is_in-empty b (ap (λ t. is_in t b) (sym untorn) ∙ some));
+  };
+}
+
+allows_floors : (es : List Event) (n : ℕ) → AllowsCuts es n (floor_of es n)
+unfolding no_cuts
+allows_floors es n = allows-untorn es n (floor_of es n) no_cuts refl (no_cuts-cut_of es n) (λ line. (omega arith, floor-below_count es n line))
+
+-- every line below m with its cut
+table : (ℕ → ℕ) → ℕ → List (ℕ × ℕ)
+table cut zero = []
+table cut (suc m) = (m, cut m) ∷ table cut m
+
+table-below : (cut : ℕ → ℕ) (m line : ℕ) → line < m → value_of (table cut m) line ≡ Some (cut line)
+unfolding table value_of
+table-below cut zero line within = absurd (omega arith)
+table-below cut (suc m) line within =
+    elim (m == line) as (λ v. (m == line) ≡ v → (if v then Some (cut m) else value_of (table cut m) line) ≡ Some (cut line)) [
+      | true ↦ λ is. ap (λ k. Some (cut k)) ((Decides-eqb m line).0 is)
+      | false ↦ λ is. elim (cases_eq m line) [
+        | inl same ↦ let bad : true ≡ false = sym ((Decides-eqb m line).1 same) ∙ is in cc
+        | inr other ↦ table-below cut m line (omega arith)
+      ]
+    ] refl
+
+table-above : (cut : ℕ → ℕ) (m line : ℕ) → m ≤ line → value_of (table cut m) line ≡ None
+unfolding table value_of
+table-above cut zero line above = refl
+table-above cut (suc m) line above =
+    elim (m == line) as (λ v. (m == line) ≡ v → (if v then Some (cut m) else value_of (table cut m) line) ≡ None) [
+      | true ↦ λ is. let same : m ≡ line = (Decides-eqb m line).0 is in absurd (omega arith)
+      | false ↦ λ is. table-above cut m line (omega arith)
+    ] refl
+
+-- an address above the end of every store
+end_of_event : Event → ℕ
+end_of_event (Store s) = s.first + s.size
+end_of_event _ = 0
+
+end_of : List Event → ℕ
+end_of [] = 0
+end_of (e ∷ es) = end_of_event e + end_of es
+
+event-below_end : (line : ℕ) (e : Event) → stores_line line e ≡ true → line < end_of_event e
+unfolding stores_line end_of_event
+event-below_end line (Store s) is = (meets-bounds s line is).2
+event-below_end line _ is = let bad : false ≡ true = is in cc
+
+get-below_end : (line : ℕ) (es : List Event) (k : ℕ) → passes (stores_line line) (slice_get es k) ≡ true → line < end_of es
+unfolding end_of
+get-below_end line [] k is = let bad : false ≡ true = is in cc
+get-below_end line (e ∷ es) zero is = let here = event-below_end line e is in omega arith
+get-below_end line (e ∷ es) (suc k) is = let later = get-below_end line es k is in omega arith
+
+place-below_end : (line : ℕ) (es : List Event) (k : ℕ) → at (stores_line line) es k ≡ true → line < end_of es
+unfolding at event_at
+place-below_end line es zero is = let bad : false ≡ true = is in cc
+place-below_end line es (suc k) is = get-below_end line es k is
+
+count-past_end : (es : List Event) (n line : ℕ) → end_of es ≤ line → count_of es n line ≡ 0
+unfolding count_of
+count-past_end es n line above =
+    elim (cases_eq (count (at (stores_line line) es) n) 0) [
+      | inl none ↦ none
+      | inr some ↦
+          let zero_is = count-mono (at (stores_line line) es) 0 n (omega arith) in
+          let found = count-found (at (stores_line line) es) 0 n (rw (count-zero (at (stores_line line) es)) (omega arith)) in
+          let below = place-below_end line es found.place found.passes in absurd (omega arith)
+    ]
+
+full : List Event → ℕ → Image
+full es n = record { cuts = table (count_of es n) (end_of es); torn = [] }
+
+full-cut_of : (es : List Event) (n line : ℕ) → cut_of es n (full es n) line ≡ count_of es n line
+unfolding cut_of full
+full-cut_of es n line = elim (cases_lt line (end_of es)) [
+  | inl below ↦ ap (λ o. unwrap_or o (floor_of es n line)) (table-below (count_of es n) (end_of es) line below)
+  | inr above ↦
+      let none = count-past_end es n line above in
+      let floor = floor-below_count es n line in
+      ap (λ o. unwrap_or o (floor_of es n line)) (table-above (count_of es n) (end_of es) line above) ∙ (omega arith)
+]
+
+allows_counts : (es : List Event) (n : ℕ) → AllowsCuts es n (count_of es n)
+unfolding full
+allows_counts es n = allows-untorn es n (count_of es n) (full es n) refl (full-cut_of es n) (λ line. (floor-below_count es n line, omega arith))
+
+pub has_images : EveryPlaceHasImages
+has_images es n = (allows_floors es n, allows_counts es n)
+
+-- ---- an open interval
+
+-- a fenced write-back of the line after a place is a closing of it
+Closing-from_fenced : (es : List Event) (line k n : ℕ) → k < greatest (is_fenced es n line) n → Closing es line k n
+unfolding is_fenced
+Closing-from_fenced es line k n later =
+    let flush = greatest (is_fenced es n line) n in
+    let is = and-true (at (flushes line) es flush) (some_between (at is_fence es) flush (n + 1)) (greatest-passes (is_fenced es n line) n (omega arith)) in
+    let found = some_between-found (at is_fence es) flush (n + 1) is.1 in
+    record {
+      flush = flush;
+      fence = found.place;
+      after = later;
+      before = found.after;
+      within = omega (arith, found.within);
+      is_flush = is.0;
+      is_fence = found.passes;
+    }
+
+count_of-here : (es : List Event) (b k : ℕ) → 0 < k → at (stores b) es k ≡ true → count_of es k (line_of_byte b) ≡ suc (count_of es (k - 1) (line_of_byte b))
+unfolding count_of
+count_of-here es b k some is = count-here (at (stores_line (line_of_byte b)) es) k some (stores-line es b k is)
+
+count_of-mono : (es : List Event) (m n line : ℕ) → m ≤ n → count_of es m line ≤ count_of es n line
+unfolding count_of
+count_of-mono es m n line within = count-mono (at (stores_line line) es) m n within
+
+shown-reaches : (es : List Event) (n b : ℕ) (image : Image) → 0 < shows es n image b →
+    (at (stores b) es (shows es n image b) ≡ true) × (count_of es (shows es n image b) (line_of_byte b) ≤ reach_of es n image b) × (shows es n image b ≤ n)
+unfolding shows reaches
+shown-reaches es n b image some =
+    let k = greatest (reaches es n image b) n in
+    let is = and-true _ _ (greatest-passes (reaches es n image b) n some) in
+    (is.0, leb-true (count_of es k (line_of_byte b)) (reach_of es n image b) is.1, greatest-bound (reaches es n image b) n)
+
+reach-untorn : (es : List Event) (n b : ℕ) (image : Image) → image.torn ≡ [] → reach_of es n image b ≡ cut_of es n image (line_of_byte b)
+unfolding reach_of is_in
+reach-untorn es n b image untorn = rw untorn (omega arith)
+
+last_store-above : (es : List Event) (p b k : ℕ) → 0 < k → k ≤ p → at (stores b) es k ≡ true → k ≤ last_store es p b
+unfolding last
+last_store-above es p b k some within is = greatest-above (at (stores b) es) p k some within is
+
+pub not_holds-where_open : OpenIntervalsDoNotHold
+unfolding is_exposed floor_of
+not_holds-where_open es p s b within covered exposed holds =
+    let is = and-true (is_checked es p b) (is_open (interval_at es p b)) exposed in
+    let written = written-from_checked es p b is.0 in
+    let floors = allows_floors es p in
+    let line = line_of_byte b in
+    let shown = holds p (omega arith) within floors.image floors.allowed b covered is.0 in
+    let here = shown-reaches es p b floors.image (omega arith) in
+    let place = shows es p floors.image b in
+    let top = last_store-above es p b place (omega arith) here.2 here.0 in
+    let reach = reach-untorn es p b floors.image floors.untorn in
+    let cut = floors.cuts line in
+    let rank = count_of-mono es (last_store es p b) place line shown in
+    let rise = count_of-here es b (last_store es p b) written (last_store-stores es p b written) in
+    let flush = greatest (is_fenced es p line) p in
+    elim (cases_lt (last_store es p b) flush) [
+      | inl later ↦ no_Closing-from_open es p b is.1 (Closing-from_fenced es line (last_store es p b) p later)
+      | inr before ↦
+          let fewer = count_of-mono es (flush - 1) (last_store es p b - 1) line (omega arith) in
+          omega (arith, here.1, reach, cut, rank, rise, fewer)
+    ]

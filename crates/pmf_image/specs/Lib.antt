@@ -1,0 +1,9 @@
+pub use Rattle.pmf_event.specs.Span
+pub use Rattle.pmf_event.specs.Line
+pub use Rattle.pmf_event.specs.Places
+pub use Rattle.pmf_event.specs.Store
+pub use Rattle.pmf_event.specs.Interval
+pub use Rattle.pmf_event.specs.Persist
+pub mod Image
+pub mod Holds
+pub mod Laws

@@ -1,0 +1,20 @@
+//! Laws of the definitions, each the clause of an empty function.
+
+ghost use Rattle.pmf_image.specs.Laws.{ClosedIntervalsHold, EveryPlaceHasImages, OpenIntervalsDoNotHold};
+
+/// A persist assertion whose checked bytes all have closed intervals holds at every later place in
+/// every allowed image, torn stores included.
+pub fn closed_intervals_hold()
+    ensures { ClosedIntervalsHold }
+{}
+
+/// At every place the image with every cut at its floor and the image with every cut at its count,
+/// both untorn, are allowed: no assertion holds for want of images.
+pub fn every_place_has_images()
+    ensures { EveryPlaceHasImages }
+{}
+
+/// A persist assertion over a checked byte whose interval is open does not hold.
+pub fn open_intervals_do_not_hold()
+    ensures { OpenIntervalsDoNotHold }
+{}
