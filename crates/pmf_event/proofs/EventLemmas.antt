@@ -1,12 +1,12 @@
 -- Laws of tests at a place of a list of events.
-use Rattle.std.proofs.Common.{◌≡◌, ℕ, zero, suc, ◌+◌, ◌-◌, ◌<◌, ◌≤◌, Bool, true, false, ◌&&◌, List, if◌then◌else◌, refl, sym, ◌∙◌, ap, arith}
-use Rattle.std.specs.Prelude.{Option, Some, None, slice_get}
+use Rattle.std.proofs.Common.{◌≡◌, ℕ, suc, Bool, true, false, ◌&&◌, List, if◌then◌else◌, refl, ◌∙◌, ap}
+use Rattle.std.specs.Prelude.{Option, Some, None}
 use Rattle.std.proofs.Math.Numerals.{sub-one}
 use Rattle.pmf_event.specs.declared.event.Event.{Event}
-use Rattle.pmf_event.specs.declared.event.Event.TheVariants.{Store, Flush, Fence, Persist, Ordered, Exclude, Include, TxBegin, TxAdd, TxEnd, CheckStart, CheckEnd}
+use Rattle.pmf_event.specs.declared.event.Event.TheVariants.{Store, Fence}
 use Rattle.pmf_event.specs.Places.{greatest, count}
-use Rattle.pmf_event.specs.Store.{event_at, passes, at, stores, stores_line, flushes, is_fence, last, epoch_of}
-use Rattle.pmf_event.proofs.PlacesLemmas.{greatest-step, greatest-zero, count-step, count-zero}
+use Rattle.pmf_event.specs.Store.{event_at, passes, at, stores, flushes, is_fence, last, epoch_of}
+use Rattle.pmf_event.proofs.PlacesLemmas.{greatest-step, greatest-zero, count-step}
 
 pub and-true : (x y : Bool) → (x && y) ≡ true → (x ≡ true) × (y ≡ true)
 and-true true true e = (refl, refl)

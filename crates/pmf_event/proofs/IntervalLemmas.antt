@@ -1,15 +1,15 @@
 -- An interval is closed exactly where its first write-back lies in an epoch that a fence has ended.
-use Rattle.std.proofs.Common.{◌≡◌, ℕ, zero, suc, ◌+◌, ◌-◌, ◌<◌, ◌≤◌, Bool, true, false, not, ◌&&◌, ◌==◌, nat_lt, if◌then◌else◌, List, refl, sym, ◌∙◌, ap, arith, ◌⊎◌, inl, inr}
-use Rattle.std.specs.Prelude.{Option, Some, None}
+use Rattle.std.proofs.Common.{◌≡◌, ℕ, ◌-◌, ◌<◌, ◌≤◌, Bool, true, false, not, ◌&&◌, ◌==◌, nat_lt, if◌then◌else◌, List, refl, sym, ◌∙◌, ap, arith, inl, inr}
+use Rattle.std.specs.Prelude.{Some, None}
 use Rattle.std.proofs.lemmas.Bool.{cases_eq}
 use Rattle.std.proofs.lemmas.Bool.Decides.{Decides-eqb}
 use borrow.Author.Tests.{ltb-true}
 use Rattle.pmf_event.specs.declared.event.Event.{Event}
 use Rattle.pmf_event.specs.Line.{line_of_byte}
 use Rattle.pmf_event.specs.Places.{least, count, some_between}
-use Rattle.pmf_event.specs.Store.{at, stores, flushes, is_fence, last, last_store, epoch_of}
-use Rattle.pmf_event.specs.Interval.{writes_back, first_write_back, closes, closing_fence, interval_at, is_open}
-use Rattle.pmf_event.proofs.PlacesLemmas.{Found, lt-ltb, least-bound, least-passes, least-below, count-mono, count-here, count-found, some_between-here, some_between-found}
+use Rattle.pmf_event.specs.Store.{at, stores, flushes, is_fence, last_store, epoch_of}
+use Rattle.pmf_event.specs.Interval.{writes_back, closes, closing_fence, interval_at, is_open}
+use Rattle.pmf_event.proofs.PlacesLemmas.{lt-ltb, least-bound, least-passes, least-below, count-mono, count-here, count-found, some_between-here, some_between-found}
 use Rattle.pmf_event.proofs.EventLemmas.{and-true, both-true, not_fence_and_flush}
 
 pub not_zero : (n : ℕ) → 0 < n → not (n == 0) ≡ true

@@ -1,13 +1,13 @@
 -- The line of a byte, and the lines that a span meets.
-use Rattle.std.proofs.Common.{◌≡◌, ℕ, ◌+◌, ◌-◌, ◌*◌, ◌/◌, ◌%◌, ◌<◌, ◌≤◌, Bool, true, false, ◌&&◌, ◌==◌, nat_lt, nat_le, max, List, refl, sym, ◌∙◌, ap, arith, ◌⊎◌, inl, inr}
+use Rattle.std.proofs.Common.{◌≡◌, ℕ, ◌+◌, ◌%◌, ◌<◌, ◌≤◌, true, false, ◌&&◌, ◌==◌, nat_lt, nat_le, List, sym, ◌∙◌, ap, arith, inl, inr}
 use Rattle.std.specs.Prelude.{Option, Some, None}
 use Rattle.std.proofs.lemmas.Bool.{cases_lt, leb-true, le-leb}
 use Rattle.std.proofs.lemmas.Bool.Decides.{Decides-eqb}
 use borrow.Author.Tests.{ltb-true}
 use Rattle.pmf_event.specs.declared.event.Event.{Event}
-use Rattle.pmf_event.specs.declared.event.Event.TheVariants.{Store, Flush}
+use Rattle.pmf_event.specs.declared.event.Event.TheVariants.{Store}
 use Rattle.pmf_event.specs.Span.{Extent, covers_byte}
-use Rattle.pmf_event.specs.Line.{line_of_byte, meets_span, meets_line}
+use Rattle.pmf_event.specs.Line.{line_of_byte, meets_line}
 use Rattle.pmf_event.specs.Store.{event_at, passes, at, stores, stores_line}
 use Rattle.pmf_event.specs.Laws.{MeetsTheLinesOfItsBytes, MeetsWhereAByteIsShared}
 use Rattle.pmf_event.proofs.PlacesLemmas.{lt-ltb}

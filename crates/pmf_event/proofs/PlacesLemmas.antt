@@ -1,6 +1,6 @@
 -- Laws of the searches over places.
-use Rattle.std.proofs.Common.{◌≡◌, ℕ, zero, suc, ◌+◌, ◌-◌, ◌<◌, ◌≤◌, Bool, true, false, if◌then◌else◌, nat_lt, refl, sym, ◌∙◌, ap, subst, inl, inr, arith, ◌⊎◌}
-use Rattle.std.proofs.lemmas.Bool.{cases_lt, cases_eq, ltb-false, le-ltb}
+use Rattle.std.proofs.Common.{◌≡◌, ℕ, zero, suc, ◌-◌, ◌<◌, ◌≤◌, Bool, true, false, if◌then◌else◌, nat_lt, refl, ◌∙◌, inl, inr, arith}
+use Rattle.std.proofs.lemmas.Bool.{cases_lt, ltb-false}
 use borrow.Author.Tests.{ltb-true}
 use Rattle.std.proofs.Math.Numerals.{sub-one}
 use Rattle.pmf_event.specs.Places.{greatest, least, count, some_between}
@@ -158,3 +158,10 @@ module _ (test : ℕ → Bool) where
   some_between-found i j some =
       let after = ltb-true i (greatest test (j - 1)) some in
       record { place = greatest test (j - 1); after = after; within = greatest-bound (j - 1); passes = greatest-passes (j - 1) (omega arith) }
+
+  pub count-le : (n : ℕ) → count test n ≤ n
+  unfolding count
+  count-le zero = omega arith
+  count-le (suc n) =
+      let before = count-le n in
+      elim (test (suc n)) as (λ v. (if v then suc (count test n) else count test n) ≤ suc n) [ true ↦ omega arith | false ↦ omega arith ]

@@ -1,5 +1,5 @@
 -- Spans of bytes: the first address and how many bytes. The limits are the project's own.
-use Rattle.std.specs.Prelude.{ℕ, ◌+◌, ◌-◌, ◌<◌, ◌≤◌, ◌^◌, Bool, nat_lt, nat_le, ◌&&◌, ◌==◌, Result, Ok, Err, if◌then◌else◌}
+use Rattle.std.specs.Prelude.{ℕ, ◌+◌, ◌<◌, ◌≤◌, Bool, nat_lt, nat_le, ◌&&◌, ◌==◌, Result, Ok, Err, if◌then◌else◌}
 use Rattle.pmf_event.specs.declared.span.TheConstants.{SPAN_LIMIT, ADDRESS_LIMIT}
 use Rattle.pmf_event.specs.declared.span.SpanFault.{SpanFault}
 use Rattle.pmf_event.specs.declared.span.SpanFault.TheVariants.{ZeroSize, TooLarge, PastEnd}

@@ -1,5 +1,5 @@
 -- Equal names and equal events are equal sections, and the other way round.
-use Rattle.std.proofs.Common.{rules, ◌≡◌, ap, sym, ◌∙◌, refl, IsTrue, ℕ, Bool, true, false, List, arith}
+use Rattle.std.proofs.Common.{rules, ◌≡◌, ap, sym, ◌∙◌, List}
 use Rattle.std.specs.Bool.{Decides}
 use Rattle.std.proofs.lemmas.Bool.Decides.{Decides-eqb, Decides-and}
 use Rattle.std.proofs.lemmas.Slice.Eq.{slice_eq-Decides}

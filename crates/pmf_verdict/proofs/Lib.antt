@@ -1,0 +1,3 @@
+pub mod ShadowLemmas
+pub mod RowsLemmas
+pub mod SoundLemmas

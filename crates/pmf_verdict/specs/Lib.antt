@@ -1,0 +1,10 @@
+pub use Rattle.pmf_event.specs.Span
+pub use Rattle.pmf_event.specs.Section
+pub use Rattle.pmf_event.specs.Store
+pub use Rattle.pmf_event.specs.Persist
+pub use Rattle.pmf_image.specs.Holds
+pub mod Rows
+pub mod Sound
+pub mod Text
+pub mod Report
+pub mod Shadow

@@ -1,0 +1,19 @@
+//! The verdict of one section: the rows that the checker gives its events.
+//!
+//! A [`Verdict`] holds a section, and its type keeps that its rows are those of that section's own
+//! events, by `specs/Rows`. What a row shows as `PERSIST PASS` holds in every crash image that the
+//! rules allow, torn stores included, by `specs/Sound`. The text of a row is `specs/Text`, and the
+//! text of a report, which upper crates write, `specs/Report`.
+//!
+//! Not promised here: that a failed assertion is a fault of the program that was logged. For now only
+//! persist assertions give rows.
+#![tactic(auto)]
+
+mod checking;
+mod shadow;
+mod text;
+mod verdict;
+
+pub use checking::{CheckFault, check};
+pub use text::write_rows;
+pub use verdict::Verdict;
