@@ -91,6 +91,6 @@ impl Section {
     pub fn same_as(&self, other: &Section) -> bool
         ensures { IsTrue result ↔ (self.now ≡ other.now) }
     {
-        self.name == other.name && self.events.as_slice() == other.events.as_slice()
+        other.name == self.name && self.events.as_slice() == other.events.as_slice()
     }
 }

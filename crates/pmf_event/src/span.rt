@@ -82,14 +82,14 @@ impl Span {
     pub fn covers(&self, byte: u64) -> bool
         ensures { result ≡ covers_byte self.now byte }
     {
-        self.first <= byte && byte - self.first < self.size
+        byte >= self.first && byte - self.first < self.size
     }
 
     /// Whether the two spans have a byte in common.
     pub fn meets(&self, other: &Span) -> bool
         ensures { result ≡ meets_span self.now other.now }
     {
-        self.first < other.first + other.size && other.first < self.first + self.size
+        other.first < self.first + self.size && self.first < other.first + other.size
     }
 }
 

@@ -18,11 +18,11 @@ same_trace m n xs ys run number events i = record { name = record { run = run i;
 
 pub returns-then-eq : goal.returns-then-eq
 returns-then-eq c =
-    let names = Decides-and _ _ (Decides-eqb c.self.inside.name.run c.other.inside.name.run) (Decides-eqb c.self.inside.name.number c.other.inside.name.number) in
+    let names = Decides-and _ _ (Decides-eqb c.other.inside.name.run c.self.inside.name.run) (Decides-eqb c.other.inside.name.number c.self.inside.name.number) in
     let equal = names.0 (sym c.eq.ensures ∙ c.if-eq.true) in
     let compared = slice_eq-Decides event_Decides c.as_slice.result.now c.as_slice-then-eq.result.now _ c.eq-then-eq.ensures in (
       λ same. sym c.self.view_is
-          ∙ same_trace c.self.inside.name c.other.inside.name _ _ equal.0 equal.1
+          ∙ same_trace c.self.inside.name c.other.inside.name _ _ (sym equal.0) (sym equal.1)
           (sym c.as_slice.ensures.value ∙ compared.0 (search rules) ∙ c.as_slice-then-eq.ensures.value)
           ∙ c.other.view_is,
       λ same. let found = compared.1 (c.as_slice.ensures.value ∙ ap (λ (t : Trace). t.events) (c.self.view_is ∙ same ∙ sym c.other.view_is) ∙ sym c.as_slice-then-eq.ensures.value) in search rules,
