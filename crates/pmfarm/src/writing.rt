@@ -4,9 +4,11 @@ ghost use Rattle.pmfarm.specs.Failures.{CanCountOneMore, CountsFailure};
 
 use crate::failed::Failed;
 use crate::sink::Sink;
+use thiserror::Error;
 
 /// A text that was cut off by a failed write.
-#[derive(Clone, Copy, Debug, PartialEq, Eq)]
+#[derive(Clone, Copy, Debug, PartialEq, Eq, Error)]
+#[error("write failed after {written} bytes")]
 pub struct Cut {
     /// How many bytes of the text, from its front, were written.
     pub written: u64,

@@ -1,0 +1,78 @@
+// What the words of the command line ask for, and the status where they are refused.
+use crate::request::{Request, Settings, request_of};
+use crate::status::Status;
+use std::alloc::{AllocError, Global};
+use std::test::Fail;
+
+fn strings(alloc: Global, words: &[&str]) -> Result<Vec<String>, AllocError> {
+    let mut strings = Vec::new(alloc);
+    for word in words {
+        strings.push(String::from_str(alloc, *word)?)?;
+    }
+    Ok(strings)
+}
+
+#[test]
+fn check_takes_a_run_of_64_bits(rt: HostRuntime) -> Result<(), Fail> {
+    let cases = [
+        (&["pmfarm", "check"][..], 0),
+        (&["pmfarm", "check", "--run", "7"][..], 7),
+        (
+            &["pmfarm", "check", "--run=18446744073709551615"][..],
+            u64::MAX,
+        ),
+    ];
+    for (words, run) in cases {
+        let words = strings(rt.alloc(), words)?;
+        let request = request_of(rt.alloc(), words.as_slice())?;
+        assert!(rt; request == Request::Check(Settings { run }), "at run {run}");
+    }
+    Ok(())
+}
+
+#[test]
+fn words_that_are_no_request_are_refused(rt: HostRuntime) -> Result<(), Fail> {
+    let cases = [
+        &["pmfarm"][..],
+        &["pmfarm", "chek"][..],
+        &["pmfarm", "check", "store.log"][..],
+        &["pmfarm", "check", "--run"][..],
+        &["pmfarm", "check", "--run", "x"][..],
+        &["pmfarm", "check", "--run", "-1"][..],
+        &["pmfarm", "check", "--run", "18446744073709551616"][..],
+        &["pmfarm", "check", "--run", "1", "--run", "2"][..],
+    ];
+    for words in cases {
+        assert!(rt;
+            status_at(rt.alloc(), words)? == Some(Status::Refused),
+            "{words:?}"
+        );
+    }
+    Ok(())
+}
+
+#[test]
+fn help_and_the_version_are_no_fault(rt: HostRuntime) -> Result<(), Fail> {
+    let cases = [
+        &["pmfarm", "--help"][..],
+        &["pmfarm", "help"][..],
+        &["pmfarm", "check", "--help"][..],
+        &["pmfarm", "--version"][..],
+    ];
+    for words in cases {
+        assert!(rt;
+            status_at(rt.alloc(), words)? == Some(Status::NoFail),
+            "{words:?}"
+        );
+    }
+    Ok(())
+}
+
+// The status where the words are no request.
+fn status_at(alloc: Global, words: &[&str]) -> Result<Option<Status>, AllocError> {
+    let words = strings(alloc, words)?;
+    match request_of(alloc, words.as_slice()) {
+        Ok(_) => Ok(None),
+        Err(error) => Ok(Some(Status::of_kind(error.kind()))),
+    }
+}
