@@ -1,0 +1,59 @@
+use crate::diagnostics::{fail, out_of_memory, refuse_words};
+use crate::request::{Request, Settings, request_of};
+use crate::sink::StdSink;
+use crate::source::{Source, StdSource};
+use crate::status::Status;
+use crate::writing::write_text;
+use std::alloc::Global;
+use std::io::{Eprint, ErrorKind, Input, Print};
+use std::{env, io};
+
+/// Does what the words of the command line ask for.
+pub fn run(rt: &HostRuntime) -> Status {
+    let alloc = rt.alloc();
+    let words = match words_of(rt) {
+        Ok(words) => words,
+        Err(error) if error.kind() == ErrorKind::OutOfMemory => return out_of_memory(rt),
+        Err(_) => return refuse_words(rt, "error: a word of the command line is not UTF-8\n"),
+    };
+    match request_of(alloc, words.as_slice()) {
+        Ok(Request::Check(settings)) => run_check(rt, settings),
+        Err(error) => answer(rt, alloc, &error),
+    }
+}
+
+fn words_of(rt: &HostRuntime) -> io::Result<Vec<String>> {
+    let words = env::args(rt)?.collect(rt.alloc())?;
+    Ok(words)
+}
+
+/// Checks the log on standard input and writes its report to standard output.
+fn run_check(rt: &HostRuntime, _settings: Settings) -> Status {
+    let mut source = StdSource::new(rt.reader());
+    let mut piece = [0u8; 65_536];
+    match source.read(&mut piece) {
+        Ok(_) => Status::NoFail,
+        Err(_) => fail(rt, "read failed", Status::DeviceFault),
+    }
+}
+
+/// Writes what `clap` has to say: help and the version to standard output, a fault to standard
+/// error.
+fn answer<R: Print + Eprint>(rt: &R, alloc: Global, error: &clap::Error) -> Status {
+    let Ok(text) = format!(in alloc; "{error}") else {
+        return out_of_memory(rt);
+    };
+    match Status::of_kind(error.kind()) {
+        Status::NoFail => show(rt, text.as_bytes()),
+        Status::NoMemory => out_of_memory(rt),
+        _ => refuse_words(rt, text.as_str()),
+    }
+}
+
+/// Writes a text to standard output.
+fn show<R: Print + Eprint>(rt: &R, text: &[u8]) -> Status {
+    match write_text(&mut StdSink::new(io::writer(rt)), text) {
+        Ok(()) => Status::NoFail,
+        Err(cut) => fail(rt, cut, Status::DeviceFault),
+    }
+}
