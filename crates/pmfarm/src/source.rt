@@ -1,4 +1,4 @@
-ghost use Rattle.std.specs.Prelude.{◌≡◌, ◌≤◌, ℕ, List, Option, IfOk, length, take};
+ghost use Rattle.std.specs.Prelude.{◌≡◌, ◌≤◌, ◌<◌, ℕ, List, Option, IfOk, length};
 ghost use Rattle.std.specs.Io.KnownBytes.{ReadConsumes};
 ghost use Rattle.pmfarm.specs.Failures.{CanCountOneMore, CountsFailure};
 
@@ -65,16 +65,17 @@ impl<R: Read> Source for StdSource<R> {
     }
 }
 
-/// Reads at most `limit` bytes to the front of the buffer and answers how many. With room in the
-/// buffer and a limit above 0, 0 is the end.
+/// Reads at most `limit` bytes to the front of the buffer, and else as [`Source::read`] does.
 pub fn read_piece<R: Source>(
     reader: &mut R,
     buffer: &mut [u8],
     limit: usize,
 ) -> Result<usize, Failed>
-    requires { CanCountOneMore (R.failed_calls reader.old) }
-    ensures within { IfOk result (λ n. n ≤ length (take limit buffer.new)) }
-    ensures bytes { ReadConsumes (R.left reader.old) (R.left reader.new) result (take limit buffer.new) }
+    requires room { 0 < limit }
+    requires countable { CanCountOneMore (R.failed_calls reader.old) }
+    ensures limited { IfOk result (λ n. n ≤ limit) }
+    ensures within { IfOk result (λ n. n ≤ length buffer.new) }
+    ensures bytes { ReadConsumes (R.left reader.old) (R.left reader.new) result buffer.new }
     ensures counted { CountsFailure (R.failed_calls reader.old) (R.failed_calls reader.new) result }
 {
     if limit < buffer.len() {
