@@ -1,5 +1,5 @@
 -- The exit statuses (defined here).
-use Rattle.std.specs.Prelude.{ℕ}
+use Rattle.std.specs.Prelude.{◌≡◌, ◌⊎◌, ℕ}
 use Rattle.clap.specs.declared.error.kind.ErrorKind.{ErrorKind}
 use Rattle.clap.specs.declared.error.kind.ErrorKind.TheVariants.{DisplayHelp, DisplayVersion, OutOfMemory}
 use Rattle.pmfarm.specs.declared.status.Status.{Status}
@@ -19,3 +19,8 @@ status_of_kind DisplayHelp = NoFail
 status_of_kind DisplayVersion = NoFail
 status_of_kind OutOfMemory = NoMemory
 status_of_kind _ = Refused
+
+-- a status that an error of this kind may end with: its own, or that its text was not written
+abbrev pub IsAnswerTo : ErrorKind → Status → Type 0
+IsAnswerTo kind status =
+    (status ≡ status_of_kind kind) ⊎ ((status ≡ NoMemory) ⊎ ((status_of_kind kind ≡ NoFail) × (status ≡ DeviceFault)))

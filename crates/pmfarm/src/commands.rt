@@ -1,3 +1,7 @@
+ghost use Rattle.std.specs.Prelude.{◌≡◌, ◌⊎◌};
+ghost use Rattle.clap.specs.Words.{kind_of};
+ghost use Rattle.pmfarm.specs.Statuses.{IsAnswerTo};
+
 use crate::diagnostics::{fail, out_of_memory, refuse_words};
 use crate::request::{Request, Settings, request_of};
 use crate::sink::StdSink;
@@ -39,7 +43,9 @@ fn run_check(rt: &HostRuntime, _settings: Settings) -> Status {
 
 /// Writes what `clap` has to say: help and the version to standard output, a fault to standard
 /// error.
-fn answer<R: Print + Eprint>(rt: &R, alloc: Global, error: &clap::Error) -> Status {
+fn answer<R: Print + Eprint>(rt: &R, alloc: Global, error: &clap::Error) -> Status
+    ensures { IsAnswerTo (kind_of error.now) result }
+{
     let Ok(text) = format!(in alloc; "{error}") else {
         return out_of_memory(rt);
     };
@@ -51,7 +57,9 @@ fn answer<R: Print + Eprint>(rt: &R, alloc: Global, error: &clap::Error) -> Stat
 }
 
 /// Writes a text to standard output.
-fn show<R: Print + Eprint>(rt: &R, text: &[u8]) -> Status {
+fn show<R: Print + Eprint>(rt: &R, text: &[u8]) -> Status
+    ensures { (result ≡ Status.NoFail) ⊎ (result ≡ Status.DeviceFault) }
+{
     match write_text(&mut StdSink::new(io::writer(rt)), text) {
         Ok(()) => Status::NoFail,
         Err(cut) => fail(rt, cut, Status::DeviceFault),

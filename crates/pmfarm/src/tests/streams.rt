@@ -64,13 +64,20 @@ fn a_writer_of_the_standard_library_holds_the_text(rt: HostRuntime) -> Result<()
 }
 
 #[test]
-fn a_source_fails_at_its_third_call(rt: HostRuntime) -> Result<(), Fail> {
-    let mut source = PieceSource::failing(&[b"FENCE|", b"FENCE"]);
-    let mut buffer = [0u8; 16];
-    assert_eq!(rt; source.read(&mut buffer), Ok(6));
-    assert_eq!(rt; source.read(&mut buffer), Ok(5));
-    assert_eq!(rt; source.read(&mut buffer), Err(Failed));
-    assert_eq!(rt; source.failures(), 1);
+fn a_source_fails_at_each_call_in_turn(rt: HostRuntime) -> Result<(), Fail> {
+    let pieces: [&[u8]; 3] = [b"FENCE|", b"FLUSH;0x0;0x40|", b"FENCE"];
+    for working in 0..=pieces.len() {
+        let mut source = PieceSource::failing(&pieces[..working]);
+        let mut buffer = [0u8; 64];
+        for piece in &pieces[..working] {
+            assert!(rt; source.failures() == 0);
+            assert_eq!(rt; source.read(&mut buffer), Ok(piece.len()));
+            assert!(rt; &buffer[..piece.len()] == *piece);
+        }
+        assert!(rt; source.failures() == 0);
+        assert_eq!(rt; source.read(&mut buffer), Err(Failed), "call {working}");
+        assert_eq!(rt; source.failures(), 1);
+    }
     Ok(())
 }
 
