@@ -1,0 +1,5 @@
+pub mod SplitLemmas
+pub mod NumberLemmas
+pub mod FieldLemmas
+pub mod PartLemmas
+pub mod LogLemmas

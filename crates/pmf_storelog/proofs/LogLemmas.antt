@@ -1,0 +1,77 @@
+-- The events, the skipped records and the first fault of a list of records that more records follow.
+use Rattle.std.proofs.Common.{◌≡◌, ℕ, zero, suc, ◌+◌, ◌-◌, ◌<◌, ◌≤◌, Bool, true, false, List, [], ◌∷◌, ◌++◌, Option, Some, None, Result, Ok, Err, length, take, drop, get_or, nat_eq, refl, sym, ap, subst, ◌∙◌, arith, add-one, add-zero}
+use Rattle.std.specs.List.{filter_map, count_by}
+use Rattle.std.proofs.lemmas.List.{append_assoc, append-nil, take_at, take-append-le, take_all, get_or_append_left, get_or_at, length_push}
+use Rattle.std.proofs.lemmas.List.Elements.{filter_map-append}
+use Rattle.std.proofs.lemmas.List.Sums.{sum_by-append}
+use Rattle.std.proofs.Math.Seq.{take-append-add}
+use Rattle.std.proofs.lemmas.Bool.{lt-ltb, le-ltb, cases_lt}
+use Rattle.pmf_event.specs.declared.event.Event.{Event}
+use Rattle.pmf_event.specs.declared.section.TheConstants.{EVENT_LIMIT}
+use Rattle.pmf_storelog.specs.declared.fault.TheConstants.{LOG_LIMIT}
+use Rattle.pmf_storelog.specs.declared.fault.Cause.{Cause}
+use Rattle.pmf_storelog.specs.declared.fault.Cause.TheVariants.{TooManyEvents, TooLong}
+use Rattle.pmf_storelog.specs.declared.fault.LogFault.{LogFault}
+use Rattle.pmf_storelog.specs.Records.{record_of}
+use Rattle.pmf_storelog.specs.Separators.{records_of, ended_records, records_in}
+use Rattle.pmf_storelog.specs.LogText.{event_in, is_nothing, event_of, is_skipped, events_of, skipped_of, cause_after, fault_at, refusal_at, or_else, first_fault_among, first_fault, too_long, shown_within, fault_within, shown_fault, fault_of, IsFaultOfAll, value_of, value_unless, log_of, sections_of}
+use Rattle.pmf_storelog.proofs.PartLemmas.{ended_records-more, records_of-unfinished, unfinished}
+
+-- what one more record adds
+module _ (records : List (List ℕ)) (text : List ℕ) where
+  pub events_of-event : (event : Event) → record_of text ≡ Ok (Some event) → events_of (records ++ text ∷ []) ≡ events_of records ++ event ∷ []
+  unfolding events_of event_of
+  events_of-event event says = rw (filter_map-append event_of records (text ∷ []), says) refl
+
+  pub events_of-nothing : record_of text ≡ Ok None → events_of (records ++ text ∷ []) ≡ events_of records
+  unfolding events_of event_of
+  events_of-nothing says = rw (filter_map-append event_of records (text ∷ []), says) (append-nil (events_of records))
+
+  pub skipped_of-event : (event : Event) → record_of text ≡ Ok (Some event) → skipped_of (records ++ text ∷ []) ≡ skipped_of records
+  unfolding skipped_of is_skipped
+  skipped_of-event event says = rw (sum_by-append (λ x. cond (is_skipped x) 1 0) records (text ∷ []), says) (omega arith)
+
+  pub skipped_of-nothing : record_of text ≡ Ok None → skipped_of (records ++ text ∷ []) ≡ skipped_of records + 1
+  unfolding skipped_of is_skipped
+  skipped_of-nothing says = rw (sum_by-append (λ x. cond (is_skipped x) 1 0) records (text ∷ []), says) (omega arith)
+
+refusal_at-append : (records more : List (List ℕ)) (k : ℕ) → k < length records → refusal_at (records ++ more) k ≡ refusal_at records k
+unfolding refusal_at
+refusal_at-append records more k within = rw (take-append-le k records more (omega arith), get_or_append_left records more [] k within) refl
+
+first_fault_among-append : (records more : List (List ℕ)) (k : ℕ) → k ≤ length records → first_fault_among (records ++ more) k ≡ first_fault_among records k
+unfolding first_fault_among
+first_fault_among-append records more zero le = refl
+first_fault_among-append records more (suc k) le =
+    rw (first_fault_among-append records more k (omega arith), refusal_at-append records more k (omega arith)) refl
+
+refusal_at-last : (records : List (List ℕ)) (text : List ℕ) → refusal_at (records ++ text ∷ []) (length records) ≡ fault_at (length records + 1) (cause_after (length (events_of records)) (record_of text))
+unfolding refusal_at
+refusal_at-last records text = rw (take_at records (text ∷ []) (length records) refl, get_or_at records text [] [] (length records) refl) refl
+
+-- the first fault with one more record
+pub first_fault-push : (records : List (List ℕ)) (text : List ℕ) →
+    first_fault (records ++ text ∷ []) ≡ or_else (first_fault records) (fault_at (length records + 1) (cause_after (length (events_of records)) (record_of text)))
+unfolding first_fault first_fault_among
+first_fault-push records text =
+    ap (first_fault_among (records ++ text ∷ [])) (length_push records text ∙ add-one (length records))
+    ∙ rw (first_fault_among-append records (text ∷ []) (length records) (omega arith), refusal_at-last records text) refl
+
+-- a fault stays the first one, whatever follows
+pub first_fault-more : (records more : List (List ℕ)) (fault : LogFault) → first_fault records ≡ Some fault → first_fault (records ++ more) ≡ Some fault
+first_fault-more records [] fault is = rw (append-nil records) is
+first_fault-more records (text ∷ more) fault is =
+    ap first_fault (sym (append_assoc records (text ∷ []) more))
+    ∙ first_fault-more (records ++ text ∷ []) more fault (first_fault-push records text ∙ ap (λ first. or_else first _) is)
+
+-- what bytes show stays, whatever follows
+pub first_fault-ended : (xs ys : List ℕ) (fault : LogFault) → first_fault (ended_records xs) ≡ Some fault → first_fault (ended_records (xs ++ ys)) ≡ Some fault
+first_fault-ended xs ys fault is =
+    let more = ended_records-more xs ys in
+    ap first_fault more.1 ∙ first_fault-more (ended_records xs) more.0 fault is
+
+pub first_fault-records : (xs ys : List ℕ) (fault : LogFault) → first_fault (ended_records xs) ≡ Some fault → first_fault (records_of (xs ++ ys)) ≡ Some fault
+first_fault-records xs ys fault is =
+    let open_end = unfinished (xs ++ ys) in
+    ap first_fault (records_of-unfinished (xs ++ ys) open_end.0 open_end.1)
+    ∙ first_fault-more _ _ fault (first_fault-ended xs ys fault is)

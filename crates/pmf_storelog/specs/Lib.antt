@@ -1,0 +1,9 @@
+pub use Rattle.pmf_event.specs.Span
+pub use Rattle.pmf_event.specs.Section
+pub mod Separators
+pub mod Numbers
+pub mod Records
+pub mod Fields
+pub mod LogValue
+pub mod LogText
+pub mod Reader

@@ -1,0 +1,76 @@
+-- What one record says: an event, nothing for this checker, or why it is refused. Defined here.
+use Rattle.std.specs.Prelude.{ℕ, Bool, nat_eq, ◌==◌, List, [], ◌∷◌, Option, Some, None, Result, Ok, Err, if◌then◌else◌, codes}
+use Rattle.std.specs.List.{slice_split, starts_with}
+use Rattle.std.specs.Str.{bytes_eq}
+use Rattle.pmf_event.specs.Span.{Extent, extent_of}
+use Rattle.pmf_event.specs.declared.span.SpanFault.{SpanFault}
+use Rattle.pmf_event.specs.declared.event.Event.{Event}
+use Rattle.pmf_event.specs.declared.event.Event.TheVariants.{Store, Flush, Fence, Persist, Exclude, Include}
+use Rattle.pmf_storelog.specs.declared.fault.Cause.{Cause}
+use Rattle.pmf_storelog.specs.declared.fault.Cause.TheVariants.{TooFewFields, BadNumber, BadSpan, UnknownMarker}
+use Rattle.pmf_storelog.specs.Numbers.{number_of}
+
+-- whether the byte is the semicolon that ends a field
+abbrev pub is_field_end : ℕ → Bool
+is_field_end c = c == 59
+
+-- the fields of a record, the name first
+unfoldable pub fields_of : List ℕ → List (List ℕ)
+fields_of text = slice_split is_field_end text
+
+-- the span, or its fault as a record's
+abbrev pub span_or_cause : Result Extent SpanFault → Result Extent Cause
+span_or_cause (Ok span) = Ok span
+span_or_cause (Err fault) = Err (BadSpan fault)
+
+-- the span of two numbers, where both are numbers
+abbrev pub span_of_numbers : Option ℕ → Option ℕ → Result Extent Cause
+span_of_numbers (Some first) (Some size) = span_or_cause (extent_of first size)
+span_of_numbers (Some first) None = Err BadNumber
+span_of_numbers None size = Err BadNumber
+
+-- the span that the texts of its first address and of its size spell
+unfoldable pub span_of_texts : List ℕ → List ℕ → Result Extent Cause
+span_of_texts first size = span_of_numbers (number_of first) (number_of size)
+
+-- the span of a record whose fields are first address and size; further ones are ignored
+unfoldable pub span_of_fields : List (List ℕ) → Result Extent Cause
+span_of_fields [] = Err TooFewFields
+span_of_fields (first ∷ []) = Err TooFewFields
+span_of_fields (first ∷ size ∷ more) = span_of_texts first size
+
+-- the span of a store, whose fields are first address, value and size; the value is any bytes
+unfoldable pub stored_span : List (List ℕ) → Result Extent Cause
+stored_span [] = Err TooFewFields
+stored_span (first ∷ []) = Err TooFewFields
+stored_span (first ∷ value ∷ []) = Err TooFewFields
+stored_span (first ∷ value ∷ size ∷ more) = span_of_texts first size
+
+-- the event of this kind over the span
+abbrev pub event_over : (Extent → Event) → Result Extent Cause → Result (Option Event) Cause
+event_over kind (Ok span) = Ok (Some (kind span))
+event_over kind (Err cause) = Err cause
+
+-- what a name that is none of the table's says: a marker is refused, any other is skipped
+unfoldable pub other_name : List ℕ → Result (Option Event) Cause
+other_name name = if starts_with nat_eq name (codes "PMT.") then Err UnknownMarker else Ok None
+
+-- what a record with this name and these further fields says
+unfoldable pub saying_of : List ℕ → List (List ℕ) → Result (Option Event) Cause
+saying_of name fields =
+    if bytes_eq name (codes "STORE") then event_over Store (stored_span fields)
+    else if bytes_eq name (codes "FLUSH") then event_over Flush (span_of_fields fields)
+    else if bytes_eq name (codes "FENCE") then Ok (Some Fence)
+    else if bytes_eq name (codes "PMT.PERSIST") then event_over Persist (span_of_fields fields)
+    else if bytes_eq name (codes "PMT.EXCLUDE") then event_over Exclude (span_of_fields fields)
+    else if bytes_eq name (codes "PMT.INCLUDE") then event_over Include (span_of_fields fields)
+    else other_name name
+
+-- the same of the list of all fields
+abbrev pub saying_of_fields : List (List ℕ) → Result (Option Event) Cause
+saying_of_fields [] = Ok None
+saying_of_fields (name ∷ fields) = saying_of name fields
+
+-- what a record says: an event, nothing, or a cause of refusal
+unfoldable pub record_of : List ℕ → Result (Option Event) Cause
+record_of text = saying_of_fields (fields_of text)

@@ -1,0 +1,99 @@
+ghost use Rattle.std.specs.Prelude.{◌≡◌, ◌+◌};
+
+use pmf_event::SpanFault;
+use std::alloc::{AllocError, AllocFailed};
+use std::error::Error as StdError;
+use std::fmt;
+use thiserror::Error;
+
+/// The greatest length of a log, in bytes: 2^28.
+pub const LOG_LIMIT: usize = 1 << 28;
+
+/// Why a log is refused. Within a record the first that applies decides, in this order: UnknownMarker,
+/// TooFewFields, BadNumber, BadSpan, TooManySections, TooManyEvents, OutOfMemory.
+#[derive(Clone, Copy, Debug, PartialEq, Eq, Error)]
+pub enum Cause {
+    /// The record lacks a field that its name asks for.
+    #[error("too few fields")]
+    TooFewFields,
+    /// A field that is to be a number is none, or is 2^64 or more.
+    #[error("bad number")]
+    BadNumber,
+    /// The numbers are no span.
+    #[error("{0}")]
+    BadSpan(SpanFault),
+    /// The name begins with `PMT.` and is no marker that is known.
+    #[error("unknown marker")]
+    UnknownMarker,
+    /// The record would make one section too many.
+    #[error("too many sections")]
+    TooManySections,
+    /// The event would be one too many in its section.
+    #[error("too many events in the section")]
+    TooManyEvents,
+    /// The log has more than [`LOG_LIMIT`] bytes.
+    #[error("log is too long")]
+    TooLong,
+    /// The room for an event or for an unfinished record was refused.
+    #[error("out of memory")]
+    OutOfMemory,
+    /// The reader has refused before.
+    #[error("the reader is spent")]
+    Spent,
+}
+
+/// The first fault of a log.
+#[derive(Clone, Copy, Debug, PartialEq, Eq)]
+pub struct LogFault {
+    /// The number of the faulty record, counted from 1 over all records that aren't empty; 0 with
+    /// [`Cause::OutOfMemory`] and [`Cause::Spent`].
+    pub at: u64,
+    /// Why it is refused.
+    pub cause: Cause,
+}
+
+impl fmt::Display for LogFault {
+    fn fmt<W: fmt::Write>(&self, f: &mut fmt::Formatter<W>) -> fmt::Result {
+        if self.at == 0 {
+            write!(f, "{}", self.cause)
+        } else {
+            write!(f, "record {}: {}", self.at, self.cause)
+        }
+    }
+}
+
+impl StdError for LogFault {}
+
+impl LogFault {
+    /// Want of memory, which is no record's fault.
+    pub(crate) const OUT_OF_MEMORY: LogFault = LogFault {
+        at: 0,
+        cause: Cause::OutOfMemory,
+    };
+
+    /// The answer of a reader that has refused before.
+    pub(crate) const SPENT: LogFault = LogFault {
+        at: 0,
+        cause: Cause::Spent,
+    };
+}
+
+impl From<AllocError> for LogFault {
+    ghost use Rattle.pmf_storelog.specs.LogText.{out_of_memory};
+
+    ghost from_gives = { λ _ fault. fault ≡ out_of_memory };
+
+    fn from(_refused: AllocError) -> LogFault {
+        LogFault::OUT_OF_MEMORY
+    }
+}
+
+impl<T: Drop> From<AllocFailed<T>> for LogFault {
+    ghost use Rattle.pmf_storelog.specs.LogText.{out_of_memory};
+
+    ghost from_gives = { λ _ fault. fault ≡ out_of_memory };
+
+    fn from(_refused: AllocFailed<T>) -> LogFault {
+        LogFault::OUT_OF_MEMORY
+    }
+}

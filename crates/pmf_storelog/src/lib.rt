@@ -1,0 +1,26 @@
+//! The reader of a persistent-memory log's text: from bytes, in one piece or many, to sections of events.
+//!
+//! [`read_log`] answers exactly what `LogText.log_of` says of the bytes: the sections with the number of
+//! skipped records, or the first faulty record's fault. [`LogReader`] answers the same of all pieces fed to
+//! it, joined, and refuses as soon as the bytes fed show a fault that no later byte can change
+//! (`LogText.shown_fault`, `LogText.IsFaultOfAll`). The text itself is defined in `Separators`, `Numbers` and
+//! `Records`; what a reader in mid-log stands for, in `Reader`.
+//!
+//! Not promised here: that memory suffices, or that a log is what the program did.
+#![tactic(auto)]
+
+mod fault;
+mod fields;
+mod log;
+mod number;
+mod progress;
+mod reader;
+mod record;
+mod tally;
+#[cfg(test)]
+mod tests;
+mod trimming;
+
+pub use fault::{Cause, LOG_LIMIT, LogFault};
+pub use log::Log;
+pub use reader::{LogReader, read_log};
