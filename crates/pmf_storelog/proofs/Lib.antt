@@ -3,3 +3,5 @@ pub mod NumberLemmas
 pub mod FieldLemmas
 pub mod PartLemmas
 pub mod LogLemmas
+pub mod TallyLemmas
+pub mod ProgressLemmas

@@ -1,4 +1,4 @@
-ghost use Rattle.std.specs.Prelude.{◌≡◌, ◌+◌, ◌<◌, ◌≤◌, ◌^◌, ℕ, length};
+ghost use Rattle.std.specs.Prelude.{◌≡◌, ◌+◌, ◌<◌, ◌≤◌, ◌^◌, ℕ, List, [], ◌∷◌, ◌++◌, length, take, MatchOption, OnOk, IfOk, IfErr, IfSome};
 
 use crate::fault::LogFault;
 use crate::tally::Tally;
@@ -13,7 +13,15 @@ pub(crate) struct Progress {
 }
 
 impl Progress {
-    pub(crate) fn new(alloc: Global, run: u64) -> Progress {
+    ghost use Rattle.pmf_storelog.specs.Separators.{ended_records, parts_of};
+    ghost use Rattle.pmf_storelog.specs.LogText.{first_fault, out_of_memory};
+    ghost use Rattle.pmf_storelog.specs.Reader.{HasParsed, HasParsedTo, IsShown};
+
+    /// What no bytes give. Takes no memory.
+    pub(crate) fn new(alloc: Global, run: u64) -> Progress
+        ensures parsed { HasParsed run [] result }
+        ensures none { result.tally.records ≡ 0 }
+    {
         Progress {
             tally: Tally::new(alloc, run),
             carry: Vec::new(alloc),
@@ -21,9 +29,16 @@ impl Progress {
     }
 
     /// Takes every part of the piece that a separator ends, and hands back the bytes after the last one.
-    pub(crate) fn read_ended<'a>(&mut self, piece: &'a [u8]) -> Result<&'a [u8], LogFault> {
+    pub(crate) fn read_ended<'a>(&mut self, piece: &'a [u8]) -> Result<&'a [u8], LogFault>
+        requires { self.old.tally.records + length piece.now < 2 ^ 64 }
+        ensures grows { self.new.tally.records ≤ self.old.tally.records + length piece.now }
+        ensures ok { (run : ℕ) (bytes : List ℕ) → HasParsed run bytes self.old
+            → IfOk result (λ rest. HasParsedTo run bytes piece.now rest.now self.new) }
+        ensures err { (run : ℕ) (bytes : List ℕ) → HasParsed run bytes self.old
+            → IfErr result (λ fault. IsShown fault (first_fault (ended_records (bytes ++ piece.now)))) }
+    {
         let mut rest = piece;
-        while let Some(end) = memchr3(b'|', b'\n', b'\r', rest) {
+        while let Some(end) = Progress::separator(rest) {
             self.end_part(&rest[..end])?;
             rest = &rest[end + 1..];
         }
@@ -32,7 +47,14 @@ impl Progress {
 
     // Takes the part that ends with these bytes.
     #[inline]
-    fn end_part(&mut self, end: &[u8]) -> Result<(), LogFault> {
+    fn end_part(&mut self, end: &[u8]) -> Result<(), LogFault>
+        requires { self.old.tally.records + 1 < 2 ^ 64 }
+        ensures grows { self.new.tally.records ≤ self.old.tally.records + 1 }
+        ensures ok { (run : ℕ) (bytes piece : List ℕ) → HasParsed run bytes self.old → parts_of piece ≡ end.now ∷ [] ∷ []
+            → OnOk result (HasParsed run (bytes ++ piece) self.new) }
+        ensures err { (run : ℕ) (bytes piece : List ℕ) → HasParsed run bytes self.old → parts_of piece ≡ end.now ∷ [] ∷ []
+            → IfErr result (λ fault. IsShown fault (first_fault (ended_records (bytes ++ piece)))) }
+    {
         if self.carry.is_empty() {
             return self.tally.take_part(end);
         }
@@ -43,8 +65,22 @@ impl Progress {
     }
 
     /// Keeps the bytes of a part that isn't ended yet.
-    pub(crate) fn keep(&mut self, rest: &[u8]) -> Result<(), LogFault> {
+    pub(crate) fn keep(&mut self, rest: &[u8]) -> Result<(), LogFault>
+        ensures tally { self.new.tally ≡ self.old.tally }
+        ensures carry { OnOk result (self.new.carry.items ≡ self.old.carry.items ++ rest.now) }
+        ensures err { IfErr result (λ fault. fault ≡ out_of_memory) }
+    {
         self.carry.extend_from_slice(rest)?;
         Ok(())
+    }
+
+    // Where the first separator stands.
+    #[inline]
+    fn separator(text: &[u8]) -> Option<usize>
+        ensures cases { MatchOption result (parts_of text.now ≡ text.now ∷ []) (λ end. parts_of (take (end + 1) text.now)
+            ≡ take end text.now ∷ [] ∷ []) }
+        ensures within { IfSome result (λ end. end < length text.now) }
+    {
+        memchr3(b'|', b'\n', b'\r', text)
     }
 }

@@ -1,4 +1,4 @@
-ghost use Rattle.std.specs.Prelude.{◌≡◌, ◌+◌, ◌<◌, ◌≤◌, ◌^◌, ℕ, List, [], ◌∷◌, ◌++◌, OnOk, IfErr};
+ghost use Rattle.std.specs.Prelude.{◌≡◌, ◌≢◌, ◌+◌, ◌<◌, ◌≤◌, ◌^◌, ℕ, List, [], ◌∷◌, ◌++◌, OnOk, IfOk, IfErr};
 
 use crate::fault::{Cause, LogFault};
 use crate::log::Log;
@@ -22,9 +22,8 @@ pub(crate) struct Tally {
 
 impl Tally {
     ghost use Rattle.pmf_storelog.specs.Separators.{records_in};
-    ghost use Rattle.pmf_storelog.specs.LogText.{first_fault, event_in, events_of, is_nothing, sections_of, skipped_of, cause_after, fault_at};
-    ghost use Rattle.pmf_storelog.specs.Records.{record_of};
-    ghost use Rattle.pmf_storelog.specs.Reader.{HasTaken, IsShown};
+    ghost use Rattle.pmf_storelog.specs.LogText.{events_of, first_fault, out_of_memory, sections_of, skipped_of};
+    ghost use Rattle.pmf_storelog.specs.Reader.{AddsEvent, AddsSkipped, HasTaken, IsFullAt, IsShown};
 
     /// The tally of no record.
     pub(crate) fn new(alloc: Global, run: u64) -> Tally
@@ -65,20 +64,41 @@ impl Tally {
             → IfErr result (λ fault. IsShown fault (first_fault (records ++ text.now ∷ []))) }
     {
         match read_record(text) {
-            Ok(Some(event)) => self.add(event)?,
-            Ok(None) => self.skipped += 1,
-            Err(cause) => return Err(self.fault(cause)),
+            Ok(Some(event)) => self.add(event),
+            Ok(None) => {
+                self.skip();
+                Ok(())
+            }
+            Err(cause) => Err(self.fault(cause)),
         }
-        self.records += 1;
-        Ok(())
     }
 
-    fn add(&mut self, event: Event) -> Result<(), LogFault> {
+    // Counts a record with its event.
+    #[inline]
+    fn add(&mut self, event: Event) -> Result<(), LogFault>
+        requires { self.old.records + 1 < 2 ^ 64 }
+        ensures ok { OnOk result (AddsEvent event self.old self.new) }
+        ensures err { IfErr result (λ fault. fault ≢ out_of_memory → IsFullAt self.old fault) }
+        ensures grows { self.new.records ≤ self.old.records + 1 }
+    {
         match self.section.push(event) {
-            Ok(()) => Ok(()),
+            Ok(()) => {
+                self.records += 1;
+                Ok(())
+            }
             Err(SectionFault::TooManyEvents) => Err(self.fault(Cause::TooManyEvents)),
             Err(SectionFault::OutOfMemory) => Err(LogFault::OUT_OF_MEMORY),
         }
+    }
+
+    // Counts a record that is skipped.
+    fn skip(&mut self)
+        requires { self.old.records + 1 < 2 ^ 64 }
+        ensures skips { AddsSkipped self.old self.new }
+        ensures grows { self.new.records ≡ self.old.records + 1 }
+    {
+        self.records += 1;
+        self.skipped += 1;
     }
 
     /// The fault of the record after those that were taken.
@@ -93,11 +113,18 @@ impl Tally {
     }
 
     /// The log of the records that were taken.
-    pub(crate) fn into_log(self, alloc: Global) -> Result<Log, LogFault> {
+    pub(crate) fn into_log(self, alloc: Global) -> Result<Log, LogFault>
+        ensures ok { (run : ℕ) (records : List (List ℕ)) → HasTaken run records self
+            → IfOk result (λ log. log ≡ record { sections = sections_of run (events_of records); skipped = skipped_of records }) }
+        ensures err { IfErr result (λ fault. fault ≡ out_of_memory) }
+    {
+        let Tally {
+            section, skipped, ..
+        } = self;
         let mut sections = Vec::new(alloc);
-        if !self.section.events().is_empty() {
-            sections.push(Arc::new(alloc, self.section)?)?;
+        if !section.events().is_empty() {
+            sections.push(Arc::new(alloc, section)?)?;
         }
-        Ok(Log::new(sections, self.skipped))
+        Ok(Log::new(sections, skipped))
     }
 }

@@ -1,0 +1,49 @@
+-- What is kept of bytes that more bytes follow.
+use Rattle.std.proofs.Common.{◌≡◌, ◌≢◌, ℕ, ◌+◌, ◌-◌, ◌<◌, ◌≤◌, List, [], ◌∷◌, ◌++◌, Option, Some, None, Result, Ok, Err, OnOk, IfErr, length, take, drop, refl, sym, ap, subst, ◌∙◌, arith}
+use Rattle.std.proofs.lemmas.List.{append_assoc, append-nil, take-append-drop}
+use Rattle.pmf_storelog.specs.declared.fault.LogFault.{LogFault}
+use Rattle.pmf_storelog.specs.declared.tally.Tally.{Tally}
+use Rattle.pmf_storelog.specs.declared.progress.Progress.{Progress}
+use Rattle.pmf_storelog.specs.Separators.{records_in, parts_of, ended_parts, ended_records}
+use Rattle.pmf_storelog.specs.LogText.{first_fault, out_of_memory}
+use Rattle.pmf_storelog.specs.Reader.{HasTaken, HasParsed, HasParsedTo, IsShown}
+use Rattle.pmf_storelog.proofs.PartLemmas.{parts_of-nil, ended_is, ended_parts-open, parts_of-open, parts_of-ended, ended_records-ended}
+use Rattle.pmf_storelog.proofs.LogLemmas.{first_fault-ended}
+use Rattle.pmf_storelog.proofs.TallyLemmas.{records_in-none}
+
+-- no bytes have one part, which is empty
+pub parsed_none : (run : ℕ) (progress : Progress) → HasTaken run [] progress.tally → progress.carry.items ≡ [] → HasParsed run [] progress
+parsed_none run progress taken empty =
+    let none : ended_parts [] ≡ [] = ended_is [] [] [] parts_of-nil in
+    record {
+      taken = subst (λ (records : List (List ℕ)). HasTaken run records progress.tally) (sym (ap records_in none ∙ records_in-none)) taken;
+      parts = rw (none, empty) parts_of-nil;
+    }
+
+module _ (run : ℕ) (bytes : List ℕ) (old : Progress) (parsed : HasParsed run bytes old) where
+  -- bytes without a separator are kept
+  pub parsed_open : (rest : List ℕ) (new : Progress) → parts_of rest ≡ rest ∷ [] → new.tally ≡ old.tally → new.carry.items ≡ old.carry.items ++ rest → HasParsed run (bytes ++ rest) new
+  parsed_open rest new open_end same carry = record {
+    taken = rw (same, ended_parts-open bytes rest old.carry.items parsed.parts open_end) parsed.taken;
+    parts = rw carry (parts_of-open bytes rest old.carry.items parsed.parts open_end);
+  }
+
+  -- a separator at the end ends the part that was kept
+  pub parsed_ended : (piece end : List ℕ) (new : Progress) → parts_of piece ≡ end ∷ [] ∷ [] →
+      HasTaken run (ended_records bytes ++ records_in ((old.carry.items ++ end) ∷ [])) new.tally → new.carry.items ≡ [] → HasParsed run (bytes ++ piece) new
+  parsed_ended piece end new ends taken empty = record {
+    taken = rw (ended_records-ended bytes piece old.carry.items end parsed.parts ends) taken;
+    parts = rw empty (parts_of-ended bytes piece old.carry.items end parsed.parts ends);
+  }
+
+  -- and so its fault is shown
+  pub shown_ended : (piece end : List ℕ) (fault : LogFault) → parts_of piece ≡ end ∷ [] ∷ [] →
+      IsShown fault (first_fault (ended_records bytes ++ records_in ((old.carry.items ++ end) ∷ []))) → IsShown fault (first_fault (ended_records (bytes ++ piece)))
+  shown_ended piece end fault ends shown = rw (ended_records-ended bytes piece old.carry.items end parsed.parts ends) shown
+
+-- a fault that a front of the piece shows is shown by the piece
+pub shown_by_front : (bytes front piece rest : List ℕ) (fault : LogFault) → front ++ rest ≡ piece →
+    IsShown fault (first_fault (ended_records (bytes ++ front))) → IsShown fault (first_fault (ended_records (bytes ++ piece)))
+shown_by_front bytes front piece rest fault whole shown = λ memory.
+    ap (λ all. first_fault (ended_records all)) (ap (λ all. bytes ++ all) (sym whole) ∙ sym (append_assoc bytes front rest))
+    ∙ first_fault-ended (bytes ++ front) rest fault (shown memory)
