@@ -37,12 +37,12 @@ impl Progress {
         ensures err { (run : ℕ) (bytes : List ℕ) → HasParsed run bytes self.old
             → IfErr result (λ fault. IsShown fault (first_fault (ended_records (bytes ++ piece.now)))) }
     {
-        let mut rest = piece;
-        while let Some(end) = Progress::separator(rest) {
-            self.end_part(&rest[..end])?;
-            rest = &rest[end + 1..];
+        let mut start = 0;
+        while let Some(len) = Progress::separator(&piece[start..]) {
+            self.end_part(&piece[start..start + len])?;
+            start += len + 1;
         }
-        Ok(rest)
+        Ok(&piece[start..])
     }
 
     // Takes the part that ends with these bytes.
