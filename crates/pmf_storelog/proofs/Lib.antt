@@ -5,3 +5,4 @@ pub mod PartLemmas
 pub mod LogLemmas
 pub mod TallyLemmas
 pub mod ProgressLemmas
+pub mod ReaderLemmas

@@ -15,6 +15,7 @@ mod log;
 mod number;
 mod progress;
 mod reader;
+mod reading;
 mod record;
 mod tally;
 #[cfg(test)]
@@ -23,4 +24,5 @@ mod trimming;
 
 pub use fault::{Cause, LOG_LIMIT, LogFault};
 pub use log::Log;
-pub use reader::{LogReader, read_log};
+pub use reader::LogReader;
+pub use reading::read_log;

@@ -1,12 +1,15 @@
-ghost use Rattle.std.specs.Prelude.{◌≡◌, ◌≤◌, ℕ, List, [], ◌++◌, OnOk, OnErr, IfErr};
+ghost use Rattle.std.specs.Prelude.{◌≡◌, ◌≢◌, ◌≤◌, ℕ, List, [], ◌++◌, None, OnOk, OnErr, IfErr};
+ghost use Rattle.pmf_storelog.specs.declared.fault.TheConstants.{LOG_LIMIT};
 
 use crate::fault::{Cause, LOG_LIMIT, LogFault};
 use crate::log::Log;
 use crate::progress::Progress;
 use std::alloc::Global;
 
-/// A reader of a log that comes in pieces, cut anywhere. It keeps the sections so far and the bytes of the
-/// record that isn't ended yet, and no other byte of the log.
+/// A reader of a log that comes in pieces, cut anywhere.
+///
+/// It keeps the events so far and the bytes of the record that isn't ended yet, and no other byte of the
+/// log. After its first refusal it is spent: it answers [`Cause::Spent`] from then on.
 #[derive(Debug, Drop)]
 pub struct LogReader {
     progress: Progress,
@@ -15,11 +18,18 @@ pub struct LogReader {
     /// Whether a piece was refused.
     spent: bool,
     alloc: Global,
+    ghost counted: { progress.tally.records ≤ total },
+    ghost within: { total ≤ LOG_LIMIT },
 }
 
 impl LogReader {
+    ghost use Rattle.pmf_storelog.specs.LogText.{IsFaultOfAll, log_of, out_of_memory, shown_fault, spent};
+    ghost use Rattle.pmf_storelog.specs.Reader.{Answers, HasRead, IsShown, IsSpent};
+
     /// A reader of the run's log, of which nothing is fed yet. Takes no memory.
-    pub fn new(alloc: Global, run: u64) -> LogReader {
+    pub fn new(alloc: Global, run: u64) -> LogReader
+        ensures { HasRead run [] result }
+    {
         LogReader {
             progress: Progress::new(alloc, run),
             total: 0,
@@ -28,8 +38,28 @@ impl LogReader {
         }
     }
 
-    /// Reads the next piece.
-    pub fn feed(&mut self, piece: &[u8]) -> Result<(), LogFault> {
+    /// Reads the next piece, and refuses as soon as the bytes fed so far show a fault: of a record that a
+    /// separator ended, or TooLong where they are more than [`LOG_LIMIT`], the first of these. The record
+    /// that isn't ended yet shows none. An `Err` spends the reader.
+    ///
+    /// Takes memory for events, and for a record that a piece cuts.
+    pub fn feed(&mut self, piece: &[u8]) -> Result<(), LogFault>
+        // The reader stands for the piece too, which shows no fault.
+        ensures ok { (run : ℕ) (bytes : List ℕ) → HasRead run bytes self.old
+            → OnOk result (HasRead run (bytes ++ piece.now) self.new) }
+        ensures faultless { (run : ℕ) (bytes : List ℕ) → HasRead run bytes self.old
+            → OnOk result (shown_fault (bytes ++ piece.now) ≡ None) }
+
+        // Want of memory aside, the fault is the one that the bytes show, whatever follows them.
+        ensures err { (run : ℕ) (bytes : List ℕ) → HasRead run bytes self.old
+            → IfErr result (λ fault. IsShown fault (shown_fault (bytes ++ piece.now))) }
+        ensures of_all { (run : ℕ) (bytes : List ℕ) → HasRead run bytes self.old
+            → IfErr result (λ fault. fault ≢ out_of_memory → IsFaultOfAll fault (bytes ++ piece.now)) }
+
+        // A refusal spends the reader, which stays spent.
+        ensures refused { OnErr result (IsSpent self.new) }
+        ensures spent { IsSpent self.old → result ≡ Err spent }
+    {
         if self.spent {
             return Err(LogFault::SPENT);
         }
@@ -45,20 +75,21 @@ impl LogReader {
         Ok(())
     }
 
-    /// The log of all pieces.
-    pub fn finish(self) -> Result<Log, LogFault> {
+    /// The log of all pieces, or its first fault; the record after the last separator is read now.
+    ///
+    /// Takes memory for the sections' list, and for the last event.
+    pub fn finish(self) -> Result<Log, LogFault>
+        ensures answers { (run : ℕ) (bytes : List ℕ) → HasRead run bytes self → Answers result (log_of run bytes) }
+        ensures spent { IsSpent self → result ≡ Err spent }
+    {
         if self.spent {
             return Err(LogFault::SPENT);
         }
-        let Progress { mut tally, carry } = self.progress;
+        let LogReader {
+            progress, alloc, ..
+        } = self;
+        let Progress { mut tally, carry } = progress;
         tally.take_part(&carry)?;
-        tally.into_log(self.alloc)
+        tally.into_log(alloc)
     }
-}
-
-/// Reads a whole log.
-pub fn read_log(alloc: Global, bytes: &[u8], run: u64) -> Result<Log, LogFault> {
-    let mut reader = LogReader::new(alloc, run);
-    reader.feed(bytes)?;
-    reader.finish()
 }
