@@ -3,6 +3,7 @@ use pmf_event::{Event, Name, Span, SpanFault};
 use std::alloc::Global;
 use std::test::Fail;
 
+// Eight events; the file, the line of a tracer and the name `FENCE ` are skipped.
 const LONG_TEXT: &[u8] = b"STORE;0x1000;0x0;0x8|FLUSH;0x1000;0x40|FENCE\r\n \tPMT.PERSIST;0x1000;0x8 ||REGISTER_FILE;/mnt/pool;x
 PMT.EXCLUDE;4096;8;note\tkept|PMT.INCLUDE;0x1004;0x4|==77== Command: ./a|STORE;18446744;v v;65536|FENCE ;|FENCE";
 
@@ -93,15 +94,15 @@ fn blanks_and_empty_records_are_dropped_and_other_names_counted(rt: HostRuntime)
 fn a_log_cut_in_two_anywhere_is_the_same_log(rt: HostRuntime) -> Result<(), Fail> {
     let alloc = rt.alloc();
     let whole = read_log(alloc, LONG_TEXT, 3)?;
-    assert_eq!(rt; events_of(&whole).len(), 9);
-    assert_eq!(rt; whole.skipped(), 2);
+    assert_eq!(rt; events_of(&whole).len(), 8);
+    assert_eq!(rt; whole.skipped(), 3);
     for cut in 0..=LONG_TEXT.len() {
         let mut reader = LogReader::new(alloc, 3);
         reader.feed(&LONG_TEXT[..cut])?;
         reader.feed(&LONG_TEXT[cut..])?;
         let log = reader.finish()?;
         assert!(rt; events_of(&log) == events_of(&whole), "at {cut}");
-        assert_eq!(rt; log.skipped(), 2, "at {cut}");
+        assert_eq!(rt; log.skipped(), 3, "at {cut}");
     }
     Ok(())
 }
@@ -116,7 +117,7 @@ fn a_log_fed_byte_by_byte_is_the_same_log(rt: HostRuntime) -> Result<(), Fail> {
     }
     let log = reader.finish()?;
     assert!(rt; events_of(&log) == events_of(&whole));
-    assert_eq!(rt; log.skipped(), 2);
+    assert_eq!(rt; log.skipped(), 3);
     Ok(())
 }
 
