@@ -6,3 +6,4 @@ pub mod LogLemmas
 pub mod TallyLemmas
 pub mod ProgressLemmas
 pub mod ReaderLemmas
+pub mod CallerLemmas

@@ -1,20 +1,17 @@
 -- The events, the skipped records and the first fault of a list of records that more records follow.
-use Rattle.std.proofs.Common.{◌≡◌, ℕ, zero, suc, ◌+◌, ◌-◌, ◌<◌, ◌≤◌, Bool, true, false, cond, List, [], ◌∷◌, ◌++◌, Option, Some, None, Result, Ok, Err, length, take, drop, get_or, nat_eq, refl, sym, ap, subst, ◌∙◌, arith, add-one, length-append, ⊎_elim}
-use Rattle.std.specs.List.{filter_map, count_by}
+use Rattle.std.proofs.Common.{◌≡◌, ℕ, zero, suc, ◌+◌, ◌-◌, ◌<◌, ◌≤◌, cond, List, [], ◌∷◌, ◌++◌, Option, Some, None, Ok, length, take, refl, sym, ap, ◌∙◌, arith, add-one, length-append, ⊎_elim}
 use Rattle.std.proofs.lemmas.List.{append_assoc, append-nil, take_at, take-append-le, take_all, get_or_append_left, get_or_at, length_push}
 use Rattle.std.proofs.lemmas.List.Elements.{filter_map-append}
 use Rattle.std.proofs.lemmas.List.Sums.{sum_by-append}
 use Rattle.std.proofs.Math.Seq.{take-append-add}
 use Rattle.std.proofs.lemmas.Bool.{lt-ltb, le-ltb, cases_lt}
 use Rattle.pmf_event.specs.declared.event.Event.{Event}
-use Rattle.pmf_event.specs.declared.section.TheConstants.{EVENT_LIMIT}
 use Rattle.pmf_storelog.specs.declared.fault.TheConstants.{LOG_LIMIT}
-use Rattle.pmf_storelog.specs.declared.fault.Cause.{Cause}
-use Rattle.pmf_storelog.specs.declared.fault.Cause.TheVariants.{TooManyEvents, TooLong}
+use Rattle.pmf_storelog.specs.declared.fault.Cause.TheVariants.{TooLong}
 use Rattle.pmf_storelog.specs.declared.fault.LogFault.{LogFault}
 use Rattle.pmf_storelog.specs.Records.{record_of}
-use Rattle.pmf_storelog.specs.Separators.{records_of, ended_records, records_in}
-use Rattle.pmf_storelog.specs.LogText.{event_in, is_nothing, event_of, is_skipped, events_of, skipped_of, cause_after, fault_at, refusal_at, or_else, first_fault_among, first_fault, too_long, shown_within, fault_within, shown_fault, fault_of, IsFaultOfAll, value_of, value_unless, log_of, sections_of}
+use Rattle.pmf_storelog.specs.Separators.{records_of, ended_records}
+use Rattle.pmf_storelog.specs.LogText.{event_of, is_skipped, events_of, skipped_of, cause_after, fault_at, refusal_at, or_else, first_fault_among, first_fault, too_long, shown_within, fault_within, shown_fault, fault_of, IsFaultOfAll}
 use Rattle.pmf_storelog.proofs.PartLemmas.{ended_records-more, records_of-unfinished, unfinished}
 
 -- what one more record adds
@@ -87,13 +84,15 @@ none_is_some same = cc
 take_more_of : (limit : ℕ) (xs ys : List ℕ) → (zs : List ℕ) × (take limit (xs ++ ys) ≡ take limit xs ++ zs)
 take_more_of limit xs ys = ⊎_elim
     (λ less. ([], take-append-le limit xs ys (omega arith) ∙ sym (append-nil (take limit xs))))
-    (λ le. (take (limit - length xs) ys,
-    ap (λ n. take n (xs ++ ys)) (past limit (length xs) le) ∙ take-append-add xs ys (limit - length xs)
-    ∙ ap (λ front. front ++ take (limit - length xs) ys) (sym (take_all limit xs le))))
+    (λ le. (
+      take (limit - length xs) ys,
+      ap (λ n. take n (xs ++ ys)) (past limit (length xs) le) ∙ take-append-add xs ys (limit - length xs)
+          ∙ ap (λ front. front ++ take (limit - length xs) ys) (sym (take_all limit xs le)),
+    ))
     (cases_lt limit (length xs))
   where
-  past : (m n : ℕ) → n ≤ m → m ≡ n + (m - n)
-  past m n le = omega arith
+    past : (m n : ℕ) → n ≤ m → m ≡ n + (m - n)
+    past m n le = omega arith
 
 module _ (limit : ℕ) (bytes : List ℕ) where
   -- within the limit only the ended records show a fault
@@ -126,14 +125,14 @@ module _ (limit : ℕ) (bytes rest : List ℕ) (fault : LogFault) (shown : shown
   by_record : first_fault (ended_records (take limit bytes)) ≡ Some fault → fault_within limit (bytes ++ rest) ≡ Some fault
   by_record is = ⊎_elim
       (λ long.
-          let more = take_more_of limit bytes rest in
-          fault_within-long limit (bytes ++ rest) long
-          ∙ shown_within-early limit (bytes ++ rest) fault
-          (ap (λ front. first_fault (ended_records front)) more.1 ∙ first_fault-ended (take limit bytes) more.0 fault is))
+      let more = take_more_of limit bytes rest in
+      fault_within-long limit (bytes ++ rest) long
+      ∙ shown_within-early limit (bytes ++ rest) fault
+      (ap (λ front. first_fault (ended_records front)) more.1 ∙ first_fault-ended (take limit bytes) more.0 fault is))
       (λ short.
-          let all : take limit bytes ≡ bytes = take_all limit bytes (omega (arith, length-append bytes rest)) in
-          fault_within-short limit (bytes ++ rest) short
-          ∙ first_fault-records bytes rest fault (ap (λ front. first_fault (ended_records front)) (sym all) ∙ is))
+      let all : take limit bytes ≡ bytes = take_all limit bytes (omega (arith, length-append bytes rest)) in
+      fault_within-short limit (bytes ++ rest) short
+      ∙ first_fault-records bytes rest fault (ap (λ front. first_fault (ended_records front)) (sym all) ∙ is))
       (cases_lt limit (length (bytes ++ rest)))
 
   by_length : first_fault (ended_records (take limit bytes)) ≡ None → limit < length bytes → fault_within limit (bytes ++ rest) ≡ Some fault
@@ -148,14 +147,14 @@ module _ (limit : ℕ) (bytes rest : List ℕ) (fault : LogFault) (shown : shown
   pub shown_within-all : fault_within limit (bytes ++ rest) ≡ Some fault
   shown_within-all = by_first (first_fault (ended_records (take limit bytes))) refl
     where
-    by_first : (first : Option LogFault) → first_fault (ended_records (take limit bytes)) ≡ first → fault_within limit (bytes ++ rest) ≡ Some fault
-    by_first (Some other) is = by_record (is ∙ sym (shown_within-early limit bytes other is) ∙ shown)
-    by_first None is = ⊎_elim
-        (λ long. by_length is long)
-        (λ short.
-            let all : take limit bytes ≡ bytes = take_all limit bytes short in
-            absurd (none_is_some (sym is ∙ ap (λ front. first_fault (ended_records front)) all ∙ sym (shown_within-short limit bytes short) ∙ shown)))
-        (cases_lt limit (length bytes))
+      by_first : (first : Option LogFault) → first_fault (ended_records (take limit bytes)) ≡ first → fault_within limit (bytes ++ rest) ≡ Some fault
+      by_first (Some other) is = by_record (is ∙ sym (shown_within-early limit bytes other is) ∙ shown)
+      by_first None is = ⊎_elim
+          (λ long. by_length is long)
+          (λ short.
+          let all : take limit bytes ≡ bytes = take_all limit bytes short in
+          absurd (none_is_some (sym is ∙ ap (λ front. first_fault (ended_records front)) all ∙ sym (shown_within-short limit bytes short) ∙ shown)))
+          (cases_lt limit (length bytes))
 
 -- the same under the limit of a log
 pub shown_of_all : (bytes : List ℕ) (fault : LogFault) → shown_fault bytes ≡ Some fault → IsFaultOfAll fault bytes

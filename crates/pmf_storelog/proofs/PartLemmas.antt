@@ -1,6 +1,6 @@
 -- The parts and the ended records of bytes that more bytes follow.
-use Rattle.std.proofs.Common.{◌≡◌, ℕ, ◌+◌, ◌-◌, ◌<◌, ◌≤◌, List, [], ◌∷◌, ◌++◌, Option, Some, None, length, take, drop, map, MatchOption, refl, sym, ap, subst, ◌∙◌, arith, length-append}
-use Rattle.std.specs.List.{slice_split, filter}
+use Rattle.std.proofs.Common.{◌≡◌, ℕ, ◌+◌, ◌-◌, ◌<◌, List, [], ◌∷◌, ◌++◌, Option, Some, None, length, take, map, MatchOption, refl, sym, ap, ◌∙◌, arith, length-append}
+use Rattle.std.specs.List.{filter}
 use Rattle.std.proofs.lemmas.List.{append_assoc, append-nil, take_at, map-append}
 use Rattle.std.proofs.lemmas.List.Elements.{filter-append}
 use Rattle.memchr.specs.Find.{IsFirstByte, is_byte3}
@@ -85,9 +85,11 @@ records_of-unfinished bytes part kept = ap records_in kept ∙ records_in-append
 joined_ends : (front : List (List ℕ)) (part : List ℕ) (later ends : List (List ℕ)) (last : List ℕ) → later ≡ ends ++ last ∷ [] →
     (more : List (List ℕ)) × (final : List ℕ) × (joined (front ++ part ∷ []) later ≡ (front ++ more) ++ final ∷ [])
 joined_ends front part later [] last is = ([], part ++ last, rw is (joined_at front part last [] ∙ ap (λ f. f ++ (part ++ last) ∷ []) (sym (append-nil front))))
-joined_ends front part later (next ∷ ends) last is =
-    ((part ++ next) ∷ ends, last,
-    rw is (joined_at front part next (ends ++ last ∷ []) ∙ sym (append_assoc front ((part ++ next) ∷ ends) (last ∷ []))))
+joined_ends front part later (next ∷ ends) last is = (
+  (part ++ next) ∷ ends,
+  last,
+  rw is (joined_at front part next (ends ++ last ∷ []) ∙ sym (append_assoc front ((part ++ next) ∷ ends) (last ∷ []))),
+)
 
 -- the records that are ended stay as they are, whatever follows
 pub ended_records-more : (xs ys : List ℕ) → (more : List (List ℕ)) × (ended_records (xs ++ ys) ≡ ended_records xs ++ more)
@@ -96,5 +98,5 @@ ended_records-more xs ys =
     let of_ys = last_apart (parts_of ys) (parts_filled ys) in
     let all = joined_ends (ended_parts xs) of_xs.0 (parts_of ys) of_ys.0 of_ys.1 of_ys.2 in
     let is : parts_of (xs ++ ys) ≡ (ended_parts xs ++ all.0) ++ all.1 ∷ [] =
-        parts_of-append xs ys ∙ ap (λ parts. joined parts (parts_of ys)) of_xs.1 ∙ all.2 in
+    parts_of-append xs ys ∙ ap (λ parts. joined parts (parts_of ys)) of_xs.1 ∙ all.2 in
     (records_in all.0, ap records_in (ended_is (xs ++ ys) (ended_parts xs ++ all.0) all.1 is) ∙ records_in-append (ended_parts xs) all.0)

@@ -1,13 +1,14 @@
 -- What is kept of bytes that more bytes follow.
-use Rattle.std.proofs.Common.{◌≡◌, ◌≢◌, ℕ, ◌+◌, ◌-◌, ◌<◌, ◌≤◌, List, [], ◌∷◌, ◌++◌, Option, Some, None, Result, Ok, Err, OnOk, IfErr, length, take, drop, refl, sym, ap, subst, ◌∙◌, arith}
+use Rattle.std.proofs.Common.{◌≡◌, ℕ, ◌+◌, ◌-◌, List, [], ◌∷◌, ◌++◌, Result, Ok, Err, OnOk, IfErr, length, take, drop, sym, ap, subst, ◌∙◌, arith}
 use Rattle.std.proofs.lemmas.List.{append_assoc, take-append-drop, take_rest}
 use Rattle.std.proofs.Math.Seq.{take-add}
 use Rattle.pmf_storelog.specs.declared.fault.LogFault.{LogFault}
-use Rattle.pmf_storelog.specs.declared.tally.Tally.{Tally}
 use Rattle.pmf_storelog.specs.declared.progress.Progress.{Progress}
 use Rattle.pmf_storelog.specs.Separators.{records_in, parts_of, ended_parts, ended_records}
-use Rattle.pmf_storelog.specs.LogText.{first_fault, out_of_memory}
-use Rattle.pmf_storelog.specs.Reader.{HasTaken, HasParsed, HasParsedTo, IsShown}
+use Rattle.pmf_storelog.specs.LogText.{first_fault}
+use Rattle.pmf_storelog.specs.Answers.{IsShown}
+use Rattle.pmf_storelog.specs.Tally.{HasTaken}
+use Rattle.pmf_storelog.specs.Progress.{HasParsed}
 use Rattle.pmf_storelog.proofs.PartLemmas.{parts_of-nil, ended_is, ended_parts-open, parts_of-open, parts_of-ended, ended_records-ended}
 use Rattle.pmf_storelog.proofs.LogLemmas.{first_fault-ended}
 use Rattle.pmf_storelog.proofs.TallyLemmas.{records_in-none}

@@ -1,5 +1,5 @@
 -- What a reader says of all bytes fed to it.
-use Rattle.std.proofs.Common.{◌≡◌, ◌≢◌, ℕ, ◌+◌, ◌-◌, ◌<◌, ◌≤◌, min, List, [], ◌∷◌, ◌++◌, Option, Some, None, Result, Ok, Err, IfOk, IfErr, length, length-append, take, drop, refl, sym, ap, subst, ◌∙◌, arith}
+use Rattle.std.proofs.Common.{◌≡◌, ◌≢◌, ℕ, ◌+◌, ◌-◌, ◌<◌, ◌≤◌, min, List, [], ◌∷◌, ◌++◌, Some, None, Result, Ok, Err, IfOk, IfErr, length, length-append, take, refl, sym, ap, subst, ◌∙◌, arith}
 use Rattle.std.proofs.lemmas.List.{append_assoc, take_all, take_min}
 use Rattle.std.proofs.Math.Seq.{take-append-add}
 use Rattle.pmf_storelog.specs.declared.fault.TheConstants.{LOG_LIMIT}
@@ -7,12 +7,14 @@ use Rattle.pmf_storelog.specs.declared.fault.Cause.TheVariants.{TooLong}
 use Rattle.pmf_storelog.specs.declared.fault.LogFault.{LogFault}
 use Rattle.pmf_storelog.specs.declared.tally.Tally.{Tally}
 use Rattle.pmf_storelog.specs.declared.progress.Progress.{Progress}
-use Rattle.pmf_storelog.specs.Separators.{records_in, parts_of, ended_parts, records_of, ended_records}
+use Rattle.pmf_storelog.specs.Separators.{records_in, records_of, ended_records}
 use Rattle.pmf_storelog.specs.LogValue.{LogValue}
-use Rattle.pmf_storelog.specs.LogText.{events_of, skipped_of, sections_of, first_fault, shown_within, shown_fault, fault_within, fault_of, value_of, log_of, out_of_memory}
-use Rattle.pmf_storelog.specs.Reader.{HasTaken, HasParsed, HasParsedTo, IsShown, Answers}
+use Rattle.pmf_storelog.specs.LogText.{events_of, skipped_of, sections_of, first_fault, shown_fault, fault_of, value_of, log_of, out_of_memory}
+use Rattle.pmf_storelog.specs.Answers.{IsShown, Answers}
+use Rattle.pmf_storelog.specs.Tally.{HasTaken}
+use Rattle.pmf_storelog.specs.Progress.{HasParsed, HasParsedTo}
 use Rattle.pmf_storelog.proofs.PartLemmas.{ended_parts-open, records_of-unfinished}
-use Rattle.pmf_storelog.proofs.LogLemmas.{shown_within-short, shown_within-long, shown_within-early, fault_within-short, shown_within-all}
+use Rattle.pmf_storelog.proofs.LogLemmas.{shown_within-short, shown_within-long, shown_within-early, fault_within-short}
 use Rattle.pmf_storelog.proofs.ProgressLemmas.{parsed_open}
 
 -- what lies within the limit
@@ -22,11 +24,11 @@ taken_front limit bytes piece short =
     ap (λ n. take n (bytes ++ piece)) room ∙ take-append-add bytes piece (limit - length bytes)
     ∙ ap (λ front. bytes ++ front) (sym (fewer (limit - length bytes)))
   where
-  fewer : (n : ℕ) → take (min (length piece) n) piece ≡ take n piece
-  fewer n = ap (λ m. take m piece) (swapped (length piece) n) ∙ take_min n piece
-    where
-    swapped : (m n : ℕ) → min m n ≡ min n m
-    swapped m n = omega arith
+    fewer : (n : ℕ) → take (min (length piece) n) piece ≡ take n piece
+    fewer n = ap (λ m. take m piece) (swapped (length piece) n) ∙ take_min n piece
+      where
+        swapped : (m n : ℕ) → min m n ≡ min n m
+        swapped m n = omega arith
 
 module _ (run : ℕ) (bytes piece rest : List ℕ) (progress : Progress) (reached : HasParsedTo run bytes piece rest progress) where
   all_is : bytes ++ piece ≡ (bytes ++ reached.front) ++ rest
@@ -36,8 +38,8 @@ module _ (run : ℕ) (bytes piece rest : List ℕ) (progress : Progress) (reache
   pub taken_to : HasTaken run (ended_records (bytes ++ piece)) progress.tally
   taken_to =
       let same : ended_records (bytes ++ piece) ≡ ended_records (bytes ++ reached.front) =
-          ap ended_records all_is
-          ∙ ap records_in (ended_parts-open (bytes ++ reached.front) rest progress.carry.items reached.parsed.parts reached.open_end) in
+      ap ended_records all_is
+      ∙ ap records_in (ended_parts-open (bytes ++ reached.front) rest progress.carry.items reached.parsed.parts reached.open_end) in
       rw same reached.parsed.taken
 
   -- with the rest kept, the whole piece is read

@@ -1,7 +1,6 @@
 -- What the first byte that passes a test says of the parts of a list, and the parts of two lists joined.
-use Rattle.std.proofs.Common.{◌≡◌, ℕ, zero, suc, ◌+◌, ◌-◌, ◌<◌, ◌≤◌, Bool, true, false, cond, List, [], ◌∷◌, ◌++◌, Option, Some, None, length, take, drop, get_or, All, refl, sym, ap, subst, ◌∙◌, arith}
-use Rattle.std.specs.List.{slice_split, onto_first, position_or_len, before_first, after_first}
-use Rattle.std.proofs.lemmas.Bool.{cases_Bool}
+use Rattle.std.proofs.Common.{◌≡◌, ℕ, ◌+◌, ◌<◌, Bool, true, false, cond, List, [], ◌∷◌, ◌++◌, Some, None, length, take, drop, get_or, All, refl, sym, ap, subst, ◌∙◌, arith}
+use Rattle.std.specs.List.{slice_split, onto_first, position_or_len}
 use Rattle.std.proofs.lemmas.List.{take_more, get_or-take, length-take-le}
 use Rattle.std.proofs.lemmas.List.Elements.{All-from_get_or}
 use Rattle.std.proofs.lemmas.List.Splits.{slice_split_none, slice_split_first, slice_split_at}
@@ -29,9 +28,9 @@ module _ (p : ℕ → Bool) where
   split_some xs k found =
       let first = found.0 in
       let is : position_or_len p xs ≡ k =
-          position_or_len_is p xs k 0 (omega (arith, first.high))
-          (λ j below. not_true _ (first.before j (omega arith) below))
-          (λ _. found.1) in
+      position_or_len_is p xs k 0 (omega (arith, first.high))
+      (λ j below. not_true _ (first.before j (omega arith) below))
+      (λ _. found.1) in
       slice_split_first p xs 0 (omega (arith, is, first.high)) ∙ ap (λ n. take n xs ∷ slice_split p (drop (n + 1) xs)) is
 
   -- there is a part
@@ -39,10 +38,10 @@ module _ (p : ℕ → Bool) where
   split_filled [] = omega arith
   split_filled (x ∷ xs) = at_first (p x) x (slice_split p xs)
     where
-    at_first : (b : Bool) (x : ℕ) (parts : List (List ℕ)) → 0 < length (cond b ([] ∷ parts) (onto_first x parts))
-    at_first true x parts = omega arith
-    at_first false x [] = omega arith
-    at_first false x (part ∷ parts) = omega arith
+      at_first : (b : Bool) (x : ℕ) (parts : List (List ℕ)) → 0 < length (cond b ([] ∷ parts) (onto_first x parts))
+      at_first true x parts = omega arith
+      at_first false x [] = omega arith
+      at_first false x (part ∷ parts) = omega arith
 
   -- with a byte that passes at the end alone, there is the part before it and an empty one
   pub split_upto : (xs : List ℕ) (k : ℕ) → IsFirstByte p xs (Some k) → slice_split p (take (k + 1) xs) ≡ take k xs ∷ [] ∷ []
@@ -50,9 +49,9 @@ module _ (p : ℕ → Bool) where
       let first = found.0 in
       let P = λ (c : ℕ). p c ≡ false in
       let none : All P (take k xs) =
-          All-from_get_or P (take k xs) 0
-          (λ i below. subst P (sym (get_or-take k xs i 0 (omega (arith, length-take-le k xs (omega (arith, first.high))))))
-          (not_true _ (first.before i (omega arith) (omega (arith, length-take-le k xs (omega (arith, first.high))))))) in
+      All-from_get_or P (take k xs) 0
+      (λ i below. subst P (sym (get_or-take k xs i 0 (omega (arith, length-take-le k xs (omega (arith, first.high))))))
+      (not_true _ (first.before i (omega arith) (omega (arith, length-take-le k xs (omega (arith, first.high))))))) in
       ap (slice_split p) (take_more xs k 0 first.high) ∙ slice_split_at p (take k xs) (get_or xs k 0) [] none found.1
 
 -- the parts of two lists joined: the last part of the first goes on as the first part of the second

@@ -1,17 +1,16 @@
 -- The tally with one more record, and with one more part.
-use Rattle.std.proofs.Common.{◌≡◌, ◌≢◌, ℕ, ◌+◌, ◌<◌, ◌≤◌, ◌==◌, Bool, true, false, cond, eqb, List, [], ◌∷◌, ◌++◌, Option, Some, None, Result, Ok, Err, MatchResult, OnOk, IfErr, length, length-append, refl, sym, ap, subst, ◌∙◌, arith}
+use Rattle.std.proofs.Common.{◌≡◌, ◌≢◌, ℕ, ◌+◌, ◌<◌, List, [], ◌∷◌, ◌++◌, Some, None, Result, Ok, Err, OnOk, IfErr, length, length-append, refl, sym, ap, ◌∙◌, arith}
 use Rattle.std.proofs.lemmas.Bool.{lt-ltb, eq-eqb, ne_eqb}
 use Rattle.std.proofs.lemmas.List.{append-nil}
 use Rattle.pmf_event.specs.declared.event.Event.{Event}
-use Rattle.pmf_event.specs.declared.section.TheConstants.{EVENT_LIMIT}
 use Rattle.pmf_storelog.specs.declared.fault.Cause.{Cause}
-use Rattle.pmf_storelog.specs.declared.fault.Cause.TheVariants.{TooManyEvents}
 use Rattle.pmf_storelog.specs.declared.fault.LogFault.{LogFault}
 use Rattle.pmf_storelog.specs.declared.tally.Tally.{Tally}
 use Rattle.pmf_storelog.specs.Separators.{trimmed, records_in}
 use Rattle.pmf_storelog.specs.Records.{record_of}
 use Rattle.pmf_storelog.specs.LogText.{events_of, skipped_of, first_fault, first_fault_among, cause_after, fault_at, out_of_memory}
-use Rattle.pmf_storelog.specs.Reader.{HasTaken, AddsEvent, AddsSkipped, IsFullAt, IsShown}
+use Rattle.pmf_storelog.specs.Answers.{IsShown}
+use Rattle.pmf_storelog.specs.Tally.{HasTaken, AddsEvent, AddsSkipped, IsFullAt}
 use Rattle.pmf_storelog.proofs.LogLemmas.{events_of-event, events_of-nothing, skipped_of-event, skipped_of-nothing, first_fault-push}
 
 events_of-nil : events_of [] ≡ []

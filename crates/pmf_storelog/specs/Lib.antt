@@ -6,4 +6,7 @@ pub mod Records
 pub mod Fields
 pub mod LogValue
 pub mod LogText
+pub mod Answers
+pub mod Tally
+pub mod Progress
 pub mod Reader

@@ -1,4 +1,5 @@
 ghost use Rattle.std.specs.Prelude.{◌≡◌, ◌+◌, ◌<◌, ◌≤◌, ◌^◌, ℕ, List, [], ◌∷◌, ◌++◌, length, take, MatchOption, OnOk, IfOk, IfErr, IfSome};
+ghost use Rattle.pmf_storelog.specs.Separators.{ended_records, parts_of};
 
 use crate::fault::LogFault;
 use crate::tally::Tally;
@@ -13,9 +14,9 @@ pub(crate) struct Progress {
 }
 
 impl Progress {
-    ghost use Rattle.pmf_storelog.specs.Separators.{ended_records, parts_of};
     ghost use Rattle.pmf_storelog.specs.LogText.{first_fault, out_of_memory};
-    ghost use Rattle.pmf_storelog.specs.Reader.{HasParsed, HasParsedTo, IsShown};
+    ghost use Rattle.pmf_storelog.specs.Answers.{IsShown};
+    ghost use Rattle.pmf_storelog.specs.Progress.{HasParsed, HasParsedTo};
 
     /// What no bytes give. Takes no memory.
     pub(crate) fn new(alloc: Global, run: u64) -> Progress
@@ -38,7 +39,7 @@ impl Progress {
             → IfErr result (λ fault. IsShown fault (first_fault (ended_records (bytes ++ piece.now)))) }
     {
         let mut start = 0;
-        while let Some(len) = Progress::separator(&piece[start..]) {
+        while let Some(len) = next_separator(&piece[start..]) {
             self.end_part(&piece[start..start + len])?;
             start += len + 1;
         }
@@ -73,14 +74,14 @@ impl Progress {
         self.carry.extend_from_slice(rest)?;
         Ok(())
     }
+}
 
-    // Where the first separator stands.
-    #[inline]
-    fn separator(text: &[u8]) -> Option<usize>
-        ensures cases { MatchOption result (parts_of text.now ≡ text.now ∷ []) (λ end. parts_of (take (end + 1) text.now)
-            ≡ take end text.now ∷ [] ∷ []) }
-        ensures within { IfSome result (λ end. end < length text.now) }
-    {
-        memchr3(b'|', b'\n', b'\r', text)
-    }
+// Where the first separator stands.
+#[inline]
+fn next_separator(text: &[u8]) -> Option<usize>
+    ensures cases { MatchOption result (parts_of text.now ≡ text.now ∷ []) (λ end. parts_of (take (end + 1) text.now)
+        ≡ take end text.now ∷ [] ∷ []) }
+    ensures within { IfSome result (λ end. end < length text.now) }
+{
+    memchr3(b'|', b'\n', b'\r', text)
 }

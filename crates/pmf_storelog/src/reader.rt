@@ -24,7 +24,8 @@ pub struct LogReader {
 
 impl LogReader {
     ghost use Rattle.pmf_storelog.specs.LogText.{IsFaultOfAll, log_of, out_of_memory, shown_fault, spent};
-    ghost use Rattle.pmf_storelog.specs.Reader.{Answers, HasRead, IsShown, IsSpent};
+    ghost use Rattle.pmf_storelog.specs.Answers.{Answers, IsShown};
+    ghost use Rattle.pmf_storelog.specs.Reader.{HasRead, IsSpent};
 
     /// A reader of the run's log, of which nothing is fed yet. Takes no memory.
     pub fn new(alloc: Global, run: u64) -> LogReader
@@ -86,7 +87,9 @@ impl LogReader {
             return Err(LogFault::SPENT);
         }
         let LogReader {
-            progress, alloc, ..
+            progress,
+            alloc,
+            ..
         } = self;
         let Progress { mut tally, carry } = progress;
         tally.take_part(&carry)?;

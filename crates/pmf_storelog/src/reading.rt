@@ -1,5 +1,5 @@
 ghost use Rattle.pmf_storelog.specs.LogText.{log_of};
-ghost use Rattle.pmf_storelog.specs.Reader.{Answers};
+ghost use Rattle.pmf_storelog.specs.Answers.{Answers};
 
 use crate::fault::LogFault;
 use crate::log::Log;

@@ -23,7 +23,8 @@ pub(crate) struct Tally {
 impl Tally {
     ghost use Rattle.pmf_storelog.specs.Separators.{records_in};
     ghost use Rattle.pmf_storelog.specs.LogText.{events_of, first_fault, out_of_memory, sections_of, skipped_of};
-    ghost use Rattle.pmf_storelog.specs.Reader.{AddsEvent, AddsSkipped, HasTaken, IsFullAt, IsShown};
+    ghost use Rattle.pmf_storelog.specs.Answers.{IsShown};
+    ghost use Rattle.pmf_storelog.specs.Tally.{AddsEvent, AddsSkipped, HasTaken, IsFullAt};
 
     /// The tally of no record.
     pub(crate) fn new(alloc: Global, run: u64) -> Tally
@@ -119,7 +120,9 @@ impl Tally {
         ensures err { IfErr result (λ fault. fault ≡ out_of_memory) }
     {
         let Tally {
-            section, skipped, ..
+            section,
+            skipped,
+            ..
         } = self;
         let mut sections = Vec::new(alloc);
         if !section.events().is_empty() {

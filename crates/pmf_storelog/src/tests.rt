@@ -4,7 +4,8 @@ use std::alloc::Global;
 use std::test::Fail;
 
 // Eight events; the file, the line of a tracer and the name `FENCE ` are skipped.
-const LONG_TEXT: &[u8] = b"STORE;0x1000;0x0;0x8|FLUSH;0x1000;0x40|FENCE\r\n \tPMT.PERSIST;0x1000;0x8 ||REGISTER_FILE;/mnt/pool;x
+const LONG_TEXT: &[u8] =
+    b"STORE;0x1000;0x0;0x8|FLUSH;0x1000;0x40|FENCE\r\n \tPMT.PERSIST;0x1000;0x8 ||REGISTER_FILE;/mnt/pool;x
 PMT.EXCLUDE;4096;8;note\tkept|PMT.INCLUDE;0x1004;0x4|==77== Command: ./a|STORE;18446744;v v;65536|FENCE ;|FENCE";
 
 // The events of the log's one section, or none where it has no section.
@@ -75,11 +76,16 @@ fn a_number_is_hexadecimal_with_a_small_x_or_decimal(rt: HostRuntime) {
         assert_eq!(rt; number::read_number(bytes).is_some(), good, "at {text}");
     }
     assert_eq!(rt; number::read_number(b"0xfFfFfFfFfFfFfFfF"), Some(u64::MAX));
-    assert_eq!(rt; number::read_number(b"18446744073709551615"), Some(u64::MAX));
+    assert_eq!(rt;
+        number::read_number(b"18446744073709551615"),
+        Some(u64::MAX)
+    );
 }
 
 #[test]
-fn blanks_and_empty_records_are_dropped_and_other_names_counted(rt: HostRuntime) -> Result<(), Fail> {
+fn blanks_and_empty_records_are_dropped_and_other_names_counted(
+    rt: HostRuntime,
+) -> Result<(), Fail> {
     let text = b" STORE;4096;junk;8;more |\r\n\nREGISTER_FILE;x|FENCE ";
     let log = read_log(rt.alloc(), text, 3)?;
     assert_eq!(rt; log.skipped(), 1);
@@ -87,6 +93,7 @@ fn blanks_and_empty_records_are_dropped_and_other_names_counted(rt: HostRuntime)
     let section = &log.sections()[0];
     assert_eq!(rt; section.name(), Name { run: 3, number: 0 });
     assert!(rt; section.events() == [Event::Store(Span::make(4096, 8)?), Event::Fence].as_slice());
+    assert_eq!(rt; log.into_sections().len(), 1);
     Ok(())
 }
 
@@ -161,7 +168,13 @@ fn one_event_too_many_in_the_section_is_refused(rt: HostRuntime) -> Result<(), F
         cause: Cause::TooManyEvents,
     };
     assert_eq!(rt; reader.feed(b"|START"), Ok(()));
-    assert_eq!(rt; reader.feed(b"|FENCE|"), Err(LogFault { at: 1_048_578, ..many }));
+    assert_eq!(rt;
+        reader.feed(b"|FENCE|"),
+        Err(LogFault {
+            at: 1_048_578,
+            ..many
+        })
+    );
     Ok(())
 }
 
@@ -222,12 +235,28 @@ fn faults_are_shown_with_their_record(rt: HostRuntime) -> Result<(), Fail> {
     for (at, cause, want) in [
         (1, Cause::TooFewFields, "record 1: too few fields"),
         (20, Cause::BadNumber, "record 20: bad number"),
-        (3, Cause::BadSpan(SpanFault::ZeroSize), "record 3: size is zero"),
-        (4, Cause::BadSpan(SpanFault::TooLarge), "record 4: size is too large"),
-        (5, Cause::BadSpan(SpanFault::PastEnd), "record 5: range ends past 2^63"),
+        (
+            3,
+            Cause::BadSpan(SpanFault::ZeroSize),
+            "record 3: size is zero",
+        ),
+        (
+            4,
+            Cause::BadSpan(SpanFault::TooLarge),
+            "record 4: size is too large",
+        ),
+        (
+            5,
+            Cause::BadSpan(SpanFault::PastEnd),
+            "record 5: range ends past 2^63",
+        ),
         (6, Cause::UnknownMarker, "record 6: unknown marker"),
         (7, Cause::TooManySections, "record 7: too many sections"),
-        (8, Cause::TooManyEvents, "record 8: too many events in the section"),
+        (
+            8,
+            Cause::TooManyEvents,
+            "record 8: too many events in the section",
+        ),
         (9, Cause::TooLong, "record 9: log is too long"),
         (0, Cause::OutOfMemory, "out of memory"),
     ] {

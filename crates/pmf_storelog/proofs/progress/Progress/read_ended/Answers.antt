@@ -1,7 +1,6 @@
-use Rattle.std.proofs.Common.{◌≡◌, ◌+◌, ◌-◌, ◌<◌, ◌≤◌, ◌++◌, ◌∷◌, [], ℕ, List, length, take, drop, refl, sym, ap, ◌∙◌, arith, subst}
+use Rattle.std.proofs.Common.{◌-◌, length, take, drop, arith}
 use Rattle.std.proofs.lemmas.Result.{err_from_is_err_and}
 use Rattle.std.proofs.lemmas.List.{take_rest, take-append-drop, length-drop, length-take-le}
-use Rattle.pmf_storelog.specs.Separators.{parts_of}
 use Rattle.pmf_storelog.proofs.ProgressLemmas.{front_longer, next_part, shown_in_piece}
 use Rattle.pmf_storelog.proofs.progress.Progress.read_ended.Goals as goal
 

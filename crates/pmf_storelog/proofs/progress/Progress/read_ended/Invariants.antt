@@ -1,5 +1,5 @@
 use Rattle.std.proofs.Common.{◌+◌, ◌-◌, ◌≤◌, ◌++◌, ℕ, List, length, take}
-use Rattle.pmf_storelog.specs.Reader.{HasParsed}
+use Rattle.pmf_storelog.specs.Progress.{HasParsed}
 use Rattle.pmf_storelog.proofs.progress.Progress.read_ended.Given as goal
 
 abbrev pub invariant-loop-len : goal.invariant-loop-len

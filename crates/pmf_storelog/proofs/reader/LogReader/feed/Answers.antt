@@ -1,4 +1,4 @@
-use Rattle.std.proofs.Common.{◌≡◌, ◌+◌, ◌≤◌, ℕ, List, ◌++◌, length, refl, sym, ap, ◌∙◌, arith}
+use Rattle.std.proofs.Common.{◌++◌, refl}
 use Rattle.std.proofs.lemmas.Result.{err_from_is_err_and}
 use Rattle.pmf_storelog.proofs.LogLemmas.{shown_of_all}
 use Rattle.pmf_storelog.proofs.ReaderLemmas.{fed_faulty, fed_long, fed_whole, fed_length, fed_none}
@@ -40,7 +40,7 @@ returns-clause-ok c = λ run bytes read. record {
 pub returns-clause-faultless : goal.returns-clause-faultless
 returns-clause-faultless c = λ run bytes read.
     let parsed = fed_whole run bytes c.args.piece.now c.args.self.now.total c.min-taken.result read.total c.args.self.now.within c.min-taken.ensures
-        c.in_ok-rest.rest.now c.read_ended.new.self c.keep.new.self (c.in_ok-rest.ensures.ok run bytes read.parsed) c.if-taken-piece.false
-        c.keep.ensures.tally c.in_ok-keep.ensures.carry in
+    c.in_ok-rest.rest.now c.read_ended.new.self c.keep.new.self (c.in_ok-rest.ensures.ok run bytes read.parsed) c.if-taken-piece.false
+    c.keep.ensures.tally c.in_ok-keep.ensures.carry in
     fed_none run bytes c.args.piece.now c.args.self.now.total c.min-taken.result read.total c.args.self.now.within c.min-taken.ensures
     c.keep.new.self c.if-taken-piece.false parsed

@@ -1,8 +1,5 @@
-use Rattle.std.proofs.Common.{◌≡◌, ◌<◌, ◌++◌, ◌∷◌, [], ℕ, List, length, refl, sym, ap, ◌∙◌, arith, OnOk, IfErr, subst}
+use Rattle.std.proofs.Common.{◌≡◌, ◌<◌, ℕ, List, length, sym, ap, ◌∙◌, arith, subst}
 use Rattle.std.proofs.lemmas.Grind.{common_steps}
-use Rattle.pmf_storelog.specs.Separators.{trimmed, records_in}
-use Rattle.pmf_storelog.specs.LogText.{first_fault}
-use Rattle.pmf_storelog.specs.Reader.{HasTaken, IsShown}
 use Rattle.pmf_storelog.proofs.TallyLemmas.{taken_blank, records_in-filled}
 use Rattle.pmf_storelog.proofs.tally.Tally.take_part.Goals as goal
 

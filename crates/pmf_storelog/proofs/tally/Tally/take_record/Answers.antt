@@ -1,4 +1,4 @@
-use Rattle.std.proofs.Common.{◌≡◌, Ok, Err, Some, None, refl, sym, ap, ◌∙◌}
+use Rattle.std.proofs.Common.{◌≡◌, Ok, Err, Some, None, sym, ap, ◌∙◌}
 use Rattle.pmf_storelog.specs.Records.{record_of}
 use Rattle.pmf_storelog.proofs.TallyLemmas.{added_ok, added_err, taken_nothing, shown_cause}
 use Rattle.pmf_storelog.proofs.tally.Tally.take_record.Goals as goal
