@@ -6,5 +6,6 @@ pub use Rattle.pmf_image.specs.Holds
 pub mod Rows
 pub mod Sound
 pub mod Text
+pub mod Outcome
 pub mod Report
 pub mod Shadow

@@ -10,10 +10,12 @@
 #![tactic(auto)]
 
 mod checking;
+mod outcome;
 mod shadow;
 mod text;
 mod verdict;
 
 pub use checking::{CheckFault, check};
+pub use outcome::{Outcome, outcome_of};
 pub use text::write_rows;
 pub use verdict::Verdict;

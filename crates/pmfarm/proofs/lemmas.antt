@@ -1,1 +1,3 @@
 pub mod TextLemmas
+pub mod ReportLemmas
+pub mod StreamLemmas

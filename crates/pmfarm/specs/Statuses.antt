@@ -1,7 +1,12 @@
 -- The exit statuses (defined here).
-use Rattle.std.specs.Prelude.{◌≡◌, ◌⊎◌, ℕ}
+use Rattle.std.specs.Prelude.{◌≡◌, ◌⊎◌, ℕ, ◌==◌, if◌then◌else◌}
 use Rattle.clap.specs.declared.error.kind.ErrorKind.{ErrorKind}
 use Rattle.clap.specs.declared.error.kind.ErrorKind.TheVariants.{DisplayHelp, DisplayVersion, OutOfMemory}
+use Rattle.pmf_storelog.specs.declared.fault.Cause.{Cause}
+use Rattle.pmf_storelog.specs.declared.fault.Cause.TheVariants as log
+use Rattle.pmfarm.specs.declared.stream.Done.{Done}
+use Rattle.pmfarm.specs.declared.stream.StreamFault.{StreamFault}
+use Rattle.pmfarm.specs.declared.stream.StreamFault.TheVariants as stream
 use Rattle.pmfarm.specs.declared.status.Status.{Status}
 use Rattle.pmfarm.specs.declared.status.Status.TheVariants.{NoFail, SomeFail, Refused, NoMemory, DeviceFault}
 
@@ -24,3 +29,19 @@ status_of_kind _ = Refused
 abbrev pub IsAnswerTo : ErrorKind → Status → Type 0
 IsAnswerTo kind status =
     (status ≡ status_of_kind kind) ⊎ ((status ≡ NoMemory) ⊎ ((status_of_kind kind ≡ NoFail) × (status ≡ DeviceFault)))
+
+-- how the program ends where the log is reported
+abbrev pub status_of_done : Done → Status
+status_of_done done = if done.fails == 0 then NoFail else SomeFail
+
+-- how the program ends where the log is refused
+abbrev pub status_of_cause : Cause → Status
+status_of_cause log.OutOfMemory = NoMemory
+status_of_cause _ = Refused
+
+-- how the program ends where the stream is not reported
+abbrev pub status_of_fault : StreamFault → Status
+status_of_fault stream.ReadFault = DeviceFault
+status_of_fault (stream.Log fault) = status_of_cause fault.cause
+status_of_fault (stream.WriteFault written) = DeviceFault
+status_of_fault stream.OutOfMemory = NoMemory

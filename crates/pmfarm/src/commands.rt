@@ -2,11 +2,12 @@ ghost use Rattle.std.specs.Prelude.{◌≡◌, ◌⊎◌};
 ghost use Rattle.clap.specs.Words.{kind_of};
 ghost use Rattle.pmfarm.specs.Statuses.{IsAnswerTo};
 
-use crate::diagnostics::{fail, out_of_memory, refuse_words};
+use crate::diagnostics::{fail, out_of_memory, refuse_words, say_skipped};
 use crate::request::{Request, Settings, request_of};
 use crate::sink::StdSink;
-use crate::source::{Source, StdSource};
+use crate::source::StdSource;
 use crate::status::Status;
+use crate::stream::check_stream;
 use crate::writing::write_text;
 use std::alloc::Global;
 use std::io::{Eprint, ErrorKind, Input, Print};
@@ -32,12 +33,17 @@ fn words_of(rt: &HostRuntime) -> io::Result<Vec<String>> {
 }
 
 /// Checks the log on standard input and writes its report to standard output.
-fn run_check(rt: &HostRuntime, _settings: Settings) -> Status {
+fn run_check(rt: &HostRuntime, settings: Settings) -> Status {
     let mut source = StdSource::new(rt.reader());
-    let mut piece = [0u8; 65_536];
-    match source.read(&mut piece) {
-        Ok(_) => Status::NoFail,
-        Err(_) => fail(rt, "read failed", Status::DeviceFault),
+    let mut sink = StdSink::new(io::writer(rt));
+    match check_stream(rt.alloc(), &mut source, &mut sink, settings) {
+        Ok(done) => {
+            if done.skipped > 0 {
+                say_skipped(rt, done.skipped);
+            }
+            Status::of_done(done)
+        }
+        Err(fault) => fail(rt, fault, Status::of_fault(fault)),
     }
 }
 

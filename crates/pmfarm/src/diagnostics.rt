@@ -28,3 +28,8 @@ pub fn refuse_words<R: Eprint>(rt: &R, text: &str) -> Status
     let _ = eprint!(rt; "pmfarm: {text}");
     Status::Refused
 }
+
+/// Says on standard error how many records of a log were skipped.
+pub fn say_skipped<R: Eprint>(rt: &R, records: u64) {
+    let _ = eprintln!(rt; "pmfarm: skipped {records} records");
+}

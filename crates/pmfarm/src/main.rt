@@ -12,10 +12,12 @@
 mod commands;
 mod diagnostics;
 mod failed;
+mod report;
 mod request;
 mod sink;
 mod source;
 mod status;
+mod stream;
 #[cfg(test)]
 mod tests;
 mod writing;

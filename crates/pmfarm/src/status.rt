@@ -1,7 +1,9 @@
 ghost use Rattle.std.specs.Prelude.{◌≡◌};
-ghost use Rattle.pmfarm.specs.Statuses.{exit_code_of, status_of_kind};
+ghost use Rattle.pmfarm.specs.Statuses.{exit_code_of, status_of_done, status_of_fault, status_of_kind};
 
+use crate::stream::{Done, StreamFault};
 use clap::error::ErrorKind;
+use pmf_storelog::Cause;
 
 /// How the program ends. From [`Status::Refused`] on there is no verdict, or not all of its text.
 #[derive(Clone, Copy, Debug, PartialEq, Eq)]
@@ -40,6 +42,31 @@ impl Status {
             ErrorKind::DisplayHelp | ErrorKind::DisplayVersion => Status::NoFail,
             ErrorKind::OutOfMemory => Status::NoMemory,
             _ => Status::Refused,
+        }
+    }
+
+    /// How the program ends where the log is reported.
+    pub fn of_done(done: Done) -> Status
+        ensures { result ≡ status_of_done done }
+    {
+        if done.fails == 0 {
+            Status::NoFail
+        } else {
+            Status::SomeFail
+        }
+    }
+
+    /// How the program ends where the stream is not reported.
+    pub fn of_fault(fault: StreamFault) -> Status
+        ensures { result ≡ status_of_fault fault }
+    {
+        match fault {
+            StreamFault::ReadFault | StreamFault::WriteFault { .. } => Status::DeviceFault,
+            StreamFault::OutOfMemory => Status::NoMemory,
+            StreamFault::Log(fault) => match fault.cause {
+                Cause::OutOfMemory => Status::NoMemory,
+                _ => Status::Refused,
+            },
         }
     }
 }
