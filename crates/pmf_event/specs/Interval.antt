@@ -1,6 +1,6 @@
 -- The persist interval of a byte (PMTest, ASPLOS 2019): from the epoch of its last store to the end of
--- the epoch in which a fence completed a write-back of its line. A write-back that no fence follows
--- closes nothing (Intel SDM, CLWB and SFENCE).
+-- the epoch in which a fence first completed a write-back of its line that was made after that store. A
+-- write-back that no fence follows closes nothing (Intel SDM, CLWB and SFENCE).
 use Rattle.std.specs.Prelude.{ℕ, ◌+◌, Bool, false, ◌&&◌, ◌==◌, nat_lt, List, Option, None, Some, is_none, if◌then◌else◌}
 use Rattle.pmf_event.specs.declared.event.Event.{Event}
 use Rattle.pmf_event.specs.Line.{line_of_byte}

@@ -9,7 +9,7 @@ pub record Extent : Type 0 where
   pub first : ℕ
   pub size : ℕ
 
--- what the two numbers of a span meet
+-- the limits that the two numbers of a span keep
 pub record IsValidExtent (first size : ℕ) : Type 0 where
   pub not_empty : 0 < size
   pub small : size ≤ SPAN_LIMIT

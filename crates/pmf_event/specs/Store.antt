@@ -1,6 +1,6 @@
 -- Stores, write-backs and fences at the places of a section's events: the last store of a byte, and the
--- epoch of a place (PMTest, ASPLOS 2019: an epoch ends with each fence). Each definition looks at the
--- whole list; "at p" means after the first p events.
+-- epoch of a place (PMTest, ASPLOS 2019: an epoch ends with each fence). All speak of one list of events
+-- and of places in it; "at p" means after the first p events.
 use Rattle.std.specs.Prelude.{ℕ, zero, suc, ◌-◌, Bool, false, true, List, Option, None, Some, slice_get}
 use Rattle.pmf_event.specs.declared.event.Event.{Event}
 use Rattle.pmf_event.specs.declared.event.Event.TheVariants.{Store, Flush, Fence}

@@ -11,7 +11,11 @@ use thiserror::Error;
 /// The greatest number of events in a section: 2^20.
 pub const EVENT_LIMIT: usize = 1 << 20;
 
-/// A name, and the events of one thread on lines that no other thread writes meanwhile.
+/// A name and a list of events.
+///
+/// What is said of crash images has a premise that no type keeps: the events are all of one thread's
+/// stores, write-backs and fences on its cache lines, in program order, from durable memory on, and no
+/// other thread writes those lines meanwhile.
 #[derive(Debug, Drop)]
 pub struct Section {
     name: Name,

@@ -5,7 +5,7 @@ ghost use Rattle.pmf_event.specs.Span.{Extent, IsValidExtent, covers_byte, exten
 use std::marker::Model;
 use thiserror::Error;
 
-/// The bytes of a cache line. A line is named by the address of its first byte.
+/// How many bytes a cache line has. A line is named by the address of its first byte.
 pub const LINE_SIZE: u64 = 64;
 
 /// The greatest size of a span, in bytes.

@@ -1,5 +1,6 @@
 -- Soundness of closed intervals, the two images that are always there, and the image of an open interval.
-use Rattle.std.proofs.Common.{◌≡◌, ℕ, zero, suc, ◌+◌, ◌-◌, ◌<◌, ◌≤◌, true, false, ◌==◌, List, [], ◌∷◌, if◌then◌else◌, refl, sym, ◌∙◌, ap, arith, inl, inr}
+use Rattle.std.specs.Prelude.{◌||◌}
+use Rattle.std.proofs.Common.{subst, ◌≡◌, ℕ, zero, suc, ◌+◌, ◌-◌, ◌<◌, ◌≤◌, true, false, ◌==◌, List, [], ◌∷◌, if◌then◌else◌, refl, sym, ◌∙◌, ap, arith, inl, inr}
 use Rattle.std.specs.Prelude.{Some, None, unwrap_or, slice_get}
 use Rattle.std.proofs.lemmas.Bool.{cases_lt, cases_eq, leb-true, le-leb}
 use Rattle.std.proofs.lemmas.Bool.Decides.{Decides-eqb}
@@ -16,7 +17,7 @@ use Rattle.pmf_event.proofs.EventLemmas.{and-true, both-true}
 use Rattle.pmf_event.proofs.LineLemmas.{stores-line, meets-bounds}
 use Rattle.pmf_event.proofs.IntervalLemmas.{Closing, Closing-from_closed, no_Closing-from_open}
 use Rattle.pmf_image.specs.Image.{count_of, is_fenced, floor_of, Image, value_of, is_in, cut_of, reach_of, reaches, shows}
-use Rattle.pmf_image.specs.Laws.{ClosedIntervalsHold, AllowsCuts, EveryPlaceHasImages, OpenIntervalsDoNotHold}
+use Rattle.pmf_image.specs.Laws.{EachCutIsAllowed, EachByteMayBeTorn, ClosedIntervalsHold, AllowsCuts, EveryPlaceHasImages, OpenIntervalsDoNotHold}
 
 -- ---- soundness
 
@@ -179,6 +180,73 @@ allows_counts es n = allows-untorn es n (count_of es n) (full es n) refl (full-c
 
 pub has_images : EveryPlaceHasImages
 has_images es n = (allows_floors es n, allows_counts es n)
+
+-- ---- one cut, and one torn byte
+
+one_cut : ℕ → ℕ → Image
+one_cut line cut = record { cuts = (line, cut) ∷ []; torn = [] }
+
+one_cut-here : (es : List Event) (n line cut : ℕ) → cut_of es n (one_cut line cut) line ≡ cut
+unfolding one_cut cut_of value_of
+one_cut-here es n line cut = ap (λ v. unwrap_or (if v then Some cut else None) (floor_of es n line)) ((Decides-eqb line line).1 refl)
+
+one_cut-elsewhere : (es : List Event) (n line cut other : ℕ) → (other ≡ line → ⊥) → cut_of es n (one_cut line cut) other ≡ floor_of es n other
+unfolding one_cut cut_of value_of
+one_cut-elsewhere es n line cut other apart =
+    ap (λ v. unwrap_or (if v then Some cut else None) (floor_of es n other))
+    (elim (line == other) as (λ v. (line == other) ≡ v → v ≡ false) [ true ↦ λ is. absurd (apart (sym ((Decides-eqb line other).0 is))) | false ↦ λ is. refl ] refl)
+
+pub allows_each_cut : EachCutIsAllowed
+unfolding one_cut
+allows_each_cut es n line cut low high = record {
+  image = one_cut line cut;
+  untorn = refl;
+  here = one_cut-here es n line cut;
+  elsewhere = one_cut-elsewhere es n line cut;
+  allowed = record {
+    low = λ other. elim (cases_eq other line) [
+      | inl same ↦ rw (same, one_cut-here es n line cut) low
+      | inr apart ↦ rw (one_cut-elsewhere es n line cut other apart) (omega arith)
+    ];
+    high = λ other. elim (cases_eq other line) [
+      | inl same ↦ rw (same, one_cut-here es n line cut) high
+      | inr apart ↦ rw (one_cut-elsewhere es n line cut other apart) (floor-below_count es n other)
+    ];
+    torn = λ b some. absurd (is_in-empty b some);
+  };
+}
+
+one_torn : ℕ → Image
+one_torn b = record { cuts = []; torn = b ∷ [] }
+
+one_torn-cut_of : (es : List Event) (n b line : ℕ) → cut_of es n (one_torn b) line ≡ floor_of es n line
+unfolding one_torn cut_of value_of
+one_torn-cut_of es n b line = refl
+
+one_torn-is_in : (b other : ℕ) → is_in (b ∷ []) other ≡ true → other ≡ b
+unfolding is_in
+one_torn-is_in b other some =
+    elim (b == other) as (λ v. (b == other) ≡ v → (v || false) ≡ true → other ≡ b) [
+      | true ↦ λ is more. sym ((Decides-eqb b other).0 is)
+      | false ↦ λ is more. let bad : false ≡ true = more in cc
+    ] refl some
+
+is_in-itself : (b other : ℕ) → other ≡ b → is_in (b ∷ []) other ≡ true
+unfolding is_in
+is_in-itself b other same = ap (λ v. v || false) ((Decides-eqb b other).1 (sym same))
+
+pub allows_each_torn : EachByteMayBeTorn
+unfolding one_torn
+allows_each_torn es n b room = record {
+  image = one_torn b;
+  torn = λ other. (one_torn-is_in b other, is_in-itself b other);
+  floors = one_torn-cut_of es n b;
+  allowed = record {
+    low = λ line. rw (one_torn-cut_of es n b line) (omega arith);
+    high = λ line. rw (one_torn-cut_of es n b line) (floor-below_count es n line);
+    torn = λ other some. rw (one_torn-cut_of es n b (line_of_byte other)) (subst (λ k. floor_of es n (line_of_byte k) < count_of es n (line_of_byte k)) (sym (one_torn-is_in b other some)) room);
+  };
+}
 
 -- ---- an open interval
 

@@ -1,4 +1,6 @@
 -- When an assertion holds: in every crash image that the rules allow, at every crash that it speaks of.
+-- The premises: the events are all of one thread's stores, write-backs and fences on its lines, from
+-- durable memory on, no other thread writes those lines meanwhile, and the hardware keeps the rules.
 use Rattle.std.specs.Prelude.{◌≡◌, ℕ, ◌≤◌, true, List, length}
 use Rattle.pmf_event.specs.declared.event.Event.{Event}
 use Rattle.pmf_event.specs.Span.{Extent, covers_byte}

@@ -16,7 +16,8 @@ count_of es n line = count (at (stores_line line) es) n
 unfoldable pub is_fenced : List Event → ℕ → ℕ → ℕ → Bool
 is_fenced es n line k = at (flushes line) es k && some_between (at is_fence es) k (n + 1)
 
--- how many of them stand before the last fenced write-back: these are durable
+-- how many stores of the line stand before its last write-back that a fence, at most n, follows: these
+-- are durable
 unfoldable pub floor_of : List Event → ℕ → ℕ → ℕ
 floor_of es n line = count_of es (greatest (is_fenced es n line) n - 1) line
 

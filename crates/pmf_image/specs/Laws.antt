@@ -1,10 +1,11 @@
 -- Laws of this crate's definitions, which its empty public functions prove.
-use Rattle.std.specs.Prelude.{◌≡◌, ℕ, ◌≤◌, true, false, List, [], length}
+use Rattle.std.specs.Prelude.{◌≡◌, ◌≢◌, ℕ, ◌<◌, ◌≤◌, ◌↔◌, true, false, List, [], length}
 use Rattle.pmf_event.specs.declared.event.Event.{Event}
 use Rattle.pmf_event.specs.Span.{Extent, covers_byte}
+use Rattle.pmf_event.specs.Line.{line_of_byte}
 use Rattle.pmf_event.specs.Interval.{interval_at, is_open}
 use Rattle.pmf_event.specs.Persist.{is_checked, is_exposed}
-use Rattle.pmf_image.specs.Image.{Image, IsAllowed, count_of, floor_of, cut_of}
+use Rattle.pmf_image.specs.Image.{Image, IsAllowed, count_of, floor_of, cut_of, is_in}
 use Rattle.pmf_image.specs.Holds.{PersistHolds}
 
 -- where the interval of each checked byte of the span is closed, the assertion holds
@@ -28,3 +29,26 @@ EveryPlaceHasImages = (es : List Event) (n : ℕ) → AllowsCuts es n (floor_of 
 abbrev pub OpenIntervalsDoNotHold : Type 0
 OpenIntervalsDoNotHold = (es : List Event) (p : ℕ) (s : Extent) (b : ℕ) →
     p ≤ length es → covers_byte s b ≡ true → is_exposed es p b ≡ true → PersistHolds es p s → ⊥
+
+-- an image that is allowed at n, with this cut at one line, the floor at every other, and nothing torn
+pub record AllowsCutAt (es : List Event) (n line cut : ℕ) : Type 0 where
+  pub image : Image
+  pub untorn : image.torn ≡ []
+  pub here : cut_of es n image line ≡ cut
+  pub elsewhere : (other : ℕ) → other ≢ line → cut_of es n image other ≡ floor_of es n other
+  pub allowed : IsAllowed es n image
+
+-- every cut from the floor to the count is allowed at a line, whatever the other lines have
+abbrev pub EachCutIsAllowed : Type 0
+EachCutIsAllowed = (es : List Event) (n line cut : ℕ) → floor_of es n line ≤ cut → cut ≤ count_of es n line → AllowsCutAt es n line cut
+
+-- an image that is allowed at n, with every cut at its floor and this byte alone torn
+pub record AllowsTorn (es : List Event) (n b : ℕ) : Type 0 where
+  pub image : Image
+  pub torn : (other : ℕ) → (is_in image.torn other ≡ true) ↔ (other ≡ b)
+  pub floors : (line : ℕ) → cut_of es n image line ≡ floor_of es n line
+  pub allowed : IsAllowed es n image
+
+-- a byte alone may be torn wherever its line has a store above the floor
+abbrev pub EachByteMayBeTorn : Type 0
+EachByteMayBeTorn = (es : List Event) (n b : ℕ) → floor_of es n (line_of_byte b) < count_of es n (line_of_byte b) → AllowsTorn es n b

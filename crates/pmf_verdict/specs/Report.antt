@@ -40,6 +40,6 @@ text_of_totals sections =
     codes "total sections=" ++ decimal (length sections)
     ++ text_of_counts (rows_with_in Pass sections) (rows_with_in Fail sections) (rows_with_in Warn sections) (rows_with_in Empty sections)
 
--- the report of these sections
+-- the report of these sections, in this order
 abbrev pub report_of : List Trace → List ℕ
 report_of sections = flat_map text_of_section sections ++ text_of_totals sections

@@ -15,7 +15,7 @@ address n = codes "0x" ++ digits 16 false n
 unfoldable pub text_of_pair : ℕ → ℕ → List ℕ
 text_of_pair byte after = codes " byte=" ++ address byte ++ codes " after=" ++ address after
 
--- what stands behind the place k
+-- what stands after the place k
 unfoldable pub text_of_finding : ℕ → Finding → List ℕ
 text_of_finding k PersistPass = codes " PERSIST PASS"
 text_of_finding k (PersistFail byte) = codes " PERSIST FAIL byte=" ++ address byte ++ codes " crash=" ++ decimal k

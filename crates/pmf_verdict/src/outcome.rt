@@ -8,7 +8,7 @@ use pmf_event::Finding;
 pub enum Outcome {
     /// The assertion is shown as kept.
     Pass,
-    /// The assertion is not kept, or the log is not well formed.
+    /// The assertion is not kept, or a transaction or a marker is out of order.
     Fail,
     /// Time was lost, and nothing else.
     Warn,
