@@ -8,7 +8,7 @@ use Rattle.pmf_storelog.specs.declared.fault.LogFault.{LogFault}
 abbrev pub IsShown : LogFault → Option LogFault → Type 0
 IsShown fault shown = fault ≢ out_of_memory → shown ≡ Some fault
 
--- the log that is answered is the one that is defined; a fault is the one that is defined, or want of memory
+-- the log that is answered is the one that is defined, and so is a fault, but for want of memory
 abbrev pub Answers : Result LogValue LogFault → Result LogValue LogFault → Type 0
 Answers answer defined =
     MatchResult answer (λ log. defined ≡ Ok log) (λ fault. fault ≢ out_of_memory → defined ≡ Err fault)

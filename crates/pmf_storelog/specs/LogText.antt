@@ -61,7 +61,8 @@ fault_at number (Some cause) = Some (record { at = number; cause = cause })
 -- why the record of index k is refused, if it is: by itself, or by the events of the records before it
 unfoldable pub refusal_at : List (List ℕ) → ℕ → Option LogFault
 refusal_at records k =
-    fault_at (k + 1) (cause_after (length (events_of (take k records))) (record_of (slice_index_or records k [])))
+    let before = length (events_of (take k records)) in
+    fault_at (k + 1) (cause_after before (record_of (slice_index_or records k [])))
 
 -- the first fault, or else the second one
 abbrev pub or_else : Option LogFault → Option LogFault → Option LogFault
@@ -82,10 +83,10 @@ unfoldable pub too_long : ℕ → List ℕ → List (List ℕ) → Option LogFau
 too_long limit bytes records =
     if nat_lt limit (length bytes) then Some (record { at = length records + 1; cause = TooLong }) else None
 
--- the fault that bytes already show, under a limit: of a record that a separator ended within the limit, or TooLong
+-- the fault that bytes show under a limit: of a record that a separator ended within it, or TooLong
 unfoldable pub shown_within : ℕ → List ℕ → Option LogFault
 shown_within limit bytes =
-    or_else (first_fault (ended_records (take limit bytes))) (too_long limit bytes (ended_records (take limit bytes)))
+    let records = ended_records (take limit bytes) in or_else (first_fault records) (too_long limit bytes records)
 
 -- the first fault of a log, under a limit
 unfoldable pub fault_within : ℕ → List ℕ → Option LogFault
@@ -104,10 +105,14 @@ fault_of bytes = fault_within LOG_LIMIT bytes
 abbrev pub IsFaultOfAll : LogFault → List ℕ → Type 0
 IsFaultOfAll fault bytes = (rest : List ℕ) → fault_of (bytes ++ rest) ≡ Some fault
 
+-- section 0 of the run, with these events
+abbrev pub section_zero : ℕ → List Event → Trace
+section_zero run events = record { name = record { run = run; number = 0 }; events = events }
+
 -- the sections of a run whose events are these: section 0, or none without an event
 abbrev pub sections_of : ℕ → List Event → List Trace
 sections_of run [] = []
-sections_of run (event ∷ events) = record { name = record { run = run; number = 0 }; events = event ∷ events } ∷ []
+sections_of run (event ∷ events) = section_zero run (event ∷ events) ∷ []
 
 -- the value of a log without a fault
 unfoldable pub value_of : ℕ → List ℕ → LogValue

@@ -10,12 +10,14 @@ is_digit_in radix c = nat_lt (digit_value c) radix
 
 -- whether the text is 1 to `most` digits in this radix
 unfoldable pub is_numeral : ℕ → ℕ → List ℕ → Bool
-is_numeral radix most text = nat_lt 0 (length text) && nat_le (length text) most && list_all (is_digit_in radix) text
+is_numeral radix most text =
+    nat_lt 0 (length text) && nat_le (length text) most && list_all (is_digit_in radix) text
 
 -- the number below 2^64 that 1 to `most` digits spell in this radix
 unfoldable pub numeral_of : ℕ → ℕ → List ℕ → Option ℕ
 numeral_of radix most text =
-    if is_numeral radix most text && nat_lt (digits_value radix text) (2 ^ 64) then Some (digits_value radix text) else None
+    let value = digits_value radix text in
+    if is_numeral radix most text && nat_lt value (2 ^ 64) then Some value else None
 
 -- the number that the text spells: `0x` and 1 to 16 hexadecimal digits, or 1 to 20 decimal ones
 unfoldable pub number_of : List ℕ → Option ℕ

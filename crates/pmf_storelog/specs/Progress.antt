@@ -4,7 +4,7 @@ use Rattle.pmf_storelog.specs.Separators.{parts_of, ended_parts, ended_records}
 use Rattle.pmf_storelog.specs.Tally.{HasTaken}
 use Rattle.pmf_storelog.specs.declared.progress.Progress.{Progress}
 
--- what is kept is what these bytes of the run give: the tally of the ended records, and the unfinished part
+-- what is kept is what these bytes of the run give: the ended records' tally, and the unfinished part
 pub record HasParsed (run : ℕ) (bytes : List ℕ) (progress : Progress) : Type 0 where
   pub taken : HasTaken run (ended_records bytes) progress.tally
   pub parts : parts_of bytes ≡ ended_parts bytes ++ progress.carry.items ∷ []

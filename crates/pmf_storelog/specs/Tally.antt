@@ -2,7 +2,7 @@
 use Rattle.std.specs.Prelude.{◌≡◌, ◌≢◌, ℕ, ◌+◌, List, [], ◌∷◌, ◌++◌, length, None}
 use Rattle.pmf_event.specs.declared.event.Event.{Event}
 use Rattle.pmf_event.specs.declared.section.TheConstants.{EVENT_LIMIT}
-use Rattle.pmf_storelog.specs.LogText.{events_of, skipped_of, first_fault}
+use Rattle.pmf_storelog.specs.LogText.{events_of, skipped_of, first_fault, section_zero}
 use Rattle.pmf_storelog.specs.declared.fault.Cause.TheVariants.{TooManyEvents}
 use Rattle.pmf_storelog.specs.declared.fault.LogFault.{LogFault}
 use Rattle.pmf_storelog.specs.declared.tally.Tally.{Tally}
@@ -10,7 +10,7 @@ use Rattle.pmf_storelog.specs.declared.tally.Tally.{Tally}
 -- the tally is that of these records of the run, none of them faulty
 pub record HasTaken (run : ℕ) (records : List (List ℕ)) (tally : Tally) : Type 0 where
   pub faultless : first_fault records ≡ None
-  pub section : tally.section ≡ record { name = record { run = run; number = 0 }; events = events_of records }
+  pub section : tally.section ≡ section_zero run (events_of records)
   pub count : tally.records ≡ length records
   pub skipped : tally.skipped ≡ skipped_of records
 

@@ -25,7 +25,7 @@ pub enum Cause {
     /// The name begins with `PMT.` and is no marker that is known.
     #[error("unknown marker")]
     UnknownMarker,
-    /// The record would make one section too many.
+    /// The record would make one section too many. No record does: all events stand in section 0.
     #[error("too many sections")]
     TooManySections,
     /// The event would be one too many in its section.

@@ -6,7 +6,7 @@ use crate::tally::Tally;
 use memchr::memchr3;
 use std::alloc::Global;
 
-/// What is kept of the bytes so far: the tally of the ended records, and the part that no separator ended.
+/// What is kept of the bytes so far: the tally of the ended records, and the unfinished part.
 #[derive(Debug, Drop)]
 pub(crate) struct Progress {
     pub(crate) tally: Tally,

@@ -39,9 +39,9 @@ impl LogReader {
         }
     }
 
-    /// Reads the next piece, and refuses as soon as the bytes fed so far show a fault: of a record that a
-    /// separator ended, or TooLong where they are more than [`LOG_LIMIT`], the first of these. The record
-    /// that isn't ended yet shows none. An `Err` spends the reader.
+    /// Reads the next piece, and refuses as soon as the bytes fed so far show a fault: the first one of
+    /// the records that a separator ended among the first [`LOG_LIMIT`] bytes, or else TooLong where
+    /// there are more bytes. The record that isn't ended yet shows none. An `Err` spends the reader.
     ///
     /// Takes memory for events, and for a record that a piece cuts.
     pub fn feed(&mut self, piece: &[u8]) -> Result<(), LogFault>

@@ -167,14 +167,7 @@ fn one_event_too_many_in_the_section_is_refused(rt: HostRuntime) -> Result<(), F
         at: 1_048_577,
         cause: Cause::TooManyEvents,
     };
-    assert_eq!(rt; reader.feed(b"|START"), Ok(()));
-    assert_eq!(rt;
-        reader.feed(b"|FENCE|"),
-        Err(LogFault {
-            at: 1_048_578,
-            ..many
-        })
-    );
+    assert_eq!(rt; reader.feed(b"FENCE|"), Err(many));
     Ok(())
 }
 
