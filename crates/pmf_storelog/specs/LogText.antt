@@ -88,7 +88,7 @@ unfoldable pub shown_within : ℕ → List ℕ → Option LogFault
 shown_within limit bytes =
     let records = ended_records (take limit bytes) in or_else (first_fault records) (too_long limit bytes records)
 
--- the first fault of a log, under a limit
+-- the first fault of a log, under a limit: within it that of any record, past it the one that is shown
 unfoldable pub fault_within : ℕ → List ℕ → Option LogFault
 fault_within limit bytes =
     if nat_lt limit (length bytes) then shown_within limit bytes else first_fault (records_of bytes)
