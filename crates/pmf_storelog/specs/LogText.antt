@@ -47,7 +47,8 @@ events_of records = filter_map event_of records
 unfoldable pub skipped_of : List (List ℕ) → ℕ
 skipped_of records = count_by is_skipped records
 
--- why a record with this reading is refused after so many events, if it is
+-- why a record with this reading is refused after so many events, if it is; where no record before it
+-- was refused, there are at most as many as the limit
 abbrev pub cause_after : ℕ → Result (Option Event) Cause → Option Cause
 cause_after before (Ok None) = None
 cause_after before (Ok (Some event)) = if before == EVENT_LIMIT then Some TooManyEvents else None

@@ -51,7 +51,7 @@ abbrev pub event_over : (Extent → Event) → Result Extent Cause → Result (O
 event_over kind (Ok span) = Ok (Some (kind span))
 event_over kind (Err cause) = Err cause
 
--- what a name that is none of the table's says: a marker is refused, any other is skipped
+-- what a name that is none of those of saying_of says: a marker is refused, any other is skipped
 unfoldable pub other_name : List ℕ → Result (Option Event) Cause
 other_name name = if starts_with nat_eq name (codes "PMT.") then Err UnknownMarker else Ok None
 

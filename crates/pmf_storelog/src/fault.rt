@@ -34,7 +34,7 @@ pub enum Cause {
     /// The log has more than [`LOG_LIMIT`] bytes.
     #[error("log is too long")]
     TooLong,
-    /// The room for an event or for an unfinished record was refused.
+    /// The room for an event, an unfinished record or the list of sections was refused.
     #[error("out of memory")]
     OutOfMemory,
     /// The reader has refused before.
@@ -45,8 +45,9 @@ pub enum Cause {
 /// The first fault of a log.
 #[derive(Clone, Copy, Debug, PartialEq, Eq)]
 pub struct LogFault {
-    /// The number of the faulty record, counted from 1 over all records that aren't empty; 0 with
-    /// [`Cause::OutOfMemory`] and [`Cause::Spent`].
+    /// The number of the faulty record, counted from 1 over all records that aren't empty. With
+    /// [`Cause::TooLong`] one more than the number of records that a separator among the first
+    /// [`LOG_LIMIT`] bytes ended; with [`Cause::OutOfMemory`] and [`Cause::Spent`] 0.
     pub at: u64,
     /// Why it is refused.
     pub cause: Cause,
