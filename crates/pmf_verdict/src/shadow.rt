@@ -14,18 +14,18 @@ use std::collections::BTreeMap;
 
 /// What is kept of one byte.
 #[derive(Clone, Copy, Debug, PartialEq, Eq)]
-pub struct ByteState {
+pub(crate) struct ByteState {
     /// Whether a store has covered it.
-    pub written: bool,
+    pub(crate) written: bool,
     /// The epoch of the first write-back of its line after its last store.
-    pub written_back: Option<u32>,
+    pub(crate) written_back: Option<u32>,
     /// Whether it is out of the checks.
-    pub excluded: bool,
+    pub(crate) excluded: bool,
 }
 
 /// What an event does to the state of a byte.
 #[derive(Clone, Copy, Debug, PartialEq, Eq)]
-pub enum Change {
+pub(crate) enum Change {
     Store,
     /// A write-back in this epoch.
     WriteBack(u32),
@@ -35,9 +35,9 @@ pub enum Change {
 
 /// The states of the bytes after some events, and how many fences were among them.
 #[derive(Debug, Drop)]
-pub struct Shadow {
-    pub bytes: BTreeMap<u64, ByteState>,
-    pub fences: u32,
+pub(crate) struct Shadow {
+    pub(crate) bytes: BTreeMap<u64, ByteState>,
+    pub(crate) fences: u32,
 }
 
 const UNTOUCHED: ByteState = ByteState {
@@ -84,7 +84,7 @@ impl Change {
 
 impl Shadow {
     /// The shadow of no events.
-    pub fn new(alloc: Global) -> Shadow
+    pub(crate) fn new(alloc: Global) -> Shadow
         ensures { (es : List Event) → StandsFor result es 0 }
     {
         Shadow {
@@ -127,7 +127,7 @@ impl Shadow {
     }
 
     /// Follows one more event. After an `Err` the shadow is of no use.
-    pub fn apply(&mut self, event: &Event) -> Result<(), AllocError>
+    pub(crate) fn apply(&mut self, event: &Event) -> Result<(), AllocError>
         requires { self.old.fences < 2 ^ 32 - 1 }
         ensures { OnOk result ((es : List Event) (p : ℕ) → StandsFor self.old es p → event_at es (suc p) ≡ Some event.now → StandsFor self.new es (suc p)) }
     {
@@ -173,7 +173,7 @@ impl Shadow {
     }
 
     /// What a persist assertion over the span finds now.
-    pub fn persist(&self, span: Span) -> Finding
+    pub(crate) fn persist(&self, span: Span) -> Finding
         ensures { (es : List Event) (p : ℕ) → StandsFor self.now es p → result ≡ persist_finding es p span }
     {
         self.finding(span)
