@@ -1,4 +1,5 @@
-/// What the checker says of one event. Addresses are of bytes, or of cache lines by their first byte.
+/// What the checker says of one event. Addresses are of bytes, or of cache lines by their first
+/// byte.
 #[derive(Clone, Copy, Debug, PartialEq, Eq)]
 pub enum Finding {
     /// Every checked byte's persist interval is closed.

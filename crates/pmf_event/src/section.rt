@@ -13,9 +13,9 @@ pub const EVENT_LIMIT: usize = 1 << 20;
 
 /// A name and a list of events.
 ///
-/// What is said of crash images has a premise that no type keeps: the events are all of one thread's
-/// stores, write-backs and fences on its cache lines, in program order, from durable memory on, and no
-/// other thread writes those lines meanwhile.
+/// What is said of crash images has a premise that no type keeps: the events are all of one
+/// thread's stores, write-backs and fences on its cache lines, in program order, from durable
+/// memory on, and no other thread writes those lines meanwhile.
 #[derive(Debug, Drop)]
 pub struct Section {
     name: Name,
@@ -65,8 +65,10 @@ impl Section {
     /// Adds the event at the end. After either refusal the section is unchanged; only
     /// [`SectionFault::OutOfMemory`] has asked for memory.
     pub fn push(&mut self, event: Event) -> Result<(), SectionFault>
-        ensures ok { OnOk result (self.new ≡ record self.old { events = self.old.events ++ event ∷ [] }) }
-        ensures too_many { IsErrOf result SectionFault.TooManyEvents ↔ (length self.old.events ≡ EVENT_LIMIT) }
+        ensures ok { OnOk result
+            (self.new ≡ record self.old { events = self.old.events ++ event ∷ [] }) }
+        ensures too_many { IsErrOf result SectionFault.TooManyEvents
+            ↔ (length self.old.events ≡ EVENT_LIMIT) }
         ensures unchanged { OnErr result (self.new ≡ self.old) }
     {
         if self.events.len() == EVENT_LIMIT {

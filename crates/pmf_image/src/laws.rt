@@ -2,8 +2,8 @@
 
 ghost use Rattle.pmf_image.specs.Laws.{ClosedIntervalsHold, EachByteMayBeTorn, EachCutIsAllowed, EveryPlaceHasImages, OpenIntervalsDoNotHold};
 
-/// A persist assertion whose checked bytes all have closed intervals holds at every crash from its place
-/// on, in every allowed image, torn stores included.
+/// A persist assertion whose checked bytes all have closed intervals holds at every crash from its
+/// place on, in every allowed image, torn stores included.
 pub fn closed_intervals_hold()
     ensures { ClosedIntervalsHold }
 {}
@@ -14,7 +14,8 @@ pub fn every_place_has_images()
     ensures { EveryPlaceHasImages }
 {}
 
-/// A persist assertion, at a place of the list, over a checked byte whose interval is open does not hold.
+/// A persist assertion, at a place of the list, over a checked byte whose interval is open does not
+/// hold.
 pub fn open_intervals_do_not_hold()
     ensures { OpenIntervalsDoNotHold }
 {}

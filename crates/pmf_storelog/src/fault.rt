@@ -9,8 +9,8 @@ use thiserror::Error;
 /// The greatest length of a log, in bytes: 2^28.
 pub const LOG_LIMIT: usize = 1 << 28;
 
-/// Why a log is refused. Within a record the first that applies decides, in this order: UnknownMarker,
-/// TooFewFields, BadNumber, BadSpan, TooManySections, TooManyEvents, OutOfMemory.
+/// Why a log is refused. Within a record the first that applies decides, in this order:
+/// UnknownMarker, TooFewFields, BadNumber, BadSpan, TooManySections, TooManyEvents, OutOfMemory.
 #[derive(Clone, Copy, Debug, PartialEq, Eq, Error)]
 pub enum Cause {
     /// The record lacks a field that its name asks for.

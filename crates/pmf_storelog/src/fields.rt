@@ -38,7 +38,8 @@ impl<'a> Fields<'a> {
     #[inline]
     #[tactic(auto, unfolding(crate::specs::Fields::fields_left))]
     pub(crate) fn field(&mut self) -> Result<&'a [u8], Cause>
-        ensures { MatchResult result (λ field. self.old ≡ field.now ∷ self.new) (λ cause. (self.old ≡ []) × (cause ≡ TooFewFields)) }
+        ensures { MatchResult result (λ field. self.old ≡ field.now ∷ self.new)
+            (λ cause. (self.old ≡ []) × (cause ≡ TooFewFields)) }
     {
         match self.rest {
             Some(text) => {
@@ -65,7 +66,8 @@ fn cut(text: &[u8]) -> (&[u8], Option<&[u8]>)
 
 #[inline]
 fn field_end(text: &[u8]) -> Option<usize>
-    ensures cases { MatchOption result (fields_of text.now ≡ text.now ∷ []) (λ end. fields_of text.now
+    ensures cases { MatchOption result (fields_of text.now ≡ text.now ∷ [])
+        (λ end. fields_of text.now
         ≡ take end text.now ∷ fields_of (drop (end + 1) text.now)) }
     ensures within { IfSome result (λ end. end < length text.now) }
 {

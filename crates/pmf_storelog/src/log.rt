@@ -17,12 +17,16 @@ impl Model for Log {
 
     ghost Value = { LogValue };
 
-    ghost view = { λ log. record { sections = map (λ a. a.value) log.sections.items; skipped = log.skipped } };
+    ghost view = { λ log. record {
+      sections = map (λ a. a.value) log.sections.items;
+      skipped = log.skipped;
+    } };
 }
 
 impl Log {
     pub(crate) fn new(sections: Vec<Arc<Section>>, skipped: u64) -> Log
-        ensures { result ≡ record { sections = map (λ a. a.value) sections.items; skipped = skipped } }
+        ensures { result
+            ≡ record { sections = map (λ a. a.value) sections.items; skipped = skipped } }
     {
         Log { sections, skipped }
     }

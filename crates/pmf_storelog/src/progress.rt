@@ -51,9 +51,11 @@ impl Progress {
     fn end_part(&mut self, end: &[u8]) -> Result<(), LogFault>
         requires { self.old.tally.records + 1 < 2 ^ 64 }
         ensures grows { self.new.tally.records ≤ self.old.tally.records + 1 }
-        ensures ok { (run : ℕ) (bytes piece : List ℕ) → HasParsed run bytes self.old → parts_of piece ≡ end.now ∷ [] ∷ []
+        ensures ok { (run : ℕ) (bytes piece : List ℕ) → HasParsed run bytes self.old
+            → parts_of piece ≡ end.now ∷ [] ∷ []
             → OnOk result (HasParsed run (bytes ++ piece) self.new) }
-        ensures err { (run : ℕ) (bytes piece : List ℕ) → HasParsed run bytes self.old → parts_of piece ≡ end.now ∷ [] ∷ []
+        ensures err { (run : ℕ) (bytes piece : List ℕ) → HasParsed run bytes self.old
+            → parts_of piece ≡ end.now ∷ [] ∷ []
             → IfErr result (λ fault. IsShown fault (first_fault (ended_records (bytes ++ piece)))) }
     {
         if self.carry.is_empty() {
@@ -79,7 +81,8 @@ impl Progress {
 // Where the first separator stands.
 #[inline]
 fn next_separator(text: &[u8]) -> Option<usize>
-    ensures cases { MatchOption result (parts_of text.now ≡ text.now ∷ []) (λ end. parts_of (take (end + 1) text.now)
+    ensures cases { MatchOption result (parts_of text.now ≡ text.now ∷ [])
+        (λ end. parts_of (take (end + 1) text.now)
         ≡ take end text.now ∷ [] ∷ []) }
     ensures within { IfSome result (λ end. end < length text.now) }
 {

@@ -55,7 +55,8 @@ impl LogReader {
         ensures err { (run : ℕ) (bytes : List ℕ) → HasRead run bytes self.old
             → IfErr result (λ fault. IsShown fault (shown_fault (bytes ++ piece.now))) }
         ensures of_all { (run : ℕ) (bytes : List ℕ) → HasRead run bytes self.old
-            → IfErr result (λ fault. fault ≢ out_of_memory → IsFaultOfAll fault (bytes ++ piece.now)) }
+            → IfErr result (λ fault. fault ≢ out_of_memory
+            → IsFaultOfAll fault (bytes ++ piece.now)) }
 
         // A refusal spends the reader, which stays spent.
         ensures refused { OnErr result (IsSpent self.new) }
@@ -80,7 +81,8 @@ impl LogReader {
     ///
     /// Takes memory for the sections' list, and for the last event.
     pub fn finish(self) -> Result<Log, LogFault>
-        ensures answers { (run : ℕ) (bytes : List ℕ) → HasRead run bytes self → Answers result (log_of run bytes) }
+        ensures answers { (run : ℕ) (bytes : List ℕ) → HasRead run bytes self
+            → Answers result (log_of run bytes) }
         ensures spent { IsSpent self → result ≡ Err spent }
     {
         if self.spent {

@@ -116,7 +116,10 @@ impl Tally {
     /// The log of the records that were taken.
     pub(crate) fn into_log(self, alloc: Global) -> Result<Log, LogFault>
         ensures ok { (run : ℕ) (records : List (List ℕ)) → HasTaken run records self
-            → IfOk result (λ log. log ≡ record { sections = sections_of run (events_of records); skipped = skipped_of records }) }
+            → IfOk result (λ log. log ≡ record {
+              sections = sections_of run (events_of records);
+              skipped = skipped_of records;
+            }) }
         ensures err { IfErr result (λ fault. fault ≡ out_of_memory) }
     {
         let Tally {

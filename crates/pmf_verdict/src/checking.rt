@@ -38,7 +38,8 @@ fn rows_for(alloc: Global, events: &[Event]) -> Result<Rows, AllocError>
 /// with it. Takes memory for a state of each byte that an event touches, and for the rows.
 pub fn check(alloc: Global, section: Arc<Section>) -> Result<Verdict, (CheckFault, Arc<Section>)>
     ensures checked { IfOk result (λ verdict. verdict ≡ section.value) }
-    // What these rows show as passed holds in every crash image that the rules allow; `rows` shows them.
+    // What these rows show as passed holds in every crash image that the rules allow; `rows` shows
+    // them.
     ensures sound { IfOk result (λ verdict. PassesHold verdict.events (rows_of verdict.events)) }
     ensures returned { IfErr result (λ refused. refused.1.value ≡ section.value) }
 {

@@ -5,9 +5,9 @@
 //! rules allow, torn stores included, by `specs/Sound`. The text of a row is `specs/Text`, and the
 //! text of a report, which upper crates write, `specs/Report`.
 //!
-//! Not promised here: that the section holds all of its thread's stores, write-backs and fences on its
-//! lines, that no other thread writes those lines meanwhile, that the hardware keeps the rules of
-//! `pmf_image`, or that a failed assertion is a fault of the program that was logged. For now only
+//! Not promised here: that the section holds all of its thread's stores, write-backs and fences on
+//! its lines, that no other thread writes those lines meanwhile, that the hardware keeps the rules
+//! of `pmf_image`, or that a failed assertion is a fault of the program that was logged. For now only
 //! persist assertions give rows.
 #![tactic(auto)]
 

@@ -114,7 +114,9 @@ impl Shadow {
 
     fn write_back(&mut self, span: &Span) -> Result<(), AllocError>
         ensures not_empty { 0 < span.now.size }
-        ensures changes { OnOk result (ChangesBetween (line_of_byte span.now.first) (line_of_byte (span.now.first + span.now.size - 1) + LINE_SIZE) (Change.WriteBack self.old.fences) self.old self.new) }
+        ensures changes { OnOk result (ChangesBetween (line_of_byte span.now.first)
+            (line_of_byte (span.now.first + span.now.size - 1) + LINE_SIZE)
+            (Change.WriteBack self.old.fences) self.old self.new) }
     {
         let epoch = self.fences;
         let last = end_of(span) - 1;
@@ -129,7 +131,8 @@ impl Shadow {
     /// Follows one more event. After an `Err` the shadow is of no use.
     pub(crate) fn apply(&mut self, event: &Event) -> Result<(), AllocError>
         requires { self.old.fences < 2 ^ 32 - 1 }
-        ensures { OnOk result ((es : List Event) (p : ℕ) → StandsFor self.old es p → event_at es (suc p) ≡ Some event.now → StandsFor self.new es (suc p)) }
+        ensures { OnOk result ((es : List Event) (p : ℕ) → StandsFor self.old es p
+            → event_at es (suc p) ≡ Some event.now → StandsFor self.new es (suc p)) }
     {
         match event {
             Event::Store(span) => self.change(span.first(), end_of(span), Change::Store)?,
@@ -174,7 +177,8 @@ impl Shadow {
 
     /// What a persist assertion over the span finds now.
     pub(crate) fn persist(&self, span: Span) -> Finding
-        ensures { (es : List Event) (p : ℕ) → StandsFor self.now es p → result ≡ persist_finding es p span }
+        ensures { (es : List Event) (p : ℕ) → StandsFor self.now es p
+            → result ≡ persist_finding es p span }
     {
         self.finding(span)
     }

@@ -11,7 +11,8 @@ use std::alloc::{AllocError, Global};
 
 #[tactic(auto, unfolding(crate::specs::Text::text_of_pair))]
 fn push_pair(text: &mut String, byte: u64, after: u64) -> Result<(), AllocError>
-    ensures { OnOk result (string_bytes text.new ≡ string_bytes text.old ++ text_of_pair byte after) }
+    ensures { OnOk result
+        (string_bytes text.new ≡ string_bytes text.old ++ text_of_pair byte after) }
 {
     write!(text, " byte=0x{byte:x}")?;
     write!(text, " after=0x{after:x}")
@@ -19,7 +20,8 @@ fn push_pair(text: &mut String, byte: u64, after: u64) -> Result<(), AllocError>
 
 #[tactic(auto, unfolding(crate::specs::Text::text_of_finding))]
 fn push_finding(text: &mut String, place: u32, finding: Finding) -> Result<(), AllocError>
-    ensures { OnOk result (string_bytes text.new ≡ string_bytes text.old ++ text_of_finding place finding) }
+    ensures { OnOk result
+        (string_bytes text.new ≡ string_bytes text.old ++ text_of_finding place finding) }
 {
     match finding {
         Finding::PersistPass => write!(text, " PERSIST PASS"),

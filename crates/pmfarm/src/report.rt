@@ -46,14 +46,16 @@ fn push_counts(
     warn: u128,
     empty: u128,
 ) -> Result<(), AllocError>
-    ensures { OnOk result (string_bytes text.new ≡ string_bytes text.old ++ text_of_counts pass fail warn empty) }
+    ensures { OnOk result
+        (string_bytes text.new ≡ string_bytes text.old ++ text_of_counts pass fail warn empty) }
 {
     write!(text, " pass={pass} fail={fail} warn={warn} empty={empty}\n")
 }
 
 #[tactic(auto, unfolding(pmf_verdict::specs::Report::text_of_header))]
 fn push_header(text: &mut String, verdict: &Verdict) -> Result<(), AllocError>
-    ensures { OnOk result (string_bytes text.new ≡ string_bytes text.old ++ text_of_header verdict.now) }
+    ensures { OnOk result
+        (string_bytes text.new ≡ string_bytes text.old ++ text_of_header verdict.now) }
 {
     let name = verdict.name();
     let run = name.run;
@@ -69,7 +71,8 @@ fn push_header(text: &mut String, verdict: &Verdict) -> Result<(), AllocError>
 
 #[tactic(auto, unfolding(pmf_verdict::specs::Report::text_of_totals))]
 fn push_totals(text: &mut String, verdicts: &[Verdict]) -> Result<(), AllocError>
-    ensures { OnOk result (string_bytes text.new ≡ string_bytes text.old ++ text_of_totals verdicts.now) }
+    ensures { OnOk result
+        (string_bytes text.new ≡ string_bytes text.old ++ text_of_totals verdicts.now) }
 {
     let sections = verdicts.len();
     write!(text, "total sections={sections}")?;

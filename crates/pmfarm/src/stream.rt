@@ -88,7 +88,8 @@ fn read_log<R: Source>(alloc: Global, reader: &mut R, run: u64) -> Result<Log, S
 }
 
 fn check_all(alloc: Global, sections: &[Arc<Section>]) -> Result<Vec<Verdict>, AllocError>
-    ensures { IfOk result (λ verdicts. verdicts.items ≡ map (λ section. section.value) sections.now) }
+    ensures { IfOk result
+        (λ verdicts. verdicts.items ≡ map (λ section. section.value) sections.now) }
 {
     let mut verdicts = Vec::new(alloc);
     for section in sections {
@@ -101,8 +102,8 @@ fn check_all(alloc: Global, sections: &[Arc<Section>]) -> Result<Vec<Verdict>, A
 }
 
 /// Reads a log, checks its sections and writes their report. Reads in pieces, at most one byte more
-/// than a log may have, and stops at the first fault of the log; writes nothing before the whole log
-/// was read and checked.
+/// than a log may have, and stops at the first fault of the log; writes nothing before the whole
+/// log was read and checked.
 ///
 /// Refusals: [`StreamFault::ReadFault`] and [`StreamFault::Log`] as the reading goes, then
 /// [`StreamFault::OutOfMemory`] (also as a cause of `Log`), then [`StreamFault::WriteFault`]. Takes
@@ -116,13 +117,17 @@ pub fn check_stream<R: Source, W: Sink>(
     requires read { CanCountOneMore (R.failed_calls reader.old) }
     requires write { CanCountOneMore (W.failed_calls writer.old) }
 
-    // The whole stream was a log without a fault, and exactly the report of its sections was written.
-    ensures ok { IfOk result (λ done. (log : LogValue) × IsLogOf settings.run (R.left reader.old) (R.left reader.new) log
+    // The whole stream was a log without a fault, and exactly the report of its sections was
+    // written.
+    ensures ok { IfOk result (λ done. (log : LogValue)
+        × IsLogOf settings.run (R.left reader.old) (R.left reader.new) log
         × Reports log (W.held writer.old) (W.held writer.new) done) }
     // Want of memory aside, the first fault of what was read, and of every log that begins so.
-    ensures log { IfLogFault result (IsFaultOf settings.run (R.left reader.old) (R.left reader.new)) }
+    ensures log { IfLogFault result
+        (IsFaultOf settings.run (R.left reader.old) (R.left reader.new)) }
     // Exactly so many bytes of the report were written.
-    ensures cut { IfWriteFault result (λ written. (log : LogValue) × IsLogOf settings.run (R.left reader.old) (R.left reader.new) log
+    ensures cut { IfWriteFault result (λ written. (log : LogValue)
+        × IsLogOf settings.run (R.left reader.old) (R.left reader.new) log
         × CutsOff log (W.held writer.old) (W.held writer.new) written) }
 
     // ReadFault exactly where a read of this call failed, WriteFault exactly where a write did.
