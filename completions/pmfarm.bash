@@ -1,0 +1,13 @@
+# bash completion for pmfarm
+_pmfarm() {
+    local word=${COMP_WORDS[COMP_CWORD]} before=${COMP_WORDS[COMP_CWORD - 1]} command=${COMP_WORDS[1]}
+    COMPREPLY=()
+    if [ "$COMP_CWORD" -eq 1 ]; then
+        mapfile -t COMPREPLY < <(compgen -W 'check help --help -h --version -V' -- "$word")
+    elif [ "$command" = check ] && [ "$before" != --run ]; then
+        mapfile -t COMPREPLY < <(compgen -W '--run --help -h' -- "$word")
+    elif [ "$command" = help ]; then
+        mapfile -t COMPREPLY < <(compgen -W 'check' -- "$word")
+    fi
+}
+complete -F _pmfarm pmfarm

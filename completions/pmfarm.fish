@@ -1,0 +1,8 @@
+# fish completion for pmfarm
+complete -c pmfarm -f
+complete -c pmfarm -n __fish_use_subcommand -a check -d 'check the log on standard input'
+complete -c pmfarm -n __fish_use_subcommand -a help -d 'print help'
+complete -c pmfarm -n __fish_use_subcommand -s V -l version -d 'print the version'
+complete -c pmfarm -s h -l help -d 'print help'
+complete -c pmfarm -n '__fish_seen_subcommand_from check' -l run -x -d 'the run in the name of each section'
+complete -c pmfarm -n '__fish_seen_subcommand_from help' -a check
