@@ -1,10 +1,12 @@
 ghost use Rattle.std.specs.Prelude.{◌≡◌, ◌⊎◌};
+ghost use Rattle.std.specs.Io.KnownBytes.{Appends};
 ghost use Rattle.clap.specs.Words.{kind_of};
+ghost use Rattle.pmfarm.specs.Failures.{CanCountOneMore};
 ghost use Rattle.pmfarm.specs.Statuses.{IsAnswerTo};
 
 use crate::diagnostics::{fail, out_of_memory, refuse_words, say_skipped};
 use crate::request::{Request, Settings, request_of};
-use crate::sink::StdSink;
+use crate::sink::{Sink, StdSink};
 use crate::source::StdSource;
 use crate::status::Status;
 use crate::stream::check_stream;
@@ -56,17 +58,20 @@ fn answer<R: Print + Eprint>(rt: &R, alloc: Global, error: &clap::Error) -> Stat
         return out_of_memory(rt);
     };
     match Status::of_kind(error.kind()) {
-        Status::NoFail => show(rt, text.as_bytes()),
+        Status::NoFail => show(rt, &mut StdSink::new(io::writer(rt)), text.as_bytes()),
         Status::NoMemory => out_of_memory(rt),
         _ => refuse_words(rt, text.as_str()),
     }
 }
 
-/// Writes a text to standard output.
-fn show<R: Print + Eprint>(rt: &R, text: &[u8]) -> Status
-    ensures { (result ≡ Status.NoFail) ⊎ (result ≡ Status.DeviceFault) }
+/// Writes a text to the sink, and says where that fails.
+fn show<R: Eprint, W: Sink>(rt: &R, writer: &mut W, text: &[u8]) -> Status
+    requires { CanCountOneMore (W.failed_calls writer.old) }
+    ensures shown { result ≡ Status.NoFail
+        → Appends (W.held writer.old) (W.held writer.new) text.now }
+    ensures status { (result ≡ Status.NoFail) ⊎ (result ≡ Status.DeviceFault) }
 {
-    match write_text(&mut StdSink::new(io::writer(rt)), text) {
+    match write_text(writer, text) {
         Ok(()) => Status::NoFail,
         Err(cut) => fail(rt, cut, Status::DeviceFault),
     }
