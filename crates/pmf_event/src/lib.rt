@@ -23,3 +23,6 @@ pub use row::{Row, Rows};
 pub use section::{EVENT_LIMIT, Section, SectionFault};
 pub use span::{ADDRESS_LIMIT, LINE_SIZE, SPAN_LIMIT, Span, SpanFault, line_of};
 pub use std::alloc::AllocError as OutOfMemory;
+
+#[cfg(test)]
+mod tests;
