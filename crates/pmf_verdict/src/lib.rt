@@ -21,3 +21,6 @@ pub use checking::{CheckFault, check};
 pub use outcome::{Outcome, outcome_of};
 pub use text::write_rows;
 pub use verdict::Verdict;
+
+#[cfg(test)]
+mod tests;

@@ -80,3 +80,6 @@ pub fn write_rows(alloc: Global, verdict: &Verdict) -> Result<Vec<u8>, AllocErro
     }
     Ok(text.into_bytes())
 }
+
+#[cfg(test)]
+mod tests;

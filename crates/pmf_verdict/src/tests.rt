@@ -1,0 +1,145 @@
+use super::*;
+use pmf_event::{Event, Finding, Name, Row, Section, Span, SpanFault};
+use std::alloc::{AllocError, Global};
+use std::sync::Arc;
+use std::test::Fail;
+
+const NAME: Name = Name { run: 7, number: 3 };
+
+// How a row with each finding counts.
+const OUTCOMES: [(Finding, Outcome); 19] = [
+    (Finding::PersistPass, Outcome::Pass),
+    (Finding::PersistFail { byte: 0xff }, Outcome::Fail),
+    (Finding::PersistEmpty, Outcome::Empty),
+    (Finding::OrderedPass, Outcome::Pass),
+    (
+        Finding::OrderedFail {
+            byte: 0xff,
+            after: 0x1000,
+            crash: 2,
+        },
+        Outcome::Fail,
+    ),
+    (
+        Finding::OrderedSameLine {
+            byte: 0xff,
+            after: 0x1000,
+        },
+        Outcome::Fail,
+    ),
+    (Finding::OrderedEmpty, Outcome::Empty),
+    (
+        Finding::FlushDoubled {
+            line: 0x40,
+            lines: 3,
+        },
+        Outcome::Warn,
+    ),
+    (
+        Finding::FlushNeedless {
+            line: 0x40,
+            lines: 3,
+        },
+        Outcome::Warn,
+    ),
+    (Finding::NoBackup { byte: 0xff }, Outcome::Fail),
+    (Finding::DupLog { byte: 0xff }, Outcome::Warn),
+    (Finding::CheckPass, Outcome::Pass),
+    (Finding::CheckFail { byte: 0xff }, Outcome::Fail),
+    (Finding::TxStillOpen { depth: 2 }, Outcome::Fail),
+    (Finding::Unmatched, Outcome::Fail),
+    (Finding::Outside, Outcome::Fail),
+    (Finding::Nested, Outcome::Fail),
+    (Finding::Unopened, Outcome::Fail),
+    (Finding::Unclosed { start: 4 }, Outcome::Fail),
+];
+
+#[test]
+fn each_finding_counts_as_the_table_says(rt: HostRuntime) {
+    for (finding, want) in OUTCOMES {
+        assert_eq!(rt; outcome_of(finding), want, "at {finding:?}");
+    }
+}
+
+// The section of the events.
+fn section_of(alloc: Global, events: &[Event]) -> Result<Arc<Section>, Fail> {
+    let mut section = Section::new(alloc, NAME);
+    for event in events {
+        section.push(*event)?;
+    }
+    Ok(Arc::new(alloc, section)?)
+}
+
+// Two stores of one line: the first is written back and fenced, the second fenced alone, and a byte
+// that no store has covered.
+fn events() -> Result<[Event; 7], SpanFault> {
+    Ok([
+        Event::Store(Span::make(0x1000, 8)?),
+        Event::Flush(Span::make(0x1000, 0x40)?),
+        Event::Store(Span::make(0x1008, 8)?),
+        Event::Fence,
+        Event::Persist(Span::make(0x1000, 8)?),
+        Event::Persist(Span::make(0x1008, 8)?),
+        Event::Persist(Span::make(0x2000, 8)?),
+    ])
+}
+
+#[test]
+fn a_verdict_tells_its_section_and_the_rows_of_its_events(rt: HostRuntime) -> Result<(), Fail> {
+    let section = section_of(rt.alloc(), events()?.as_slice())?;
+    let kept = Arc::try_clone(&section)?;
+    let verdict = match check(rt.alloc(), section) {
+        Ok(verdict) => verdict,
+        Err((fault, _)) => return Err(fault.into()),
+    };
+    assert_eq!(rt; verdict.name(), NAME);
+    assert!(rt; verdict.section().same_as(&kept));
+    let want = [
+        Row {
+            place: 5,
+            finding: Finding::PersistPass,
+        },
+        Row {
+            place: 6,
+            finding: Finding::PersistFail { byte: 0x1008 },
+        },
+        Row {
+            place: 7,
+            finding: Finding::PersistEmpty,
+        },
+    ];
+    assert!(rt; verdict.rows() == want.as_slice());
+    Ok(())
+}
+
+#[test]
+fn the_rows_of_a_verdict_are_written_a_text_line_each(rt: HostRuntime) -> Result<(), Fail> {
+    let section = section_of(rt.alloc(), events()?.as_slice())?;
+    let verdict = match check(rt.alloc(), section) {
+        Ok(verdict) => verdict,
+        Err((fault, _)) => return Err(fault.into()),
+    };
+    let text = write_rows(rt.alloc(), &verdict)?;
+    let want = b"5 PERSIST PASS\n6 PERSIST FAIL byte=0x1008 crash=6\n7 PERSIST EMPTY\n";
+    assert!(rt; text.as_slice() == want.as_slice());
+    Ok(())
+}
+
+#[test]
+fn a_section_without_assertions_has_no_rows(rt: HostRuntime) -> Result<(), Fail> {
+    let section = section_of(rt.alloc(), [Event::Fence].as_slice())?;
+    let verdict = match check(rt.alloc(), section) {
+        Ok(verdict) => verdict,
+        Err((fault, _)) => return Err(fault.into()),
+    };
+    assert_eq!(rt; verdict.rows().len(), 0);
+    assert_eq!(rt; write_rows(rt.alloc(), &verdict)?.len(), 0);
+    Ok(())
+}
+
+#[test]
+fn want_of_memory_is_shown_by_its_text(rt: HostRuntime) -> Result<(), AllocError> {
+    let text = format!(in rt.alloc(); "{}", CheckFault::OutOfMemory)?;
+    assert_eq!(rt; text.as_str(), "out of memory");
+    Ok(())
+}
