@@ -1,3 +1,6 @@
+mod failing;
 mod fakes;
+mod limits;
+mod rows;
 mod streams;
 mod words;
