@@ -43,10 +43,8 @@ fn words_that_are_no_request_are_refused(rt: HostRuntime) -> Result<(), Fail> {
         &["pmfarm", "check", "--run", "1", "--run", "2"][..],
     ];
     for words in cases {
-        assert!(rt;
-            status_at(rt.alloc(), words)? == Some(Status::Refused),
-            "{words:?}"
-        );
+        let status = status_at(rt.alloc(), words)?;
+        assert_eq!(rt; status, Some(Status::Refused), "{words:?}");
     }
     Ok(())
 }
@@ -60,10 +58,8 @@ fn help_and_the_version_are_no_fault(rt: HostRuntime) -> Result<(), Fail> {
         &["pmfarm", "--version"][..],
     ];
     for words in cases {
-        assert!(rt;
-            status_at(rt.alloc(), words)? == Some(Status::NoFail),
-            "{words:?}"
-        );
+        let status = status_at(rt.alloc(), words)?;
+        assert_eq!(rt; status, Some(Status::NoFail), "{words:?}");
     }
     Ok(())
 }
