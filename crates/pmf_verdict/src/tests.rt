@@ -1,6 +1,6 @@
 use super::*;
 use pmf_event::{Event, Finding, Name, Row, Section, Span, SpanFault};
-use std::alloc::{AllocError, Global};
+use std::alloc::Global;
 use std::sync::Arc;
 use std::test::Fail;
 
@@ -138,7 +138,7 @@ fn a_section_without_assertions_has_no_rows(rt: HostRuntime) -> Result<(), Fail>
 }
 
 #[test]
-fn want_of_memory_is_shown_by_its_text(rt: HostRuntime) -> Result<(), AllocError> {
+fn want_of_memory_is_shown_by_its_text(rt: HostRuntime) -> Result<(), Fail> {
     let text = format!(in rt.alloc(); "{}", CheckFault::OutOfMemory)?;
     assert_eq!(rt; text.as_str(), "out of memory");
     Ok(())
