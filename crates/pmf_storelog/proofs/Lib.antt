@@ -7,3 +7,4 @@ pub mod TallyLemmas
 pub mod ProgressLemmas
 pub mod ReaderLemmas
 pub mod CallerLemmas
+pub mod CanonicalLemmas

@@ -10,3 +10,4 @@ pub mod Answers
 pub mod Tally
 pub mod Progress
 pub mod Reader
+pub mod Canonical

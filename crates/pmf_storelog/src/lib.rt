@@ -22,8 +22,10 @@ mod tally;
 #[cfg(test)]
 mod tests;
 mod trimming;
+mod writing;
 
 pub use fault::{Cause, LOG_LIMIT, LogFault};
 pub use log::Log;
 pub use reader::LogReader;
 pub use reading::read_log;
+pub use writing::write_section;
