@@ -8,3 +8,5 @@ pub mod ProgressLemmas
 pub mod ReaderLemmas
 pub mod CallerLemmas
 pub mod CanonicalLemmas
+pub mod LineLemmas
+pub mod PlainLemmas

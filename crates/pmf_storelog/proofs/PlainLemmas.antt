@@ -1,0 +1,162 @@
+-- The lines of the canonical text of a section have no separator and no blank.
+use Rattle.std.proofs.Common.{◌≡◌, ℕ, zero, suc, ◌+◌, ◌^◌, ◌<◌, ◌≤◌, Bool, true, false, ◌||◌, ◌==◌, cond, List, [], ◌∷◌, ◌++◌, length, All, refl, sym, ap, ◌∙◌, arith, rules, ◌⊎◌, inl, inr, append_assoc, length-append}
+use Rattle.std.specs.Prelude.{codes, ⊤}
+use Rattle.std.specs.Fmt.{digits}
+use Rattle.std.specs.Char.{digit_value}
+use Rattle.std.specs.Str.Parse.{AllDigits}
+use Rattle.std.specs.List.{AllByRecursion}
+use Rattle.std.proofs.lemmas.Bool.Decides.{Decides-eqb}
+use Rattle.std.proofs.lemmas.Bool.{cases_eq}
+use Rattle.std.proofs.lemmas.Fmt.{digits_is_IsNumeral}
+use Rattle.std.proofs.lemmas.List.Elements.{All-from_recursion}
+use Rattle.pmf_event.specs.declared.event.Event.{Event}
+use Rattle.pmf_event.specs.declared.event.Event.TheVariants.{Store, Flush, Fence, Persist, Ordered, Exclude, Include, TxBegin, TxAdd, TxEnd, CheckStart, CheckEnd}
+use Rattle.pmf_event.specs.Span.{Extent}
+use Rattle.pmf_storelog.specs.Separators.{is_separator, is_blank}
+use Rattle.pmf_storelog.specs.Canonical.{address, field_of, fields_of_span, fields_of_event, name_of}
+use Rattle.pmf_storelog.proofs.CanonicalLemmas.{Fits}
+use Rattle.pmf_storelog.proofs.LineLemmas.{IsPlain}
+
+-- no byte passes
+abbrev NoneIn : (ℕ → Bool) → List ℕ → Type 0
+NoneIn p xs = AllByRecursion (λ c. p c ≡ false) xs
+
+none-append : (p : ℕ → Bool) (xs ys : List ℕ) → NoneIn p xs → NoneIn p ys → NoneIn p (xs ++ ys)
+none-append p [] ys none more = more
+none-append p (x ∷ xs) ys none more = (none.0, none-append p xs ys none.1 more)
+
+-- a byte that is no digit is none of the digits
+not_digit : (m c : ℕ) → digit_value m ≡ 36 → digit_value c < 16 → (c == m) ≡ false
+not_digit m c stop digit = elim (cases_eq c m) [
+  | inl same ↦ let large : digit_value c ≡ 36 = ap digit_value same ∙ stop in absurd (omega arith)
+  | inr other ↦ elim (c == m) as (λ v. (c == m) ≡ v → v ≡ false) [ true ↦ λ is. absurd (other ((Decides-eqb c m).0 is)) | false ↦ λ is. refl ] refl
+  ]
+
+-- the spans of an event fit into 64 bits
+abbrev pub AllFit : Event → Type 0
+AllFit (Store s) = Fits s
+AllFit (Flush s) = Fits s
+AllFit Fence = ⊤
+AllFit (Persist s) = Fits s
+AllFit (Ordered a b) = Fits a × Fits b
+AllFit (Exclude s) = Fits s
+AllFit (Include s) = Fits s
+AllFit TxBegin = ⊤
+AllFit (TxAdd s) = Fits s
+AllFit TxEnd = ⊤
+AllFit CheckStart = ⊤
+AllFit CheckEnd = ⊤
+
+-- the text of an event
+abbrev pub text_of_event : Event → List ℕ
+text_of_event event = name_of event ++ fields_of_event event
+
+module _ (p : ℕ → Bool) (digit : (c : ℕ) → digit_value c < 16 → p c ≡ false) (x : p 120 ≡ false) (semicolon : p 59 ≡ false) (named : (event : Event) → NoneIn p (name_of event)) where
+  none-digits : (ds : List ℕ) → AllDigits 16 ds → NoneIn p ds
+  none-digits [] each = tt
+  none-digits (d ∷ ds) each = (digit d each.0, none-digits ds each.1)
+
+  none-address : (n : ℕ) → n < 2 ^ 64 → NoneIn p (address n)
+  none-address n small =
+      let numeral = digits_is_IsNumeral 16 false (omega arith) (omega arith) n (omega arith) in
+      (digit 48 (omega arith), (x, none-digits (digits 16 false n) numeral.0.1))
+
+  none-field : (n : ℕ) → n < 2 ^ 64 → NoneIn p (field_of n)
+  unfolding field_of
+  none-field n small = (semicolon, none-address n small)
+
+  none-span : (s : Extent) → Fits s → NoneIn p (fields_of_span s)
+  unfolding fields_of_span
+  none-span s fits = none-append p (field_of s.first) (field_of s.size) (none-field s.first fits.first) (none-field s.size fits.size)
+
+  none-fields : (event : Event) → AllFit event → NoneIn p (fields_of_event event)
+  unfolding fields_of_event
+  none-fields (Store s) fit =
+      none-append p (field_of s.first ++ codes ";0x0") (field_of s.size)
+        (none-append p (field_of s.first) (codes ";0x0") (none-field s.first fit.first) (semicolon, (digit 48 (omega arith), (x, (digit 48 (omega arith), tt)))))
+        (none-field s.size fit.size)
+  none-fields (Flush s) fit = none-span s fit
+  none-fields Fence fit = tt
+  none-fields (Persist s) fit = none-span s fit
+  none-fields (Ordered a b) fit = none-append p (fields_of_span a) (fields_of_span b) (none-span a fit.0) (none-span b fit.1)
+  none-fields (Exclude s) fit = none-span s fit
+  none-fields (Include s) fit = none-span s fit
+  none-fields TxBegin fit = tt
+  none-fields (TxAdd s) fit = none-span s fit
+  none-fields TxEnd fit = tt
+  none-fields CheckStart fit = tt
+  none-fields CheckEnd fit = tt
+
+  none-text : (event : Event) → AllFit event → NoneIn p (text_of_event event)
+  none-text event fit = none-append p (name_of event) (fields_of_event event) (named event) (none-fields event fit)
+
+no_separator : (c : ℕ) → digit_value c < 16 → is_separator c ≡ false
+no_separator c digit = rw (not_digit 124 c refl digit, not_digit 10 c refl digit, not_digit 13 c refl digit) refl
+
+no_blank : (c : ℕ) → digit_value c < 16 → is_blank c ≡ false
+no_blank c digit = rw (not_digit 32 c refl digit, not_digit 9 c refl digit) refl
+
+separators_named : (event : Event) → NoneIn is_separator (name_of event)
+unfolding name_of
+separators_named (Store s) = search rules
+separators_named (Flush s) = search rules
+separators_named Fence = search rules
+separators_named (Persist s) = search rules
+separators_named (Ordered a b) = search rules
+separators_named (Exclude s) = search rules
+separators_named (Include s) = search rules
+separators_named TxBegin = search rules
+separators_named (TxAdd s) = search rules
+separators_named TxEnd = search rules
+separators_named CheckStart = search rules
+separators_named CheckEnd = search rules
+
+blanks_named : (event : Event) → NoneIn is_blank (name_of event)
+unfolding name_of
+blanks_named (Store s) = search rules
+blanks_named (Flush s) = search rules
+blanks_named Fence = search rules
+blanks_named (Persist s) = search rules
+blanks_named (Ordered a b) = search rules
+blanks_named (Exclude s) = search rules
+blanks_named (Include s) = search rules
+blanks_named TxBegin = search rules
+blanks_named (TxAdd s) = search rules
+blanks_named TxEnd = search rules
+blanks_named CheckStart = search rules
+blanks_named CheckEnd = search rules
+
+-- a name is no empty text
+name_filled : (event : Event) → 5 ≤ length (name_of event)
+unfolding name_of
+name_filled (Store s) = omega arith
+name_filled (Flush s) = omega arith
+name_filled Fence = omega arith
+name_filled (Persist s) = omega arith
+name_filled (Ordered a b) = omega arith
+name_filled (Exclude s) = omega arith
+name_filled (Include s) = omega arith
+name_filled TxBegin = omega arith
+name_filled (TxAdd s) = omega arith
+name_filled TxEnd = omega arith
+name_filled CheckStart = omega arith
+name_filled CheckEnd = omega arith
+
+pub text_of_event-plain : (event : Event) → AllFit event → IsPlain (text_of_event event)
+text_of_event-plain event fit = record {
+  filled = omega (arith, name_filled event, length-append (name_of event) (fields_of_event event));
+  whole = All-from_recursion (λ c. is_separator c ≡ false) (text_of_event event) (none-text is_separator no_separator refl refl separators_named event fit);
+  close = All-from_recursion (λ c. is_blank c ≡ false) (text_of_event event) (none-text is_blank no_blank refl refl blanks_named event fit);
+}
+
+-- the text of the marker
+unfoldable pub text_of_marker : ℕ → List ℕ
+text_of_marker number = codes "PMT.SECTION" ++ field_of number
+
+pub text_of_marker-plain : (n : ℕ) → n < 2 ^ 64 → IsPlain (text_of_marker n)
+unfolding text_of_marker
+text_of_marker-plain n small = record {
+  filled = omega (arith, length-append (codes "PMT.SECTION") (field_of n));
+  whole = All-from_recursion (λ c. is_separator c ≡ false) (text_of_marker n) (none-append is_separator (codes "PMT.SECTION") (field_of n) (search rules) (none-field is_separator no_separator refl refl separators_named n small));
+  close = All-from_recursion (λ c. is_blank c ≡ false) (text_of_marker n) (none-append is_blank (codes "PMT.SECTION") (field_of n) (search rules) (none-field is_blank no_blank refl refl blanks_named n small));
+}
