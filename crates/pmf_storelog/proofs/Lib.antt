@@ -10,3 +10,4 @@ pub mod CallerLemmas
 pub mod CanonicalLemmas
 pub mod LineLemmas
 pub mod PlainLemmas
+pub mod RoundTripLemmas
