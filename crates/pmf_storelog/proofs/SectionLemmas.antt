@@ -1,5 +1,5 @@
 -- The open sections with one more event, and with another current one.
-use Rattle.std.proofs.Common.{◌≡◌, ◌≢◌, ℕ, zero, suc, ◌+◌, ◌<◌, ◌≤◌, Bool, true, false, cond, nat_lt, map, List, [], ◌∷◌, ◌++◌, Option, Some, None, length, set, get_or, length-append, Result, Ok, Err, OnOk, IfErr, refl, sym, ap, subst, ◌∙◌, arith, ⊎_elim}
+use Rattle.std.proofs.Common.{◌≡◌, ◌≢◌, ℕ, zero, suc, ◌+◌, ◌<◌, ◌≤◌, Bool, true, false, cond, nat_lt, map, List, [], ◌∷◌, ◌++◌, Option, Some, None, length, set, get_or, length-append, Result, Ok, Err, OnOk, IfOk, IfErr, refl, sym, ap, subst, ◌∙◌, arith, ⊎_elim}
 use Rattle.std.specs.Ordering.{nat_cmp, is_eq}
 use Rattle.std.specs.declared.cmp.Ordering.{Ordering}
 use Rattle.std.specs.declared.cmp.Ordering.TheVariants.{Less, Equal, Greater}
@@ -9,9 +9,10 @@ use Rattle.std.specs.BTreeMap.{get, keys, is_at, insert_entry, IsOrdered}
 use Rattle.std.specs.BTreeSet.{insert_key}
 use Rattle.std.specs.List.Sorted.{IsStrictlySortedBy}
 use Rattle.std.proofs.lemmas.Bool.{eq-eqb, ne_eqb, cases_eq}
-use Rattle.std.proofs.lemmas.List.{get_or_append_left, get_or_push, get_or-set_same, get_or-set_other, length-set, length_push, nil_from_length}
+use Rattle.std.proofs.lemmas.List.{append_assoc, get_or_append_left, get_or_push, get_or-set_same, get_or-set_other, length-set, length_push, nil_from_length}
 use Rattle.std.proofs.lemmas.Map.{lookup-none}
 use Rattle.std.proofs.lemmas.Map.Entries.{none_below_head}
+use Rattle.std.proofs.lemmas.Map.Views.{All-found}
 use Rattle.std.proofs.lemmas.Map.Keys.{sorted_tail}
 use Rattle.pmf_event.specs.Section.{Trace}
 use Rattle.pmf_event.specs.declared.event.Event.{Event}
@@ -86,7 +87,7 @@ apart_at k n apart = rw (ne_eqb k n apart) (either (nat_lt k n))
 stays : (section : Trace) (list more : List Trace) (place : ℕ) → StandsAt section list place → StandsAt section (list ++ more) place
 stays section list more place stands = (omega (arith, stands.0, length-append list more), λ d. get_or_append_left list more d place stands.0 ∙ stands.1 d)
 
-blank : Trace
+abbrev pub blank : Trace
 blank = section_named 0 0 []
 
 pub one_longer : (list new : List Trace) (section : Trace) → new ≡ list ++ section ∷ [] → length new ≡ length list + 1
@@ -256,3 +257,31 @@ module _ (run : ℕ) (numbers : List ℕ) (events : ℕ → List Event) (current
   first_ok event new (Err cause) holds = tt
   first_ok event new (Ok done) holds =
       sections_as run _ _ _ _ _ _ new first_numbers (λ n. ap (λ c. with_event events c event n) (has.before empty)) (sym (has.before empty)) holds
+
+-- a list by entries is a list by their numbers
+by_number : (entries : List (ℕ × ℕ)) (f : ℕ × ℕ → Trace) (g : ℕ → Trace) → ((k : ℕ) (d : ℕ × ℕ) → k < length entries → f (get_or entries k d) ≡ g (get_or entries k d).0) →
+    map f entries ≡ map g (keys_of entries)
+by_number [] f g same = refl
+by_number (e ∷ entries) f g same =
+    rw (same 0 e (omega arith)) (ap (λ rest. g e.0 ∷ rest) (by_number entries f g (λ k d within. same (suc k) d (omega (arith, within)))))
+
+-- what stands at the places, in order of the numbers
+pub listed : (run : ℕ) (numbers : List ℕ) (events : ℕ → List Event) (current : ℕ) (opened : OpenSections) → HasSections run numbers events current opened → (list shared : List Trace) →
+    shared ≡ opened.sections.items → list ≡ map (λ e. get_or shared e.1 blank) opened.places.entries → list ≡ map (λ number. section_named run number (events number)) numbers
+listed run numbers events current opened has list shared same is =
+    is ∙ by_number opened.places.entries (λ e. get_or shared e.1 blank) (λ number. section_named run number (events number))
+        (λ k d within. ap (λ l. get_or l (get_or opened.places.entries k d).1 blank) same ∙ (has.found _ _ (All-found nat_cmp_total opened.places has.ordered k d within)).1 blank)
+    ∙ ap (map (λ number. section_named run number (events number))) has.numbers_are
+
+pub listed_ok : {V E : Type 0} (value : V → List Trace) (r : Result V E) (run : ℕ) (numbers : List ℕ) (events : ℕ → List Event) (current : ℕ) (opened : OpenSections) → HasSections run numbers events current opened → (shared : List Trace) →
+    shared ≡ opened.sections.items → IfOk r (λ list. (d : Trace) → value list ≡ map (λ e. get_or shared e.1 d) opened.places.entries) →
+    IfOk r (λ list. value list ≡ map (λ number. section_named run number (events number)) numbers)
+listed_ok value (Err fault) run numbers events current opened has shared same is = tt
+listed_ok value (Ok list) run numbers events current opened has shared same is = listed run numbers events current opened has (value list) shared same (is blank)
+
+-- one turn of the walk over the entries: what is listed, and what is left
+pub next_listed : (of_entry : ℕ × ℕ → Trace) (list longer all : List Trace) (entry : ℕ × ℕ) (left rest : List (ℕ × ℕ)) → list ++ map of_entry left ≡ all → left ≡ entry ∷ rest →
+    longer ≡ list ++ of_entry entry ∷ [] → longer ++ map of_entry rest ≡ all
+next_listed of_entry list longer all entry left rest so_far is next =
+    ap (λ (l : List Trace). l ++ map of_entry rest) next ∙ append_assoc list (of_entry entry ∷ []) (map of_entry rest)
+    ∙ ap (λ l. list ++ map of_entry l) (sym is) ∙ so_far

@@ -174,7 +174,21 @@ fn in_order(
 {
     let mut list = Vec::new(alloc);
     for (_, place) in places {
-        list.push(Arc::try_clone(&shared[*place])?)?;
+        hand_out(&mut list, shared, *place)?;
     }
     Ok(list)
+}
+
+// Puts the section at the place at the end of the list.
+fn hand_out(
+    list: &mut Vec<Arc<Section>>,
+    shared: &[Arc<Section>],
+    place: usize,
+) -> Result<(), AllocError>
+    requires { place < length shared.now }
+    ensures { OnOk result ((d : Trace) → map (λ a. a.value) list.new.items
+        ≡ map (λ a. a.value) list.old.items ++ slice_index_or (map (λ a. a.value) shared.now) place d ∷ []) }
+{
+    list.push(Arc::try_clone(&shared[place])?)?;
+    Ok(())
 }

@@ -7,11 +7,11 @@ use Rattle.pmf_storelog.proofs.sections.OpenSections.open.Goals as goal
 
 pub invariant_of-self : goal.invariant_of-self
 invariant_of-self c =
-    let longer = one_longer c.args.self.now.sections.items c.push.new.self.items _ c.in_ok-push.ensures.items in
+    let same = ap length c.in_err-push.ensures.items in
     record {
-      inside = λ number place is. omega (arith, longer, c.args.self.now.inside number place is);
-      few = omega (arith, longer, c.len-place.ensures, c.if-place-ge-SECTION_LIMIT.false);
-      current_inside = λ some. omega (arith, longer, c.args.self.now.current_inside some);
+      inside = λ number place is. omega (arith, same, c.args.self.now.inside number place is);
+      few = omega (arith, same, c.args.self.now.few);
+      current_inside = λ some. omega (arith, same, c.args.self.now.current_inside some);
     }
 
 pub invariant_of-self-in-Break-branch-2 : goal.invariant_of-self-in-Break-branch-2
@@ -28,7 +28,7 @@ invariant_of-self-2 c =
     let longer = one_longer c.args.self.now.sections.items c.push.new.self.items _ c.in_ok-push.ensures.items in
     record {
       inside = λ number place is.
-          inside_either _ c.len-place.result place (length c.push.new.self.items) _ (sym (c.in_ok-insert.ensures.updates.0 number) ∙ is)
+          inside_either (is_at (nat_cmp c.args.number) number) c.len-place.result place (length c.push.new.self.items) (get nat_cmp c.args.self.now.places number) (sym (c.in_ok-insert.ensures.updates.0 number) ∙ is)
           (omega (arith, longer, c.len-place.ensures)) (λ was. omega (arith, longer, c.args.self.now.inside number place was));
       few = omega (arith, longer, c.len-place.ensures, c.if-place-ge-SECTION_LIMIT.false);
       current_inside = λ some. omega (arith, longer, c.len-place.ensures);
