@@ -5,11 +5,11 @@ use Rattle.std.specs.declared.cmp.Ordering.{Ordering}
 use Rattle.std.specs.declared.cmp.Ordering.TheVariants.{Less, Equal, Greater}
 use Rattle.std.specs.Cmp.{nat_cmp_total}
 use Rattle.std.specs.Map.{lookup, keys_of}
-use Rattle.std.specs.BTreeMap.{get, keys, is_at, insert_entry, IsOrdered}
+use Rattle.std.specs.BTreeMap.{get, is_at, insert_entry}
 use Rattle.std.specs.BTreeSet.{insert_key}
 use Rattle.std.specs.List.Sorted.{IsStrictlySortedBy}
 use Rattle.std.proofs.lemmas.Bool.{eq-eqb, ne_eqb, cases_eq}
-use Rattle.std.proofs.lemmas.List.{append_assoc, get_or_append_left, get_or_push, get_or-set_same, get_or-set_other, length-set, length_push, nil_from_length}
+use Rattle.std.proofs.lemmas.List.{append_assoc, append-nil, get_or_append_left, get_or_push, get_or-set_same, get_or-set_other, length-set, length_push}
 use Rattle.std.proofs.lemmas.Map.{lookup-none}
 use Rattle.std.proofs.lemmas.Map.Entries.{none_below_head}
 use Rattle.std.proofs.lemmas.Map.Views.{All-found}
@@ -136,10 +136,13 @@ module _ (run : ℕ) (numbers : List ℕ) (events : ℕ → List Event) (current
     where
       some : length new.sections.items ≢ 0
       some empty = omega (arith, empty, ap length opens.list, length_push old.sections.items (section_named old.run number []))
+
       same : section_named old.run number [] ≡ section_named run number (events number)
       same = rw (has.run_is, has.others number none) refl
+
       at_end : StandsAt (section_named run number (events number)) new.sections.items (length old.sections.items)
       at_end = rw opens.list (omega (arith, length_push old.sections.items (section_named old.run number [])), λ d. get_or_push old.sections.items (section_named old.run number []) d (length old.sections.items) refl ∙ same)
+
       found : (n place : ℕ) → get nat_cmp new.places n ≡ Some place → StandsAt (section_named run n (events n)) new.sections.items place
       found n place is = ⊎_elim
           (λ equal.
@@ -149,6 +152,7 @@ module _ (run : ℕ) (numbers : List ℕ) (events : ℕ → List Event) (current
           rw (← equal, ← there) at_end)
           (λ apart. rw opens.list (stays _ old.sections.items _ place (has.found n place (sym (opens.updates.2 n (apart_at number n apart)) ∙ is))))
           (cases_eq number n)
+
       others : (n : ℕ) → get nat_cmp new.places n ≡ None → events n ≡ []
       others n is = ⊎_elim
           (λ equal. ap events (sym equal) ∙ has.others number none)
@@ -193,10 +197,13 @@ module _ (run : ℕ) (numbers : List ℕ) (events : ℕ → List Event) (current
     where
       current_at : get nat_cmp old.places current ≡ Some old.current
       current_at = has.here ∙ here_is old some
+
       filled : length new.sections.items ≢ 0
       filled empty = some (sym (ap length is ∙ length-set old.sections.items old.current _) ∙ empty)
+
       stands : StandsAt (section_named run current (events current)) old.sections.items old.current
       stands = has.found current old.current current_at
+
       found : (n place : ℕ) → get nat_cmp new.places n ≡ Some place → StandsAt (section_named run n (with_event events current event n)) new.sections.items place
       found n place at_n = ⊎_elim
           (λ equal.
@@ -208,9 +215,12 @@ module _ (run : ℕ) (numbers : List ℕ) (events : ℕ → List Event) (current
           (λ apart.
           let before = has.found n place (ap (λ m. get nat_cmp m n) (sym same_places) ∙ at_n) in
           let elsewhere : place ≢ old.current = λ there. apart (ap (λ t. t.name.number) (sym (stands.1 blank) ∙ ap (λ p. get_or old.sections.items p blank) (sym there) ∙ before.1 blank)) in
-          rw (ne_eqb current n apart) (omega (arith, before.0, ap length is, length-set old.sections.items old.current (section_named run current (events current ++ event ∷ []))),
-          λ d. rw is (get_or-set_other old.sections.items old.current place _ d elsewhere ∙ before.1 d)))
+          rw (ne_eqb current n apart) (
+            omega (arith, before.0, ap length is, length-set old.sections.items old.current (section_named run current (events current ++ event ∷ []))),
+            λ d. rw is (get_or-set_other old.sections.items old.current place _ d elsewhere ∙ before.1 d),
+          ))
           (cases_eq current n)
+
       others : (n : ℕ) → get nat_cmp new.places n ≡ None → with_event events current event n ≡ []
       others n none = ⊎_elim
           (λ equal. absurd (some_is_none (sym (ap (λ m. get nat_cmp m current) (sym same_places) ∙ ap (get nat_cmp new.places) equal ∙ none) ∙ current_at)))
@@ -270,7 +280,7 @@ pub listed : (run : ℕ) (numbers : List ℕ) (events : ℕ → List Event) (cur
     shared ≡ opened.sections.items → list ≡ map (λ e. get_or shared e.1 blank) opened.places.entries → list ≡ map (λ number. section_named run number (events number)) numbers
 listed run numbers events current opened has list shared same is =
     is ∙ by_number opened.places.entries (λ e. get_or shared e.1 blank) (λ number. section_named run number (events number))
-        (λ k d within. ap (λ l. get_or l (get_or opened.places.entries k d).1 blank) same ∙ (has.found _ _ (All-found nat_cmp_total opened.places has.ordered k d within)).1 blank)
+    (λ k d within. ap (λ l. get_or l (get_or opened.places.entries k d).1 blank) same ∙ (has.found _ _ (All-found nat_cmp_total opened.places has.ordered k d within)).1 blank)
     ∙ ap (map (λ number. section_named run number (events number))) has.numbers_are
 
 pub listed_ok : {V E : Type 0} (value : V → List Trace) (r : Result V E) (run : ℕ) (numbers : List ℕ) (events : ℕ → List Event) (current : ℕ) (opened : OpenSections) → HasSections run numbers events current opened → (shared : List Trace) →
@@ -285,3 +295,7 @@ pub next_listed : (of_entry : ℕ × ℕ → Trace) (list longer all : List Trac
 next_listed of_entry list longer all entry left rest so_far is next =
     ap (λ (l : List Trace). l ++ map of_entry rest) next ∙ append_assoc list (of_entry entry ∷ []) (map of_entry rest)
     ∙ ap (λ l. list ++ map of_entry l) (sym is) ∙ so_far
+
+-- the end of the walk
+pub all_listed : (of_entry : ℕ × ℕ → Trace) (list all : List Trace) (left : List (ℕ × ℕ)) → list ++ map of_entry left ≡ all → left ≡ [] → list ≡ all
+all_listed of_entry list all left so_far none = sym (append-nil list) ∙ ap (λ l. list ++ map of_entry l) (sym none) ∙ so_far

@@ -1,5 +1,5 @@
 -- The tally with one more record, and with one more part.
-use Rattle.std.proofs.Common.{◌≡◌, ◌≢◌, ℕ, true, false, ◌+◌, ◌<◌, ◌≤◌, List, [], ◌∷◌, ◌++◌, Some, None, Result, Ok, Err, OnOk, IsOk, IfErr, length, length-append, refl, sym, ap, ◌∙◌, arith}
+use Rattle.std.proofs.Common.{◌≡◌, ◌≢◌, ℕ, true, false, ◌+◌, ◌<◌, ◌≤◌, List, [], ◌∷◌, ◌++◌, Some, None, Result, Ok, Err, OnOk, IsOk, IfErr, length, length-append, refl, sym, ◌∙◌, arith}
 use Rattle.std.proofs.lemmas.Bool.{lt-ltb, le-ltb, eq-eqb, ne_eqb}
 use Rattle.std.proofs.lemmas.List.{append-nil}
 use Rattle.pmf_event.specs.declared.event.Event.{Event}
@@ -9,7 +9,6 @@ use Rattle.pmf_storelog.specs.declared.fault.Cause.TheVariants.{OutOfMemory, Too
 use Rattle.pmf_storelog.specs.declared.fault.LogFault.{LogFault}
 use Rattle.pmf_storelog.specs.declared.fault.TheConstants.{SECTION_LIMIT}
 use Rattle.pmf_storelog.specs.declared.record.Saying.TheVariants.{Happens, Enters, Skipped}
-use Rattle.pmf_storelog.specs.declared.sections.OpenSections.{OpenSections}
 use Rattle.pmf_storelog.specs.declared.tally.Tally.{Tally}
 use Rattle.pmf_storelog.specs.Separators.{trimmed, records_in}
 use Rattle.pmf_storelog.specs.Records.{record_of}

@@ -1,6 +1,6 @@
 -- What the open sections of a run stand for: rising numbers, the events of each, and the current number.
 -- Defined here.
-use Rattle.std.specs.Prelude.{◌≡◌, ℕ, ◌<◌, List, [], ◌++◌, ◌∷◌, ◌==◌, if◌then◌else◌, length, map, slice_index_or, Some, None, Option}
+use Rattle.std.specs.Prelude.{◌≡◌, ℕ, ◌<◌, List, [], ◌++◌, ◌∷◌, ◌==◌, if◌then◌else◌, length, slice_index_or, Some, None, Option}
 use Rattle.std.specs.Ordering.{nat_cmp}
 use Rattle.std.specs.BTreeMap.{get, keys, insert_entry, IsOrdered, Updates}
 use Rattle.pmf_event.specs.Section.{Trace}

@@ -1,5 +1,5 @@
 -- What the tally of a reader stands for: a list of records, none of them faulty. Defined here.
-use Rattle.std.specs.Prelude.{◌≡◌, ◌≢◌, ℕ, ◌+◌, List, [], ◌∷◌, ◌++◌, length, None, Result, Ok, Err}
+use Rattle.std.specs.Prelude.{◌≡◌, ◌≢◌, ℕ, ◌+◌, List, length, None, Result, Ok, Err}
 use Rattle.pmf_storelog.specs.LogText.{events_in, numbers_of, current_of, skipped_of, first_fault}
 use Rattle.pmf_storelog.specs.Sections.{HasSections}
 use Rattle.pmf_storelog.specs.declared.fault.Cause.{Cause}

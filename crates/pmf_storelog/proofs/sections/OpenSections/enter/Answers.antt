@@ -1,6 +1,4 @@
-use Rattle.std.proofs.Common.{◌≡◌, ◌≤◌, length, Some, None, refl, sym, ◌∙◌, arith}
-use Rattle.std.specs.Ordering.{nat_cmp}
-use Rattle.std.specs.BTreeMap.{get}
+use Rattle.std.proofs.Common.{refl, sym, arith}
 use Rattle.pmf_storelog.proofs.SectionLemmas.{again, same_numbers, begun_ok, begun_room, begun_err}
 use Rattle.pmf_storelog.proofs.sections.OpenSections.enter.Goals as goal
 

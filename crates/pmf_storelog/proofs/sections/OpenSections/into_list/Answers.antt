@@ -1,6 +1,5 @@
-use Rattle.std.proofs.Common.{◌≡◌, length, map, sym, ap, ◌∙◌, arith}
+use Rattle.std.proofs.Common.{length, map, ap, arith}
 use Rattle.std.proofs.lemmas.List.{length-map}
-use Rattle.pmf_event.specs.Section.{Trace}
 use Rattle.pmf_storelog.proofs.SectionLemmas.{listed_ok}
 use Rattle.pmf_storelog.proofs.sections.OpenSections.into_list.Goals as goal
 
