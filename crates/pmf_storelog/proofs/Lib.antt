@@ -3,6 +3,7 @@ pub mod NumberLemmas
 pub mod FieldLemmas
 pub mod PartLemmas
 pub mod LogLemmas
+pub mod SectionLemmas
 pub mod TallyLemmas
 pub mod ProgressLemmas
 pub mod ReaderLemmas

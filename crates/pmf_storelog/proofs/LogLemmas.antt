@@ -1,7 +1,9 @@
--- The events, the skipped records and the first fault of a list of records that more records follow.
-use Rattle.std.proofs.Common.{◌≡◌, ℕ, zero, suc, ◌+◌, ◌-◌, ◌<◌, ◌≤◌, cond, List, [], ◌∷◌, ◌++◌, Option, Some, None, Ok, length, take, refl, sym, ap, ◌∙◌, arith, add-one, length-append, ⊎_elim}
-use Rattle.std.proofs.lemmas.List.{append_assoc, append-nil, take_at, take-append-le, take_all, get_or_append_left, get_or_at, length_push}
-use Rattle.std.proofs.lemmas.List.Elements.{filter_map-append}
+-- The sections, the skipped records and the first fault of a list of records that more records follow.
+use Rattle.std.proofs.Common.{◌≡◌, ℕ, zero, suc, ◌+◌, ◌-◌, ◌<◌, ◌≤◌, Bool, true, false, cond, map, List, [], ◌∷◌, ◌++◌, Option, Some, None, Ok, length, take, refl, sym, ap, ◌∙◌, arith, add-one, length-append, ⊎_elim}
+use Rattle.std.specs.Prelude.{◌==◌}
+use Rattle.std.specs.List.{filter}
+use Rattle.std.proofs.lemmas.List.{append_assoc, map-append, append-nil, take_at, take-append-le, take_all, get_or_append_left, get_or_at, length_push}
+use Rattle.std.proofs.lemmas.List.Elements.{filter-append}
 use Rattle.std.proofs.lemmas.List.Sums.{sum_by-append}
 use Rattle.std.proofs.Math.Seq.{take-append-add}
 use Rattle.std.proofs.lemmas.Bool.{lt-ltb, le-ltb, cases_lt}
@@ -9,50 +11,127 @@ use Rattle.pmf_event.specs.declared.event.Event.{Event}
 use Rattle.pmf_storelog.specs.declared.fault.TheConstants.{LOG_LIMIT}
 use Rattle.pmf_storelog.specs.declared.fault.Cause.TheVariants.{TooLong}
 use Rattle.pmf_storelog.specs.declared.fault.LogFault.{LogFault}
+use Rattle.pmf_storelog.specs.declared.record.Saying.TheVariants.{Happens, Enters, Skipped}
 use Rattle.pmf_storelog.specs.Records.{record_of}
+use Rattle.pmf_storelog.specs.Sections.{with_event}
 use Rattle.pmf_storelog.specs.Separators.{records_of, ended_records}
-use Rattle.pmf_storelog.specs.LogText.{event_of, is_skipped, events_of, skipped_of, cause_after, fault_at, refusal_at, or_else, first_fault_among, first_fault, too_long, shown_within, fault_within, shown_fault, fault_of, IsFaultOfAll}
+use Rattle.pmf_storelog.specs.LogText.{reading_at, number_after, current_at, current_of, numbered, numbered_among, numbered_events, events_in, numbers_with, numbers_among, numbers_of, is_skipped, skipped_of, refusal_after, refusal_at, or_else, first_fault_among, first_fault, too_long, shown_within, fault_within, shown_fault, fault_of, IsFaultOfAll}
 use Rattle.pmf_storelog.proofs.PartLemmas.{ended_records-more, records_of-unfinished, unfinished}
+
+-- the events of a section among numbered ones
+abbrev in_section : ℕ → List (ℕ × Event) → List Event
+in_section number entries = map (λ entry. entry.1) (filter (λ entry. entry.0 == number) entries)
+
+one_event : (here : Bool) (number : ℕ) (events : List Event) (event : Event) →
+    events ++ map (λ (entry : ℕ × Event). entry.1) (cond here ((number, event) ∷ []) []) ≡ cond here (events ++ event ∷ []) events
+one_event true number events event = refl
+one_event false number events event = append-nil events
+
+-- what the records before more of them say
+module _ (records more : List (List ℕ)) where
+  reading_at-append : (k : ℕ) → k < length records → reading_at (records ++ more) k ≡ reading_at records k
+  unfolding reading_at
+  reading_at-append k within = ap record_of (get_or_append_left records more [] k within)
+
+  current_at-append : (k : ℕ) → k ≤ length records → current_at (records ++ more) k ≡ current_at records k
+  unfolding current_at
+  current_at-append zero le = refl
+  current_at-append (suc k) le = rw (reading_at-append k (omega arith), current_at-append k (omega arith)) refl
+
+  numbered_among-append : (k : ℕ) → k ≤ length records → numbered_among (records ++ more) k ≡ numbered_among records k
+  unfolding numbered_among
+  numbered_among-append zero le = refl
+  numbered_among-append (suc k) le =
+      rw (reading_at-append k (omega arith), current_at-append k (omega arith), numbered_among-append k (omega arith)) refl
+
+  numbers_among-append : (k : ℕ) → k ≤ length records → numbers_among (records ++ more) k ≡ numbers_among records k
+  unfolding numbers_among
+  numbers_among-append zero le = refl
+  numbers_among-append (suc k) le =
+      rw (reading_at-append k (omega arith), current_at-append k (omega arith), numbers_among-append k (omega arith)) refl
+
+  refusal_at-append : (k : ℕ) → k < length records → refusal_at (records ++ more) k ≡ refusal_at records k
+  unfolding refusal_at
+  refusal_at-append k within = rw (take-append-le k records more (omega arith), reading_at-append k within) refl
+
+  first_fault_among-append : (k : ℕ) → k ≤ length records → first_fault_among (records ++ more) k ≡ first_fault_among records k
+  unfolding first_fault_among
+  first_fault_among-append zero le = refl
+  first_fault_among-append (suc k) le = rw (first_fault_among-append k (omega arith), refusal_at-append k (omega arith)) refl
 
 -- what one more record adds
 module _ (records : List (List ℕ)) (text : List ℕ) where
-  pub events_of-event : (event : Event) → record_of text ≡ Ok (Some event) → events_of (records ++ text ∷ []) ≡ events_of records ++ event ∷ []
-  unfolding events_of event_of
-  events_of-event event says = rw (filter_map-append event_of records (text ∷ []), says) refl
+  one_more : length (records ++ text ∷ []) ≡ suc (length records)
+  one_more = length_push records text ∙ add-one (length records)
 
-  pub events_of-nothing : record_of text ≡ Ok None → events_of (records ++ text ∷ []) ≡ events_of records
-  unfolding events_of event_of
-  events_of-nothing says = rw (filter_map-append event_of records (text ∷ []), says) (append-nil (events_of records))
+  reading_at-last : reading_at (records ++ text ∷ []) (length records) ≡ record_of text
+  unfolding reading_at
+  reading_at-last = ap record_of (get_or_at records text [] [] (length records) refl)
 
-  pub skipped_of-event : (event : Event) → record_of text ≡ Ok (Some event) → skipped_of (records ++ text ∷ []) ≡ skipped_of records
+  pub current_of-push : current_of (records ++ text ∷ []) ≡ number_after (record_of text) (current_of records)
+  unfolding current_of current_at
+  current_of-push =
+      ap (current_at (records ++ text ∷ [])) one_more
+      ∙ rw (reading_at-last, current_at-append records (text ∷ []) (length records) (omega arith)) refl
+
+  numbered_events-push : numbered_events (records ++ text ∷ []) ≡ numbered_events records ++ numbered (current_of records) (record_of text)
+  unfolding numbered_events numbered_among current_of
+  numbered_events-push =
+      ap (numbered_among (records ++ text ∷ [])) one_more
+      ∙ rw (reading_at-last, current_at-append records (text ∷ []) (length records) (omega arith), numbered_among-append records (text ∷ []) (length records) (omega arith)) refl
+
+  pub numbers_of-push : numbers_of (records ++ text ∷ []) ≡ numbers_with (record_of text) (current_of records) (numbers_of records)
+  unfolding numbers_of numbers_among current_of
+  numbers_of-push =
+      ap (numbers_among (records ++ text ∷ [])) one_more
+      ∙ rw (reading_at-last, current_at-append records (text ∷ []) (length records) (omega arith), numbers_among-append records (text ∷ []) (length records) (omega arith)) refl
+
+  refusal_at-last : refusal_at (records ++ text ∷ []) (length records) ≡ refusal_after records (record_of text)
+  unfolding refusal_at
+  refusal_at-last = rw (take_at records (text ∷ []) (length records) refl, reading_at-last) refl
+
+  -- the first fault with one more record
+  pub first_fault-push : first_fault (records ++ text ∷ []) ≡ or_else (first_fault records) (refusal_after records (record_of text))
+  unfolding first_fault first_fault_among
+  first_fault-push =
+      ap (first_fault_among (records ++ text ∷ [])) one_more
+      ∙ rw (first_fault_among-append records (text ∷ []) (length records) (omega arith), refusal_at-last) refl
+
+  -- the events of each section, by what the record says
+  events_in-push : (number : ℕ) → events_in (records ++ text ∷ []) number ≡ events_in records number ++ in_section number (numbered (current_of records) (record_of text))
+  unfolding events_in
+  events_in-push number =
+      ap (in_section number) numbered_events-push
+      ∙ ap (map (λ entry. entry.1)) (filter-append (λ entry. entry.0 == number) (numbered_events records) (numbered (current_of records) (record_of text)))
+      ∙ map-append (λ entry. entry.1) _ _
+
+  pub events_in-event : (event : Event) → record_of text ≡ Ok (Happens event) → (number : ℕ) →
+      events_in (records ++ text ∷ []) number ≡ with_event (events_in records) (current_of records) event number
+  events_in-event event says number =
+      events_in-push number ∙ ap (λ reading. events_in records number ++ in_section number (numbered (current_of records) reading)) says
+      ∙ one_event (current_of records == number) (current_of records) (events_in records number) event
+
+  pub events_in-enter : (entered : ℕ) → record_of text ≡ Ok (Enters entered) → (number : ℕ) → events_in (records ++ text ∷ []) number ≡ events_in records number
+  events_in-enter entered says number =
+      events_in-push number ∙ ap (λ reading. events_in records number ++ in_section number (numbered (current_of records) reading)) says
+      ∙ append-nil (events_in records number)
+
+  pub events_in-nothing : record_of text ≡ Ok Skipped → (number : ℕ) → events_in (records ++ text ∷ []) number ≡ events_in records number
+  events_in-nothing says number =
+      events_in-push number ∙ ap (λ reading. events_in records number ++ in_section number (numbered (current_of records) reading)) says
+      ∙ append-nil (events_in records number)
+
+  pub skipped_of-event : (event : Event) → record_of text ≡ Ok (Happens event) → skipped_of (records ++ text ∷ []) ≡ skipped_of records
   unfolding skipped_of is_skipped
   skipped_of-event event says = rw (sum_by-append (λ x. cond (is_skipped x) 1 0) records (text ∷ []), says) (omega arith)
 
-  pub skipped_of-nothing : record_of text ≡ Ok None → skipped_of (records ++ text ∷ []) ≡ skipped_of records + 1
+  pub skipped_of-enter : (number : ℕ) → record_of text ≡ Ok (Enters number) → skipped_of (records ++ text ∷ []) ≡ skipped_of records
+  unfolding skipped_of is_skipped
+  skipped_of-enter number says = rw (sum_by-append (λ x. cond (is_skipped x) 1 0) records (text ∷ []), says) (omega arith)
+
+  pub skipped_of-nothing : record_of text ≡ Ok Skipped → skipped_of (records ++ text ∷ []) ≡ skipped_of records + 1
   unfolding skipped_of is_skipped
   skipped_of-nothing says = rw (sum_by-append (λ x. cond (is_skipped x) 1 0) records (text ∷ []), says) (omega arith)
-
-refusal_at-append : (records more : List (List ℕ)) (k : ℕ) → k < length records → refusal_at (records ++ more) k ≡ refusal_at records k
-unfolding refusal_at
-refusal_at-append records more k within = rw (take-append-le k records more (omega arith), get_or_append_left records more [] k within) refl
-
-first_fault_among-append : (records more : List (List ℕ)) (k : ℕ) → k ≤ length records → first_fault_among (records ++ more) k ≡ first_fault_among records k
-unfolding first_fault_among
-first_fault_among-append records more zero le = refl
-first_fault_among-append records more (suc k) le =
-    rw (first_fault_among-append records more k (omega arith), refusal_at-append records more k (omega arith)) refl
-
-refusal_at-last : (records : List (List ℕ)) (text : List ℕ) → refusal_at (records ++ text ∷ []) (length records) ≡ fault_at (length records + 1) (cause_after (length (events_of records)) (record_of text))
-unfolding refusal_at
-refusal_at-last records text = rw (take_at records (text ∷ []) (length records) refl, get_or_at records text [] [] (length records) refl) refl
-
--- the first fault with one more record
-pub first_fault-push : (records : List (List ℕ)) (text : List ℕ) →
-    first_fault (records ++ text ∷ []) ≡ or_else (first_fault records) (fault_at (length records + 1) (cause_after (length (events_of records)) (record_of text)))
-unfolding first_fault first_fault_among
-first_fault-push records text =
-    ap (first_fault_among (records ++ text ∷ [])) (length_push records text ∙ add-one (length records))
-    ∙ rw (first_fault_among-append records (text ∷ []) (length records) (omega arith), refusal_at-last records text) refl
 
 -- a fault stays the first one, whatever follows
 pub first_fault-more : (records more : List (List ℕ)) (fault : LogFault) → first_fault records ≡ Some fault → first_fault (records ++ more) ≡ Some fault

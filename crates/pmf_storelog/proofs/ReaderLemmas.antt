@@ -9,7 +9,7 @@ use Rattle.pmf_storelog.specs.declared.tally.Tally.{Tally}
 use Rattle.pmf_storelog.specs.declared.progress.Progress.{Progress}
 use Rattle.pmf_storelog.specs.Separators.{records_in, records_of, ended_records}
 use Rattle.pmf_storelog.specs.LogValue.{LogValue}
-use Rattle.pmf_storelog.specs.LogText.{events_of, skipped_of, sections_of, first_fault, shown_fault, fault_of, value_of, log_of, out_of_memory}
+use Rattle.pmf_storelog.specs.LogText.{skipped_of, sections_of, first_fault, shown_fault, fault_of, value_of, log_of, out_of_memory}
 use Rattle.pmf_storelog.specs.Answers.{IsShown, Answers}
 use Rattle.pmf_storelog.specs.Tally.{HasTaken}
 use Rattle.pmf_storelog.specs.Progress.{HasParsed, HasParsedTo}
@@ -68,7 +68,7 @@ shown_none run bytes tally short taken = shown_within-short LOG_LIMIT bytes shor
 
 -- a log whose records have no fault has its value
 pub log_of-ok : (run : ℕ) (bytes : List ℕ) (log : LogValue) → length bytes ≤ LOG_LIMIT → first_fault (records_of bytes) ≡ None →
-    log ≡ record { sections = sections_of run (events_of (records_of bytes)); skipped = skipped_of (records_of bytes) } → log_of run bytes ≡ Ok log
+    log ≡ record { sections = sections_of run (records_of bytes); skipped = skipped_of (records_of bytes) } → log_of run bytes ≡ Ok log
 unfolding log_of fault_of value_of
 log_of-ok run bytes log short none is = rw (fault_within-short LOG_LIMIT bytes short, none) (ap (λ l. Ok l) (sym is))
 
@@ -122,7 +122,7 @@ module _ (run : ℕ) (bytes : List ℕ) (progress : Progress) (parsed : HasParse
   end_faulty fault shown memory = log_of-err run bytes fault short (ap first_fault whole_is ∙ shown memory)
 
   pub end_ok : (tally : Tally) (r : Result LogValue LogFault) → HasTaken run (ended_records bytes ++ records_in (progress.carry.items ∷ [])) tally →
-      ((run : ℕ) (records : List (List ℕ)) → HasTaken run records tally → IfOk r (λ log. log ≡ record { sections = sections_of run (events_of records); skipped = skipped_of records })) →
+      ((run : ℕ) (records : List (List ℕ)) → HasTaken run records tally → IfOk r (λ log. log ≡ record { sections = sections_of run records; skipped = skipped_of records })) →
       IfErr r (λ fault. fault ≡ out_of_memory) → Answers r (log_of run bytes)
   end_ok tally (Ok log) taken ok err =
       let all = subst (λ (records : List (List ℕ)). HasTaken run records tally) (sym whole_is) taken in

@@ -1,21 +1,35 @@
 -- The tally with one more record, and with one more part.
-use Rattle.std.proofs.Common.{◌≡◌, ◌≢◌, ℕ, ◌+◌, ◌<◌, List, [], ◌∷◌, ◌++◌, Some, None, Result, Ok, Err, OnOk, IfErr, length, length-append, refl, sym, ap, ◌∙◌, arith}
-use Rattle.std.proofs.lemmas.Bool.{lt-ltb, eq-eqb, ne_eqb}
+use Rattle.std.proofs.Common.{◌≡◌, ◌≢◌, ℕ, true, false, ◌+◌, ◌<◌, ◌≤◌, List, [], ◌∷◌, ◌++◌, Some, None, Result, Ok, Err, OnOk, IsOk, IfErr, length, length-append, refl, sym, ◌∙◌, arith}
+use Rattle.std.proofs.lemmas.Bool.{lt-ltb, le-ltb, eq-eqb, ne_eqb}
 use Rattle.std.proofs.lemmas.List.{append-nil}
 use Rattle.pmf_event.specs.declared.event.Event.{Event}
+use Rattle.pmf_event.specs.declared.section.TheConstants.{EVENT_LIMIT}
 use Rattle.pmf_storelog.specs.declared.fault.Cause.{Cause}
+use Rattle.pmf_storelog.specs.declared.fault.Cause.TheVariants.{OutOfMemory, TooManyEvents, TooManySections}
 use Rattle.pmf_storelog.specs.declared.fault.LogFault.{LogFault}
+use Rattle.pmf_storelog.specs.declared.fault.TheConstants.{SECTION_LIMIT}
+use Rattle.pmf_storelog.specs.declared.record.Saying.TheVariants.{Happens, Enters, Skipped}
 use Rattle.pmf_storelog.specs.declared.tally.Tally.{Tally}
 use Rattle.pmf_storelog.specs.Separators.{trimmed, records_in}
 use Rattle.pmf_storelog.specs.Records.{record_of}
-use Rattle.pmf_storelog.specs.LogText.{events_of, skipped_of, first_fault, first_fault_among, cause_after, fault_at, out_of_memory}
+use Rattle.pmf_storelog.specs.LogText.{current_at, current_of, numbered_among, numbered_events, events_in, with_number, numbers_among, numbers_of, skipped_of, first_fault, first_fault_among, refusal_after, cause_after, fault_at, out_of_memory}
 use Rattle.pmf_storelog.specs.Answers.{IsShown}
-use Rattle.pmf_storelog.specs.Tally.{HasTaken, AddsEvent, AddsSkipped, IsFullAt}
-use Rattle.pmf_storelog.proofs.LogLemmas.{events_of-event, events_of-nothing, skipped_of-event, skipped_of-nothing, first_fault-push}
+use Rattle.pmf_storelog.specs.Sections.{HasSections, with_event}
+use Rattle.pmf_storelog.specs.Tally.{HasTaken, AddsRecord, AddsSkipped, IsFaultFor}
+use Rattle.pmf_storelog.proofs.LogLemmas.{current_of-push, numbers_of-push, events_in-event, events_in-enter, events_in-nothing, skipped_of-event, skipped_of-enter, skipped_of-nothing, first_fault-push}
+use Rattle.pmf_storelog.proofs.SectionLemmas.{sections_as}
 
-events_of-nil : events_of [] ≡ []
-unfolding events_of
-events_of-nil = refl
+numbers_of-nil : numbers_of [] ≡ []
+unfolding numbers_of numbers_among
+numbers_of-nil = refl
+
+current_of-nil : current_of [] ≡ 0
+unfolding current_of current_at
+current_of-nil = refl
+
+events_in-nil : (number : ℕ) → events_in [] number ≡ []
+unfolding events_in numbered_events numbered_among
+events_in-nil number = refl
 
 skipped_of-nil : skipped_of [] ≡ 0
 unfolding skipped_of
@@ -25,31 +39,47 @@ first_fault-nil : first_fault [] ≡ None
 unfolding first_fault first_fault_among
 first_fault-nil = refl
 
-pub taken_none : (run : ℕ) (tally : Tally) → tally.section ≡ record { name = record { run = run; number = 0 }; events = [] } → tally.records ≡ 0 → tally.skipped ≡ 0 → HasTaken run [] tally
-taken_none run tally section count skipped = record {
+pub taken_none : (run : ℕ) (tally : Tally) → HasSections run [] (λ _. []) 0 tally.sections → tally.records ≡ 0 → tally.skipped ≡ 0 → HasTaken run [] tally
+taken_none run tally sections count skipped = record {
   faultless = first_fault-nil;
-  section = section ∙ ap (λ events. record { name = record { run = run; number = 0 }; events = events }) (sym events_of-nil);
+  sections = sections_as run _ _ _ _ _ _ tally.sections (sym numbers_of-nil) events_in-nil (sym current_of-nil) sections;
   count = count;
   skipped = skipped ∙ sym skipped_of-nil;
 }
 
+not_ok : (cause : Cause) → IsOk {T = Unit {0}} (Err cause) → ⊥
+not_ok cause is = let same : false ≡ true = is in cc
+
 module _ (run : ℕ) (records : List (List ℕ)) (text : List ℕ) (old : Tally) (taken : HasTaken run records old) where
   -- the first fault is then the new record's
-  new_fault : first_fault (records ++ text ∷ []) ≡ fault_at (old.records + 1) (cause_after (length old.section.events) (record_of text))
-  new_fault = rw (first_fault-push records text, taken.faultless, taken.section, taken.count) refl
+  new_fault : first_fault (records ++ text ∷ []) ≡ fault_at (old.records + 1) (cause_after (numbers_of records) (length (events_in records (current_of records))) (record_of text))
+  unfolding refusal_after
+  new_fault = rw (first_fault-push records text, taken.faultless, taken.count) refl
 
-  pub taken_event : (event : Event) (new : Tally) → record_of text ≡ Ok (Some event) → AddsEvent event old new → HasTaken run (records ++ text ∷ []) new
-  taken_event event new says adds = record {
-    faultless = rw (new_fault, says, ne_eqb _ _ adds.room) refl;
-    section = rw (adds.section, taken.section, events_of-event records text event says) refl;
-    count = omega (arith, adds.count, taken.count, length-append records (text ∷ []));
-    skipped = adds.skipped ∙ taken.skipped ∙ sym (skipped_of-event records text event says);
+  pub taken_event : (event : Event) (new : Tally) → record_of text ≡ Ok (Happens event) →
+      HasSections run (with_number (numbers_of records) (current_of records)) (with_event (events_in records) (current_of records) event) (current_of records) new.sections →
+      length (events_in records (current_of records)) ≢ EVENT_LIMIT → new.records ≡ old.records + 1 → new.skipped ≡ old.skipped → HasTaken run (records ++ text ∷ []) new
+  taken_event event new says sections room count skipped = record {
+    faultless = rw (new_fault, says, ne_eqb _ _ room) refl;
+    sections = sections_as run _ _ _ _ _ _ new.sections (sym (rw (numbers_of-push records text, says) refl)) (events_in-event records text event says) (sym (rw (current_of-push records text, says) refl)) sections;
+    count = omega (arith, count, taken.count, length-append records (text ∷ []));
+    skipped = skipped ∙ taken.skipped ∙ sym (skipped_of-event records text event says);
   }
 
-  pub taken_nothing : (new : Tally) → record_of text ≡ Ok None → AddsSkipped old new → HasTaken run (records ++ text ∷ []) new
+  pub taken_enter : (number : ℕ) (new : Tally) → record_of text ≡ Ok (Enters number) →
+      HasSections run (with_number (numbers_of records) number) (events_in records) number new.sections →
+      length (with_number (numbers_of records) number) ≤ SECTION_LIMIT → new.records ≡ old.records + 1 → new.skipped ≡ old.skipped → HasTaken run (records ++ text ∷ []) new
+  taken_enter number new says sections room count skipped = record {
+    faultless = rw (new_fault, says, le-ltb SECTION_LIMIT (length (with_number (numbers_of records) number)) room) refl;
+    sections = sections_as run _ _ _ _ _ _ new.sections (sym (rw (numbers_of-push records text, says) refl)) (events_in-enter records text number says) (sym (rw (current_of-push records text, says) refl)) sections;
+    count = omega (arith, count, taken.count, length-append records (text ∷ []));
+    skipped = skipped ∙ taken.skipped ∙ sym (skipped_of-enter records text number says);
+  }
+
+  pub taken_nothing : (new : Tally) → record_of text ≡ Ok Skipped → AddsSkipped old new → HasTaken run (records ++ text ∷ []) new
   taken_nothing new says adds = record {
     faultless = rw (new_fault, says) refl;
-    section = rw (adds.section, taken.section, events_of-nothing records text says) refl;
+    sections = sections_as run (numbers_of records) _ (events_in records) _ (current_of records) _ new.sections (sym (rw (numbers_of-push records text, says) refl)) (events_in-nothing records text says) (sym (rw (current_of-push records text, says) refl)) (rw adds.sections taken.sections);
     count = omega (arith, adds.count, taken.count, length-append records (text ∷ []));
     skipped = omega (arith, adds.skipped, taken.skipped, skipped_of-nothing records text says);
   }
@@ -57,17 +87,47 @@ module _ (run : ℕ) (records : List (List ℕ)) (text : List ℕ) (old : Tally)
   pub shown_cause : (cause : Cause) → record_of text ≡ Err cause → first_fault (records ++ text ∷ []) ≡ Some (record { at = old.records + 1; cause = cause })
   shown_cause cause says = rw (new_fault, says) refl
 
-  pub shown_full : (event : Event) (fault : LogFault) → record_of text ≡ Ok (Some event) → IsFullAt old fault → first_fault (records ++ text ∷ []) ≡ Some fault
-  shown_full event fault says is_full = rw (new_fault, says, eq-eqb _ _ is_full.full) (ap (λ f. Some f) (sym is_full.says))
+  -- what an event's section answers, said of the records
+  pub happened_ok : (event : Event) (mid new : Tally) (added : Result (Unit {0}) Cause) (r : Result (Unit {0}) LogFault) → record_of text ≡ Ok (Happens event) →
+      mid.records ≡ old.records → mid.skipped ≡ old.skipped →
+      OnOk added (HasSections run (with_number (numbers_of records) (current_of records)) (with_event (events_in records) (current_of records) event) (current_of records) mid.sections) →
+      OnOk added (length (events_in records (current_of records)) ≢ EVENT_LIMIT) →
+      OnOk r (IsOk added × AddsRecord mid new) → OnOk r (HasTaken run (records ++ text ∷ []) new)
+  happened_ok event mid new added (Err fault) says count skipped sections room adds = tt
+  happened_ok event mid new (Err cause) (Ok done) says count skipped sections room adds = absurd (not_ok cause adds.0)
+  happened_ok event mid new (Ok took) (Ok done) says count skipped sections room adds =
+      taken_event event new says (rw adds.1.sections sections) room (omega (arith, adds.1.count, count)) (adds.1.skipped ∙ skipped)
 
-  -- what `add` answers, said of the records
-  pub added_ok : (event : Event) (new : Tally) (r : Result (Unit {0}) LogFault) → record_of text ≡ Ok (Some event) → OnOk r (AddsEvent event old new) → OnOk r (HasTaken run (records ++ text ∷ []) new)
-  added_ok event new (Ok done) says adds = taken_event event new says adds
-  added_ok event new (Err fault) says adds = tt
+  pub happened_err : (event : Event) (mid : Tally) (added : Result (Unit {0}) Cause) (r : Result (Unit {0}) LogFault) → record_of text ≡ Ok (Happens event) →
+      mid.records ≡ old.records →
+      IfErr added (λ cause. cause ≢ OutOfMemory → (cause ≡ TooManyEvents) × (length (events_in records (current_of records)) ≡ EVENT_LIMIT)) →
+      IfErr r (λ fault. fault ≢ out_of_memory → IsFaultFor added mid fault) → IfErr r (λ fault. IsShown fault (first_fault (records ++ text ∷ [])))
+  happened_err event mid added (Ok done) says count full is = tt
+  happened_err event mid (Ok took) (Err fault) says count full is = λ memory. absurd (is memory)
+  happened_err event mid (Err cause) (Err fault) says count full is = λ memory.
+      let why = full (is memory).0 in
+      rw (new_fault, says, eq-eqb _ _ why.1, (is memory).1, why.0, count) refl
 
-  pub added_err : (event : Event) (r : Result (Unit {0}) LogFault) → record_of text ≡ Ok (Some event) → IfErr r (λ fault. fault ≢ out_of_memory → IsFullAt old fault) → IfErr r (λ fault. IsShown fault (first_fault (records ++ text ∷ [])))
-  added_err event (Ok done) says full = tt
-  added_err event (Err fault) says full = λ memory. shown_full event fault says (full memory)
+  -- what a marker's section answers
+  pub entered_ok : (number : ℕ) (mid new : Tally) (entered : Result (Unit {0}) Cause) (r : Result (Unit {0}) LogFault) → record_of text ≡ Ok (Enters number) →
+      mid.records ≡ old.records → mid.skipped ≡ old.skipped →
+      OnOk entered (HasSections run (with_number (numbers_of records) number) (events_in records) number mid.sections) →
+      OnOk entered (length (with_number (numbers_of records) number) ≤ SECTION_LIMIT) →
+      OnOk r (IsOk entered × AddsRecord mid new) → OnOk r (HasTaken run (records ++ text ∷ []) new)
+  entered_ok number mid new entered (Err fault) says count skipped sections room adds = tt
+  entered_ok number mid new (Err cause) (Ok done) says count skipped sections room adds = absurd (not_ok cause adds.0)
+  entered_ok number mid new (Ok took) (Ok done) says count skipped sections room adds =
+      taken_enter number new says (rw adds.1.sections sections) room (omega (arith, adds.1.count, count)) (adds.1.skipped ∙ skipped)
+
+  pub entered_err : (number : ℕ) (mid : Tally) (entered : Result (Unit {0}) Cause) (r : Result (Unit {0}) LogFault) → record_of text ≡ Ok (Enters number) →
+      mid.records ≡ old.records →
+      IfErr entered (λ cause. cause ≢ OutOfMemory → (cause ≡ TooManySections) × (SECTION_LIMIT < length (with_number (numbers_of records) number))) →
+      IfErr r (λ fault. fault ≢ out_of_memory → IsFaultFor entered mid fault) → IfErr r (λ fault. IsShown fault (first_fault (records ++ text ∷ [])))
+  entered_err number mid entered (Ok done) says count full is = tt
+  entered_err number mid (Ok took) (Err fault) says count full is = λ memory. absurd (is memory)
+  entered_err number mid (Err cause) (Err fault) says count full is = λ memory.
+      let why = full (is memory).0 in
+      rw (new_fault, says, lt-ltb _ _ why.1, (is memory).1, why.0, count) refl
 
 -- a part is one record, or none
 pub records_in-none : records_in [] ≡ []

@@ -7,6 +7,7 @@ pub mod Fields
 pub mod LogValue
 pub mod LogText
 pub mod Answers
+pub mod Sections
 pub mod Tally
 pub mod Progress
 pub mod Reader

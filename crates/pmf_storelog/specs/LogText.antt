@@ -1,13 +1,16 @@
 -- What the bytes of a log say: its sections, or its first fault. Defined here.
-use Rattle.std.specs.Prelude.{◌≡◌, ℕ, zero, suc, ◌+◌, Bool, true, false, nat_lt, ◌==◌, List, [], ◌∷◌, ◌++◌, length, take, slice_index_or, Option, Some, None, Result, Ok, Err, if◌then◌else◌, count_by}
-use Rattle.std.specs.List.{filter_map}
+use Rattle.std.specs.Prelude.{◌≡◌, ℕ, zero, suc, ◌+◌, Bool, true, false, nat_lt, ◌==◌, List, [], ◌∷◌, ◌++◌, length, take, map, filter, slice_index_or, Option, Some, None, Result, Ok, Err, if◌then◌else◌, count_by}
+use Rattle.std.specs.Ordering.{nat_cmp}
+use Rattle.std.specs.BTreeSet.{insert_key}
 use Rattle.pmf_event.specs.Section.{Trace}
 use Rattle.pmf_event.specs.declared.event.Event.{Event}
 use Rattle.pmf_event.specs.declared.section.TheConstants.{EVENT_LIMIT}
-use Rattle.pmf_storelog.specs.declared.fault.TheConstants.{LOG_LIMIT}
+use Rattle.pmf_storelog.specs.declared.fault.TheConstants.{LOG_LIMIT, SECTION_LIMIT}
 use Rattle.pmf_storelog.specs.declared.fault.Cause.{Cause}
-use Rattle.pmf_storelog.specs.declared.fault.Cause.TheVariants.{TooManyEvents, TooLong, OutOfMemory, Spent}
+use Rattle.pmf_storelog.specs.declared.fault.Cause.TheVariants.{TooManySections, TooManyEvents, TooLong, OutOfMemory, Spent}
 use Rattle.pmf_storelog.specs.declared.fault.LogFault.{LogFault}
+use Rattle.pmf_storelog.specs.declared.record.Saying.{Saying}
+use Rattle.pmf_storelog.specs.declared.record.Saying.TheVariants.{Happens, Enters, Skipped}
 use Rattle.pmf_storelog.specs.Separators.{records_of, ended_records}
 use Rattle.pmf_storelog.specs.Records.{record_of}
 use Rattle.pmf_storelog.specs.LogValue.{LogValue}
@@ -20,50 +23,103 @@ out_of_memory = record { at = 0; cause = OutOfMemory }
 abbrev pub spent : LogFault
 spent = record { at = 0; cause = Spent }
 
--- the event that a reading gives, if any
-abbrev pub event_in : Result (Option Event) Cause → Option Event
-event_in (Ok event) = event
-event_in (Err cause) = None
+-- what the record of index k says
+unfoldable pub reading_at : List (List ℕ) → ℕ → Result Saying Cause
+reading_at records k = record_of (slice_index_or records k [])
 
--- whether a reading gives neither an event nor a fault
-abbrev pub is_nothing : Result (Option Event) Cause → Bool
-is_nothing (Ok None) = true
-is_nothing (Ok (Some event)) = false
-is_nothing (Err cause) = false
+-- the number that is current after a reading, where another one was before it
+abbrev pub number_after : Result Saying Cause → ℕ → ℕ
+number_after (Ok (Happens event)) before = before
+number_after (Ok (Enters number)) before = number
+number_after (Ok Skipped) before = before
+number_after (Err cause) before = before
 
--- the event of a record, if it says one
-unfoldable pub event_of : List ℕ → Option Event
-event_of text = event_in (record_of text)
+-- the number of the last section marker among the first k records, or 0
+unfoldable pub current_at : List (List ℕ) → ℕ → ℕ
+current_at records zero = 0
+current_at records (suc k) = number_after (reading_at records k) (current_at records k)
+
+-- the number that is current after all of the records
+unfoldable pub current_of : List (List ℕ) → ℕ
+current_of records = current_at records (length records)
+
+-- the event of a reading with the number current at it, if it is one
+abbrev pub numbered : ℕ → Result Saying Cause → List (ℕ × Event)
+numbered current (Ok (Happens event)) = (current, event) ∷ []
+numbered current (Ok (Enters number)) = []
+numbered current (Ok Skipped) = []
+numbered current (Err cause) = []
+
+-- the events of the first k records, each with the number current at it
+unfoldable pub numbered_among : List (List ℕ) → ℕ → List (ℕ × Event)
+numbered_among records zero = []
+numbered_among records (suc k) = numbered_among records k ++ numbered (current_at records k) (reading_at records k)
+
+-- the events of a list of records, each with the number current at it
+unfoldable pub numbered_events : List (List ℕ) → List (ℕ × Event)
+numbered_events records = numbered_among records (length records)
+
+-- the events of the section with this number: those at which it was current
+unfoldable pub events_in : List (List ℕ) → ℕ → List Event
+events_in records number = map (λ entry. entry.1) (filter (λ entry. entry.0 == number) (numbered_events records))
+
+-- rising numbers with one more, unless it is among them
+abbrev pub with_number : List ℕ → ℕ → List ℕ
+with_number numbers number = insert_key nat_cmp numbers number
+
+-- the numbers with that of the section that a reading is of: a marker's, or the one current at an event
+abbrev pub numbers_with : Result Saying Cause → ℕ → List ℕ → List ℕ
+numbers_with (Ok (Happens event)) current numbers = with_number numbers current
+numbers_with (Ok (Enters number)) current numbers = with_number numbers number
+numbers_with (Ok Skipped) current numbers = numbers
+numbers_with (Err cause) current numbers = numbers
+
+-- the numbers of the sections of the first k records
+unfoldable pub numbers_among : List (List ℕ) → ℕ → List ℕ
+numbers_among records zero = []
+numbers_among records (suc k) = numbers_with (reading_at records k) (current_at records k) (numbers_among records k)
+
+-- the numbers of the sections of a list of records, rising
+unfoldable pub numbers_of : List (List ℕ) → List ℕ
+numbers_of records = numbers_among records (length records)
+
+-- whether a reading is skipped
+abbrev pub says_nothing : Result Saying Cause → Bool
+says_nothing (Ok (Happens event)) = false
+says_nothing (Ok (Enters number)) = false
+says_nothing (Ok Skipped) = true
+says_nothing (Err cause) = false
 
 -- whether the record is skipped
 unfoldable pub is_skipped : List ℕ → Bool
-is_skipped text = is_nothing (record_of text)
-
--- the events of a list of records
-unfoldable pub events_of : List (List ℕ) → List Event
-events_of records = filter_map event_of records
+is_skipped text = says_nothing (record_of text)
 
 -- how many records of a list are skipped
 unfoldable pub skipped_of : List (List ℕ) → ℕ
 skipped_of records = count_by is_skipped records
 
--- why a record with this reading is refused after so many events, if it is; where no record before it
--- was refused, there are at most as many as the limit
-abbrev pub cause_after : ℕ → Result (Option Event) Cause → Option Cause
-cause_after before (Ok None) = None
-cause_after before (Ok (Some event)) = if before == EVENT_LIMIT then Some TooManyEvents else None
-cause_after before (Err cause) = Some cause
+-- why a record with this reading is refused after sections of these numbers, and so many events in the
+-- current one, if it is; where no record before it was refused, neither is past its limit
+abbrev pub cause_after : List ℕ → ℕ → Result Saying Cause → Option Cause
+cause_after numbers events (Ok (Happens event)) = if events == EVENT_LIMIT then Some TooManyEvents else None
+cause_after numbers events (Ok (Enters number)) =
+    if nat_lt SECTION_LIMIT (length (with_number numbers number)) then Some TooManySections else None
+cause_after numbers events (Ok Skipped) = None
+cause_after numbers events (Err cause) = Some cause
 
 -- the cause as the fault of the record of this number, if there is one
 abbrev pub fault_at : ℕ → Option Cause → Option LogFault
 fault_at number None = None
 fault_at number (Some cause) = Some (record { at = number; cause = cause })
 
--- why the record of index k is refused, if it is: by itself, or by the events of the records before it
+-- why a record with this reading is refused after these records, if it is
+unfoldable pub refusal_after : List (List ℕ) → Result Saying Cause → Option LogFault
+refusal_after before reading =
+    fault_at (length before + 1) (cause_after (numbers_of before) (length (events_in before (current_of before))) reading)
+
+-- why the record of index k is refused, if it is: by itself, or by what the records before it say
 unfoldable pub refusal_at : List (List ℕ) → ℕ → Option LogFault
-refusal_at records k =
-    let before = length (events_of (take k records)) in
-    fault_at (k + 1) (cause_after before (record_of (slice_index_or records k [])))
+refusal_at records k = refusal_after (take k records) (reading_at records k)
 
 -- the first fault, or else the second one
 abbrev pub or_else : Option LogFault → Option LogFault → Option LogFault
@@ -106,19 +162,18 @@ fault_of bytes = fault_within LOG_LIMIT bytes
 abbrev pub IsFaultOfAll : LogFault → List ℕ → Type 0
 IsFaultOfAll fault bytes = (rest : List ℕ) → fault_of (bytes ++ rest) ≡ Some fault
 
--- section 0 of the run, with these events
-abbrev pub section_zero : ℕ → List Event → Trace
-section_zero run events = record { name = record { run = run; number = 0 }; events = events }
+-- the section of the run with this number and these events
+abbrev pub section_named : ℕ → ℕ → List Event → Trace
+section_named run number events = record { name = record { run = run; number = number }; events = events }
 
--- the sections of a run whose events are these: section 0, or none without an event
-abbrev pub sections_of : ℕ → List Event → List Trace
-sections_of run [] = []
-sections_of run (event ∷ events) = section_zero run (event ∷ events) ∷ []
+-- the sections of the records: one for each number, with its events
+unfoldable pub sections_of : ℕ → List (List ℕ) → List Trace
+sections_of run records = map (λ number. section_named run number (events_in records number)) (numbers_of records)
 
 -- the value of a log without a fault
 unfoldable pub value_of : ℕ → List ℕ → LogValue
 value_of run bytes = record {
-  sections = sections_of run (events_of (records_of bytes));
+  sections = sections_of run (records_of bytes);
   skipped = skipped_of (records_of bytes);
 }
 

@@ -1,4 +1,4 @@
--- What one record says: an event, nothing for this checker, or why it is refused. Defined here.
+-- What one record says: an event, a section's number, nothing for this checker, or why it is refused. Defined here.
 use Rattle.std.specs.Prelude.{ℕ, Bool, nat_eq, ◌==◌, List, [], ◌∷◌, Option, Some, None, Result, Ok, Err, if◌then◌else◌, codes}
 use Rattle.std.specs.List.{slice_split, starts_with}
 use Rattle.std.specs.Str.{bytes_eq}
@@ -6,6 +6,8 @@ use Rattle.pmf_event.specs.Span.{Extent, extent_of}
 use Rattle.pmf_event.specs.declared.span.SpanFault.{SpanFault}
 use Rattle.pmf_event.specs.declared.event.Event.{Event}
 use Rattle.pmf_event.specs.declared.event.Event.TheVariants.{Store, Flush, Fence, Persist, Exclude, Include}
+use Rattle.pmf_storelog.specs.declared.record.Saying.{Saying}
+use Rattle.pmf_storelog.specs.declared.record.Saying.TheVariants.{Happens, Enters, Skipped}
 use Rattle.pmf_storelog.specs.declared.fault.Cause.{Cause}
 use Rattle.pmf_storelog.specs.declared.fault.Cause.TheVariants.{TooFewFields, BadNumber, BadSpan, UnknownMarker}
 use Rattle.pmf_storelog.specs.Numbers.{number_of}
@@ -47,30 +49,41 @@ stored_span (first ∷ value ∷ []) = Err TooFewFields
 stored_span (first ∷ value ∷ size ∷ more) = span_of_texts first size
 
 -- the event of this kind over the span
-abbrev pub event_over : (Extent → Event) → Result Extent Cause → Result (Option Event) Cause
-event_over kind (Ok span) = Ok (Some (kind span))
+abbrev pub event_over : (Extent → Event) → Result Extent Cause → Result Saying Cause
+event_over kind (Ok span) = Ok (Happens (kind span))
 event_over kind (Err cause) = Err cause
 
+-- the section of a number, where it is one
+abbrev pub section_of_number : Option ℕ → Result Saying Cause
+section_of_number (Some number) = Ok (Enters number)
+section_of_number None = Err BadNumber
+
+-- the section of a marker whose field is the number; further ones are ignored
+unfoldable pub section_of_fields : List (List ℕ) → Result Saying Cause
+section_of_fields [] = Err TooFewFields
+section_of_fields (number ∷ more) = section_of_number (number_of number)
+
 -- what a name that is none of those of saying_of says: a marker is refused, any other is skipped
-unfoldable pub other_name : List ℕ → Result (Option Event) Cause
-other_name name = if starts_with nat_eq name (codes "PMT.") then Err UnknownMarker else Ok None
+unfoldable pub other_name : List ℕ → Result Saying Cause
+other_name name = if starts_with nat_eq name (codes "PMT.") then Err UnknownMarker else Ok Skipped
 
 -- what a record with this name and these further fields says
-unfoldable pub saying_of : List ℕ → List (List ℕ) → Result (Option Event) Cause
+unfoldable pub saying_of : List ℕ → List (List ℕ) → Result Saying Cause
 saying_of name fields =
     if bytes_eq name (codes "STORE") then event_over Store (stored_span fields)
     else if bytes_eq name (codes "FLUSH") then event_over Flush (span_of_fields fields)
-    else if bytes_eq name (codes "FENCE") then Ok (Some Fence)
+    else if bytes_eq name (codes "FENCE") then Ok (Happens Fence)
     else if bytes_eq name (codes "PMT.PERSIST") then event_over Persist (span_of_fields fields)
     else if bytes_eq name (codes "PMT.EXCLUDE") then event_over Exclude (span_of_fields fields)
     else if bytes_eq name (codes "PMT.INCLUDE") then event_over Include (span_of_fields fields)
+    else if bytes_eq name (codes "PMT.SECTION") then section_of_fields fields
     else other_name name
 
 -- the same of the list of all fields
-abbrev pub saying_of_fields : List (List ℕ) → Result (Option Event) Cause
-saying_of_fields [] = Ok None
+abbrev pub saying_of_fields : List (List ℕ) → Result Saying Cause
+saying_of_fields [] = Ok Skipped
 saying_of_fields (name ∷ fields) = saying_of name fields
 
--- what a record says: an event, nothing, or a cause of refusal
-unfoldable pub record_of : List ℕ → Result (Option Event) Cause
+-- what a record says: an event, a section's number, nothing, or a cause of refusal
+unfoldable pub record_of : List ℕ → Result Saying Cause
 record_of text = saying_of_fields (fields_of text)

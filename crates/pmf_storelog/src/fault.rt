@@ -9,6 +9,9 @@ use thiserror::Error;
 /// The greatest length of a log, in bytes: 2^28.
 pub const LOG_LIMIT: usize = 1 << 28;
 
+/// The greatest number of sections of a log: 65,536.
+pub const SECTION_LIMIT: usize = 1 << 16;
+
 /// Why a log is refused. Within a record the first that applies decides, in this order:
 /// UnknownMarker, TooFewFields, BadNumber, BadSpan, TooManySections, TooManyEvents, OutOfMemory.
 #[derive(Clone, Copy, Debug, PartialEq, Eq, Error)]
@@ -25,7 +28,7 @@ pub enum Cause {
     /// The name begins with `PMT.` and is no marker that is known.
     #[error("unknown marker")]
     UnknownMarker,
-    /// The record would make one section too many. No record does: all events stand in section 0.
+    /// The marker would make one section more than [`SECTION_LIMIT`].
     #[error("too many sections")]
     TooManySections,
     /// The event would be one too many in its section.
@@ -34,7 +37,7 @@ pub enum Cause {
     /// The log has more than [`LOG_LIMIT`] bytes.
     #[error("log is too long")]
     TooLong,
-    /// The room for an event, an unfinished record or the list of sections was refused.
+    /// The room for a section, an event, an unfinished record or the list of sections was refused.
     #[error("out of memory")]
     OutOfMemory,
     /// The reader has refused before.
@@ -77,6 +80,16 @@ impl LogFault {
         at: 0,
         cause: Cause::Spent,
     };
+}
+
+impl<T: Drop> From<AllocFailed<T>> for Cause {
+    ghost use Rattle.pmf_storelog.specs.declared.fault.Cause.TheVariants.{OutOfMemory};
+
+    ghost from_gives = { λ _ cause. cause ≡ OutOfMemory };
+
+    fn from(_refused: AllocFailed<T>) -> Cause {
+        Cause::OutOfMemory
+    }
 }
 
 impl From<AllocError> for LogFault {

@@ -18,13 +18,14 @@ mod progress;
 mod reader;
 mod reading;
 mod record;
+mod sections;
 mod tally;
 #[cfg(test)]
 mod tests;
 mod trimming;
 mod writing;
 
-pub use fault::{Cause, LOG_LIMIT, LogFault};
+pub use fault::{Cause, LOG_LIMIT, LogFault, SECTION_LIMIT};
 pub use log::Log;
 pub use reader::LogReader;
 pub use reading::read_log;

@@ -17,7 +17,6 @@ pub struct LogReader {
     total: usize,
     /// Whether a piece was refused.
     spent: bool,
-    alloc: Global,
     ghost counted: { progress.tally.records ≤ total },
     ghost within: { total ≤ LOG_LIMIT },
 }
@@ -35,7 +34,6 @@ impl LogReader {
             progress: Progress::new(alloc, run),
             total: 0,
             spent: false,
-            alloc,
         }
     }
 
@@ -88,13 +86,9 @@ impl LogReader {
         if self.spent {
             return Err(LogFault::SPENT);
         }
-        let LogReader {
-            progress,
-            alloc,
-            ..
-        } = self;
+        let LogReader { progress, .. } = self;
         let Progress { mut tally, carry } = progress;
         tally.take_part(&carry)?;
-        tally.into_log(alloc)
+        tally.into_log()
     }
 }

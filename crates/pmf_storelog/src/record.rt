@@ -1,57 +1,83 @@
 ghost use Rattle.std.specs.Prelude.{◌≡◌};
-ghost use Rattle.pmf_storelog.specs.Records.{record_of, other_name, saying_of, span_of_fields, span_of_texts, stored_span};
+ghost use Rattle.pmf_storelog.specs.Records.{record_of, other_name, saying_of, section_of_fields, span_of_fields, span_of_texts, stored_span};
 
 use crate::fault::Cause;
 use crate::fields::Fields;
 use crate::number::read_number;
 use pmf_event::{Event, Span};
 
-/// What a trimmed record says: an event, nothing where it is skipped, or why it is refused.
+/// What a record says that isn't refused.
+#[derive(Drop)]
+pub(crate) enum Saying {
+    /// The event happens, in the section that is current.
+    Happens(Event),
+    /// The section of this number becomes current.
+    Enters(u64),
+    /// The record is not this checker's.
+    Skipped,
+}
+
+/// What a trimmed record says, or why it is refused.
 #[tactic(auto, unfolding(crate::specs::Records::record_of))]
-pub(crate) fn read_record(text: &[u8]) -> Result<Option<Event>, Cause>
+pub(crate) fn read_record(text: &[u8]) -> Result<Saying, Cause>
     ensures { result ≡ record_of text.now }
 {
     let mut fields = Fields::new(text);
     match fields.field() {
         Ok(name) => read_fields(name, &mut fields),
-        Err(_) => Ok(None),
+        Err(_) => Ok(Saying::Skipped),
     }
 }
 
 #[inline]
 #[tactic(auto, unfolding(crate::specs::Records::saying_of))]
-fn read_fields(name: &[u8], fields: &mut Fields) -> Result<Option<Event>, Cause>
+fn read_fields(name: &[u8], fields: &mut Fields) -> Result<Saying, Cause>
     ensures { result ≡ saying_of name.now fields.old }
 {
     if name == b"STORE".as_slice() {
-        return Ok(Some(Event::Store(read_stored(fields)?)));
+        return Ok(Saying::Happens(Event::Store(read_stored(fields)?)));
     }
     if name == b"FLUSH".as_slice() {
-        return Ok(Some(Event::Flush(read_span(fields)?)));
+        return Ok(Saying::Happens(Event::Flush(read_span(fields)?)));
     }
     if name == b"FENCE".as_slice() {
-        return Ok(Some(Event::Fence));
+        return Ok(Saying::Happens(Event::Fence));
     }
     if name == b"PMT.PERSIST".as_slice() {
-        return Ok(Some(Event::Persist(read_span(fields)?)));
+        return Ok(Saying::Happens(Event::Persist(read_span(fields)?)));
     }
     if name == b"PMT.EXCLUDE".as_slice() {
-        return Ok(Some(Event::Exclude(read_span(fields)?)));
+        return Ok(Saying::Happens(Event::Exclude(read_span(fields)?)));
     }
     if name == b"PMT.INCLUDE".as_slice() {
-        return Ok(Some(Event::Include(read_span(fields)?)));
+        return Ok(Saying::Happens(Event::Include(read_span(fields)?)));
+    }
+    if name == b"PMT.SECTION".as_slice() {
+        return read_section(fields);
     }
     read_other(name)
 }
 
 #[tactic(auto, unfolding(crate::specs::Records::other_name))]
-fn read_other(name: &[u8]) -> Result<Option<Event>, Cause>
+fn read_other(name: &[u8]) -> Result<Saying, Cause>
     ensures { result ≡ other_name name.now }
 {
     if name.starts_with(b"PMT.") {
         return Err(Cause::UnknownMarker);
     }
-    Ok(None)
+    Ok(Saying::Skipped)
+}
+
+// The number of a section's marker.
+#[tactic(auto, unfolding(crate::specs::Records::section_of_fields))]
+fn read_section(fields: &mut Fields) -> Result<Saying, Cause>
+    ensures { result ≡ section_of_fields fields.old }
+{
+    let number = fields.field()?;
+    match read_number(number) {
+        Some(number) => Ok(Saying::Enters(number)),
+        None => Err(Cause::BadNumber),
+    }
 }
 
 // The span of a store: first address, a value that isn't looked at, size.

@@ -1,18 +1,17 @@
-ghost use Rattle.std.specs.Prelude.{◌≡◌, ◌≢◌, ◌+◌, ◌<◌, ◌≤◌, ◌^◌, ℕ, List, [], ◌∷◌, ◌++◌, OnOk, IfOk, IfErr};
+ghost use Rattle.std.specs.Prelude.{◌≡◌, ◌≢◌, ◌+◌, ◌<◌, ◌≤◌, ◌^◌, ℕ, List, [], ◌∷◌, ◌++◌, OnOk, IfOk, IfErr, IsOk};
 
 use crate::fault::{Cause, LogFault};
 use crate::log::Log;
-use crate::record::read_record;
+use crate::record::{Saying, read_record};
+use crate::sections::OpenSections;
 use crate::trimming::trim;
-use pmf_event::{Event, Name, Section, SectionFault};
 use std::alloc::Global;
-use std::sync::Arc;
 
 /// What the ended records of a log gave so far.
 #[derive(Debug, Drop)]
 pub(crate) struct Tally {
-    /// Section 0 of the run, which is handed out only with an event in it.
-    section: Section,
+    /// The sections of their markers and events.
+    sections: OpenSections,
     /// How many records there were, skipped ones included.
     records: u64,
     /// How many of them were skipped.
@@ -22,9 +21,9 @@ pub(crate) struct Tally {
 
 impl Tally {
     ghost use Rattle.pmf_storelog.specs.Separators.{records_in};
-    ghost use Rattle.pmf_storelog.specs.LogText.{events_of, first_fault, out_of_memory, sections_of, skipped_of};
+    ghost use Rattle.pmf_storelog.specs.LogText.{first_fault, out_of_memory, sections_of, skipped_of};
     ghost use Rattle.pmf_storelog.specs.Answers.{IsShown};
-    ghost use Rattle.pmf_storelog.specs.Tally.{AddsEvent, AddsSkipped, HasTaken, IsFullAt};
+    ghost use Rattle.pmf_storelog.specs.Tally.{AddsRecord, AddsSkipped, HasTaken, IsFaultFor};
 
     /// The tally of no record.
     pub(crate) fn new(alloc: Global, run: u64) -> Tally
@@ -32,7 +31,7 @@ impl Tally {
         ensures none { result.records ≡ 0 }
     {
         Tally {
-            section: Section::new(alloc, Name { run, number: 0 }),
+            sections: OpenSections::new(alloc, run),
             records: 0,
             skipped: 0,
         }
@@ -65,8 +64,15 @@ impl Tally {
             → IfErr result (λ fault. IsShown fault (first_fault (records ++ text.now ∷ []))) }
     {
         match read_record(text) {
-            Ok(Some(event)) => self.add(event),
-            Ok(None) => {
+            Ok(Saying::Happens(event)) => {
+                let added = self.sections.add(event);
+                self.count(added)
+            }
+            Ok(Saying::Enters(number)) => {
+                let entered = self.sections.enter(number);
+                self.count(entered)
+            }
+            Ok(Saying::Skipped) => {
                 self.skip();
                 Ok(())
             }
@@ -74,21 +80,21 @@ impl Tally {
         }
     }
 
-    // Counts a record with its event.
+    // Counts a record whose section took it, or tells its fault.
     #[inline]
-    fn add(&mut self, event: Event) -> Result<(), LogFault>
+    fn count(&mut self, taken: Result<(), Cause>) -> Result<(), LogFault>
         requires { self.old.records + 1 < 2 ^ 64 }
-        ensures ok { OnOk result (AddsEvent event self.old self.new) }
-        ensures err { IfErr result (λ fault. fault ≢ out_of_memory → IsFullAt self.old fault) }
+        ensures ok { OnOk result (IsOk taken × AddsRecord self.old self.new) }
+        ensures err { IfErr result (λ fault. fault ≢ out_of_memory → IsFaultFor taken self.old fault) }
         ensures grows { self.new.records ≤ self.old.records + 1 }
     {
-        match self.section.push(event) {
+        match taken {
             Ok(()) => {
                 self.records += 1;
                 Ok(())
             }
-            Err(SectionFault::TooManyEvents) => Err(self.fault(Cause::TooManyEvents)),
-            Err(SectionFault::OutOfMemory) => Err(LogFault::OUT_OF_MEMORY),
+            Err(Cause::OutOfMemory) => Err(LogFault::OUT_OF_MEMORY),
+            Err(cause) => Err(self.fault(cause)),
         }
     }
 
@@ -114,23 +120,20 @@ impl Tally {
     }
 
     /// The log of the records that were taken.
-    pub(crate) fn into_log(self, alloc: Global) -> Result<Log, LogFault>
+    pub(crate) fn into_log(self) -> Result<Log, LogFault>
         ensures ok { (run : ℕ) (records : List (List ℕ)) → HasTaken run records self
             → IfOk result (λ log. log ≡ record {
-              sections = sections_of run (events_of records);
+              sections = sections_of run records;
               skipped = skipped_of records;
             }) }
         ensures err { IfErr result (λ fault. fault ≡ out_of_memory) }
     {
         let Tally {
-            section,
+            sections,
             skipped,
             ..
         } = self;
-        let mut sections = Vec::new(alloc);
-        if !section.events().is_empty() {
-            sections.push(Arc::new(alloc, section)?)?;
-        }
+        let sections = sections.into_list()?;
         Ok(Log::new(sections, skipped))
     }
 }

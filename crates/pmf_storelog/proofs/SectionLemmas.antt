@@ -1,0 +1,301 @@
+-- The open sections with one more event, and with another current one.
+use Rattle.std.proofs.Common.{◌≡◌, ◌≢◌, ℕ, zero, suc, ◌+◌, ◌<◌, ◌≤◌, Bool, true, false, cond, nat_lt, map, List, [], ◌∷◌, ◌++◌, Option, Some, None, length, set, get_or, length-append, Result, Ok, Err, OnOk, IfOk, IfErr, refl, sym, ap, subst, ◌∙◌, arith, ⊎_elim}
+use Rattle.std.specs.Ordering.{nat_cmp, is_eq}
+use Rattle.std.specs.declared.cmp.Ordering.{Ordering}
+use Rattle.std.specs.declared.cmp.Ordering.TheVariants.{Less, Equal, Greater}
+use Rattle.std.specs.Cmp.{nat_cmp_total}
+use Rattle.std.specs.Map.{lookup, keys_of}
+use Rattle.std.specs.BTreeMap.{get, is_at, insert_entry}
+use Rattle.std.specs.BTreeSet.{insert_key}
+use Rattle.std.specs.List.Sorted.{IsStrictlySortedBy}
+use Rattle.std.proofs.lemmas.Bool.{eq-eqb, ne_eqb, cases_eq}
+use Rattle.std.proofs.lemmas.List.{append_assoc, append-nil, get_or_append_left, get_or_push, get_or-set_same, get_or-set_other, length-set, length_push}
+use Rattle.std.proofs.lemmas.Map.{lookup-none}
+use Rattle.std.proofs.lemmas.Map.Entries.{none_below_head}
+use Rattle.std.proofs.lemmas.Map.Views.{All-found}
+use Rattle.std.proofs.lemmas.Map.Keys.{sorted_tail}
+use Rattle.pmf_event.specs.Section.{Trace}
+use Rattle.pmf_event.specs.declared.event.Event.{Event}
+use Rattle.pmf_storelog.specs.declared.fault.Cause.{Cause}
+use Rattle.pmf_storelog.specs.declared.fault.Cause.TheVariants.{OutOfMemory, TooManySections}
+use Rattle.pmf_storelog.specs.declared.fault.TheConstants.{SECTION_LIMIT}
+use Rattle.pmf_storelog.specs.declared.sections.OpenSections.{OpenSections}
+use Rattle.pmf_storelog.specs.LogText.{section_named, with_number}
+use Rattle.pmf_storelog.specs.Sections.{HasSections, Opens, StandsAt, current_place, with_event}
+
+-- the same said of equal numbers and events
+pub sections_as : (run : ℕ) (numbers numbers' : List ℕ) (events events' : ℕ → List Event) (current current' : ℕ) (opened : OpenSections) →
+    numbers ≡ numbers' → ((number : ℕ) → events' number ≡ events number) → current ≡ current' →
+    HasSections run numbers events current opened → HasSections run numbers' events' current' opened
+sections_as run numbers numbers' events events' current current' opened same_numbers same_events same_current has = record {
+  run_is = has.run_is;
+  ordered = has.ordered;
+  numbers_are = has.numbers_are ∙ same_numbers;
+  count = has.count ∙ ap length same_numbers;
+  found = λ number place is. subst (λ (e : List Event). StandsAt (section_named run number e) opened.sections.items place) (sym (same_events number)) (has.found number place is);
+  others = λ number is. same_events number ∙ has.others number is;
+  here = subst (λ (c : ℕ). get nat_cmp opened.places c ≡ current_place opened) same_current has.here;
+  before = λ none. sym same_current ∙ has.before none;
+}
+
+some_is_none : {X : Type 0} {x : X} → None ≡ Some x → ⊥
+some_is_none same = cc
+
+-- a number that is there already changes nothing
+present : (number : ℕ) (entries : List (ℕ × ℕ)) (place : ℕ) → IsStrictlySortedBy nat_cmp (keys_of entries) → lookup (is_at (nat_cmp number)) entries ≡ Some place →
+    insert_key nat_cmp (keys_of entries) number ≡ keys_of entries
+present number [] place sorted is = absurd (some_is_none is)
+present number (e ∷ entries) place sorted is =
+    by_order (present number entries place (sorted_tail nat_cmp e.0 (keys_of entries) sorted)) (nat_cmp number e.0) refl
+  where
+    by_order : (lookup (is_at (nat_cmp number)) entries ≡ Some place → insert_key nat_cmp (keys_of entries) number ≡ keys_of entries) →
+        (o : Ordering) → nat_cmp number e.0 ≡ o → insert_key nat_cmp (keys_of (e ∷ entries)) number ≡ keys_of (e ∷ entries)
+    by_order later Less order =
+        absurd (some_is_none (sym (lookup-none (is_at (nat_cmp number)) (e ∷ entries) (none_below_head nat_cmp_total number e entries sorted order)) ∙ is))
+    by_order later Equal order = rw order refl
+    by_order later Greater order = rw order (ap (λ rest. e.0 ∷ rest) (later (rw order at is)))
+
+-- and one that isn't there makes them one more
+absent : (number : ℕ) (entries : List (ℕ × ℕ)) → lookup (is_at (nat_cmp number)) entries ≡ None → length (insert_key nat_cmp (keys_of entries) number) ≡ suc (length (keys_of entries))
+absent number [] is = refl
+absent number (e ∷ entries) is = by_order (absent number entries) (nat_cmp number e.0) refl
+  where
+    by_order : (lookup (is_at (nat_cmp number)) entries ≡ None → length (insert_key nat_cmp (keys_of entries) number) ≡ suc (length (keys_of entries))) →
+        (o : Ordering) → nat_cmp number e.0 ≡ o → length (insert_key nat_cmp (keys_of (e ∷ entries)) number) ≡ suc (length (keys_of (e ∷ entries)))
+    by_order later Less order = rw order refl
+    by_order later Equal order = absurd (some_is_none (sym (rw order at is)))
+    by_order later Greater order = rw order (ap suc (later (rw order at is)))
+
+keys-insert : (number place : ℕ) (entries : List (ℕ × ℕ)) → keys_of (insert_entry nat_cmp entries number place) ≡ insert_key nat_cmp (keys_of entries) number
+keys-insert number place [] = refl
+keys-insert number place (e ∷ entries) = by_order (keys-insert number place entries) (nat_cmp number e.0) refl
+  where
+    by_order : keys_of (insert_entry nat_cmp entries number place) ≡ insert_key nat_cmp (keys_of entries) number →
+        (o : Ordering) → nat_cmp number e.0 ≡ o → keys_of (insert_entry nat_cmp (e ∷ entries) number place) ≡ insert_key nat_cmp (keys_of (e ∷ entries)) number
+    by_order later Less order = rw order refl
+    by_order later Equal order = rw order refl
+    by_order later Greater order = rw order (ap (λ rest. e.0 ∷ rest) later)
+
+apart_at : (k n : ℕ) → k ≢ n → is_at (nat_cmp k) n ≡ false
+apart_at k n apart = rw (ne_eqb k n apart) (either (nat_lt k n))
+  where
+    either : (less : Bool) → is_eq (cond less Less Greater) ≡ false
+    either true = refl
+    either false = refl
+
+-- a section stays where it stands, whatever is added after it
+stays : (section : Trace) (list more : List Trace) (place : ℕ) → StandsAt section list place → StandsAt section (list ++ more) place
+stays section list more place stands = (omega (arith, stands.0, length-append list more), λ d. get_or_append_left list more d place stands.0 ∙ stands.1 d)
+
+abbrev pub blank : Trace
+blank = section_named 0 0 []
+
+pub one_longer : (list new : List Trace) (section : Trace) → new ≡ list ++ section ∷ [] → length new ≡ length list + 1
+one_longer list new section is = ap length is ∙ length_push list section
+
+pub current_inside : (current count : ℕ) → (0 < current → current < count) → count ≢ 0 → current < count
+current_inside zero zero inside some = absurd (some refl)
+current_inside zero (suc count) inside some = omega arith
+current_inside (suc current) count inside some = inside (omega arith)
+
+-- a place that an insertion leaves or puts is inside the list
+pub inside_either : (here : Bool) (put place bound : ℕ) (before : Option ℕ) → cond here (Some put) before ≡ Some place → put < bound → (before ≡ Some place → place < bound) → place < bound
+inside_either true put place bound before is inside kept = let same : put ≡ place = cc in omega (arith, same, inside)
+inside_either false put place bound before is inside kept = kept is
+
+-- the current place, where there is a section
+here_is : (opened : OpenSections) → length opened.sections.items ≢ 0 → current_place opened ≡ Some opened.current
+here_is opened some = rw (ne_eqb _ 0 some) refl
+
+here_none : (opened : OpenSections) → length opened.sections.items ≡ 0 → current_place opened ≡ None
+here_none opened none = rw none refl
+
+module _ (run : ℕ) (numbers : List ℕ) (events : ℕ → List Event) (current : ℕ) (old : OpenSections) (has : HasSections run numbers events current old) where
+  -- the numbers with one that is there
+  pub same_numbers : (number place : ℕ) → get nat_cmp old.places number ≡ Some place → with_number numbers number ≡ numbers
+  same_numbers number place is =
+      ap (λ ns. insert_key nat_cmp ns number) (sym has.numbers_are) ∙ present number old.places.entries place has.ordered is ∙ has.numbers_are
+
+  -- and those with one that isn't
+  pub longer : (number : ℕ) → get nat_cmp old.places number ≡ None → length (with_number numbers number) ≡ suc (length numbers)
+  longer number none =
+      ap (λ ns. length (insert_key nat_cmp ns number)) (sym has.numbers_are) ∙ absent number old.places.entries none ∙ ap (λ ns. suc (length ns)) has.numbers_are
+
+  -- a section that begins is current, and has no events
+  pub begun : (number : ℕ) (new : OpenSections) → get nat_cmp old.places number ≡ None → Opens number old new → HasSections run (with_number numbers number) events number new
+  begun number new none opens = record {
+    run_is = opens.run_is ∙ has.run_is;
+    ordered = opens.ordered;
+    numbers_are = ap keys_of opens.entries ∙ keys-insert number (length old.sections.items) old.places.entries ∙ ap (λ ns. insert_key nat_cmp ns number) has.numbers_are;
+    count = omega (arith, ap length opens.list, length_push old.sections.items (section_named old.run number []), has.count, longer number none);
+    found = found;
+    others = others;
+    here = opens.updates.1 ∙ ap (λ place. Some place) (sym opens.here) ∙ sym (here_is new some);
+    before = λ empty. absurd (some empty);
+  }
+    where
+      some : length new.sections.items ≢ 0
+      some empty = omega (arith, empty, ap length opens.list, length_push old.sections.items (section_named old.run number []))
+
+      same : section_named old.run number [] ≡ section_named run number (events number)
+      same = rw (has.run_is, has.others number none) refl
+
+      at_end : StandsAt (section_named run number (events number)) new.sections.items (length old.sections.items)
+      at_end = rw opens.list (omega (arith, length_push old.sections.items (section_named old.run number [])), λ d. get_or_push old.sections.items (section_named old.run number []) d (length old.sections.items) refl ∙ same)
+
+      found : (n place : ℕ) → get nat_cmp new.places n ≡ Some place → StandsAt (section_named run n (events n)) new.sections.items place
+      found n place is = ⊎_elim
+          (λ equal.
+          let at_number : get nat_cmp new.places number ≡ Some place = ap (get nat_cmp new.places) equal ∙ is in
+          let places : Some (length old.sections.items) ≡ Some place = sym opens.updates.1 ∙ at_number in
+          let there : length old.sections.items ≡ place = cc in
+          rw (← equal, ← there) at_end)
+          (λ apart. rw opens.list (stays _ old.sections.items _ place (has.found n place (sym (opens.updates.2 n (apart_at number n apart)) ∙ is))))
+          (cases_eq number n)
+
+      others : (n : ℕ) → get nat_cmp new.places n ≡ None → events n ≡ []
+      others n is = ⊎_elim
+          (λ equal. ap events (sym equal) ∙ has.others number none)
+          (λ apart. has.others n (sym (opens.updates.2 n (apart_at number n apart)) ∙ is))
+          (cases_eq number n)
+
+  -- a section that comes again is current
+  pub again : (number place : ℕ) (new : OpenSections) → get nat_cmp old.places number ≡ Some place → new.run ≡ old.run → new.places ≡ old.places → new.sections ≡ old.sections → new.current ≡ place →
+      HasSections run (with_number numbers number) events number new
+  again number place new is same_run same_places same_sections there = record {
+    run_is = same_run ∙ has.run_is;
+    ordered = rw same_places has.ordered;
+    numbers_are = rw same_places (has.numbers_are ∙ sym (same_numbers number place is));
+    count = rw same_sections (has.count ∙ ap length (sym (same_numbers number place is)));
+    found = rw (same_places, same_sections) has.found;
+    others = rw same_places has.others;
+    here = rw same_places (is ∙ ap (λ p. Some p) (sym there) ∙ sym (here_is new some));
+    before = λ empty. absurd (some empty);
+  }
+    where
+      some : length new.sections.items ≢ 0
+      some empty = omega (arith, empty, ap (λ s. length s.items) same_sections, (has.found number place is).0)
+
+  -- before the first section nothing is there, and 0 is current
+  pub none_yet : length old.sections.items ≡ 0 → get nat_cmp old.places 0 ≡ None
+  none_yet empty = ap (get nat_cmp old.places) (sym (has.before empty)) ∙ has.here ∙ here_none old empty
+
+  -- the current section takes an event
+  pub taken : (event : Event) (new : OpenSections) → length old.sections.items ≢ 0 → new.run ≡ old.run → new.places ≡ old.places → new.current ≡ old.current →
+      new.sections.items ≡ set old.sections.items old.current (section_named run current (events current ++ event ∷ [])) →
+      HasSections run (with_number numbers current) (with_event events current event) current new
+  taken event new some same_run same_places same_current is = record {
+    run_is = same_run ∙ has.run_is;
+    ordered = rw same_places has.ordered;
+    numbers_are = rw same_places (has.numbers_are ∙ sym (same_numbers current old.current current_at));
+    count = ap length is ∙ length-set old.sections.items old.current _ ∙ has.count ∙ ap length (sym (same_numbers current old.current current_at));
+    found = found;
+    others = others;
+    here = rw same_places (current_at ∙ ap (λ p. Some p) (sym same_current) ∙ sym (here_is new filled));
+    before = λ empty. absurd (filled empty);
+  }
+    where
+      current_at : get nat_cmp old.places current ≡ Some old.current
+      current_at = has.here ∙ here_is old some
+
+      filled : length new.sections.items ≢ 0
+      filled empty = some (sym (ap length is ∙ length-set old.sections.items old.current _) ∙ empty)
+
+      stands : StandsAt (section_named run current (events current)) old.sections.items old.current
+      stands = has.found current old.current current_at
+
+      found : (n place : ℕ) → get nat_cmp new.places n ≡ Some place → StandsAt (section_named run n (with_event events current event n)) new.sections.items place
+      found n place at_n = ⊎_elim
+          (λ equal.
+          let at_current : get nat_cmp old.places current ≡ Some place = ap (λ m. get nat_cmp m current) (sym same_places) ∙ ap (get nat_cmp new.places) equal ∙ at_n in
+          let places : Some old.current ≡ Some place = sym current_at ∙ at_current in
+          let there : old.current ≡ place = cc in
+          let long : place < length new.sections.items = omega (arith, there, stands.0, ap length is, length-set old.sections.items old.current (section_named run current (events current ++ event ∷ []))) in
+          rw (← equal, eq-eqb current current refl) (long, λ d. rw (is, ← there) (get_or-set_same old.sections.items old.current _ d stands.0)))
+          (λ apart.
+          let before = has.found n place (ap (λ m. get nat_cmp m n) (sym same_places) ∙ at_n) in
+          let elsewhere : place ≢ old.current = λ there. apart (ap (λ t. t.name.number) (sym (stands.1 blank) ∙ ap (λ p. get_or old.sections.items p blank) (sym there) ∙ before.1 blank)) in
+          rw (ne_eqb current n apart) (
+            omega (arith, before.0, ap length is, length-set old.sections.items old.current (section_named run current (events current ++ event ∷ []))),
+            λ d. rw is (get_or-set_other old.sections.items old.current place _ d elsewhere ∙ before.1 d),
+          ))
+          (cases_eq current n)
+
+      others : (n : ℕ) → get nat_cmp new.places n ≡ None → with_event events current event n ≡ []
+      others n none = ⊎_elim
+          (λ equal. absurd (some_is_none (sym (ap (λ m. get nat_cmp m current) (sym same_places) ∙ ap (get nat_cmp new.places) equal ∙ none) ∙ current_at)))
+          (λ apart. rw (ne_eqb current n apart) (has.others n (ap (λ m. get nat_cmp m n) (sym same_places) ∙ none)))
+          (cases_eq current n)
+
+  -- what `open` answers, said of the numbers
+  pub begun_ok : (number : ℕ) (new : OpenSections) (r : Result (Unit {0}) Cause) → get nat_cmp old.places number ≡ None → OnOk r (Opens number old new) →
+      OnOk r (HasSections run (with_number numbers number) events number new)
+  begun_ok number new (Ok done) none opens = begun number new none opens
+  begun_ok number new (Err cause) none opens = tt
+
+  pub begun_room : (number : ℕ) (new : OpenSections) (r : Result (Unit {0}) Cause) → get nat_cmp old.places number ≡ None → OnOk r (Opens number old new) →
+      OnOk r (length (with_number numbers number) ≤ SECTION_LIMIT)
+  begun_room number new (Ok done) none opens = omega (arith, longer number none, opens.room, has.count)
+  begun_room number new (Err cause) none opens = tt
+
+  pub begun_err : (number : ℕ) (r : Result (Unit {0}) Cause) → get nat_cmp old.places number ≡ None →
+      IfErr r (λ cause. cause ≢ OutOfMemory → (cause ≡ TooManySections) × (SECTION_LIMIT ≤ length old.sections.items)) →
+      IfErr r (λ cause. cause ≢ OutOfMemory → (cause ≡ TooManySections) × (SECTION_LIMIT < length (with_number numbers number)))
+  begun_err number (Ok done) none full = tt
+  begun_err number (Err cause) none full = λ memory. ((full memory).0, omega (arith, longer number none, (full memory).1, has.count))
+
+  -- before the first section 0 is current, and its section begins
+  pub first_begun : (mid : OpenSections) → length old.sections.items ≡ 0 → Opens 0 old mid → HasSections run (with_number numbers 0) events 0 mid
+  first_begun mid empty opens = begun 0 mid (none_yet empty) opens
+
+  pub first_full : SECTION_LIMIT ≤ length old.sections.items → length old.sections.items ≡ 0 → ⊥
+  first_full full empty = omega (arith, full, empty)
+
+  -- the current section's events
+  pub current_stands : length old.sections.items ≢ 0 → StandsAt (section_named run current (events current)) old.sections.items old.current
+  current_stands some = has.found current old.current (has.here ∙ here_is old some)
+
+-- what the first section's event answers is said of no section before it
+module _ (run : ℕ) (numbers : List ℕ) (events : ℕ → List Event) (current : ℕ) (old mid : OpenSections) (has : HasSections run numbers events current old) (empty : length old.sections.items ≡ 0) (opens : Opens 0 old mid) where
+  first_numbers : with_number (with_number numbers 0) 0 ≡ with_number numbers current
+  first_numbers =
+      same_numbers run (with_number numbers 0) events 0 mid (first_begun run numbers events current old has mid empty opens) 0 _ opens.updates.1
+      ∙ ap (with_number numbers) (sym (has.before empty))
+
+  pub first_ok : (event : Event) (new : OpenSections) (r : Result (Unit {0}) Cause) → OnOk r (HasSections run (with_number (with_number numbers 0) 0) (with_event events 0 event) 0 new) →
+      OnOk r (HasSections run (with_number numbers current) (with_event events current event) current new)
+  first_ok event new (Err cause) holds = tt
+  first_ok event new (Ok done) holds =
+      sections_as run _ _ _ _ _ _ new first_numbers (λ n. ap (λ c. with_event events c event n) (has.before empty)) (sym (has.before empty)) holds
+
+-- a list by entries is a list by their numbers
+by_number : (entries : List (ℕ × ℕ)) (f : ℕ × ℕ → Trace) (g : ℕ → Trace) → ((k : ℕ) (d : ℕ × ℕ) → k < length entries → f (get_or entries k d) ≡ g (get_or entries k d).0) →
+    map f entries ≡ map g (keys_of entries)
+by_number [] f g same = refl
+by_number (e ∷ entries) f g same =
+    rw (same 0 e (omega arith)) (ap (λ rest. g e.0 ∷ rest) (by_number entries f g (λ k d within. same (suc k) d (omega (arith, within)))))
+
+-- what stands at the places, in order of the numbers
+pub listed : (run : ℕ) (numbers : List ℕ) (events : ℕ → List Event) (current : ℕ) (opened : OpenSections) → HasSections run numbers events current opened → (list shared : List Trace) →
+    shared ≡ opened.sections.items → list ≡ map (λ e. get_or shared e.1 blank) opened.places.entries → list ≡ map (λ number. section_named run number (events number)) numbers
+listed run numbers events current opened has list shared same is =
+    is ∙ by_number opened.places.entries (λ e. get_or shared e.1 blank) (λ number. section_named run number (events number))
+    (λ k d within. ap (λ l. get_or l (get_or opened.places.entries k d).1 blank) same ∙ (has.found _ _ (All-found nat_cmp_total opened.places has.ordered k d within)).1 blank)
+    ∙ ap (map (λ number. section_named run number (events number))) has.numbers_are
+
+pub listed_ok : {V E : Type 0} (value : V → List Trace) (r : Result V E) (run : ℕ) (numbers : List ℕ) (events : ℕ → List Event) (current : ℕ) (opened : OpenSections) → HasSections run numbers events current opened → (shared : List Trace) →
+    shared ≡ opened.sections.items → IfOk r (λ list. (d : Trace) → value list ≡ map (λ e. get_or shared e.1 d) opened.places.entries) →
+    IfOk r (λ list. value list ≡ map (λ number. section_named run number (events number)) numbers)
+listed_ok value (Err fault) run numbers events current opened has shared same is = tt
+listed_ok value (Ok list) run numbers events current opened has shared same is = listed run numbers events current opened has (value list) shared same (is blank)
+
+-- one turn of the walk over the entries: what is listed, and what is left
+pub next_listed : (of_entry : ℕ × ℕ → Trace) (list longer all : List Trace) (entry : ℕ × ℕ) (left rest : List (ℕ × ℕ)) → list ++ map of_entry left ≡ all → left ≡ entry ∷ rest →
+    longer ≡ list ++ of_entry entry ∷ [] → longer ++ map of_entry rest ≡ all
+next_listed of_entry list longer all entry left rest so_far is next =
+    ap (λ (l : List Trace). l ++ map of_entry rest) next ∙ append_assoc list (of_entry entry ∷ []) (map of_entry rest)
+    ∙ ap (λ l. list ++ map of_entry l) (sym is) ∙ so_far
+
+-- the end of the walk
+pub all_listed : (of_entry : ℕ × ℕ → Trace) (list all : List Trace) (left : List (ℕ × ℕ)) → list ++ map of_entry left ≡ all → left ≡ [] → list ≡ all
+all_listed of_entry list all left so_far none = sym (append-nil list) ∙ ap (λ l. list ++ map of_entry l) (sym none) ∙ so_far

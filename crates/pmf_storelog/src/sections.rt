@@ -1,0 +1,194 @@
+ghost use Rattle.std.specs.Prelude.{◌≡◌, ◌≢◌, ◌<◌, ◌≤◌, ℕ, List, [], ◌∷◌, ◌++◌, length, map, slice_index_or, None, OnOk, IfOk, IfErr};
+ghost use Rattle.std.specs.Option.{ForSome};
+ghost use Rattle.std.specs.Ordering.{nat_cmp};
+ghost use Rattle.std.specs.BTreeMap.{get, IsOrdered};
+ghost use Rattle.pmf_event.specs.Section.{Trace};
+ghost use Rattle.pmf_event.specs.declared.section.TheConstants.{EVENT_LIMIT};
+ghost use Rattle.pmf_storelog.specs.declared.fault.TheConstants.{SECTION_LIMIT};
+
+use crate::fault::{Cause, SECTION_LIMIT};
+use pmf_event::{Event, Name, Section, SectionFault};
+use std::alloc::{AllocError, Global};
+use std::collections::BTreeMap;
+use std::sync::Arc;
+
+/// The sections of a run that have begun, and which of them is current.
+#[derive(Debug, Drop)]
+pub(crate) struct OpenSections {
+    run: u64,
+    /// In order of their first record.
+    sections: Vec<Section>,
+    /// Where the section of a number stands among them.
+    places: BTreeMap<u64, usize>,
+    /// Where the current one stands; before the first section there is none.
+    current: usize,
+    alloc: Global,
+    ghost inside: { (number : ℕ)
+        → ForSome (get nat_cmp places number) (λ place. place < length sections.items) },
+    ghost few: { length sections.items ≤ SECTION_LIMIT },
+    ghost current_inside: { 0 < current → current < length sections.items },
+}
+
+impl OpenSections {
+    ghost use Rattle.pmf_event.specs.declared.event.Event.{Event};
+    ghost use Rattle.pmf_storelog.specs.LogText.{section_named, with_number};
+    ghost use Rattle.pmf_storelog.specs.Sections.{HasSections, Opens, with_event};
+    ghost use Rattle.pmf_storelog.specs.declared.fault.Cause.TheVariants.{OutOfMemory, TooManyEvents, TooManySections};
+
+    /// No section yet. Takes no memory.
+    pub(crate) fn new(alloc: Global, run: u64) -> OpenSections
+        ensures { HasSections run [] (λ _. []) 0 result }
+    {
+        OpenSections {
+            run,
+            sections: Vec::new(alloc),
+            places: BTreeMap::new(alloc),
+            current: 0,
+            alloc,
+        }
+    }
+
+    /// Adds an event to the current section, or to section 0 before the first one.
+    #[inline]
+    pub(crate) fn add(&mut self, event: Event) -> Result<(), Cause>
+        ensures ok { (run : ℕ) (numbers : List ℕ) (events : ℕ → List Event) (current : ℕ)
+            → HasSections run numbers events current self.old
+            → OnOk result (HasSections run (with_number numbers current) (with_event events current event) current self.new) }
+        ensures room { (run : ℕ) (numbers : List ℕ) (events : ℕ → List Event) (current : ℕ)
+            → HasSections run numbers events current self.old
+            → OnOk result (length (events current) ≢ EVENT_LIMIT) }
+        ensures err { (run : ℕ) (numbers : List ℕ) (events : ℕ → List Event) (current : ℕ)
+            → HasSections run numbers events current self.old
+            → IfErr result (λ cause. cause ≢ OutOfMemory
+            → (cause ≡ TooManyEvents) × (length (events current) ≡ EVENT_LIMIT)) }
+    {
+        if self.sections.is_empty() {
+            self.open(0)?;
+        }
+        self.push(event)
+    }
+
+    #[inline]
+    fn push(&mut self, event: Event) -> Result<(), Cause>
+        requires { length self.old.sections.items ≢ 0 }
+        ensures ok { (run : ℕ) (numbers : List ℕ) (events : ℕ → List Event) (current : ℕ)
+            → HasSections run numbers events current self.old
+            → OnOk result (HasSections run (with_number numbers current) (with_event events current event) current self.new) }
+        ensures room { (run : ℕ) (numbers : List ℕ) (events : ℕ → List Event) (current : ℕ)
+            → HasSections run numbers events current self.old
+            → OnOk result (length (events current) ≢ EVENT_LIMIT) }
+        ensures err { (run : ℕ) (numbers : List ℕ) (events : ℕ → List Event) (current : ℕ)
+            → HasSections run numbers events current self.old
+            → IfErr result (λ cause. cause ≢ OutOfMemory
+            → (cause ≡ TooManyEvents) × (length (events current) ≡ EVENT_LIMIT)) }
+    {
+        match self.sections[self.current].push(event) {
+            Ok(()) => Ok(()),
+            Err(SectionFault::TooManyEvents) => Err(Cause::TooManyEvents),
+            Err(SectionFault::OutOfMemory) => Err(Cause::OutOfMemory),
+        }
+    }
+
+    /// Makes the section of this number current; it begins here, unless it has begun before.
+    pub(crate) fn enter(&mut self, number: u64) -> Result<(), Cause>
+        ensures ok { (run : ℕ) (numbers : List ℕ) (events : ℕ → List Event) (current : ℕ)
+            → HasSections run numbers events current self.old
+            → OnOk result (HasSections run (with_number numbers number) events number self.new) }
+        ensures room { (run : ℕ) (numbers : List ℕ) (events : ℕ → List Event) (current : ℕ)
+            → HasSections run numbers events current self.old
+            → OnOk result (length (with_number numbers number) ≤ SECTION_LIMIT) }
+        ensures err { (run : ℕ) (numbers : List ℕ) (events : ℕ → List Event) (current : ℕ)
+            → HasSections run numbers events current self.old
+            → IfErr result (λ cause. cause ≢ OutOfMemory
+            → (cause ≡ TooManySections) × (SECTION_LIMIT < length (with_number numbers number))) }
+    {
+        match self.places.get(&number) {
+            Some(place) => {
+                self.current = *place;
+                Ok(())
+            }
+            None => self.open(number),
+        }
+    }
+
+    // Begins the section of a number that has none, and makes it current.
+    fn open(&mut self, number: u64) -> Result<(), Cause>
+        requires { get nat_cmp self.old.places number ≡ None }
+        ensures ok { OnOk result (Opens number self.old self.new) }
+        ensures err { IfErr result (λ cause. cause ≢ OutOfMemory
+            → (cause ≡ TooManySections) × (SECTION_LIMIT ≤ length self.old.sections.items)) }
+    {
+        let place = self.sections.len();
+        if place >= SECTION_LIMIT {
+            return Err(Cause::TooManySections);
+        }
+        let name = Name {
+            run: self.run,
+            number,
+        };
+        self.sections.push(Section::new(self.alloc, name))?;
+        self.places.insert(number, place)?;
+        self.current = place;
+        Ok(())
+    }
+
+    /// The sections in order of their number.
+    pub(crate) fn into_list(self) -> Result<Vec<Arc<Section>>, AllocError>
+        ensures { (run : ℕ) (numbers : List ℕ) (events : ℕ → List Event) (current : ℕ)
+            → HasSections run numbers events current self
+            → IfOk result (λ list. map (λ a. a.value) list.items
+            ≡ map (λ number. section_named run number (events number)) numbers) }
+    {
+        let OpenSections {
+            sections,
+            places,
+            alloc,
+            ..
+        } = self;
+        let shared = share(alloc, sections)?;
+        in_order(alloc, &shared, &places)
+    }
+}
+
+fn share(alloc: Global, sections: Vec<Section>) -> Result<Vec<Arc<Section>>, AllocError>
+    ensures { IfOk result (λ shared. map (λ a. a.value) shared.items ≡ sections.items) }
+{
+    let mut shared = Vec::new(alloc);
+    for section in sections {
+        shared.push(Arc::new(alloc, section)?)?;
+    }
+    Ok(shared)
+}
+
+// The sections in order of the numbers that have these places.
+fn in_order(
+    alloc: Global,
+    shared: &[Arc<Section>],
+    places: &BTreeMap<u64, usize>,
+) -> Result<Vec<Arc<Section>>, AllocError>
+    requires { (number : ℕ)
+        → ForSome (get nat_cmp places.now number) (λ place. place < length shared.now) }
+    ensures ordered { IsOrdered nat_cmp places.now }
+    ensures listed { IfOk result (λ list. (d : Trace) → map (λ a. a.value) list.items
+        ≡ map (λ e. slice_index_or (map (λ a. a.value) shared.now) e.1 d) places.now.entries) }
+{
+    let mut list = Vec::new(alloc);
+    for (_, place) in places {
+        hand_out(&mut list, shared, *place)?;
+    }
+    Ok(list)
+}
+
+// Puts the section at the place at the end of the list.
+fn hand_out(
+    list: &mut Vec<Arc<Section>>,
+    shared: &[Arc<Section>],
+    place: usize,
+) -> Result<(), AllocError>
+    requires { place < length shared.now }
+    ensures { OnOk result ((d : Trace) → map (λ a. a.value) list.new.items
+        ≡ map (λ a. a.value) list.old.items ++ slice_index_or (map (λ a. a.value) shared.now) place d ∷ []) }
+{
+    list.push(Arc::try_clone(&shared[place])?)?;
+    Ok(())
+}
