@@ -8,9 +8,7 @@ use Rattle.std.specs.Prelude.{Ok}
 use Rattle.std.specs.List.{list_all, slice_split, AllByRecursion}
 use Rattle.std.proofs.lemmas.List.Elements.{All-from_recursion}
 use Rattle.pmf_event.specs.Span.{Extent, extent_of}
-use Rattle.pmf_event.specs.declared.event.Event.{Event}
-use Rattle.pmf_event.specs.declared.event.Event.TheVariants.{Store, Flush, Persist}
-use Rattle.pmf_storelog.specs.Records.{record_of, saying_of, saying_of_fields, event_over, span_of_fields, stored_span, is_field_end, fields_of, span_of_texts, span_of_numbers, span_or_cause}
+use Rattle.pmf_storelog.specs.Records.{is_field_end, fields_of, span_of_texts, span_of_numbers, span_or_cause}
 use Rattle.std.proofs.lemmas.Fmt.{digits_is_IsNumeral}
 use native.Mathlib.Nat.{pow-suc}
 use Rattle.std.proofs.lemmas.Bool.Decides.{Decides-eqb}
@@ -111,28 +109,3 @@ span_of_texts-address s fits valid =
     ∙ ap (λ o. span_of_numbers (Some s.first) o) (number_of-address s.size fits.size)
     ∙ ap span_or_cause valid
 
--- the event of a name and the fields of a span
-event_over-span : (kind : Extent → Event) (s : Extent) → Fits s → extent_of s.first s.size ≡ Ok s →
-    event_over kind (span_of_fields (address s.first ∷ address s.size ∷ [])) ≡ Ok (Some (kind s))
-unfolding span_of_fields
-event_over-span kind s fits valid = ap (event_over kind) (span_of_texts-address s fits valid)
-
-pub record_of-flush : (s : Extent) → Fits s → extent_of s.first s.size ≡ Ok s → record_of (codes "FLUSH" ++ fields_of_span s) ≡ Ok (Some (Flush s))
-unfolding record_of saying_of
-record_of-flush s fits valid = ap saying_of_fields (fields_of-span (codes "FLUSH") s (refl, (refl, (refl, (refl, (refl, tt))))) fits) ∙ event_over-span Flush s fits valid
-
-pub record_of-persist : (s : Extent) → Fits s → extent_of s.first s.size ≡ Ok s → record_of (codes "PMT.PERSIST" ++ fields_of_span s) ≡ Ok (Some (Persist s))
-unfolding record_of saying_of
-record_of-persist s fits valid = ap saying_of_fields (fields_of-span (codes "PMT.PERSIST") s (search rules) fits) ∙ event_over-span Persist s fits valid
-
-pub record_of-store : (s : Extent) → Fits s → extent_of s.first s.size ≡ Ok s →
-    record_of (codes "STORE" ++ (field_of s.first ++ codes ";0x0" ++ field_of s.size)) ≡ Ok (Some (Store s))
-unfolding record_of saying_of stored_span field_of
-record_of-store s fits valid =
-    ap saying_of_fields
-      (fields_of-more (codes "STORE") ((address s.first ++ codes ";0x0") ++ 59 ∷ address s.size) (search rules)
-      ∙ ap (λ rest. codes "STORE" ∷ fields_of rest) (append_assoc (address s.first) (codes ";0x0") (59 ∷ address s.size))
-      ∙ ap (λ fs. codes "STORE" ∷ fs) (fields_of-more (address s.first) (codes "0x0" ++ 59 ∷ address s.size) (address-NoFieldEnd s.first fits.first))
-      ∙ ap (λ fs. codes "STORE" ∷ address s.first ∷ fs) (fields_of-more (codes "0x0") (address s.size) (search rules))
-      ∙ ap (λ fs. codes "STORE" ∷ address s.first ∷ codes "0x0" ∷ fs) (fields_of-last (address s.size) (address-NoFieldEnd s.size fits.size)))
-    ∙ ap (event_over Store) (span_of_texts-address s fits valid)

@@ -12,3 +12,4 @@ pub mod CanonicalLemmas
 pub mod LineLemmas
 pub mod PlainLemmas
 pub mod RoundTripLemmas
+pub mod SpellingLemmas

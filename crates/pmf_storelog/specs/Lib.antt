@@ -12,3 +12,4 @@ pub mod Tally
 pub mod Progress
 pub mod Reader
 pub mod Canonical
+pub mod Spelling

@@ -1,0 +1,106 @@
+-- What the text of an event reads as: the event.
+use Rattle.std.proofs.Common.{◌≡◌, ℕ, zero, suc, ◌+◌, ◌^◌, ◌<◌, ◌≤◌, Bool, true, false, ◌==◌, nat_lt, if◌then◌else◌, List, [], ◌∷◌, ◌++◌, Some, None, length, refl, sym, ap, ◌∙◌, arith, rules, append_assoc, ◌⊎◌, inl, inr}
+use Rattle.std.specs.Prelude.{codes, Ok, Err, ⊤}
+use Rattle.std.proofs.lemmas.Bool.{lt-ltb, le-ltb, cases_eq}
+use Rattle.std.proofs.lemmas.Bool.Decides.{Decides-eqb}
+use Rattle.pmf_event.specs.Span.{Extent, IsValidExtent, extent_of}
+use Rattle.pmf_event.specs.declared.span.TheConstants.{SPAN_LIMIT, ADDRESS_LIMIT}
+use Rattle.pmf_event.specs.declared.event.Event.{Event}
+use Rattle.pmf_event.specs.declared.event.Event.TheVariants.{Store, Flush, Fence, Persist, Ordered, Exclude, Include, TxBegin, TxAdd, TxEnd, CheckStart, CheckEnd}
+use Rattle.pmf_storelog.specs.declared.record.Saying.{Saying}
+use Rattle.pmf_storelog.specs.declared.record.Saying.TheVariants.{Happens, Enters, Skipped}
+use Rattle.pmf_storelog.specs.Records.{record_of, saying_of, saying_of_fields, section_of_fields, section_of_number, event_over, span_of_fields, stored_span, fields_of}
+use Rattle.pmf_storelog.specs.Numbers.{number_of}
+use Rattle.pmf_storelog.specs.Canonical.{address, field_of, fields_of_span, fields_of_event, name_of}
+use Rattle.pmf_storelog.proofs.CanonicalLemmas.{Fits, NoFieldEnd, address-NoFieldEnd, fields_of-more, fields_of-last, fields_of-span, span_of_texts-address, number_of-address}
+use Rattle.pmf_storelog.proofs.PlainLemmas.{AllFit, text_of_event, text_of_marker}
+use Rattle.pmf_storelog.specs.Spelling.{AllValid, IsRead}
+
+-- a span keeps its limits
+pub fits_of : (s : Extent) → IsValidExtent s.first s.size → Fits s
+fits_of s valid = record { first = omega (arith, valid.ends); size = omega (arith, valid.small) }
+
+pub extent_of-valid : (s : Extent) → IsValidExtent s.first s.size → extent_of s.first s.size ≡ Ok s
+extent_of-valid s valid =
+    rw (some s.size valid.not_empty, le-ltb SPAN_LIMIT s.size valid.small, le-ltb ADDRESS_LIMIT (s.first + s.size) valid.ends) refl
+  where
+    some : (n : ℕ) → 0 < n → (n == 0) ≡ false
+    some n l = elim (n == 0) as (λ v. (n == 0) ≡ v → v ≡ false) [ true ↦ λ is. let none : n ≡ 0 = (Decides-eqb n 0).0 is in absurd (omega arith) | false ↦ λ is. refl ] refl
+
+pub all_fit : (event : Event) → AllValid event → AllFit event
+all_fit (Store s) valid = fits_of s valid
+all_fit (Flush s) valid = fits_of s valid
+all_fit Fence valid = tt
+all_fit (Persist s) valid = fits_of s valid
+all_fit (Ordered a b) valid = (fits_of a valid.0, fits_of b valid.1)
+all_fit (Exclude s) valid = fits_of s valid
+all_fit (Include s) valid = fits_of s valid
+all_fit TxBegin valid = tt
+all_fit (TxAdd s) valid = fits_of s valid
+all_fit TxEnd valid = tt
+all_fit CheckStart valid = tt
+all_fit CheckEnd valid = tt
+
+-- the event of a name and the fields of a span
+event_over-span : (kind : Extent → Event) (s : Extent) → IsValidExtent s.first s.size →
+    event_over kind (span_of_fields (address s.first ∷ address s.size ∷ [])) ≡ Ok (Happens (kind s))
+unfolding span_of_fields
+event_over-span kind s valid = ap (event_over kind) (span_of_texts-address s (fits_of s valid) (extent_of-valid s valid))
+
+module _ (s : Extent) (valid : IsValidExtent s.first s.size) where
+  record_of-flush : record_of (codes "FLUSH" ++ fields_of_span s) ≡ Ok (Happens (Flush s))
+  unfolding record_of saying_of
+  record_of-flush = ap saying_of_fields (fields_of-span (codes "FLUSH") s (search rules) (fits_of s valid)) ∙ event_over-span Flush s valid
+
+  record_of-persist : record_of (codes "PMT.PERSIST" ++ fields_of_span s) ≡ Ok (Happens (Persist s))
+  unfolding record_of saying_of
+  record_of-persist = ap saying_of_fields (fields_of-span (codes "PMT.PERSIST") s (search rules) (fits_of s valid)) ∙ event_over-span Persist s valid
+
+  record_of-exclude : record_of (codes "PMT.EXCLUDE" ++ fields_of_span s) ≡ Ok (Happens (Exclude s))
+  unfolding record_of saying_of
+  record_of-exclude = ap saying_of_fields (fields_of-span (codes "PMT.EXCLUDE") s (search rules) (fits_of s valid)) ∙ event_over-span Exclude s valid
+
+  record_of-include : record_of (codes "PMT.INCLUDE" ++ fields_of_span s) ≡ Ok (Happens (Include s))
+  unfolding record_of saying_of
+  record_of-include = ap saying_of_fields (fields_of-span (codes "PMT.INCLUDE") s (search rules) (fits_of s valid)) ∙ event_over-span Include s valid
+
+  record_of-store : record_of (codes "STORE" ++ (field_of s.first ++ codes ";0x0" ++ field_of s.size)) ≡ Ok (Happens (Store s))
+  unfolding record_of saying_of stored_span field_of
+  record_of-store =
+      let fits = fits_of s valid in
+      ap saying_of_fields
+        (fields_of-more (codes "STORE") ((address s.first ++ codes ";0x0") ++ 59 ∷ address s.size) (search rules)
+        ∙ ap (λ rest. codes "STORE" ∷ fields_of rest) (append_assoc (address s.first) (codes ";0x0") (59 ∷ address s.size))
+        ∙ ap (λ fs. codes "STORE" ∷ fs) (fields_of-more (address s.first) (codes "0x0" ++ 59 ∷ address s.size) (address-NoFieldEnd s.first fits.first))
+        ∙ ap (λ fs. codes "STORE" ∷ address s.first ∷ fs) (fields_of-more (codes "0x0") (address s.size) (search rules))
+        ∙ ap (λ fs. codes "STORE" ∷ address s.first ∷ codes "0x0" ∷ fs) (fields_of-last (address s.size) (address-NoFieldEnd s.size fits.size)))
+      ∙ ap (event_over Store) (span_of_texts-address s fits (extent_of-valid s valid))
+
+record_of-fence : record_of (codes "FENCE" ++ []) ≡ Ok (Happens Fence)
+unfolding record_of saying_of
+record_of-fence = ap saying_of_fields (fields_of-last (codes "FENCE") (search rules))
+
+-- the text of an event whose record the reader knows reads as the event
+pub record_of-event : (event : Event) → AllValid event → IsRead event → record_of (text_of_event event) ≡ Ok (Happens event)
+unfolding name_of fields_of_event
+record_of-event (Store s) valid read = record_of-store s valid
+record_of-event (Flush s) valid read = record_of-flush s valid
+record_of-event Fence valid read = record_of-fence
+record_of-event (Persist s) valid read = record_of-persist s valid
+record_of-event (Ordered a b) valid read = absurd read
+record_of-event (Exclude s) valid read = record_of-exclude s valid
+record_of-event (Include s) valid read = record_of-include s valid
+record_of-event TxBegin valid read = absurd read
+record_of-event (TxAdd s) valid read = absurd read
+record_of-event TxEnd valid read = absurd read
+record_of-event CheckStart valid read = absurd read
+record_of-event CheckEnd valid read = absurd read
+
+-- the text of a marker reads as its number
+pub record_of-marker : (n : ℕ) → n < 2 ^ 64 → record_of (text_of_marker n) ≡ Ok (Enters n)
+unfolding record_of saying_of section_of_fields text_of_marker field_of
+record_of-marker n small =
+    ap saying_of_fields
+      (fields_of-more (codes "PMT.SECTION") (address n) (search rules)
+      ∙ ap (λ fs. codes "PMT.SECTION" ∷ fs) (fields_of-last (address n) (address-NoFieldEnd n small)))
+    ∙ ap section_of_number (number_of-address n small)
