@@ -13,3 +13,4 @@ pub mod LineLemmas
 pub mod PlainLemmas
 pub mod RoundTripLemmas
 pub mod SpellingLemmas
+pub mod ReadBackLemmas

@@ -1,0 +1,129 @@
+-- What is written of a section is a log that says the section alone.
+use Rattle.std.proofs.Common.{Equal, ◌≡◌, ℕ, zero, suc, ◌+◌, ◌-◌, ◌^◌, ◌<◌, ◌≤◌, Bool, true, false, ◌==◌, nat_lt, if◌then◌else◌, List, [], ◌∷◌, ◌++◌, Option, Some, None, Ok, length, map, refl, sym, ap, ◌∙◌, arith}
+use Rattle.std.specs.Prelude.{⊤}
+use Rattle.std.proofs.lemmas.List.{append_assoc, append-nil, length_push}
+use Rattle.std.proofs.lemmas.Bool.{lt-ltb, le-ltb}
+use Rattle.std.proofs.lemmas.Bool.Decides.{Decides-eqb}
+use Rattle.std.specs.Ordering.{nat_cmp, match_ordering}
+use Rattle.std.specs.Cmp.{nat_cmp_is}
+use Rattle.pmf_event.specs.Section.{Trace}
+use Rattle.pmf_event.specs.declared.event.Event.{Event}
+use Rattle.pmf_event.specs.declared.section.TheConstants.{EVENT_LIMIT}
+use Rattle.pmf_storelog.specs.declared.fault.TheConstants.{LOG_LIMIT, SECTION_LIMIT}
+use Rattle.pmf_storelog.specs.declared.record.Saying.TheVariants.{Happens, Enters}
+use Rattle.pmf_storelog.specs.Separators.{records_of}
+use Rattle.pmf_storelog.specs.Records.{record_of}
+use Rattle.pmf_storelog.specs.Sections.{with_event}
+use Rattle.pmf_storelog.specs.LogText.{current_of, current_at, numbers_of, numbers_among, events_in, numbered_events, numbered_among, skipped_of, first_fault, first_fault_among, refusal_after, cause_after, or_else, number_after, numbers_with, with_number, section_named, sections_of, value_of, value_unless, fault_of, log_of}
+use Rattle.pmf_storelog.specs.Canonical.{canonical_text}
+use Rattle.pmf_storelog.specs.Spelling.{AllValid, IsRead}
+use Rattle.pmf_storelog.proofs.LogLemmas.{current_of-push, numbers_of-push, events_in-event, events_in-enter, skipped_of-event, skipped_of-enter, first_fault-push, fault_within-short}
+use Rattle.pmf_storelog.proofs.PlainLemmas.{text_of_event, text_of_marker}
+use Rattle.pmf_storelog.proofs.RoundTripLemmas.{EachFits, canonical_records, records_of-canonical, canonical-length}
+use Rattle.pmf_storelog.proofs.SpellingLemmas.{record_of-event, record_of-marker, all_fit}
+use Rattle.pmf_storelog.specs.LogValue.{LogValue}
+
+-- these records say one section, with this number and these events
+record Says (number : ℕ) (events : List Event) (records : List (List ℕ)) : Type 0 where
+  current : current_of records ≡ number
+  numbers : numbers_of records ≡ number ∷ []
+  events_are : events_in records number ≡ events
+  none_skipped : skipped_of records ≡ 0
+  no_fault : first_fault records ≡ None
+
+log_value : List Trace → ℕ → LogValue
+log_value sections skipped = record { sections = sections; skipped = skipped }
+
+same_number : (n : ℕ) → with_number (n ∷ []) n ≡ n ∷ []
+same_number n = ap (λ o. match_ordering o (n ∷ n ∷ []) (n ∷ []) (n ∷ n ∷ [])) (sym (nat_cmp_is n n Equal refl))
+
+below_is_no_end : (n m : ℕ) → n < m → (n == m) ≡ false
+below_is_no_end n m below =
+    elim (n == m) as (λ v. (n == m) ≡ v → v ≡ false) [ true ↦ λ is. let same : n ≡ m = (Decides-eqb n m).0 is in absurd (omega arith) | false ↦ λ is. refl ] refl
+
+no_refusal_at_marker : (n : ℕ) (text : List ℕ) → record_of text ≡ Ok (Enters n) → refusal_after [] (record_of text) ≡ None
+unfolding refusal_after numbers_of numbers_among
+no_refusal_at_marker n text says = rw says refl
+
+says-marker : (n : ℕ) (text : List ℕ) → record_of text ≡ Ok (Enters n) → Says n [] (text ∷ [])
+unfolding current_of current_at numbers_of numbers_among events_in numbered_events numbered_among skipped_of first_fault first_fault_among
+says-marker n text says = record {
+  current = current_of-push [] text ∙ ap (λ reading. number_after reading 0) says;
+  numbers = numbers_of-push [] text ∙ ap (λ reading. numbers_with reading 0 []) says;
+  events_are = events_in-enter [] text n says n;
+  none_skipped = skipped_of-enter [] text n says;
+  no_fault = first_fault-push [] text ∙ no_refusal_at_marker n text says;
+}
+
+module _ (n : ℕ) (events : List Event) (records : List (List ℕ)) (has : Says n events records) (event : Event) (text : List ℕ) (says : record_of text ≡ Ok (Happens event)) where
+  no_refusal : length events < EVENT_LIMIT → refusal_after records (record_of text) ≡ None
+  unfolding refusal_after
+  no_refusal few = rw (says, has.current, has.events_are, below_is_no_end (length events) EVENT_LIMIT few) refl
+
+  here : with_event (events_in records) n event n ≡ events ++ event ∷ []
+  here = rw (has.events_are, (Decides-eqb n n).1 refl) refl
+
+  says-event : length events < EVENT_LIMIT → Says n (events ++ event ∷ []) (records ++ text ∷ [])
+  says-event few = record {
+    current = current_of-push records text ∙ ap (λ reading. number_after reading (current_of records)) says ∙ has.current;
+    numbers =
+        numbers_of-push records text ∙ ap (λ reading. numbers_with reading (current_of records) (numbers_of records)) says
+        ∙ ap (λ k. with_number (numbers_of records) k) has.current ∙ ap (λ ns. with_number ns n) has.numbers ∙ same_number n;
+    events_are = events_in-event records text event says n ∙ ap (λ k. with_event (events_in records) k event n) has.current ∙ here;
+    none_skipped = skipped_of-event records text event says ∙ has.none_skipped;
+    no_fault = first_fault-push records text ∙ ap (λ fault. or_else fault (refusal_after records (record_of text))) has.no_fault ∙ no_refusal few;
+  }
+
+-- each event is spelled, and read
+abbrev pub EachSpelled : List Event → Type 0
+EachSpelled [] = ⊤
+EachSpelled (event ∷ events) = (AllValid event × IsRead event) × EachSpelled events
+
+each_fits : (events : List Event) → EachSpelled events → EachFits events
+each_fits [] spelled = tt
+each_fits (event ∷ events) spelled = (all_fit event spelled.0.0, each_fits events spelled.1)
+
+says-events : (n : ℕ) (done left : List Event) (records : List (List ℕ)) → Says n done records → EachSpelled left → length done + length left ≤ EVENT_LIMIT →
+    Says n (done ++ left) (records ++ map text_of_event left)
+says-events n done [] records has spelled few =
+    rw (append-nil done, append-nil records) has
+says-events n done (event ∷ left) records has spelled few =
+    let next = says-event n done records has event (text_of_event event) (record_of-event event spelled.0.0 spelled.0.1) (omega arith) in
+    let all = says-events n (done ++ event ∷ []) left (records ++ text_of_event event ∷ []) next spelled.1 (omega (arith, length_push done event)) in
+    rw (← append_assoc done (event ∷ []) left, ← append_assoc records (text_of_event event ∷ []) (map text_of_event left)) all
+
+says-section : (section : Trace) → section.name.number < 2 ^ 64 → EachSpelled section.events → length section.events ≤ EVENT_LIMIT →
+    Says section.name.number section.events (canonical_records section)
+says-section section small spelled few =
+    says-events section.name.number [] section.events (text_of_marker section.name.number ∷ [])
+      (says-marker section.name.number (text_of_marker section.name.number) (record_of-marker section.name.number small)) spelled (omega (arith, few))
+
+module _ (section : Trace) (small : section.name.number < 2 ^ 64) (spelled : EachSpelled section.events) (few : length section.events ≤ EVENT_LIMIT) where
+  records_are : records_of (canonical_text section) ≡ canonical_records section
+  records_are = records_of-canonical section small (each_fits section.events spelled)
+
+  no_fault_in_text : fault_of (canonical_text section) ≡ None
+  unfolding fault_of
+  no_fault_in_text =
+      fault_within-short LOG_LIMIT (canonical_text section) (omega (arith, canonical-length section small (each_fits section.events spelled) (omega (arith, few))))
+      ∙ ap first_fault records_are
+      ∙ (says-section section small spelled few).no_fault
+
+  sections_are : sections_of section.name.run (canonical_records section) ≡ section ∷ []
+  unfolding sections_of
+  sections_are =
+      let has = says-section section small spelled few in
+      ap (map (λ number. section_named section.name.run number (events_in (canonical_records section) number))) has.numbers
+      ∙ ap (λ events. section_named section.name.run section.name.number events ∷ []) has.events_are
+
+  value_is : value_of section.name.run (canonical_text section) ≡ record { sections = section ∷ []; skipped = 0 }
+  unfolding value_of log_value
+  value_is =
+      ap (λ records. log_value (sections_of section.name.run records) (skipped_of records)) records_are
+      ∙ ap (λ sections. log_value sections (skipped_of (canonical_records section))) sections_are
+      ∙ ap (λ skipped. log_value (section ∷ []) skipped) (says-section section small spelled few).none_skipped
+
+  -- the log with the text of a section says the section, and nothing else
+  pub log_of-canonical : log_of section.name.run (canonical_text section) ≡ Ok (record { sections = section ∷ []; skipped = 0 })
+  unfolding log_of
+  log_of-canonical = ap (λ fault. value_unless fault (value_of section.name.run (canonical_text section))) no_fault_in_text ∙ ap (λ value. Ok value) value_is
