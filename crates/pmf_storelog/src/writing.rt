@@ -1,8 +1,11 @@
 //! The canonical text of a section.
 
-ghost use Rattle.std.specs.Prelude.{◌≡◌, ◌++◌, OnOk, IfOk};
+ghost use Rattle.std.specs.Prelude.{◌≡◌, ◌++◌, ◌∷◌, [], ◌<◌, ◌^◌, Ok, OnOk, IfOk};
+ghost use Rattle.std.specs.List.{All};
 ghost use Rattle.std.specs.String.{string_bytes};
 ghost use Rattle.pmf_storelog.specs.Canonical.{canonical_text, field_of, fields_of_span, fields_of_event, line_of_event, line_of_marker, name_of};
+ghost use Rattle.pmf_storelog.specs.LogText.{log_of};
+ghost use Rattle.pmf_storelog.specs.Spelling.{AllValid, IsRead, IsValid};
 
 use pmf_event::{Event, Section, Span};
 use std::alloc::{AllocError, Global};
@@ -16,8 +19,9 @@ fn push_field(text: &mut String, number: u64) -> Result<(), AllocError>
 
 #[tactic(auto, unfolding(crate::specs::Canonical::fields_of_span))]
 fn push_span(text: &mut String, span: &Span) -> Result<(), AllocError>
-    ensures { OnOk result
+    ensures text { OnOk result
         (string_bytes text.new ≡ string_bytes text.old ++ fields_of_span span.now) }
+    ensures valid { OnOk result (IsValid span.now) }
 {
     push_field(text, span.first())?;
     push_field(text, span.size())?;
@@ -47,8 +51,9 @@ fn name_of(event: &Event) -> &'static str
 
 #[tactic(auto, unfolding(crate::specs::Canonical::fields_of_event))]
 fn push_fields(text: &mut String, event: &Event) -> Result<(), AllocError>
-    ensures { OnOk result
+    ensures text { OnOk result
         (string_bytes text.new ≡ string_bytes text.old ++ fields_of_event event.now) }
+    ensures valid { OnOk result (AllValid event.now) }
 {
     match event {
         Event::Store(span) => {
@@ -71,8 +76,9 @@ fn push_fields(text: &mut String, event: &Event) -> Result<(), AllocError>
 }
 
 fn push_event(text: &mut String, event: &Event) -> Result<(), AllocError>
-    ensures { OnOk result
+    ensures text { OnOk result
         (string_bytes text.new ≡ string_bytes text.old ++ line_of_event event.now) }
+    ensures valid { OnOk result (AllValid event.now) }
 {
     text.push_str(name_of(event))?;
     push_fields(text, event)?;
@@ -82,8 +88,9 @@ fn push_event(text: &mut String, event: &Event) -> Result<(), AllocError>
 
 #[tactic(auto, unfolding(crate::specs::Canonical::line_of_marker))]
 fn push_marker(text: &mut String, number: u64) -> Result<(), AllocError>
-    ensures { OnOk result
+    ensures text { OnOk result
         (string_bytes text.new ≡ string_bytes text.old ++ line_of_marker number) }
+    ensures small { number < 2 ^ 64 }
 {
     text.push_str("PMT.SECTION")?;
     push_field(text, number)?;
@@ -91,10 +98,13 @@ fn push_marker(text: &mut String, number: u64) -> Result<(), AllocError>
     Ok(())
 }
 
-/// The canonical text of the section: its marker, and one text line for each event. Takes memory for
-/// the text alone.
+/// The canonical text of the section: its marker, and one text line for each event. Where the reader
+/// knows the record of each event, the text is a log that says this section and nothing else. Takes
+/// memory for the text alone.
 pub fn write_section(alloc: Global, section: &Section) -> Result<Vec<u8>, AllocError>
-    ensures { IfOk result (λ text. text.items ≡ canonical_text section.now) }
+    ensures text { IfOk result (λ text. text.items ≡ canonical_text section.now) }
+    ensures reads_back { IfOk result (λ text. All IsRead section.now.events
+        → log_of section.now.name.run text.items ≡ Ok (record { sections = section.now ∷ []; skipped = 0 })) }
 {
     let mut text = String::new(alloc);
     push_marker(&mut text, section.name().number)?;
