@@ -24,6 +24,8 @@ mod tally;
 mod tests;
 mod trimming;
 mod writing;
+#[cfg(test)]
+mod writing_tests;
 
 pub use fault::{Cause, LOG_LIMIT, LogFault, SECTION_LIMIT};
 pub use log::Log;
