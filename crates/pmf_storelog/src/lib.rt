@@ -1,5 +1,8 @@
 //! The reader of a persistent-memory log's text: from bytes, in one piece or many, to sections.
 //!
+//! A marker `PMT.SECTION` makes a section current, a new one or one that comes again; before the first
+//! marker section 0 is. A section's events are those at which it was current (`LogText.events_in`).
+//!
 //! [`read_log`] answers exactly what `LogText.log_of` says of the bytes: the sections with the number
 //! of skipped records, or the first faulty record's fault. [`LogReader`] answers the same of all
 //! pieces fed to it, joined, and refuses as soon as the bytes fed show a fault that no later byte can
@@ -18,6 +21,8 @@ mod progress;
 mod reader;
 mod reading;
 mod record;
+#[cfg(test)]
+mod section_tests;
 mod sections;
 mod tally;
 #[cfg(test)]

@@ -31,7 +31,8 @@ impl Log {
         Log { sections, skipped }
     }
 
-    /// The sections in order of their number. Each has an event at least.
+    /// The sections in order of their number: those with a marker, and section 0 where an event comes
+    /// before the first marker.
     pub fn sections(&self) -> &[Arc<Section>]
         ensures { map (λ a. a.value) result.now ≡ self.now.sections }
     {

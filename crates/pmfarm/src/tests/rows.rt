@@ -167,6 +167,29 @@ total sections=1 pass=0 fail=0 warn=0 empty=0
 }
 
 #[test]
+fn a_section_without_events(rt: HostRuntime) {
+    let report = "\
+section 0.7 events=0 pass=0 fail=0 warn=0 empty=0
+total sections=1 pass=0 fail=0 warn=0 empty=0
+";
+    reports(&rt, rt.alloc(), "PMT.SECTION;7", report, 0);
+}
+
+#[test]
+fn sections_that_come_again(rt: HostRuntime) {
+    let log = "PMT.SECTION;1|STORE;0x1000;0x1;0x8|PMT.SECTION;2|STORE;0x1000;0x2;0x8\
+|PMT.SECTION;1|FLUSH;0x1000;0x40|FENCE|PMT.PERSIST;0x1000;0x8|PMT.SECTION;2|PMT.PERSIST;0x1000;0x8";
+    let report = "\
+section 0.1 events=4 pass=1 fail=0 warn=0 empty=0
+4 PERSIST PASS
+section 0.2 events=2 pass=0 fail=1 warn=0 empty=0
+2 PERSIST FAIL byte=0x1000 crash=2
+total sections=2 pass=1 fail=1 warn=0 empty=0
+";
+    reports(&rt, rt.alloc(), log, report, 1);
+}
+
+#[test]
 fn bad_numbers(rt: HostRuntime) {
     for log in ["STORE;0X10;0;1", "STORE;18446744073709551616;0;1"] {
         refuses(&rt, rt.alloc(), log, 1, Cause::BadNumber);
@@ -177,7 +200,6 @@ fn bad_numbers(rt: HostRuntime) {
 fn markers_that_are_not_checked_yet_are_refused(rt: HostRuntime) {
     for log in [
         "PMT.ORDERED;0x1000;8;0x2000;8",
-        "PMT.SECTION;1",
         "PMT.TXBEGIN",
         "PMT.TXADD;0x1000;8",
         "PMT.TXEND",
