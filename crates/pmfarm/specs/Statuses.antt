@@ -1,5 +1,5 @@
 -- The exit statuses (defined here).
-use Rattle.std.specs.Prelude.{◌≡◌, ◌⊎◌, ℕ, ◌==◌, if◌then◌else◌}
+use Rattle.std.specs.Prelude.{◌≡◌, ◌⊎◌, ℕ, ◌==◌, Result, Ok, Err, if◌then◌else◌}
 use Rattle.clap.specs.declared.error.kind.ErrorKind.{ErrorKind}
 use Rattle.clap.specs.declared.error.kind.ErrorKind.TheVariants.{DisplayHelp, DisplayVersion, OutOfMemory}
 use Rattle.pmf_storelog.specs.declared.fault.Cause.{Cause}
@@ -45,3 +45,8 @@ status_of_fault stream.ReadFault = DeviceFault
 status_of_fault (stream.Log fault) = status_of_cause fault.cause
 status_of_fault (stream.WriteFault written) = DeviceFault
 status_of_fault stream.OutOfMemory = NoMemory
+
+-- how the program ends after this answer of check_stream
+abbrev pub status_of_answer : Result Done StreamFault → Status
+status_of_answer (Ok done) = status_of_done done
+status_of_answer (Err fault) = status_of_fault fault

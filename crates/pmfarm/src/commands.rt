@@ -1,15 +1,19 @@
-ghost use Rattle.std.specs.Prelude.{◌≡◌, ◌⊎◌};
+ghost use Rattle.std.specs.Prelude.{◌≡◌, ◌⊎◌, ◌↔◌, ◌+◌, Result, IfOk};
+ghost use Rattle.pmf_storelog.specs.LogValue.{LogValue};
+ghost use Rattle.pmfarm.specs.declared.stream.Done.{Done};
+ghost use Rattle.pmfarm.specs.declared.stream.StreamFault.{StreamFault};
+ghost use Rattle.pmfarm.specs.Stream.{IfLogFault, IsFaultOf, IsLogOf, Reports, failed_reads, failed_writes};
 ghost use Rattle.std.specs.Io.KnownBytes.{Appends};
 ghost use Rattle.clap.specs.Words.{kind_of};
 ghost use Rattle.pmfarm.specs.Failures.{CanCountOneMore};
-ghost use Rattle.pmfarm.specs.Statuses.{IsAnswerTo};
+ghost use Rattle.pmfarm.specs.Statuses.{IsAnswerTo, status_of_answer};
 
 use crate::diagnostics::{fail, out_of_memory, refuse_words, say_skipped};
 use crate::request::{Request, Settings, request_of};
 use crate::sink::{Sink, StdSink};
-use crate::source::StdSource;
+use crate::source::{Source, StdSource};
 use crate::status::Status;
-use crate::stream::check_stream;
+use crate::stream::{Done, StreamFault, check_stream};
 use crate::writing::write_text;
 use std::alloc::Global;
 use std::io::{Eprint, ErrorKind, Input, Print};
@@ -38,7 +42,35 @@ fn words_of(rt: &HostRuntime) -> io::Result<Vec<String>> {
 fn run_check(rt: &HostRuntime, settings: Settings) -> Status {
     let mut source = StdSource::new(rt.reader());
     let mut sink = StdSink::new(io::writer(rt));
-    match check_stream(rt.alloc(), &mut source, &mut sink, settings) {
+    check_to(rt, rt.alloc(), &mut source, &mut sink, settings)
+}
+
+/// Checks the log of the source and writes its report to the sink.
+fn check_to<R: Eprint, S: Source, W: Sink>(
+    rt: &R,
+    alloc: Global,
+    source: &mut S,
+    sink: &mut W,
+    settings: Settings,
+) -> Status
+    requires read { CanCountOneMore (S.failed_calls source.old) }
+    requires write { CanCountOneMore (W.failed_calls sink.old) }
+    ensures { (answer : Result Done StreamFault) × (result ≡ status_of_answer answer)
+        × IfOk answer (λ done. (log : LogValue) × IsLogOf settings.run (S.left source.old) (S.left source.new) log
+        × Reports log (W.held sink.old) (W.held sink.new) done)
+        × IfLogFault answer (IsFaultOf settings.run (S.left source.old) (S.left source.new))
+        × (S.failed_calls source.new ≡ S.failed_calls source.old + failed_reads answer)
+        × (W.failed_calls sink.new ≡ W.failed_calls sink.old + failed_writes answer) }
+{
+    let answer = check_stream(alloc, source, sink, settings);
+    tell(rt, answer)
+}
+
+/// Says on standard error what is to be said of the answer, and how the program ends.
+fn tell<R: Eprint>(rt: &R, answer: Result<Done, StreamFault>) -> Status
+    ensures { result ≡ status_of_answer answer }
+{
+    match answer {
         Ok(done) => {
             if done.skipped > 0 {
                 say_skipped(rt, done.skipped);
@@ -64,14 +96,14 @@ fn answer<R: Print + Eprint>(rt: &R, alloc: Global, error: &clap::Error) -> Stat
     }
 }
 
-/// Writes a text to the sink, and says where that fails.
-fn show<R: Eprint, W: Sink>(rt: &R, writer: &mut W, text: &[u8]) -> Status
-    requires { CanCountOneMore (W.failed_calls writer.old) }
-    ensures shown { result ≡ Status.NoFail
-        → Appends (W.held writer.old) (W.held writer.new) text.now }
-    ensures status { (result ≡ Status.NoFail) ⊎ (result ≡ Status.DeviceFault) }
+/// Writes a text to the sink.
+fn show<R: Eprint, W: Sink>(rt: &R, sink: &mut W, text: &[u8]) -> Status
+    requires { CanCountOneMore (W.failed_calls sink.old) }
+    ensures whole { (result ≡ Status.NoFail) → Appends (W.held sink.old) (W.held sink.new) text.now }
+    ensures failed { (result ≡ Status.DeviceFault) ↔ (W.failed_calls sink.new ≡ W.failed_calls sink.old + 1) }
+    ensures statuses { (result ≡ Status.NoFail) ⊎ (result ≡ Status.DeviceFault) }
 {
-    match write_text(writer, text) {
+    match write_text(sink, text) {
         Ok(()) => Status::NoFail,
         Err(cut) => fail(rt, cut, Status::DeviceFault),
     }

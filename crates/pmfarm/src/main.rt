@@ -9,6 +9,10 @@
 //! Not promised here: what a device does with the bytes, or the words of help and fault lines.
 #![tactic(auto)]
 
+ghost use Rattle.std.specs.Prelude.{◌≡◌};
+ghost use Rattle.std.specs.Process.{exit_status};
+ghost use Rattle.pmfarm.specs.Statuses.{exit_code_of};
+
 mod commands;
 mod diagnostics;
 mod failed;
@@ -22,8 +26,15 @@ mod stream;
 mod tests;
 mod writing;
 
+use status::Status;
 use std::process::ExitCode;
 
 fn main(rt: HostRuntime) -> ExitCode {
-    ExitCode::from(commands::run(&rt).exit_code())
+    exit_of(commands::run(&rt))
+}
+
+fn exit_of(status: Status) -> ExitCode
+    ensures { exit_status result ≡ exit_code_of status }
+{
+    ExitCode::from(status.exit_code())
 }

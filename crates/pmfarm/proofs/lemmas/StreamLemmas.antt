@@ -1,5 +1,5 @@
 -- A log that is read piece by piece, and what its end or its fault says.
-use Rattle.std.proofs.Common.{◌≡◌, ◌≢◌, ℕ, ◌+◌, ◌-◌, ◌<◌, ◌≤◌, Bool, true, false, nat_lt, if◌then◌else◌, List, [], ◌++◌, length, refl, sym, ◌∙◌, ap, subst, arith, length-append, ◌⊎◌, inl, inr}
+use Rattle.std.proofs.Common.{◌≡◌, ℕ, ◌+◌, ◌-◌, ◌≤◌, Bool, true, false, nat_lt, if◌then◌else◌, List, [], ◌++◌, length, refl, sym, ◌∙◌, ap, arith, length-append, inl, inr}
 use Rattle.std.specs.Prelude.{Option, Some, None, Ok, Err}
 use Rattle.std.specs.Io.KnownBytes.{Consumes, IsAtEnd}
 use Rattle.std.proofs.KnownBytes.{Consumes-nil, Consumes-trans}
@@ -9,8 +9,7 @@ use Rattle.pmf_storelog.specs.declared.fault.LogFault.{LogFault}
 use Rattle.pmf_storelog.specs.declared.fault.TheConstants.{LOG_LIMIT}
 use Rattle.pmf_storelog.specs.declared.reader.LogReader.{LogReader}
 use Rattle.pmf_storelog.specs.LogValue.{LogValue}
-use Rattle.pmf_storelog.specs.Separators.{ended_records}
-use Rattle.pmf_storelog.specs.LogText.{log_of, shown_fault, shown_within, too_long, or_else, first_fault, IsFaultOfAll}
+use Rattle.pmf_storelog.specs.LogText.{log_of, shown_fault, shown_within, too_long, or_else, IsFaultOfAll}
 use Rattle.pmf_storelog.specs.Reader.{HasRead}
 use Rattle.pmf_storelog.proofs.CallerLemmas.{log_of-all}
 use Rattle.pmfarm.specs.Stream.{HasReadBytes, IsLogOf, IsFaultOf}

@@ -1,8 +1,9 @@
 // Logs and reports that come or go in pieces, and devices that fail in between.
-use super::fakes::{ByteSink, PieceSource};
+use super::fakes::{ByteSink, InterruptedOnce, PieceSource};
+use crate::failed::Failed;
 use crate::request::Settings;
 use crate::sink::{Sink, StdSink};
-use crate::source::Source;
+use crate::source::{Source, StdSource};
 use crate::stream::{Done, StreamFault, check_stream};
 use pmf_storelog::{Cause, LogFault};
 
@@ -122,4 +123,21 @@ fn a_fault_of_the_log_is_told_as_soon_as_its_record_ends(rt: HostRuntime) {
         assert_eq!(rt; source.failures(), failures, "{want}, failing {fails}");
         assert_eq!(rt; sink.bytes().len(), 0, "{want}, failing {fails}");
     }
+}
+
+// An interrupted call is a failed one: it is counted, and not made again.
+#[test]
+fn an_interrupted_read_or_write_is_a_failed_one(rt: HostRuntime) {
+    let mut source = StdSource::new(InterruptedOnce::new());
+    let mut buffer = [0; 8];
+    assert_eq!(rt; source.read(&mut buffer), Err(Failed));
+    assert_eq!(rt; source.failures(), 1);
+    assert_eq!(rt; source.read(&mut buffer), Ok(0));
+    assert_eq!(rt; source.failures(), 1);
+
+    let mut sink = StdSink::new(InterruptedOnce::new());
+    assert_eq!(rt; sink.write(b"total"), Err(Failed));
+    assert_eq!(rt; sink.failures(), 1);
+    assert_eq!(rt; sink.write(b"total"), Ok(5));
+    assert_eq!(rt; sink.failures(), 1);
 }

@@ -1,10 +1,12 @@
 // Sources and sinks that fail when a test wants it.
-ghost use Rattle.std.specs.Prelude.{◌≡◌, None, Some};
+ghost use Rattle.std.specs.Prelude.{◌≡◌, None, Some, IfOk};
 
 use crate::failed::Failed;
 use crate::sink::Sink;
 use crate::source::Source;
 use std::alloc::Global;
+use std::io;
+use std::io::{Error, ErrorKind, Read, Write};
 
 // Gives the pieces in turn, one a read, and then the end. A piece that does not fit into the
 // buffer, or has more than `most` bytes, is given in several reads. The first piece is given
@@ -154,5 +156,44 @@ impl Sink for ByteSink {
             return Err(Failed);
         }
         Ok(count)
+    }
+}
+
+// A device of the standard library that is interrupted at its first call, and then reads as one
+// that has ended and writes as one that takes all.
+#[derive(Drop)]
+pub struct InterruptedOnce {
+    was_called: bool,
+}
+
+impl InterruptedOnce {
+    pub fn new() -> InterruptedOnce {
+        InterruptedOnce { was_called: false }
+    }
+
+    fn answer(&mut self, count: usize) -> io::Result<usize>
+        ensures { IfOk result (λ n. n ≡ count) }
+    {
+        if self.was_called {
+            return Ok(count);
+        }
+        self.was_called = true;
+        Err(Error::from(ErrorKind::Interrupted))
+    }
+}
+
+impl Read for InterruptedOnce {
+    fn read(&mut self, _buffer: &mut [u8]) -> io::Result<usize> {
+        self.answer(0)
+    }
+}
+
+impl Write for InterruptedOnce {
+    fn write(&mut self, bytes: &[u8]) -> io::Result<usize> {
+        self.answer(bytes.len())
+    }
+
+    fn flush(&mut self) -> io::Result<()> {
+        Ok(())
     }
 }

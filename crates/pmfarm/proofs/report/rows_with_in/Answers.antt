@@ -1,4 +1,4 @@
-use Rattle.std.proofs.Common.{◌≡◌, ℕ, ◌+◌, ◌*◌, ◌^◌, ◌<◌, ◌≤◌, sym, ◌∙◌, ap, subst, arith, rules}
+use Rattle.std.proofs.Common.{◌+◌, ◌^◌, ◌<◌, sym, ◌∙◌, subst, rules}
 use Rattle.pmf_verdict.specs.Report.{rows_with}
 use Rattle.pmfarm.proofs.lemmas.ReportLemmas.{Sums, Sums-none, Sums-more}
 use Rattle.pmfarm.proofs.report.rows_with_in.Goals as goal

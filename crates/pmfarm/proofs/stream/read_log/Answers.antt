@@ -1,4 +1,4 @@
-use Rattle.std.proofs.Common.{◌≡◌, ℕ, ◌+◌, ◌-◌, ◌<◌, ◌≤◌, min, List, length, take, sym, ◌∙◌, arith, length-take}
+use Rattle.std.proofs.Common.{◌≡◌, ℕ, ◌≤◌, List, length, take, sym, ◌∙◌, arith, length-take}
 use Rattle.pmfarm.proofs.lemmas.StreamLemmas.{Reading-more, IsFaultOf-shown}
 use Rattle.pmfarm.proofs.stream.read_log.Goals as goal
 
