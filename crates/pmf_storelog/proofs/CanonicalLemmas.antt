@@ -1,11 +1,10 @@
 -- What is written of a number and of a span reads as itself.
-use Rattle.std.specs.Prelude.{codes}
-use Rattle.std.proofs.Common.{append_assoc, rules, ◌≡◌, ℕ, zero, suc, ◌+◌, ◌-◌, ◌*◌, ◌/◌, ◌%◌, ◌^◌, ◌<◌, ◌≤◌, Bool, true, false, cond, ◌&&◌, ◌==◌, nat_lt, nat_le, if◌then◌else◌, List, [], ◌∷◌, ◌++◌, Some, None, length, take, drop, All, refl, sym, ap, subst, ◌∙◌, arith, ◌⊎◌, inl, inr}
+use Rattle.std.proofs.Common.{◌≡◌, ℕ, zero, suc, ◌+◌, ◌*◌, ◌/◌, ◌%◌, ◌^◌, ◌<◌, ◌≤◌, true, false, ◌==◌, if◌then◌else◌, List, [], ◌∷◌, ◌++◌, Some, length, refl, sym, ap, ◌∙◌, arith, inl, inr}
 use Rattle.std.specs.Fmt.{digits, digits_onto, digit_glyph}
 use Rattle.std.specs.Char.{digit_value}
 use Rattle.std.specs.Str.Parse.{digits_value, AllDigits}
 use Rattle.std.specs.Prelude.{Ok}
-use Rattle.std.specs.List.{list_all, slice_split, AllByRecursion}
+use Rattle.std.specs.List.{list_all, AllByRecursion}
 use Rattle.std.proofs.lemmas.List.Elements.{All-from_recursion}
 use Rattle.pmf_event.specs.Span.{Extent, extent_of}
 use Rattle.pmf_storelog.specs.Records.{is_field_end, fields_of, span_of_texts, span_of_numbers, span_or_cause}
@@ -68,7 +67,7 @@ not_digit : (c : ℕ) → digit_value c < 16 → is_field_end c ≡ false
 not_digit c digit = elim (cases_eq c 59) [
   | inl same ↦ let large : digit_value c ≡ 36 = ap digit_value same in absurd (omega arith)
   | inr other ↦ elim (c == 59) as (λ v. (c == 59) ≡ v → v ≡ false) [ true ↦ λ is. absurd (other ((Decides-eqb c 59).0 is)) | false ↦ λ is. refl ] refl
-  ]
+]
 
 digits-NoFieldEnd : (ds : List ℕ) → AllDigits 16 ds → NoFieldEnd ds
 digits-NoFieldEnd [] each = tt
@@ -108,4 +107,3 @@ span_of_texts-address s fits valid =
     ap (λ o. span_of_numbers o (number_of (address s.size))) (number_of-address s.first fits.first)
     ∙ ap (λ o. span_of_numbers (Some s.first) o) (number_of-address s.size fits.size)
     ∙ ap span_or_cause valid
-

@@ -1,5 +1,5 @@
 -- The lines of the canonical text of a section have no separator and no blank.
-use Rattle.std.proofs.Common.{◌≡◌, ℕ, zero, suc, ◌+◌, ◌^◌, ◌<◌, ◌≤◌, Bool, true, false, ◌||◌, ◌==◌, cond, List, [], ◌∷◌, ◌++◌, length, All, refl, sym, ap, ◌∙◌, arith, rules, ◌⊎◌, inl, inr, append_assoc, length-append}
+use Rattle.std.proofs.Common.{◌≡◌, ℕ, ◌^◌, ◌<◌, ◌≤◌, Bool, true, false, ◌==◌, List, [], ◌∷◌, ◌++◌, length, refl, ap, ◌∙◌, arith, rules, inl, inr, length-append}
 use Rattle.std.specs.Prelude.{codes, ⊤}
 use Rattle.std.specs.Fmt.{digits}
 use Rattle.std.specs.Char.{digit_value}
@@ -30,7 +30,7 @@ not_digit : (m c : ℕ) → digit_value m ≡ 36 → digit_value c < 16 → (c =
 not_digit m c stop digit = elim (cases_eq c m) [
   | inl same ↦ let large : digit_value c ≡ 36 = ap digit_value same ∙ stop in absurd (omega arith)
   | inr other ↦ elim (c == m) as (λ v. (c == m) ≡ v → v ≡ false) [ true ↦ λ is. absurd (other ((Decides-eqb c m).0 is)) | false ↦ λ is. refl ] refl
-  ]
+]
 
 -- the spans of an event fit into 64 bits
 abbrev pub AllFit : Event → Type 0
@@ -73,8 +73,8 @@ module _ (p : ℕ → Bool) (digit : (c : ℕ) → digit_value c < 16 → p c �
   unfolding fields_of_event
   none-fields (Store s) fit =
       none-append p (field_of s.first ++ codes ";0x0") (field_of s.size)
-        (none-append p (field_of s.first) (codes ";0x0") (none-field s.first fit.first) (semicolon, (digit 48 (omega arith), (x, (digit 48 (omega arith), tt)))))
-        (none-field s.size fit.size)
+      (none-append p (field_of s.first) (codes ";0x0") (none-field s.first fit.first) (semicolon, (digit 48 (omega arith), (x, (digit 48 (omega arith), tt)))))
+      (none-field s.size fit.size)
   none-fields (Flush s) fit = none-span s fit
   none-fields Fence fit = tt
   none-fields (Persist s) fit = none-span s fit

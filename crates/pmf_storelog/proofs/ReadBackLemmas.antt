@@ -1,23 +1,22 @@
 -- What is written of a section is a log that says the section alone.
-use Rattle.std.proofs.Common.{Equal, ◌≡◌, ℕ, zero, suc, ◌+◌, ◌-◌, ◌^◌, ◌<◌, ◌≤◌, Bool, true, false, ◌==◌, nat_lt, if◌then◌else◌, List, [], ◌∷◌, ◌++◌, Option, Some, None, Ok, length, map, take, get_or, All, refl, sym, ap, subst, ◌∙◌, arith}
+use Rattle.std.proofs.Common.{Equal, ◌≡◌, ℕ, suc, ◌+◌, ◌^◌, ◌<◌, ◌≤◌, true, false, ◌==◌, List, [], ◌∷◌, ◌++◌, None, Ok, length, map, take, get_or, All, refl, sym, ap, subst, ◌∙◌, arith}
 use Rattle.std.specs.Prelude.{⊤}
 use Rattle.std.specs.List.{flat_map}
 use Rattle.std.proofs.lemmas.List.{append_assoc, append-nil, length_push, take_more, take_all}
 use Rattle.std.proofs.lemmas.List.Elements.{All-more}
 use Rattle.std.proofs.lemmas.Grind.{flat_map-append}
-use Rattle.std.proofs.lemmas.Bool.{lt-ltb, le-ltb}
 use Rattle.std.proofs.lemmas.Bool.Decides.{Decides-eqb}
-use Rattle.std.specs.Ordering.{nat_cmp, match_ordering}
+use Rattle.std.specs.Ordering.{match_ordering}
 use Rattle.std.specs.Cmp.{nat_cmp_is}
 use Rattle.pmf_event.specs.Section.{Trace}
 use Rattle.pmf_event.specs.declared.event.Event.{Event}
 use Rattle.pmf_event.specs.declared.section.TheConstants.{EVENT_LIMIT}
-use Rattle.pmf_storelog.specs.declared.fault.TheConstants.{LOG_LIMIT, SECTION_LIMIT}
+use Rattle.pmf_storelog.specs.declared.fault.TheConstants.{LOG_LIMIT}
 use Rattle.pmf_storelog.specs.declared.record.Saying.TheVariants.{Happens, Enters}
 use Rattle.pmf_storelog.specs.Separators.{records_of}
 use Rattle.pmf_storelog.specs.Records.{record_of}
 use Rattle.pmf_storelog.specs.Sections.{with_event}
-use Rattle.pmf_storelog.specs.LogText.{current_of, current_at, numbers_of, numbers_among, events_in, numbered_events, numbered_among, skipped_of, first_fault, first_fault_among, refusal_after, cause_after, or_else, number_after, numbers_with, with_number, section_named, sections_of, value_of, value_unless, fault_of, log_of}
+use Rattle.pmf_storelog.specs.LogText.{current_of, current_at, numbers_of, numbers_among, events_in, numbered_events, numbered_among, skipped_of, first_fault, first_fault_among, refusal_after, or_else, number_after, numbers_with, with_number, section_named, sections_of, value_of, value_unless, fault_of, log_of}
 use Rattle.pmf_storelog.specs.Canonical.{canonical_text, line_of_event, line_of_marker}
 use Rattle.pmf_storelog.specs.Spelling.{AllValid, IsRead}
 use Rattle.pmf_storelog.proofs.LogLemmas.{current_of-push, numbers_of-push, events_in-event, events_in-enter, skipped_of-event, skipped_of-enter, first_fault-push, fault_within-short}
@@ -99,7 +98,7 @@ says-section : (section : Trace) → section.name.number < 2 ^ 64 → EachSpelle
     Says section.name.number section.events (canonical_records section)
 says-section section small spelled few =
     says-events section.name.number [] section.events (text_of_marker section.name.number ∷ [])
-      (says-marker section.name.number (text_of_marker section.name.number) (record_of-marker section.name.number small)) spelled (omega (arith, few))
+    (says-marker section.name.number (text_of_marker section.name.number) (record_of-marker section.name.number small)) spelled (omega (arith, few))
 
 module _ (section : Trace) (small : section.name.number < 2 ^ 64) (spelled : EachSpelled section.events) (few : length section.events ≤ EVENT_LIMIT) where
   records_are : records_of (canonical_text section) ≡ canonical_records section
@@ -134,9 +133,10 @@ module _ (section : Trace) (small : section.name.number < 2 ^ 64) (spelled : Eac
 -- the same, by places
 each_spelled : (events : List Event) → All AllValid events → All IsRead events → EachSpelled events
 each_spelled [] valid read = tt
-each_spelled (event ∷ events) valid read =
-    ((valid 0 event (omega arith), read 0 event (omega arith)),
-      each_spelled events (λ k d l. valid (suc k) d (omega arith)) (λ k d l. read (suc k) d (omega arith)))
+each_spelled (event ∷ events) valid read = (
+  (valid 0 event (omega arith), read 0 event (omega arith)),
+  each_spelled events (λ k d l. valid (suc k) d (omega arith)) (λ k d l. read (suc k) d (omega arith)),
+)
 
 pub reads_back : (section : Trace) (text : List ℕ) → text ≡ canonical_text section → section.name.number < 2 ^ 64 → length section.events ≤ EVENT_LIMIT → All AllValid section.events → All IsRead section.events →
     log_of section.name.run text ≡ Ok (record { sections = section ∷ []; skipped = 0 })
@@ -147,13 +147,12 @@ reads_back section text is small few valid read =
 pub next_line : (events : List Event) (i : ℕ) (event : Event) (marker before after : List ℕ) → i < length events → event ≡ get_or events i event →
     before ≡ marker ++ flat_map line_of_event (take i events) → All AllValid (take i events) → AllValid event → after ≡ before ++ line_of_event event →
     (after ≡ marker ++ flat_map line_of_event (take (i + 1) events)) × All AllValid (take (i + 1) events)
-next_line events i event marker before after below is written valid one more =
-    (
-      more ∙ ap (λ text. text ++ line_of_event event) written
+next_line events i event marker before after below is written valid one more = (
+  more ∙ ap (λ text. text ++ line_of_event event) written
       ∙ append_assoc marker (flat_map line_of_event (take i events)) (line_of_event event)
       ∙ ap (λ text. marker ++ text) (sym lines),
-      All-more AllValid events i event below valid (subst AllValid is one),
-    )
+  All-more AllValid events i event below valid (subst AllValid is one),
+)
   where
     lines : flat_map line_of_event (take (i + 1) events) ≡ flat_map line_of_event (take i events) ++ line_of_event event
     lines =
@@ -169,4 +168,4 @@ pub read_back : (section : Trace) (items : List Event) (i : ℕ) (text : List �
 read_back section items i text same end written valid small few read =
     let all : take i items ≡ section.events = take_all i items end ∙ same in
     reads_back section text (written ∙ ap (λ events. line_of_marker section.name.number ++ flat_map line_of_event events) all) small few
-      (subst (All AllValid) all valid) read
+    (subst (All AllValid) all valid) read

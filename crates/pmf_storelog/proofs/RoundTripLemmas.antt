@@ -1,14 +1,13 @@
 -- The records of the canonical text of a section, and its length.
-use Rattle.std.proofs.Common.{◌≡◌, ℕ, zero, suc, ◌+◌, ◌*◌, ◌^◌, ◌<◌, ◌≤◌, List, [], ◌∷◌, ◌++◌, length, map, All, refl, sym, ap, ◌∙◌, arith, rules, append_assoc, length-append}
+use Rattle.std.proofs.Common.{◌≡◌, ℕ, zero, suc, ◌*◌, ◌^◌, ◌<◌, ◌≤◌, List, [], ◌∷◌, ◌++◌, length, map, All, refl, ap, ◌∙◌, arith, length-append}
 use Rattle.std.specs.Prelude.{codes, ⊤}
-use Rattle.std.specs.Fmt.{digits}
 use Rattle.std.specs.List.{flat_map}
 use Rattle.pmf_event.specs.declared.event.Event.{Event}
 use Rattle.pmf_event.specs.declared.event.Event.TheVariants.{Store, Flush, Fence, Persist, Ordered, Exclude, Include, TxBegin, TxAdd, TxEnd, CheckStart, CheckEnd}
 use Rattle.pmf_event.specs.Section.{Trace}
 use Rattle.pmf_event.specs.Span.{Extent}
 use Rattle.pmf_storelog.specs.Separators.{records_of}
-use Rattle.pmf_storelog.specs.Canonical.{address, field_of, fields_of_span, fields_of_event, name_of, line_of_event, line_of_marker, canonical_text}
+use Rattle.pmf_storelog.specs.Canonical.{field_of, fields_of_span, fields_of_event, name_of, line_of_event, line_of_marker, canonical_text}
 use Rattle.pmf_storelog.proofs.CanonicalLemmas.{Fits, hex-length}
 use Rattle.pmf_storelog.proofs.LineLemmas.{IsPlain, text_of_lines, records_of-lines}
 use Rattle.pmf_storelog.proofs.PlainLemmas.{AllFit, text_of_event, text_of_event-plain, text_of_marker, text_of_marker-plain}
@@ -99,7 +98,11 @@ lines-length (event ∷ events) fit =
 pub canonical-length : (section : Trace) → section.name.number < 2 ^ 64 → EachFits section.events → length section.events ≤ 1048576 → length (canonical_text section) ≤ 268435456
 unfolding line_of_marker
 canonical-length section small fit few =
-    omega (arith, field-length section.name.number small, lines-length section.events fit,
+    omega (
+      arith,
+      field-length section.name.number small,
+      lines-length section.events fit,
       length-append (codes "PMT.SECTION") (field_of section.name.number),
       length-append (codes "PMT.SECTION" ++ field_of section.name.number) (codes "\n"),
-      length-append (line_of_marker section.name.number) (flat_map line_of_event section.events))
+      length-append (line_of_marker section.name.number) (flat_map line_of_event section.events),
+    )

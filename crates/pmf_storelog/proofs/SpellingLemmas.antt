@@ -1,18 +1,16 @@
 -- What the text of an event reads as: the event.
-use Rattle.std.proofs.Common.{◌≡◌, ℕ, zero, suc, ◌+◌, ◌^◌, ◌<◌, ◌≤◌, Bool, true, false, ◌==◌, nat_lt, if◌then◌else◌, List, [], ◌∷◌, ◌++◌, Some, None, length, refl, sym, ap, ◌∙◌, arith, rules, append_assoc, ◌⊎◌, inl, inr}
-use Rattle.std.specs.Prelude.{codes, Ok, Err, ⊤}
-use Rattle.std.proofs.lemmas.Bool.{lt-ltb, le-ltb, cases_eq}
+use Rattle.std.proofs.Common.{◌≡◌, ℕ, ◌+◌, ◌^◌, ◌<◌, true, false, ◌==◌, [], ◌∷◌, ◌++◌, refl, ap, ◌∙◌, arith, rules, append_assoc}
+use Rattle.std.specs.Prelude.{codes, Ok}
+use Rattle.std.proofs.lemmas.Bool.{le-ltb}
 use Rattle.std.proofs.lemmas.Bool.Decides.{Decides-eqb}
 use Rattle.pmf_event.specs.Span.{Extent, IsValidExtent, extent_of}
 use Rattle.pmf_event.specs.declared.span.TheConstants.{SPAN_LIMIT, ADDRESS_LIMIT}
 use Rattle.pmf_event.specs.declared.event.Event.{Event}
 use Rattle.pmf_event.specs.declared.event.Event.TheVariants.{Store, Flush, Fence, Persist, Ordered, Exclude, Include, TxBegin, TxAdd, TxEnd, CheckStart, CheckEnd}
-use Rattle.pmf_storelog.specs.declared.record.Saying.{Saying}
-use Rattle.pmf_storelog.specs.declared.record.Saying.TheVariants.{Happens, Enters, Skipped}
+use Rattle.pmf_storelog.specs.declared.record.Saying.TheVariants.{Happens, Enters}
 use Rattle.pmf_storelog.specs.Records.{record_of, saying_of, saying_of_fields, section_of_fields, section_of_number, event_over, span_of_fields, stored_span, fields_of}
-use Rattle.pmf_storelog.specs.Numbers.{number_of}
 use Rattle.pmf_storelog.specs.Canonical.{address, field_of, fields_of_span, fields_of_event, name_of}
-use Rattle.pmf_storelog.proofs.CanonicalLemmas.{Fits, NoFieldEnd, address-NoFieldEnd, fields_of-more, fields_of-last, fields_of-span, span_of_texts-address, number_of-address}
+use Rattle.pmf_storelog.proofs.CanonicalLemmas.{Fits, address-NoFieldEnd, fields_of-more, fields_of-last, fields_of-span, span_of_texts-address, number_of-address}
 use Rattle.pmf_storelog.proofs.PlainLemmas.{AllFit, text_of_event, text_of_marker}
 use Rattle.pmf_storelog.specs.Spelling.{AllValid, IsRead}
 
@@ -69,11 +67,11 @@ module _ (s : Extent) (valid : IsValidExtent s.first s.size) where
   record_of-store =
       let fits = fits_of s valid in
       ap saying_of_fields
-        (fields_of-more (codes "STORE") ((address s.first ++ codes ";0x0") ++ 59 ∷ address s.size) (search rules)
-        ∙ ap (λ rest. codes "STORE" ∷ fields_of rest) (append_assoc (address s.first) (codes ";0x0") (59 ∷ address s.size))
-        ∙ ap (λ fs. codes "STORE" ∷ fs) (fields_of-more (address s.first) (codes "0x0" ++ 59 ∷ address s.size) (address-NoFieldEnd s.first fits.first))
-        ∙ ap (λ fs. codes "STORE" ∷ address s.first ∷ fs) (fields_of-more (codes "0x0") (address s.size) (search rules))
-        ∙ ap (λ fs. codes "STORE" ∷ address s.first ∷ codes "0x0" ∷ fs) (fields_of-last (address s.size) (address-NoFieldEnd s.size fits.size)))
+      (fields_of-more (codes "STORE") ((address s.first ++ codes ";0x0") ++ 59 ∷ address s.size) (search rules)
+      ∙ ap (λ rest. codes "STORE" ∷ fields_of rest) (append_assoc (address s.first) (codes ";0x0") (59 ∷ address s.size))
+      ∙ ap (λ fs. codes "STORE" ∷ fs) (fields_of-more (address s.first) (codes "0x0" ++ 59 ∷ address s.size) (address-NoFieldEnd s.first fits.first))
+      ∙ ap (λ fs. codes "STORE" ∷ address s.first ∷ fs) (fields_of-more (codes "0x0") (address s.size) (search rules))
+      ∙ ap (λ fs. codes "STORE" ∷ address s.first ∷ codes "0x0" ∷ fs) (fields_of-last (address s.size) (address-NoFieldEnd s.size fits.size)))
       ∙ ap (event_over Store) (span_of_texts-address s fits (extent_of-valid s valid))
 
 record_of-fence : record_of (codes "FENCE" ++ []) ≡ Ok (Happens Fence)
@@ -101,6 +99,6 @@ pub record_of-marker : (n : ℕ) → n < 2 ^ 64 → record_of (text_of_marker n)
 unfolding record_of saying_of section_of_fields text_of_marker field_of
 record_of-marker n small =
     ap saying_of_fields
-      (fields_of-more (codes "PMT.SECTION") (address n) (search rules)
-      ∙ ap (λ fs. codes "PMT.SECTION" ∷ fs) (fields_of-last (address n) (address-NoFieldEnd n small)))
+    (fields_of-more (codes "PMT.SECTION") (address n) (search rules)
+    ∙ ap (λ fs. codes "PMT.SECTION" ∷ fs) (fields_of-last (address n) (address-NoFieldEnd n small)))
     ∙ ap section_of_number (number_of-address n small)

@@ -33,7 +33,9 @@ fn each_event_has_its_line(rt: HostRuntime) -> Result<(), Fail> {
         Event::CheckEnd,
     ];
     let text = write_section(rt.alloc(), &section_of(rt.alloc(), &events)?)?;
-    assert!(rt; text.as_slice() == b"\
+    assert!(rt;
+        text.as_slice()
+            == b"\
 PMT.SECTION;0x1a
 STORE;0x1000;0x0;0x8
 FLUSH;0xabcdef40;0x40
@@ -47,13 +49,18 @@ PMT.TXADD;0x1000;0x8
 PMT.TXEND
 PMT.CHECKSTART
 PMT.CHECKEND
-".as_slice());
+"
+                .as_slice()
+    );
     Ok(())
 }
 
 #[test]
 fn a_section_without_events_is_its_marker(rt: HostRuntime) -> Result<(), Fail> {
-    let text = write_section(rt.alloc(), &Section::new(rt.alloc(), Name { run: 5, number: 0 }))?;
+    let text = write_section(
+        rt.alloc(),
+        &Section::new(rt.alloc(), Name { run: 5, number: 0 }),
+    )?;
     assert!(rt; text.as_slice() == b"PMT.SECTION;0x0\n".as_slice());
     Ok(())
 }

@@ -8,11 +8,11 @@ use Rattle.pmf_storelog.proofs.writing.write_section.Goals as goal
 pub loop-event-preserved : goal.loop-event-preserved
 loop-event-preserved c =
     next_line c.events-event-items.result.now c.loop-event.event-index c.event-item.result (line_of_marker c.args.section.now.name.number)
-      (string_bytes c.loop-event.text) (string_bytes c.push_event.new.text) c.loop-event-test.true c.event-item.is
-      c.loop-event.invariant.0 c.loop-event.invariant.1 c.in_ok-push_event.ensures.valid c.in_ok-push_event.ensures.text
+    (string_bytes c.loop-event.text) (string_bytes c.push_event.new.text) c.loop-event-test.true c.event-item.is
+    c.loop-event.invariant.0 c.loop-event.invariant.1 c.in_ok-push_event.ensures.valid c.in_ok-push_event.ensures.text
 
 pub returns-clause-reads_back : goal.returns-clause-reads_back
 returns-clause-reads_back c =
     let small : c.args.section.now.name.number < 2 ^ 64 = rw (← c.name.ensures) c.in_ok-push_marker.ensures.small in
     read_back c.args.section.now c.events-event-items.result.now c.loop-event.event-index c.into_bytes.result.items c.events-event-items.ensures.value
-      c.loop-event-test.false (ap (λ bytes. bytes.items) c.into_bytes.ensures.value ∙ c.loop-event.invariant.0) c.loop-event.invariant.1 small c.events-event-items.ensures.limit
+    c.loop-event-test.false (ap (λ bytes. bytes.items) c.into_bytes.ensures.value ∙ c.loop-event.invariant.0) c.loop-event.invariant.1 small c.events-event-items.ensures.limit
