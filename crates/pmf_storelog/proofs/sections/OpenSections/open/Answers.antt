@@ -1,4 +1,5 @@
 use Rattle.std.proofs.Common.{length, sym, ap, ◌∙◌, arith}
+use Rattle.std.proofs.lemmas.Grind.{common_steps}
 use Rattle.std.specs.Ordering.{nat_cmp}
 use Rattle.std.specs.Map.{lookup}
 use Rattle.std.specs.BTreeMap.{is_at, get}
@@ -19,7 +20,7 @@ invariant_of-self-in-Break-branch-2 c =
     let longer = one_longer c.args.self.now.sections.items c.push.new.self.items _ c.in_ok-push.ensures.items in
     record {
       inside = λ number place is. omega (arith, longer, c.args.self.now.inside number place (ap (lookup (is_at (nat_cmp number))) (sym c.in_err-insert.ensures.err) ∙ is));
-      few = omega (arith, longer, c.len-place.ensures, c.if-place-ge-SECTION_LIMIT.false);
+      few = grind (arith, common_steps, longer);
       current_inside = λ some. omega (arith, longer, c.args.self.now.current_inside some);
     }
 
@@ -30,6 +31,6 @@ invariant_of-self-2 c =
       inside = λ number place is.
           inside_either (is_at (nat_cmp c.args.number) number) c.len-place.result place (length c.push.new.self.items) (get nat_cmp c.args.self.now.places number) (sym (c.in_ok-insert.ensures.updates.0 number) ∙ is)
           (omega (arith, longer, c.len-place.ensures)) (λ was. omega (arith, longer, c.args.self.now.inside number place was));
-      few = omega (arith, longer, c.len-place.ensures, c.if-place-ge-SECTION_LIMIT.false);
+      few = grind (arith, common_steps, longer);
       current_inside = λ some. omega (arith, longer, c.len-place.ensures);
     }
