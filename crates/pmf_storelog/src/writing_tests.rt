@@ -66,6 +66,18 @@ fn a_section_without_events_is_its_marker(rt: HostRuntime) -> Result<(), Fail> {
 }
 
 #[test]
+fn a_section_that_was_read_is_written_without_what_was_ignored(
+    rt: HostRuntime,
+) -> Result<(), Fail> {
+    let text = b" STORE;4096;junk;8;more |\r\n\nREGISTER_FILE;x|FENCE ";
+    let log = read_log(rt.alloc(), text, NAME.run)?;
+    assert_eq!(rt; log.sections().len(), 1);
+    let text = write_section(rt.alloc(), &log.sections()[0])?;
+    assert!(rt; text.as_slice() == b"PMT.SECTION;0x0\nSTORE;0x1000;0x0;0x8\nFENCE\n".as_slice());
+    Ok(())
+}
+
+#[test]
 fn what_is_written_reads_as_the_section_alone(rt: HostRuntime) -> Result<(), Fail> {
     let last = Span::make((1 << 63) - 1, 1)?;
     let most = Span::make(0, 65_536)?;
