@@ -6,7 +6,9 @@
 `fences` is what a log costs to read: N records, nearly all of them FENCE or a record that is
 skipped, one in a thousand a STORE, and a PMT.PERSIST now and then. `stores` is what a program does
 that keeps its data in order: stores of 8 to 64 bytes at random places of 64 MB, a write-back of
-each cache line that they met, and a fence.
+each cache line that they met, and a fence. `sections` and `interleaved` are the same events, in
+sections of 1,000, one after another and in runs of 20 of each in turn; both end with an unknown
+marker, so that the log is read to its end and nothing of it is checked.
 """
 
 import argparse
@@ -15,6 +17,9 @@ import random
 LINE = 64
 BASE = 0x10000000
 SPACE = 64 * 1024 * 1024
+SECTION = 1000
+RUN = 20
+FAULT = "PMT.END_OF_BENCHMARK"
 SKIPPED = (
     "START",
     "STOP",
@@ -73,7 +78,31 @@ def stores(random_, events):
             yield record
 
 
-KINDS = {"fences": fences, "stores": stores}
+def split(random_, events):
+    """The events of `stores`, a thousand for each section."""
+    for start in range(0, events, SECTION):
+        yield list(stores(random_, min(SECTION, events - start)))
+
+
+def sections(random_, events):
+    """Section after section, and then a fault."""
+    for number, part in enumerate(split(random_, events)):
+        yield f"PMT.SECTION;{number}"
+        yield from part
+    yield FAULT
+
+
+def interleaved(random_, events):
+    """A run of each section in turn, and then a fault."""
+    parts = list(split(random_, events))
+    for start in range(0, SECTION, RUN):
+        for number, part in enumerate(parts):
+            yield f"PMT.SECTION;{number}"
+            yield from part[start : start + RUN]
+    yield FAULT
+
+
+KINDS = {"fences": fences, "stores": stores, "sections": sections, "interleaved": interleaved}
 
 
 def write_log(path, records):
