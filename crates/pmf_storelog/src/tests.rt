@@ -82,12 +82,14 @@ fn a_number_is_hexadecimal_with_a_small_x_or_decimal(rt: HostRuntime) {
     );
 }
 
+// Two events, and a record that is skipped.
+const SPACED_TEXT: &[u8] = b" STORE;4096;junk;8;more |\r\n\nREGISTER_FILE;x|FENCE ";
+
 #[test]
 fn blanks_and_empty_records_are_dropped_and_other_names_counted(
     rt: HostRuntime,
 ) -> Result<(), Fail> {
-    let text = b" STORE;4096;junk;8;more |\r\n\nREGISTER_FILE;x|FENCE ";
-    let log = read_log(rt.alloc(), text, 3)?;
+    let log = read_log(rt.alloc(), SPACED_TEXT, 3)?;
     assert_eq!(rt; log.skipped(), 1);
     assert_eq!(rt; log.sections().len(), 1);
     let section = &log.sections()[0];
@@ -100,16 +102,17 @@ fn blanks_and_empty_records_are_dropped_and_other_names_counted(
 #[test]
 fn a_log_cut_in_two_anywhere_is_the_same_log(rt: HostRuntime) -> Result<(), Fail> {
     let alloc = rt.alloc();
-    let whole = read_log(alloc, LONG_TEXT, 3)?;
-    assert_eq!(rt; events_of(&whole).len(), 8);
-    assert_eq!(rt; whole.skipped(), 3);
-    for cut in 0..=LONG_TEXT.len() {
-        let mut reader = LogReader::new(alloc, 3);
-        reader.feed(&LONG_TEXT[..cut])?;
-        reader.feed(&LONG_TEXT[cut..])?;
-        let log = reader.finish()?;
-        assert!(rt; events_of(&log) == events_of(&whole), "at {cut}");
-        assert_eq!(rt; log.skipped(), 3, "at {cut}");
+    for (text, events, skipped) in [(LONG_TEXT, 8, 3), (SPACED_TEXT, 2, 1)] {
+        let whole = read_log(alloc, text, 3)?;
+        assert_eq!(rt; events_of(&whole).len(), events);
+        for cut in 0..=text.len() {
+            let mut reader = LogReader::new(alloc, 3);
+            reader.feed(&text[..cut])?;
+            reader.feed(&text[cut..])?;
+            let log = reader.finish()?;
+            assert!(rt; events_of(&log) == events_of(&whole), "at {cut}");
+            assert_eq!(rt; log.skipped(), skipped, "at {cut}");
+        }
     }
     Ok(())
 }
