@@ -1,5 +1,6 @@
 pub mod PlacesLemmas
 pub mod EventLemmas
 pub mod LineLemmas
+pub mod RangeLemmas
 pub mod IntervalLemmas
 pub mod WorkedRows

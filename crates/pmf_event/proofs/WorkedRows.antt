@@ -8,7 +8,8 @@ use Rattle.pmf_event.specs.Places.{greatest, least, count, some_between}
 use Rattle.pmf_event.specs.Store.{event_at, at, stores, flushes, is_fence, last, epoch_of}
 use Rattle.pmf_event.specs.Interval.{closes, closing_fence}
 use Rattle.pmf_event.specs.Exclusion.{excludes, marks, is_excluded}
-use Rattle.pmf_event.specs.Persist.{is_checked, is_exposed, first_from, persist_finding}
+use Rattle.pmf_event.specs.Ranges.{first_from}
+use Rattle.pmf_event.specs.Persist.{is_checked, is_exposed, persist_finding}
 
 abbrev span : ℕ → ℕ → Extent
 span first size = record { first = first; size = size }

@@ -1,5 +1,6 @@
 pub mod Span
 pub mod Line
+pub mod Ranges
 pub mod Section
 pub mod Places
 pub mod Store

@@ -1,9 +1,10 @@
 -- What a persist assertion finds (PMTest, ASPLOS 2019: isPersist). EMPTY and the least byte are defined here.
-use Rattle.std.specs.Prelude.{ℕ, zero, suc, ◌+◌, Bool, not, ◌&&◌, nat_lt, List, Option, None, Some, is_none, if◌then◌else◌}
+use Rattle.std.specs.Prelude.{ℕ, Bool, not, ◌&&◌, nat_lt, List, Option, None, Some, is_none, if◌then◌else◌}
 use Rattle.pmf_event.specs.declared.event.Event.{Event}
 use Rattle.pmf_event.specs.declared.finding.Finding.{Finding}
 use Rattle.pmf_event.specs.declared.finding.Finding.TheVariants.{PersistPass, PersistFail, PersistEmpty}
 use Rattle.pmf_event.specs.Span.{Extent}
+use Rattle.pmf_event.specs.Ranges.{first_byte}
 use Rattle.pmf_event.specs.Store.{last_store}
 use Rattle.pmf_event.specs.Interval.{interval_at, is_open}
 use Rattle.pmf_event.specs.Exclusion.{is_excluded}
@@ -15,15 +16,6 @@ is_checked es p b = nat_lt 0 (last_store es p b) && not (is_excluded es p b)
 -- whether byte b is checked at p, and its persist interval is open
 unfoldable pub is_exposed : List Event → ℕ → ℕ → Bool
 is_exposed es p b = is_checked es p b && is_open (interval_at es p b)
-
--- the least of the n bytes from b on that passes the test
-unfoldable pub first_from : (ℕ → Bool) → ℕ → ℕ → Option ℕ
-first_from test b zero = None
-first_from test b (suc n) = if test b then Some b else first_from test (b + 1) n
-
--- the least byte of the span that passes the test
-abbrev pub first_byte : (ℕ → Bool) → Extent → Option ℕ
-first_byte test s = first_from test s.first s.size
 
 -- pass, or fail with this byte
 abbrev pub pass_unless : Option ℕ → Finding

@@ -17,7 +17,8 @@ use Rattle.pmf_event.specs.Places.{least, count}
 use Rattle.pmf_event.specs.Store.{event_at, at, stores, flushes, is_fence, last, last_store, epoch_of}
 use Rattle.pmf_event.specs.Interval.{writes_back, first_write_back, interval_at, is_open}
 use Rattle.pmf_event.specs.Exclusion.{excludes, marks, is_excluded}
-use Rattle.pmf_event.specs.Persist.{is_checked, is_exposed, first_from, pass_unless, persist_finding}
+use Rattle.pmf_event.specs.Ranges.{first_from}
+use Rattle.pmf_event.specs.Persist.{is_checked, is_exposed, pass_unless, persist_finding}
 use Rattle.pmf_event.proofs.PlacesLemmas.{lt-ltb, greatest-bound, least-step, least-bound, least-passes, count-zero}
 use Rattle.pmf_event.proofs.EventLemmas.{and-true, both-true, at-is, last-none, last-other, last-here, epoch_of-next, fences-step}
 use Rattle.pmf_event.proofs.LineLemmas.{line-bounds, meets-bounds, bounds-meet}

@@ -8,7 +8,8 @@ use Rattle.pmf_event.specs.declared.finding.Finding.TheVariants.{PersistPass, Pe
 use Rattle.pmf_event.specs.Span.{Extent, covers_byte}
 use Rattle.pmf_event.specs.Store.{event_at}
 use Rattle.pmf_event.specs.Interval.{interval_at, is_open}
-use Rattle.pmf_event.specs.Persist.{is_checked, is_exposed, first_from, pass_unless, persist_finding}
+use Rattle.pmf_event.specs.Ranges.{first_from}
+use Rattle.pmf_event.specs.Persist.{is_checked, is_exposed, pass_unless, persist_finding}
 use Rattle.pmf_event.proofs.LineLemmas.{covers-bounds}
 use Rattle.pmf_image.proofs.ImageLemmas.{holds-where_closed}
 use Rattle.pmf_verdict.specs.Rows.{findings_of, rows_of}

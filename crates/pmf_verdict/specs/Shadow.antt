@@ -12,7 +12,8 @@ use Rattle.pmf_event.specs.Places.{count}
 use Rattle.pmf_event.specs.Store.{at, stores, is_fence, last_store, epoch_of}
 use Rattle.pmf_event.specs.Interval.{first_write_back}
 use Rattle.pmf_event.specs.Exclusion.{is_excluded}
-use Rattle.pmf_event.specs.Persist.{first_byte, pass_unless}
+use Rattle.pmf_event.specs.Ranges.{first_byte}
+use Rattle.pmf_event.specs.Persist.{pass_unless}
 use Rattle.pmf_verdict.specs.declared.shadow.ByteState.{ByteState}
 use Rattle.pmf_verdict.specs.declared.shadow.Shadow.{Shadow}
 use Rattle.pmf_verdict.specs.declared.shadow.Change.{Change}
