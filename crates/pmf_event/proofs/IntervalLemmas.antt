@@ -82,7 +82,7 @@ module _ (es : List Event) (line k p : ℕ) where
       ]
 
 interval-cases : (u v : Bool) (l o c : ℕ) →
-    is_open (if u then None else Some (record { last = l; opens = o; closed = if v then None else Some c })) ≡ (not u && v)
+    is_open (if u then None else Some (record { last = l; opens = o; closes = if v then None else Some c })) ≡ (not u && v)
 interval-cases true v l o c = refl
 interval-cases false true l o c = refl
 interval-cases false false l o c = refl

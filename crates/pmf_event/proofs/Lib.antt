@@ -3,4 +3,5 @@ pub mod EventLemmas
 pub mod LineLemmas
 pub mod RangeLemmas
 pub mod IntervalLemmas
+pub mod WriteBackLemmas
 pub mod WorkedRows

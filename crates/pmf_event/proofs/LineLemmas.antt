@@ -1,5 +1,5 @@
 -- The line of a byte, and the lines that a span meets.
-use Rattle.std.proofs.Common.{◌≡◌, ℕ, ◌+◌, ◌%◌, ◌<◌, ◌≤◌, true, false, ◌&&◌, ◌==◌, nat_lt, nat_le, List, sym, ◌∙◌, ap, arith, inl, inr}
+use Rattle.std.proofs.Common.{◌≡◌, ℕ, ◌+◌, ◌-◌, ◌*◌, ◌/◌, ◌%◌, ◌<◌, ◌≤◌, true, false, ◌&&◌, ◌==◌, nat_lt, nat_le, List, sym, ◌∙◌, ap, arith, inl, inr}
 use Rattle.std.specs.Prelude.{Option, Some, None}
 use Rattle.std.proofs.lemmas.Bool.{cases_lt, leb-true, le-leb}
 use Rattle.std.proofs.lemmas.Bool.Decides.{Decides-eqb}
@@ -9,7 +9,7 @@ use Rattle.pmf_event.specs.declared.event.Event.TheVariants.{Store}
 use Rattle.pmf_event.specs.Span.{Extent, covers_byte}
 use Rattle.pmf_event.specs.Line.{line_of_byte, meets_line}
 use Rattle.pmf_event.specs.Store.{event_at, passes, at, stores, stores_line}
-use Rattle.pmf_event.specs.Laws.{MeetsTheLinesOfItsBytes, MeetsWhereAByteIsShared}
+use Rattle.pmf_event.specs.Laws.{MeetsTheLinesOfItsBytes, MeetsTheLinesOfItsNumbers, MeetsWhereAByteIsShared}
 use Rattle.pmf_event.proofs.PlacesLemmas.{lt-ltb}
 use Rattle.pmf_event.proofs.EventLemmas.{and-true, both-true}
 
@@ -82,3 +82,20 @@ passes-line b (Some _) is = let bad : false ≡ true = is in cc
 pub stores-line : (es : List Event) (b k : ℕ) → at (stores b) es k ≡ true → at (stores_line (line_of_byte b)) es k ≡ true
 unfolding at
 stores-line es b k is = passes-line b (event_at es k) is
+
+-- a line by its number meets the span exactly where the number is that of one of the span's lines
+pub number-meets : (s : Extent) (n : ℕ) → 0 < s.size → s.first / 64 ≤ n → n ≤ (s.first + s.size - 1) / 64 → meets_line s (n * 64) ≡ true
+number-meets s n some low high = bounds-meet s (n * 64) (omega arith) (omega arith) (omega arith)
+
+pub meets-number : (s : Extent) (n : ℕ) → 0 < s.size → meets_line s (n * 64) ≡ true → (s.first / 64 ≤ n) × (n ≤ (s.first + s.size - 1) / 64)
+meets-number s n some meets = let bounds = meets-bounds s (n * 64) meets in (omega (arith, bounds.1), omega (arith, bounds.2))
+
+pub meets_the_lines_of_its_numbers : MeetsTheLinesOfItsNumbers
+meets_the_lines_of_its_numbers s l some = (
+  λ meets.
+      let bounds = meets-bounds s l meets in
+      let same : (l / 64) * 64 ≡ l = omega (arith, bounds.0) in
+      let own = meets-number s (l / 64) some (ap (meets_line s) same ∙ meets) in
+      (l / 64, own.0, omega (arith, own.0, own.1), same),
+  λ here. ap (meets_line s) (sym here.3) ∙ number-meets s here.0 some here.1 (omega (arith, here.1, here.2)),
+)

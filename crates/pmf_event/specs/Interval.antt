@@ -3,6 +3,7 @@
 -- write-back that no fence follows closes nothing (Intel SDM, CLWB and SFENCE).
 use Rattle.std.specs.Prelude.{ℕ, ◌+◌, Bool, false, ◌&&◌, ◌==◌, nat_lt, List, Option, None, Some, is_none, if◌then◌else◌}
 use Rattle.pmf_event.specs.declared.event.Event.{Event}
+use Rattle.pmf_event.specs.declared.interval.Interval.{Interval}
 use Rattle.pmf_event.specs.Line.{line_of_byte}
 use Rattle.pmf_event.specs.Places.{least, some_between}
 use Rattle.pmf_event.specs.Store.{at, stores, flushes, is_fence, last, last_store, epoch_of}
@@ -23,12 +24,6 @@ closes es line k f = at is_fence es f && some_between (at (flushes line) es) k f
 unfoldable pub closing_fence : (Event → Bool) → ℕ → List Event → ℕ → ℕ
 closing_fence stored line es p = least (closes es line (last stored es p)) p
 
--- the last store, the epoch of that store, and the epoch after the closing fence's, if one closes it
-pub record Interval : Type 0 where
-  pub last : ℕ
-  pub opens : ℕ
-  pub closed : Option ℕ
-
 -- the epoch after that of the fence at place f; none for no place
 abbrev pub epoch_after : List Event → ℕ → Option ℕ
 epoch_after es f = if f == 0 then None else Some (epoch_of es f + 1)
@@ -40,10 +35,10 @@ interval_at es p b =
     else Some (record {
       last = last_store es p b;
       opens = epoch_of es (last_store es p b);
-      closed = epoch_after es (closing_fence (stores b) (line_of_byte b) es p);
+      closes = epoch_after es (closing_fence (stores b) (line_of_byte b) es p);
     })
 
 -- whether there is an interval, and it is open
 abbrev pub is_open : Option Interval → Bool
 is_open None = false
-is_open (Some i) = is_none i.closed
+is_open (Some i) = is_none i.closes

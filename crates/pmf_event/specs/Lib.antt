@@ -5,6 +5,9 @@ pub mod Section
 pub mod Places
 pub mod Store
 pub mod Interval
+pub mod WriteBack
 pub mod Exclusion
 pub mod Persist
+pub mod Order
+pub mod FlushWarnings
 pub mod Laws

@@ -1,6 +1,6 @@
 //! Laws of the definitions, each the clause of an empty function.
 
-ghost use Rattle.pmf_event.specs.Laws.{MeetsTheLinesOfItsBytes, MeetsWhereAByteIsShared};
+ghost use Rattle.pmf_event.specs.Laws.{MeetsTheLinesOfItsBytes, MeetsTheLinesOfItsNumbers, MeetsWhereAByteIsShared};
 
 /// A span meets exactly the cache lines of the bytes that it covers.
 pub fn span_meets_the_lines_of_its_bytes()
@@ -10,4 +10,10 @@ pub fn span_meets_the_lines_of_its_bytes()
 /// Two spans meet exactly where a byte is covered by both.
 pub fn spans_meet_where_a_byte_is_shared()
     ensures { MeetsWhereAByteIsShared }
+{}
+
+/// A span meets exactly the cache lines from that of its first byte to that of its last, by their
+/// numbers.
+pub fn span_meets_the_lines_of_its_numbers()
+    ensures { MeetsTheLinesOfItsNumbers }
 {}
