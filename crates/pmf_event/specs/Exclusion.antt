@@ -1,5 +1,5 @@
 -- Bytes that are taken out of the checks, and back in (PMTest, ASPLOS 2019: exclusion of ranges).
-use Rattle.std.specs.Prelude.{ℕ, Bool, false, List}
+use Rattle.std.specs.Prelude.{ℕ, Bool, false, not, List}
 use Rattle.pmf_event.specs.declared.event.Event.{Event}
 use Rattle.pmf_event.specs.declared.event.Event.TheVariants.{Exclude, Include}
 use Rattle.pmf_event.specs.Span.{covers_byte}
@@ -19,3 +19,7 @@ marks b _ = false
 -- whether byte b is excluded at p: the last exclusion or inclusion that covers it is an exclusion
 unfoldable pub is_excluded : List Event → ℕ → ℕ → Bool
 is_excluded es p b = at (excludes b) es (last (marks b) es p)
+
+-- whether byte b is included at p: it is not excluded
+unfoldable pub is_included : List Event → ℕ → ℕ → Bool
+is_included es p b = not (is_excluded es p b)

@@ -1,0 +1,107 @@
+-- What an event does to the state that is kept of a byte or of a line, and what the questions ask of it.
+use Rattle.std.specs.Prelude.{ℕ, Bool, true, false, not, ◌&&◌, ◌||◌, ◌==◌, nat_lt, nat_le, Option, None, Some, is_none, if◌then◌else◌}
+use Rattle.pmf_shadow.specs.declared.byte.ByteState.{ByteState}
+use Rattle.pmf_shadow.specs.declared.byte.Stored.{Stored}
+use Rattle.pmf_shadow.specs.declared.line.LineState.{LineState}
+use Rattle.pmf_shadow.specs.declared.line.LineState.TheVariants.{Untouched, Dirty, WrittenBack}
+
+-- ---- changes
+
+-- a byte after a store of it at this place, in this epoch
+abbrev pub after_store : ℕ → ℕ → ByteState → ByteState
+after_store place epoch s = record s { stored = Some (record { last = place; opens = epoch; written_back = None }) }
+
+-- the last store after a write-back in this epoch: the first one counts
+abbrev pub written_back_in : ℕ → Option Stored → Option Stored
+written_back_in epoch None = None
+written_back_in epoch (Some k) = Some (record k { written_back = if is_none k.written_back then Some epoch else k.written_back })
+
+-- a byte after a write-back of its line in this epoch
+abbrev pub after_write_back : ℕ → ByteState → ByteState
+after_write_back epoch s = record s { stored = written_back_in epoch s.stored }
+
+-- a byte after an exclusion or an inclusion that covers it
+abbrev pub after_mark : Bool → ByteState → ByteState
+after_mark out s = record s { excluded = out }
+
+-- a line after a store that meets it
+abbrev pub line_after_store : LineState → LineState
+line_after_store s = Dirty
+
+-- a line after a write-back of it in this epoch
+abbrev pub line_after_write_back : ℕ → LineState → LineState
+line_after_write_back epoch Dirty = WrittenBack epoch
+line_after_write_back epoch s = s
+
+-- ---- what is asked of a byte
+
+-- the last store of a byte that is checked
+abbrev pub checked_store : ByteState → Option Stored
+checked_store s = if s.excluded then None else s.stored
+
+-- whether there is a store, and it passes
+abbrev pub holds_of : (Stored → Bool) → Option Stored → Bool
+holds_of test None = false
+holds_of test (Some k) = test k
+
+-- whether no write-back lies in an epoch before this one
+abbrev pub is_late : ℕ → Option ℕ → Bool
+is_late epoch None = true
+is_late epoch (Some w) = nat_le epoch w
+
+-- whether the store was written back in no epoch before this one
+abbrev pub late_for : ℕ → Stored → Bool
+late_for epoch k = is_late epoch k.written_back
+
+-- the same, of an epoch that may be missing: then it was in time
+abbrev pub late_for_any : Option ℕ → Stored → Bool
+late_for_any None k = false
+late_for_any (Some epoch) k = late_for epoch k
+
+-- whether the store lies in this epoch
+abbrev pub opens_in : ℕ → Stored → Bool
+opens_in epoch k = k.opens == epoch
+
+-- whether place i stands before place j, or at it where ties count
+abbrev pub is_before : Bool → ℕ → ℕ → Bool
+is_before ties i j = nat_lt i j || (ties && i == j)
+
+-- whether the store comes before this place
+abbrev pub stored_by : Bool → ℕ → Stored → Bool
+stored_by ties place k = is_before ties k.last place
+
+-- whether the store comes after one that was first written back then
+abbrev pub comes_after : Option ℕ → Stored → Bool
+comes_after written_back k = is_late k.opens written_back
+
+-- whether the store of a byte has a partner, one on its line of which `first` is the least place, or one
+-- elsewhere of which `elsewhere` is the least epoch
+abbrev pub has_one_by : Bool → ℕ → Option ℕ → Stored → Bool
+has_one_by ties first elsewhere k = is_before ties first k.last || late_for_any elsewhere k
+
+-- whether it is a store
+abbrev pub any_store : Stored → Bool
+any_store k = true
+
+-- the place of the last store, if the byte is checked
+abbrev pub place_of : Option Stored → Option ℕ
+place_of None = None
+place_of (Some k) = Some k.last
+
+-- its epoch
+abbrev pub opening_of : Option Stored → Option ℕ
+opening_of None = None
+opening_of (Some k) = Some k.opens
+
+-- ---- what is asked of a line, after so many fences
+
+-- whether it is clean
+abbrev pub line_clean : ℕ → LineState → Bool
+line_clean fences Untouched = true
+line_clean fences Dirty = false
+line_clean fences (WrittenBack epoch) = nat_lt epoch fences
+
+-- whether it is pending
+abbrev pub line_pending : ℕ → LineState → Bool
+line_pending fences (WrittenBack epoch) = nat_le fences epoch
+line_pending fences s = false
