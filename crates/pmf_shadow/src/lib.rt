@@ -1,0 +1,15 @@
+//! Shadow memory: what is kept of each byte and each cache line while a section is checked.
+//!
+//! A [`RunMap`] is a total function from numbers to states that holds one entry for each run of equal
+//! states, by `specs/Runs`. What it answers about a range is a search of `pmf_event`'s
+//! `specs/Ranges` over the states.
+//!
+//! Not promised here: how much memory a map takes, and that neighbours of equal state are one run.
+#![tactic(auto)]
+
+mod runs;
+
+pub use runs::{Change, Key, RunMap, State, Test};
+
+#[cfg(test)]
+mod tests;
