@@ -8,8 +8,8 @@ use thiserror::Error;
 /// How many bytes a cache line has. A line is named by the address of its first byte.
 pub const LINE_SIZE: u64 = 64;
 
-/// The greatest size of a span, in bytes.
-pub const SPAN_LIMIT: u64 = 65_536;
+/// The greatest size of a span, in bytes: 2^32.
+pub const SPAN_LIMIT: u64 = 1 << 32;
 
 /// Every span ends at or below this address.
 pub const ADDRESS_LIMIT: u64 = 1 << 63;

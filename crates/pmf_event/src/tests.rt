@@ -78,23 +78,25 @@ fn rows_hold_what_was_added_in_order(rt: HostRuntime) -> Result<(), Fail> {
 #[test]
 fn a_span_is_refused_by_its_first_fault(rt: HostRuntime) {
     let end = 1 << 63;
+    let most = 1 << 32;
     for (first, size, want) in [
         (0, 1, None),
         (0x1000, 8, None),
-        (0, 65_536, None),
-        (end - 65_536, 65_536, None),
+        (0, 65_537, None),
+        (0, most, None),
+        (end - most, most, None),
         (end - 1, 1, None),
         (0, 0, Some(SpanFault::ZeroSize)),
         (end, 0, Some(SpanFault::ZeroSize)),
         (end + 1, 0, Some(SpanFault::ZeroSize)),
         (u64::MAX, 0, Some(SpanFault::ZeroSize)),
-        (0, 65_537, Some(SpanFault::TooLarge)),
+        (0, most + 1, Some(SpanFault::TooLarge)),
         (0, u64::MAX, Some(SpanFault::TooLarge)),
-        (end - 1, 65_537, Some(SpanFault::TooLarge)),
-        (u64::MAX, 65_537, Some(SpanFault::TooLarge)),
+        (end - 1, most + 1, Some(SpanFault::TooLarge)),
+        (u64::MAX, most + 1, Some(SpanFault::TooLarge)),
         (end - 1, 2, Some(SpanFault::PastEnd)),
         (end, 1, Some(SpanFault::PastEnd)),
-        (end - 65_535, 65_536, Some(SpanFault::PastEnd)),
+        (end - most + 1, most, Some(SpanFault::PastEnd)),
         (u64::MAX, 1, Some(SpanFault::PastEnd)),
     ] {
         let made = Span::make(first, size);
@@ -104,7 +106,7 @@ fn a_span_is_refused_by_its_first_fault(rt: HostRuntime) {
 
 #[test]
 fn a_span_tells_its_first_byte_and_its_size(rt: HostRuntime) -> Result<(), Fail> {
-    for (first, size) in [(0, 1), (0x1000, 8), ((1 << 63) - 1, 1), (0, 65_536)] {
+    for (first, size) in [(0, 1), (0x1000, 8), ((1 << 63) - 1, 1), (0, 1 << 32)] {
         let span = Span::make(first, size)?;
         assert_eq!(rt; span.first(), first);
         assert_eq!(rt; span.size(), size);

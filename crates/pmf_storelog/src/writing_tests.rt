@@ -80,7 +80,7 @@ fn a_section_that_was_read_is_written_without_what_was_ignored(
 #[test]
 fn what_is_written_reads_as_the_section_alone(rt: HostRuntime) -> Result<(), Fail> {
     let last = Span::make((1 << 63) - 1, 1)?;
-    let most = Span::make(0, 65_536)?;
+    let most = Span::make(0, 1 << 32)?;
     let section = section_of(
         rt.alloc(),
         &[

@@ -113,7 +113,7 @@ total sections=1 pass=0 fail=0 warn=0 empty=0
     for (log, report) in [
         ("PMT.PERSIST;0x1000;0x8", empty),
         ("STORE;0x7fffffffffffffff;0;1", no_rows),
-        ("STORE;0x0;0;65536", no_rows),
+        ("STORE;0x0;0;65537", no_rows),
     ] {
         reports(&rt, rt.alloc(), log, report, 0);
     }
@@ -129,7 +129,7 @@ fn spans_and_faults(rt: HostRuntime) {
         ("FENCE|STORE;0x10", 2, Cause::TooFewFields),
         ("PMT.PERIST;0x0;0x8", 1, Cause::UnknownMarker),
         ("STORE;0x0;0;0", 1, zero),
-        ("STORE;0x0;0;65537", 1, large),
+        ("STORE;0x0;0;4294967297", 1, large),
     ] {
         refuses(&rt, rt.alloc(), log, at, cause);
     }
