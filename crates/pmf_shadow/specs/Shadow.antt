@@ -1,9 +1,13 @@
 -- What a shadow memory stands for: for every byte and every cache line, what is kept is what the
 -- definitions say of the first p events of a list.
-use Rattle.std.specs.Prelude.{◌≡◌, ℕ, ◌*◌, ◌==◌, List, Option, None, Some, if◌then◌else◌}
+use Rattle.std.specs.Prelude.{◌≡◌, ℕ, ◌+◌, ◌*◌, Bool, ◌==◌, nat_lt, List, Option, None, Some, if◌then◌else◌}
 use Rattle.pmf_event.specs.declared.event.Event.{Event}
 use Rattle.pmf_event.specs.declared.span.TheConstants.{LINE_SIZE}
+use Rattle.pmf_event.specs.declared.lines.Lines.{Lines}
+use Rattle.pmf_event.specs.Span.{Extent}
 use Rattle.pmf_event.specs.Line.{line_of_byte}
+use Rattle.pmf_event.specs.Ranges.{first_from, count_from}
+use Rattle.pmf_event.specs.FlushWarnings.{first_line, line_count, lines_from}
 use Rattle.pmf_event.specs.Places.{count}
 use Rattle.pmf_event.specs.Store.{at, stores, stores_line, is_fence, last, last_store, epoch_of}
 use Rattle.pmf_event.specs.WriteBack.{write_back_epoch}
@@ -45,3 +49,12 @@ pub record StandsFor (shadow : Shadow) (es : List Event) (p : ℕ) : Type 0 wher
   pub fences : shadow.fences ≡ count (at is_fence es) p
   pub bytes : (b : ℕ) → state_at shadow.bytes b ≡ byte_at es p b
   pub lines : (n : ℕ) → state_at shadow.lines n ≡ line_at es p (n * LINE_SIZE)
+
+-- the epoch after that of a write-back, once a fence has ended it
+abbrev pub closing : ℕ → Option ℕ → Option ℕ
+closing fences None = None
+closing fences (Some epoch) = if nat_lt epoch fences then Some (epoch + 1) else None
+
+-- of the lines of a span, by their states, those that pass, if one does: the least, and how many
+unfoldable pub lines_by : (ℕ → Bool) → Extent → Option Lines
+lines_by test s = lines_from (first_from test (first_line s) (line_count s)) (count_from test (first_line s) (line_count s))

@@ -83,7 +83,7 @@ has_one_by ties first elsewhere k = is_before ties first k.last || late_for_any 
 abbrev pub any_store : Stored → Bool
 any_store k = true
 
--- the place of the last store, if the byte is checked
+-- the place of a store, if there is one
 abbrev pub place_of : Option Stored → Option ℕ
 place_of None = None
 place_of (Some k) = Some k.last
@@ -92,6 +92,14 @@ place_of (Some k) = Some k.last
 abbrev pub opening_of : Option Stored → Option ℕ
 opening_of None = None
 opening_of (Some k) = Some k.opens
+
+-- the place of the last store, if the byte is checked
+abbrev pub kept_place : ByteState → Option ℕ
+kept_place s = place_of (checked_store s)
+
+-- the epoch of the last store, if the byte is checked
+abbrev pub kept_opening : ByteState → Option ℕ
+kept_opening s = opening_of (checked_store s)
 
 -- ---- what is asked of a line, after so many fences
 

@@ -1,7 +1,8 @@
 //! What the shadow keeps of one byte, what events do to it, and what questions ask of it.
 
 ghost use Rattle.std.specs.Prelude.{◌≡◌, Bool, true, not};
-ghost use Rattle.pmf_shadow.specs.States.{after_mark, after_store, after_write_back, any_store, checked_store, comes_after, has_one_by, holds_of, is_before, is_late, late_for, late_for_any, opening_of, opens_in, place_of, stored_by};
+ghost use Rattle.std.proofs.Common.{rules};
+ghost use Rattle.pmf_shadow.specs.States.{after_mark, after_store, after_write_back, any_store, checked_store, comes_after, has_one_by, holds_of, is_before, is_late, kept_opening, kept_place, late_for, opens_in, stored_by};
 
 use crate::runs::{Change, Key, State, Test};
 
@@ -31,7 +32,9 @@ pub(crate) const UNTOUCHED: ByteState = ByteState {
     excluded: false,
 };
 
-impl State for ByteState {}
+impl State for ByteState {
+    ghost exact = { Prim.search rules };
+}
 
 impl ByteState {
     /// The last store of the byte, if it is checked.
@@ -232,7 +235,7 @@ impl Test<ByteState> for HasOneBy {
 pub(crate) struct Place;
 
 impl Key<ByteState> for Place {
-    ghost key = { λ t s. place_of (checked_store s) };
+    ghost key = { λ t s. kept_place s };
 
     fn key(&self, state: ByteState) -> Option<u32> {
         match state.checked() {
@@ -247,7 +250,7 @@ impl Key<ByteState> for Place {
 pub(crate) struct Opening;
 
 impl Key<ByteState> for Opening {
-    ghost key = { λ t s. opening_of (checked_store s) };
+    ghost key = { λ t s. kept_opening s };
 
     fn key(&self, state: ByteState) -> Option<u32> {
         match state.checked() {

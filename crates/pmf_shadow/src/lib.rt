@@ -7,9 +7,16 @@
 //! Not promised here: how much memory a map takes, and that neighbours of equal state are one run.
 #![tactic(auto)]
 
+mod byte;
+mod line;
+mod pairs;
 mod runs;
+mod shadow;
 
+pub use byte::{ByteState, Stored};
+pub use line::LineState;
 pub use runs::{Change, Key, RunMap, State, Test};
+pub use shadow::Shadow;
 
 #[cfg(test)]
 mod tests;

@@ -1,6 +1,7 @@
 //! What the shadow keeps of one cache line, for the warnings about write-backs.
 
 ghost use Rattle.std.specs.Prelude.{◌≡◌};
+ghost use Rattle.std.proofs.Common.{rules};
 ghost use Rattle.pmf_shadow.specs.States.{line_after_store, line_after_write_back, line_clean, line_pending};
 
 use crate::byte::WrittenBackIn;
@@ -17,7 +18,9 @@ pub enum LineState {
     WrittenBack(u32),
 }
 
-impl State for LineState {}
+impl State for LineState {
+    ghost exact = { Prim.search rules };
+}
 
 /// A store that meets the line.
 #[derive(Clone, Copy, Debug, Drop)]

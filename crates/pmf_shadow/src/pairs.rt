@@ -1,17 +1,17 @@
 //! The least pair of an order assertion, found by a few walks and not by trying pairs.
 
-ghost use Rattle.std.specs.Prelude.{◌≡◌, ℕ, ◌<◌, ◌≤◌, Bool, List, Option, if◌then◌else◌};
+ghost use Rattle.std.specs.Prelude.{◌≡◌, ℕ, ◌%◌, ◌<◌, List};
 ghost use Rattle.pmf_event.specs.declared.event.Event.{Event};
-ghost use Rattle.pmf_event.specs.declared.span.TheConstants.{ADDRESS_LIMIT};
+ghost use Rattle.pmf_event.specs.declared.span.TheConstants.{ADDRESS_LIMIT, LINE_SIZE};
 ghost use Rattle.pmf_event.specs.Ranges.{first_byte};
-ghost use Rattle.pmf_event.specs.Order.{is_unordered, is_certified, least_pair};
+ghost use Rattle.pmf_event.specs.Order.{least_pair};
 ghost use Rattle.pmf_shadow.specs.Runs.{passing, keyed};
-ghost use Rattle.pmf_shadow.specs.Pairs.{by_line, pairs_of, kept, IsLeastElsewhere};
+ghost use Rattle.pmf_shadow.specs.Pairs.{by_epochs, by_line, by_lines, kept, off_line, on_line, pairs_of, lower, upper, IsLeastValue};
 ghost use Rattle.pmf_shadow.specs.Shadow.{StandsFor};
-ghost use Rattle.pmf_shadow.specs.States.{opening_of, checked_store};
+ghost use Rattle.pmf_shadow.specs.States.{kept_opening, kept_place};
 
 use crate::byte::{ByteState, ComesAfter, HasOneBy, IsLate, Opening, OpensIn, Place, StoredBy};
-use crate::runs::Test;
+use crate::runs::{Test, lesser};
 use crate::shadow::{Shadow, end_of};
 use pmf_event::{LINE_SIZE, Profile, Span, line_of};
 
@@ -58,4 +58,66 @@ impl Shadow {
         let after = self.first_by_line(b, line_of(byte), &before, &later)?;
         Some((byte, after))
     }
+
+    // The first byte of the span that passes: on the line the one test, off it the other.
+    fn first_by_line<T: Test<ByteState>, U: Test<ByteState>>(
+        &self,
+        span: &Span,
+        line: u64,
+        on: &T,
+        off: &U,
+    ) -> Option<u64>
+        requires line { line % LINE_SIZE ≡ 0 }
+        requires room { line < ADDRESS_LIMIT }
+        ensures { result ≡ first_byte (by_line line (passing (T.passes on.now) self.now.bytes)
+            (passing (U.passes off.now) self.now.bytes)) span.now }
+    {
+        let (first, end) = (span.first(), end_of(span));
+        let next = line + LINE_SIZE;
+        let before = self.bytes.first_where(first, lower(end, line), off);
+        if before.is_some() {
+            return before;
+        }
+        let within = self.bytes.first_where(upper(first, line), lower(end, next), on);
+        if within.is_some() {
+            return within;
+        }
+        self.bytes.first_where(upper(first, next), end, off)
+    }
+
+    // The least place of a last store among the checked bytes of the span on the line.
+    fn least_place_on(&self, span: &Span, line: u64) -> Option<u32>
+        requires line { line % LINE_SIZE ≡ 0 }
+        requires room { line < ADDRESS_LIMIT }
+        ensures { IsLeastValue (on_line line (keyed kept_place self.now.bytes))
+            span.now.first span.now.size result }
+    {
+        let (first, end) = (upper(span.first(), line), lower(end_of(span), line + LINE_SIZE));
+        self.bytes.least_key(first, end, &Place)
+    }
+
+    // The least epoch of a last store among the checked bytes of the span off the line.
+    fn least_opening_off(&self, span: &Span, line: u64) -> Option<u32>
+        requires line { line % LINE_SIZE ≡ 0 }
+        requires room { line < ADDRESS_LIMIT }
+        ensures { IsLeastValue (off_line line (keyed kept_opening self.now.bytes))
+            span.now.first span.now.size result }
+    {
+        let (first, end) = (span.first(), end_of(span));
+        let before = self.bytes.least_key(first, lower(end, line), &Opening);
+        let after = self.bytes.least_key(upper(first, line + LINE_SIZE), end, &Opening);
+        lesser(before, after)
+    }
+}
+
+fn lower(a: u64, b: u64) -> u64
+    ensures { result ≡ lower a b }
+{
+    if a < b { a } else { b }
+}
+
+fn upper(a: u64, b: u64) -> u64
+    ensures { result ≡ upper a b }
+{
+    if a < b { b } else { a }
 }

@@ -9,6 +9,8 @@ use std::collections::BTreeMap;
 mod asking;
 mod changing;
 
+pub(crate) use self::asking::lesser;
+
 /// A small state that a [`RunMap`] may hold. Values that `==` calls equal are the same.
 pub trait State: Copy + PartialEq {
     ghost exact: { (x y : Self) → Self.eq x y ≡ true → x ≡ y };

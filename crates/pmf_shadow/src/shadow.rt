@@ -11,7 +11,7 @@ ghost use Rattle.pmf_event.specs.Exclusion.{is_included};
 ghost use Rattle.pmf_event.specs.Persist.{is_checked, is_exposed};
 ghost use Rattle.pmf_event.specs.FlushWarnings.{first_line, line_count, is_clean, is_pending, lines_where};
 ghost use Rattle.pmf_shadow.specs.Runs.{passing};
-ghost use Rattle.pmf_shadow.specs.Shadow.{StandsFor};
+ghost use Rattle.pmf_shadow.specs.Shadow.{StandsFor, closing, lines_by};
 
 use crate::byte::{ByteState, IsChecked, IsIncluded, IsLate, Marked, StoredAt, UNTOUCHED, WrittenBackIn};
 use crate::line::{Dirtied, IsClean, IsPending, LineState};

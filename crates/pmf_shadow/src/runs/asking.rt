@@ -65,7 +65,7 @@ impl<S: State> RunMap<S> {
     }
 }
 
-fn lesser(one: Option<u32>, other: Option<u32>) -> Option<u32>
+pub(crate) fn lesser(one: Option<u32>, other: Option<u32>) -> Option<u32>
     ensures { result ≡ lesser one other }
 {
     match (one, other) {

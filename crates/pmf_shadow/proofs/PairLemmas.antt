@@ -1,0 +1,375 @@
+-- The least pair without trying pairs: which bytes of the one span have a partner in the other, said by
+-- three numbers of the other, and which byte is the partner.
+use Rattle.std.proofs.Common.{◌≡◌, ℕ, suc, ◌+◌, ◌-◌, ◌%◌, ◌<◌, ◌≤◌, Bool, true, false, not, ◌&&◌, ◌==◌, nat_lt, nat_le, if◌then◌else◌, refl, sym, ◌∙◌, ap, subst, arith, inl, inr}
+use Rattle.std.specs.Prelude.{◌||◌, ◌⊎◌, Option, Some, None, is_some}
+use Rattle.std.proofs.lemmas.Bool.{cases_lt, cases_eq, leb-true, le-leb, le-ltb, ltb-false}
+use Rattle.std.proofs.lemmas.Bool.Decides.{Decides-eqb}
+use borrow.Author.Tests.{ltb-true}
+use Rattle.pmf_event.specs.Span.{Extent}
+use Rattle.pmf_event.specs.Line.{line_of_byte}
+use Rattle.pmf_event.specs.Ranges.{first_from, first_byte}
+use Rattle.pmf_event.specs.Order.{share_line, has_partner, paired, with_partner, least_pair}
+use Rattle.pmf_event.proofs.PlacesLemmas.{lt-ltb}
+use Rattle.pmf_event.proofs.RangeLemmas.{NonePass, IsFirst, first_from-none, first_from-some, none-passes, first-passes, first_from-same}
+use Rattle.pmf_shadow.specs.declared.byte.Stored.{Stored}
+use Rattle.pmf_shadow.specs.States.{holds_of, is_late, late_for, late_for_any, is_before, stored_by, comes_after, has_one_by, place_of, opening_of}
+use Rattle.pmf_shadow.specs.Pairs.{both_hold, by_epoch, by_place, by_epochs, by_lines, by_line, on_line, off_line, HasValue, IsLeastValue}
+
+-- ---- pairs in general
+
+-- the n numbers from b on have one that passes
+pub record HasOne (test : ℕ → Bool) (b n : ℕ) : Type 0 where
+  pub place : ℕ
+  pub from : b ≤ place
+  pub within : place < b + n
+  pub passes : test place ≡ true
+
+pub first-from-one : (test : ℕ → Bool) (b n : ℕ) → HasOne test b n → is_some (first_from test b n) ≡ true
+first-from-one test b n one = elim (first_from test b n) as (λ o. first_from test b n ≡ o → is_some o ≡ true) [
+  | None ↦ λ none. let bad : false ≡ true = sym (none-passes test b n none one.place one.from one.within) ∙ one.passes in cc
+  | Some k ↦ λ is. refl
+] refl
+
+pub one-from-first : (test : ℕ → Bool) (b n : ℕ) → is_some (first_from test b n) ≡ true → HasOne test b n
+one-from-first test b n some = elim (first_from test b n) as (λ o. first_from test b n ≡ o → is_some o ≡ true → HasOne test b n) [
+  | None ↦ λ none bad. let wrong : false ≡ true = bad in cc
+  | Some k ↦ λ is more. let first = first-passes test b n k is in record { place = k; from = first.from; within = first.within; passes = first.passes }
+] refl some
+
+same-tests : (x y : Bool) → (x ≡ true → y ≡ true) → (y ≡ true → x ≡ true) → x ≡ y
+same-tests true y to from = sym (to refl)
+same-tests false true to from = let bad : false ≡ true = from refl in cc
+same-tests false false to from = refl
+
+module _ (test : ℕ → ℕ → Bool) (a b : Extent) where
+  -- the least pair, from a test that tells which bytes have a partner
+  pub least_pair-by : (has : ℕ → Bool) → ((x : ℕ) → has_partner test b x ≡ has x) →
+      least_pair test a b ≡ with_partner test b (first_byte has a)
+  unfolding least_pair
+  least_pair-by has same = ap (with_partner test b) (first_from-same (has_partner test b) has a.first a.size (λ k low high. same k))
+
+  pub least_pair-none : ((x : ℕ) → has_partner test b x ≡ false) → least_pair test a b ≡ None
+  unfolding least_pair
+  least_pair-none none = ap (with_partner test b) (first_from-none (has_partner test b) a.first a.size (λ k low high. none k))
+
+-- pairs that pass alike
+pub least_pair-same : (s t : ℕ → ℕ → Bool) (a b : Extent) → ((x y : ℕ) → s x y ≡ t x y) → least_pair s a b ≡ least_pair t a b
+unfolding least_pair has_partner
+least_pair-same s t a b same =
+    least_pair-step (first_from-same _ _ a.first a.size (λ x low high. ap (λ (o : Option ℕ). is_some o) (first_from-same (s x) (t x) b.first b.size (λ y low high. same x y))))
+    ∙ partner-same (first_byte (has_partner t b) a)
+  where
+    least_pair-step : first_byte (has_partner s b) a ≡ first_byte (has_partner t b) a → with_partner s b (first_byte (has_partner s b) a) ≡ with_partner s b (first_byte (has_partner t b) a)
+    least_pair-step is = ap (with_partner s b) is
+
+    partner-same : (o : Option ℕ) → with_partner s b o ≡ with_partner t b o
+    partner-same None = refl
+    partner-same (Some x) = ap (paired x) (first_from-same (s x) (t x) b.first b.size (λ y low high. same x y))
+
+partner-from_one : (test : ℕ → ℕ → Bool) (b : Extent) (x : ℕ) → HasOne (test x) b.first b.size → has_partner test b x ≡ true
+unfolding has_partner
+partner-from_one test b x one = first-from-one (test x) b.first b.size one
+
+one-from_partner : (test : ℕ → ℕ → Bool) (b : Extent) (x : ℕ) → has_partner test b x ≡ true → HasOne (test x) b.first b.size
+unfolding has_partner
+one-from_partner test b x some = one-from-first (test x) b.first b.size some
+
+-- ---- what is kept of two bytes
+
+-- a byte with what is kept of it
+record Kept (kept : ℕ → Option Stored) (x : ℕ) : Type 0 where
+  stored : Stored
+  is : kept x ≡ Some stored
+
+kept-from_holds : (kept : ℕ → Option Stored) (test : Stored → Bool) (x : ℕ) (o : Option Stored) → kept x ≡ o → holds_of test o ≡ true → Kept kept x
+kept-from_holds kept test x None is holds = let bad : false ≡ true = holds in cc
+kept-from_holds kept test x (Some k) is holds = record { stored = k; is = is }
+
+-- two bytes with what is kept of them, which passes
+record Both (kept : ℕ → Option Stored) (test : Stored → Stored → Bool) (x y : ℕ) : Type 0 where
+  first : Stored
+  second : Stored
+  is_first : kept x ≡ Some first
+  is_second : kept y ≡ Some second
+  holds : test first second ≡ true
+
+both-from_holds : (kept : ℕ → Option Stored) (test : Stored → Stored → Bool) (x y : ℕ) (u v : Option Stored) → kept x ≡ u → kept y ≡ v → both_hold test u v ≡ true → Both kept test x y
+both-from_holds kept test x y (Some k) (Some m) one other holds = record { first = k; second = m; is_first = one; is_second = other; holds = holds }
+both-from_holds kept test x y (Some k) None one other holds = let bad : false ≡ true = holds in cc
+both-from_holds kept test x y None v one other holds = let bad : false ≡ true = holds in cc
+
+both_hold-is : (kept : ℕ → Option Stored) (test : Stored → Stored → Bool) (x y : ℕ) (k m : Stored) → kept x ≡ Some k → kept y ≡ Some m → both_hold test (kept x) (kept y) ≡ test k m
+both_hold-is kept test x y k m one other = ap (λ u. both_hold test u (kept y)) one ∙ ap (both_hold test (Some k)) other
+
+holds_of-is : (kept : ℕ → Option Stored) (test : Stored → Bool) (x : ℕ) (k : Stored) → kept x ≡ Some k → holds_of test (kept x) ≡ test k
+holds_of-is kept test x k is = ap (holds_of test) is
+
+-- a second byte's test, once the first is known
+second-is : (test : Stored → Stored → Bool) (k : Stored) (u v : Option Stored) → u ≡ Some k → both_hold test u v ≡ holds_of (test k) v
+second-is test k u None is = ap (λ w. both_hold test w None) is
+second-is test k u (Some m) is = ap (λ w. both_hold test w (Some m)) is
+
+late-monotone : (low high : ℕ) (w : Option ℕ) → low ≤ high → is_late high w ≡ true → is_late low w ≡ true
+late-monotone low high None below late = refl
+late-monotone low high (Some w) below late = let at_most = leb-true high w late in le-leb low w (omega arith)
+
+before-monotone : (ties : Bool) (low i j : ℕ) → low ≤ i → is_before ties i j ≡ true → is_before ties low j ≡ true
+before-monotone ties low i j below before = elim (cases_lt low j) [
+  | inl less ↦ ap (λ v. v || (ties && low == j)) (lt-ltb low j less)
+  | inr above ↦ elim (nat_lt i j) as (λ v. nat_lt i j ≡ v → (v || (ties && i == j)) ≡ true → is_before ties low j ≡ true) [
+    | true ↦ λ is more. let earlier = ltb-true i j is in absurd (omega arith)
+    | false ↦ λ is more. elim ties as (λ t. (false || (t && i == j)) ≡ true → is_before t low j ≡ true) [
+      | true ↦ λ tie. let same : i ≡ j = (Decides-eqb i j).0 tie in let level : low ≡ j = omega arith in
+          ap (λ v. nat_lt low j || v) ((Decides-eqb low j).1 level) ∙ or-true (nat_lt low j)
+      | false ↦ λ tie. let bad : false ≡ true = tie in cc
+    ] more
+  ] refl before
+]
+  where
+    or-true : (v : Bool) → (v || true) ≡ true
+    or-true true = refl
+    or-true false = refl
+
+or-cases : (x y : Bool) → (x || y) ≡ true → (x ≡ true) ⊎ (y ≡ true)
+or-cases true y is = inl refl
+or-cases false y is = inr is
+
+or-first : (x y : Bool) → x ≡ true → (x || y) ≡ true
+or-first x y is = ap (λ v. v || y) is
+
+or-second : (x y : Bool) → y ≡ true → (x || y) ≡ true
+or-second true y is = refl
+or-second false y is = is
+
+-- what has an opening or a place is kept
+kept-from_opening : (kept : ℕ → Option Stored) (x v : ℕ) (o : Option Stored) → kept x ≡ o → opening_of o ≡ Some v → (k : Stored) × (kept x ≡ Some k) × (k.opens ≡ v)
+kept-from_opening kept x v None is has = let bad : None ≡ Some v = has in cc
+kept-from_opening kept x v (Some k) is has = (k, is, (let same : Some k.opens ≡ Some v = has in cc))
+
+kept-from_place : (kept : ℕ → Option Stored) (x v : ℕ) (o : Option Stored) → kept x ≡ o → place_of o ≡ Some v → (k : Stored) × (kept x ≡ Some k) × (k.last ≡ v)
+kept-from_place kept x v None is has = let bad : None ≡ Some v = has in cc
+kept-from_place kept x v (Some k) is has = (k, is, (let same : Some k.last ≡ Some v = has in cc))
+
+-- the value of what is kept
+abbrev opening_at : (ℕ → Option Stored) → ℕ → Option ℕ
+opening_at kept x = opening_of (kept x)
+
+abbrev place_at : (ℕ → Option Stored) → ℕ → Option ℕ
+place_at kept x = place_of (kept x)
+
+opening-is : (kept : ℕ → Option Stored) (x : ℕ) (k : Stored) → kept x ≡ Some k → opening_of (kept x) ≡ Some k.opens
+opening-is kept x k is = ap opening_of is
+
+place-is : (kept : ℕ → Option Stored) (x : ℕ) (k : Stored) → kept x ≡ Some k → place_of (kept x) ≡ Some k.last
+place-is kept x k is = ap place_of is
+
+-- ---- by epochs
+
+module _ (kept : ℕ → Option Stored) (b : Extent) where
+  -- where b has no checked byte there is no pair
+  pub no_pairs-by_epochs : IsLeastValue (opening_at kept) b.first b.size None → (x : ℕ) → has_partner (by_epochs kept) b x ≡ false
+  unfolding by_epochs
+  no_pairs-by_epochs least x = same-tests _ _
+      (λ some.
+      let one = one-from_partner (by_epochs kept) b x some in
+      let both = both-from_holds kept by_epoch x one.place (kept x) (kept one.place) refl refl one.passes in
+      let bad : None ≡ Some both.second.opens = sym (least.none refl one.place one.from one.within) ∙ opening-is kept one.place both.second both.is_second in cc)
+      (λ bad. let wrong : false ≡ true = bad in cc)
+
+  pub has_partner-by_epochs : (m : ℕ) → IsLeastValue (opening_at kept) b.first b.size (Some m) → (x : ℕ) → has_partner (by_epochs kept) b x ≡ holds_of (late_for m) (kept x)
+  unfolding by_epochs
+  has_partner-by_epochs m least x = same-tests _ _
+      (λ some.
+      let one = one-from_partner (by_epochs kept) b x some in
+      let both = both-from_holds kept by_epoch x one.place (kept x) (kept one.place) refl refl one.passes in
+      let low = least.bound m refl one.place both.second.opens one.from one.within (opening-is kept one.place both.second both.is_second) in
+      holds_of-is kept (late_for m) x both.first both.is_first ∙ late-monotone m both.second.opens both.first.written_back low both.holds)
+      (λ late.
+      let own = kept-from_holds kept (late_for m) x (kept x) refl late in
+      let has = least.has m refl in
+      let other = kept-from_opening kept has.place m (kept has.place) refl has.is in
+      let is_late_here : is_late other.0.opens own.stored.written_back ≡ true =
+      ap (λ o. is_late o own.stored.written_back) other.2 ∙ sym (holds_of-is kept (late_for m) x own.stored own.is) ∙ late in
+      partner-from_one (by_epochs kept) b x (record {
+        place = has.place; from = has.from; within = has.within;
+        passes = both_hold-is kept by_epoch x has.place own.stored other.0 own.is other.1 ∙ is_late_here;
+      }))
+
+  pub partner-by_epochs : (x : ℕ) (k : Stored) → kept x ≡ Some k → (y : ℕ) → by_epochs kept x y ≡ holds_of (comes_after k.written_back) (kept y)
+  unfolding by_epochs
+  partner-by_epochs x k is y = second-is by_epoch k (kept x) (kept y) is
+
+-- ---- by lines
+
+eqb-sym : (x y : ℕ) → (x == y) ≡ (y == x)
+eqb-sym x y = same-tests (x == y) (y == x) (λ is. (Decides-eqb y x).1 (sym ((Decides-eqb x y).0 is))) (λ is. (Decides-eqb x y).1 (sym ((Decides-eqb y x).0 is)))
+
+eqb-true : (x y : ℕ) → x ≡ y → (x == y) ≡ true
+eqb-true x y same = (Decides-eqb x y).1 same
+
+eqb-false : (x y : ℕ) → (x ≡ y → ⊥) → (x == y) ≡ false
+eqb-false x y other = elim (x == y) as (λ v. (x == y) ≡ v → v ≡ false) [ true ↦ λ is. absurd (other ((Decides-eqb x y).0 is)) | false ↦ λ is. refl ] refl
+
+module _ (line : ℕ) where
+  by_line-on : (on off : ℕ → Bool) (x : ℕ) → line_of_byte x ≡ line → by_line line on off x ≡ on x
+  unfolding by_line
+  by_line-on on off x same = ap (λ v. if v then on x else off x) (eqb-true (line_of_byte x) line same)
+
+  by_line-off : (on off : ℕ → Bool) (x : ℕ) → (line_of_byte x ≡ line → ⊥) → by_line line on off x ≡ off x
+  unfolding by_line
+  by_line-off on off x other = ap (λ v. if v then on x else off x) (eqb-false (line_of_byte x) line other)
+
+  on_line-on : (value : ℕ → Option ℕ) (x : ℕ) → line_of_byte x ≡ line → on_line line value x ≡ value x
+  unfolding on_line
+  on_line-on value x same = ap (λ v. if v then value x else None) (eqb-true (line_of_byte x) line same)
+
+  off_line-off : (value : ℕ → Option ℕ) (x : ℕ) → (line_of_byte x ≡ line → ⊥) → off_line line value x ≡ value x
+  unfolding off_line
+  off_line-off value x other = ap (λ v. if v then None else value x) (eqb-false (line_of_byte x) line other)
+
+  line-from_on : (value : ℕ → Option ℕ) (x v : ℕ) → on_line line value x ≡ Some v → (line_of_byte x ≡ line) × (value x ≡ Some v)
+  unfolding on_line
+  line-from_on value x v is = elim (cases_eq (line_of_byte x) line) [
+    | inl same ↦ (same, sym (ap (λ t. if t then value x else None) (eqb-true (line_of_byte x) line same)) ∙ is)
+    | inr other ↦ let bad : None ≡ Some v = sym (ap (λ t. if t then value x else None) (eqb-false (line_of_byte x) line other)) ∙ is in cc
+  ]
+
+  line-from_off : (value : ℕ → Option ℕ) (x v : ℕ) → off_line line value x ≡ Some v → (line_of_byte x ≡ line → ⊥) × (value x ≡ Some v)
+  unfolding off_line
+  line-from_off value x v is = elim (cases_eq (line_of_byte x) line) [
+    | inl same ↦ let bad : None ≡ Some v = sym (ap (λ t. if t then None else value x) (eqb-true (line_of_byte x) line same)) ∙ is in cc
+    | inr other ↦ (other, sym (ap (λ t. if t then None else value x) (eqb-false (line_of_byte x) line other)) ∙ is)
+  ]
+
+module _ (ties : Bool) (kept : ℕ → Option Stored) where
+  by_lines-on : (x y : ℕ) → line_of_byte x ≡ line_of_byte y → by_lines ties kept x y ≡ both_hold (by_place ties) (kept x) (kept y)
+  unfolding by_lines
+  by_lines-on x y same = ap (λ v. if v then both_hold (by_place ties) (kept x) (kept y) else both_hold by_epoch (kept x) (kept y)) (eqb-true (line_of_byte x) (line_of_byte y) same)
+
+  by_lines-off : (x y : ℕ) → (line_of_byte x ≡ line_of_byte y → ⊥) → by_lines ties kept x y ≡ both_hold by_epoch (kept x) (kept y)
+  unfolding by_lines
+  by_lines-off x y other = ap (λ v. if v then both_hold (by_place ties) (kept x) (kept y) else both_hold by_epoch (kept x) (kept y)) (eqb-false (line_of_byte x) (line_of_byte y) other)
+
+  both-on : (x y : ℕ) → line_of_byte x ≡ line_of_byte y → by_lines ties kept x y ≡ true → Both kept (by_place ties) x y
+  both-on x y same is = both-from_holds kept (by_place ties) x y (kept x) (kept y) refl refl (sym (by_lines-on x y same) ∙ is)
+
+  both-off : (x y : ℕ) → (line_of_byte x ≡ line_of_byte y → ⊥) → by_lines ties kept x y ≡ true → Both kept by_epoch x y
+  both-off x y other is = both-from_holds kept by_epoch x y (kept x) (kept y) refl refl (sym (by_lines-off x y other) ∙ is)
+
+  kept-from_pair : (x y : ℕ) → by_lines ties kept x y ≡ true → (k : Stored) × (kept y ≡ Some k)
+  kept-from_pair x y is = elim (cases_eq (line_of_byte x) (line_of_byte y)) [
+    | inl same ↦ let both = both-on x y same is in (both.second, both.is_second)
+    | inr other ↦ let both = both-off x y other is in (both.second, both.is_second)
+  ]
+
+  module _ (b : Extent) where
+    pub no_pairs-by_lines : IsLeastValue (opening_at kept) b.first b.size None → (x : ℕ) → has_partner (by_lines ties kept) b x ≡ false
+    no_pairs-by_lines least x = same-tests _ _
+        (λ some.
+        let one = one-from_partner (by_lines ties kept) b x some in
+        let own = kept-from_pair x one.place one.passes in
+        let bad : None ≡ Some own.0.opens = sym (least.none refl one.place one.from one.within) ∙ opening-is kept one.place own.0 own.1 in cc)
+        (λ bad. let wrong : false ≡ true = bad in cc)
+
+    -- a byte that was stored no earlier than another is unordered with it
+    module _ (falls : (x y : ℕ) (k m : Stored) → kept x ≡ Some k → kept y ≡ Some m → is_before ties m.last k.last ≡ true → is_late m.opens k.written_back ≡ true)
+        (m : ℕ) (least : IsLeastValue (opening_at kept) b.first b.size (Some m))
+        (early : ℕ) (from : b.first ≤ early) (within : early < b.first + b.size) (opens : opening_of (kept early) ≡ Some m) where
+      -- off the line of the earliest epoch, that epoch decides
+      off-has_partner : (x : ℕ) → (line_of_byte x ≡ line_of_byte early → ⊥) → has_partner (by_lines ties kept) b x ≡ holds_of (late_for m) (kept x)
+      off-has_partner x other = same-tests _ _
+          (λ some.
+          let one = one-from_partner (by_lines ties kept) b x some in
+          elim (cases_eq (line_of_byte x) (line_of_byte one.place)) [
+            | inl same ↦
+                let both = both-on x one.place same one.passes in
+                let low = least.bound m refl one.place both.second.opens one.from one.within (opening-is kept one.place both.second both.is_second) in
+                let late = falls x one.place both.first both.second both.is_first both.is_second both.holds in
+                holds_of-is kept (late_for m) x both.first both.is_first ∙ late-monotone m both.second.opens both.first.written_back low late
+            | inr apart ↦
+                let both = both-off x one.place apart one.passes in
+                let low = least.bound m refl one.place both.second.opens one.from one.within (opening-is kept one.place both.second both.is_second) in
+                holds_of-is kept (late_for m) x both.first both.is_first ∙ late-monotone m both.second.opens both.first.written_back low both.holds
+          ])
+          (λ late.
+          let own = kept-from_holds kept (late_for m) x (kept x) refl late in
+          let there = kept-from_opening kept early m (kept early) refl opens in
+          let is_late_here : is_late there.0.opens own.stored.written_back ≡ true =
+          ap (λ o. is_late o own.stored.written_back) there.2 ∙ sym (holds_of-is kept (late_for m) x own.stored own.is) ∙ late in
+          partner-from_one (by_lines ties kept) b x (record {
+            place = early; from = from; within = within;
+            passes = by_lines-off x early other ∙ both_hold-is kept by_epoch x early own.stored there.0 own.is there.1 ∙ is_late_here;
+          }))
+
+      -- on that line, the earliest store of the line, or the earliest epoch elsewhere
+      module _ (first : ℕ) (least_on : IsLeastValue (on_line (line_of_byte early) (place_at kept)) b.first b.size (Some first))
+          (elsewhere : Option ℕ) (least_off : IsLeastValue (off_line (line_of_byte early) (opening_at kept)) b.first b.size elsewhere) where
+        late-elsewhere : (o : Option ℕ) → elsewhere ≡ o → (y : ℕ) (k n : Stored) → b.first ≤ y → y < b.first + b.size → (line_of_byte y ≡ line_of_byte early → ⊥) →
+            kept y ≡ Some n → is_late n.opens k.written_back ≡ true → late_for_any o k ≡ true
+        late-elsewhere None is y k n low high apart kept_y late =
+            let bad : None ≡ Some n.opens = sym (least_off.none is y low high) ∙ off_line-off (line_of_byte early) (opening_at kept) y apart ∙ opening-is kept y n kept_y in cc
+        late-elsewhere (Some o) is y k n low high apart kept_y late =
+            let below = least_off.bound o is y n.opens low high (off_line-off (line_of_byte early) (opening_at kept) y apart ∙ opening-is kept y n kept_y) in
+            late-monotone o n.opens k.written_back below late
+
+        one-elsewhere : (o : Option ℕ) → elsewhere ≡ o → (x : ℕ) (k : Stored) → line_of_byte x ≡ line_of_byte early → kept x ≡ Some k → late_for_any o k ≡ true →
+            HasOne (by_lines ties kept x) b.first b.size
+        one-elsewhere None is x k same own late = let bad : false ≡ true = late in cc
+        one-elsewhere (Some o) is x k same own late =
+            let has = least_off.has o is in
+            let there = line-from_off (line_of_byte early) (opening_at kept) has.place o has.is in
+            let other = kept-from_opening kept has.place o (kept has.place) refl there.1 in
+            record {
+              place = has.place; from = has.from; within = has.within;
+              passes = by_lines-off x has.place (λ shared. there.0 (sym shared ∙ same))
+                  ∙ both_hold-is kept by_epoch x has.place k other.0 own other.1
+                  ∙ ap (λ e. is_late e k.written_back) other.2 ∙ late;
+            }
+
+        on-has_partner : (x : ℕ) → line_of_byte x ≡ line_of_byte early → has_partner (by_lines ties kept) b x ≡ holds_of (has_one_by ties first elsewhere) (kept x)
+        on-has_partner x same = same-tests _ _
+            (λ some.
+            let one = one-from_partner (by_lines ties kept) b x some in
+            elim (cases_eq (line_of_byte x) (line_of_byte one.place)) [
+              | inl shared ↦
+                  let both = both-on x one.place shared one.passes in
+                  let low = least_on.bound first refl one.place both.second.last one.from one.within
+                  (on_line-on (line_of_byte early) (place_at kept) one.place (sym shared ∙ same) ∙ place-is kept one.place both.second both.is_second) in
+                  holds_of-is kept (has_one_by ties first elsewhere) x both.first both.is_first
+                  ∙ or-first (is_before ties first both.first.last) (late_for_any elsewhere both.first) (before-monotone ties first both.second.last both.first.last low both.holds)
+              | inr apart ↦
+                  let both = both-off x one.place apart one.passes in
+                  holds_of-is kept (has_one_by ties first elsewhere) x both.first both.is_first
+                  ∙ or-second (is_before ties first both.first.last) (late_for_any elsewhere both.first)
+                  (late-elsewhere elsewhere refl one.place both.first both.second one.from one.within (λ there. apart (same ∙ sym there)) both.is_second both.holds)
+            ])
+            (λ holds.
+            let own = kept-from_holds kept (has_one_by ties first elsewhere) x (kept x) refl holds in
+            let either = or-cases (is_before ties first own.stored.last) (late_for_any elsewhere own.stored) (sym (holds_of-is kept (has_one_by ties first elsewhere) x own.stored own.is) ∙ holds) in
+            partner-from_one (by_lines ties kept) b x (elim either [
+              | inl before ↦
+                  let has = least_on.has first refl in
+                  let there = line-from_on (line_of_byte early) (place_at kept) has.place first has.is in
+                  let other = kept-from_place kept has.place first (kept has.place) refl there.1 in
+                  record {
+                    place = has.place; from = has.from; within = has.within;
+                    passes = by_lines-on x has.place (same ∙ sym there.0)
+                        ∙ both_hold-is kept (by_place ties) x has.place own.stored other.0 own.is other.1
+                        ∙ ap (λ i. is_before ties i own.stored.last) other.2 ∙ before;
+                  }
+              | inr late ↦ one-elsewhere elsewhere refl x own.stored same own.is late
+            ]))
+
+        pub has_partner-by_lines : (on off : ℕ → Bool) → ((x : ℕ) → on x ≡ holds_of (has_one_by ties first elsewhere) (kept x)) →
+            ((x : ℕ) → off x ≡ holds_of (late_for m) (kept x)) → (x : ℕ) → has_partner (by_lines ties kept) b x ≡ by_line (line_of_byte early) on off x
+        has_partner-by_lines on off is_on is_off x = elim (cases_eq (line_of_byte x) (line_of_byte early)) [
+          | inl same ↦ on-has_partner x same ∙ sym (is_on x) ∙ sym (by_line-on (line_of_byte early) on off x same)
+          | inr other ↦ off-has_partner x other ∙ sym (is_off x) ∙ sym (by_line-off (line_of_byte early) on off x other)
+        ]
+
+  pub partner-by_lines : (on off : ℕ → Bool) (x : ℕ) (k : Stored) → kept x ≡ Some k → ((y : ℕ) → on y ≡ holds_of (stored_by ties k.last) (kept y)) →
+      ((y : ℕ) → off y ≡ holds_of (comes_after k.written_back) (kept y)) → (y : ℕ) → by_lines ties kept x y ≡ by_line (line_of_byte x) on off y
+  partner-by_lines on off x k own is_on is_off y = elim (cases_eq (line_of_byte x) (line_of_byte y)) [
+    | inl same ↦ by_lines-on x y same ∙ second-is (by_place ties) k (kept x) (kept y) own ∙ sym (is_on y) ∙ sym (by_line-on (line_of_byte x) on off y (sym same))
+    | inr other ↦ by_lines-off x y other ∙ second-is by_epoch k (kept x) (kept y) own ∙ sym (is_off y) ∙ sym (by_line-off (line_of_byte x) on off y (λ same. other (sym same)))
+  ]
