@@ -6,6 +6,7 @@ use Rattle.std.specs.declared.cmp.Ordering.TheVariants.{Less, Equal, Greater}
 use Rattle.std.specs.declared.ops.Bound.TheVariants.{Included, Excluded, Unbounded}
 use Rattle.std.specs.BTreeMap.{BTreeMap, get, is_at, Updates}
 use Rattle.std.specs.BTreeMap.Range.{IsRangeOf}
+use Rattle.std.specs.Map.{lookup}
 use Rattle.std.proofs.lemmas.Bool.{cases_lt, cases_eq, le-leb, lt-ltb, le-ltb, lt-leb, ne_eqb, eq-eqb, false≢true}
 use Rattle.pmf_shadow.specs.declared.runs.RunMap.{RunMap}
 use Rattle.pmf_shadow.specs.Runs.{state_from, state_at, state_before, HasStart, SameStates, is_between, ChangesBetween, PutsState, NoStart, IsNextRun}
@@ -24,6 +25,24 @@ pub cmp-greater : (x y : ℕ) → y < x → nat_cmp x y ≡ Greater
 cmp-greater x y above =
     ap (λ v. if v then Less else (if nat_eq x y then Equal else Greater)) (le-ltb x y (omega arith))
     ∙ ap (λ v. if v then Equal else Greater) (ne_eqb x y (λ same. omega arith))
+
+-- ---- whether a number lies between two
+
+between-yes : (first end b : ℕ) → first ≤ b → b < end → is_between first end b ≡ true
+unfolding is_between
+between-yes first end b from within = ap (λ v. v && nat_lt b end) (le-leb first b from) ∙ lt-ltb b end within
+
+between-below : (first end b : ℕ) → b < first → is_between first end b ≡ false
+unfolding is_between
+between-below first end b below = ap (λ v. v && nat_lt b end) (lt-leb first b below)
+
+and-false : (x : Bool) → (x && false) ≡ false
+and-false true = refl
+and-false false = refl
+
+between-above : (first end b : ℕ) → end ≤ b → is_between first end b ≡ false
+unfolding is_between
+between-above first end b above = ap (λ v. nat_le first b && v) (le-ltb b end above) ∙ and-false (nat_le first b)
 
 -- ---- what a change at one key says of the others
 
@@ -60,6 +79,13 @@ module _ {S : Type 0} where
   before-suc : (r : RunMap S) (b : ℕ) → state_before r (suc b) ≡ state_at r b
   unfolding state_before
   before-suc r b = refl
+
+  some-is : (o : Option S) (d : S) → IsSome o → o ≡ Some (unwrap_or o d)
+  some-is None d has = absurd (false≢true has)
+  some-is (Some v) d has = refl
+
+  pub start-is : (r : RunMap S) (b : ℕ) → HasStart r b → get nat_cmp r.starts b ≡ Some (state_at r b)
+  start-is r b has = some-is (get nat_cmp r.starts b) (state_before r b) has ∙ ap (λ s. Some s) (sym (state-is r b))
 
   -- ---- two maps with the same starts up to a number, or from one on
 
@@ -148,3 +174,110 @@ module _ {S : Type 0} where
 
   pub before-at_none : (r : RunMap S) (p : ℕ) (es : List (ℕ × S)) → IsRangeOf nat_cmp Unbounded (Excluded p) r.starts es → es ≡ [] → state_before r p ≡ r.gap
   before-at_none r p es range is = before-in_gap r p (λ q low high. range.5 is q (tt, cmp-less q p high))
+
+  -- ---- one start takes a state
+
+  pub same-unchanged : (old new : RunMap S) → new.gap ≡ old.gap → new.starts.entries ≡ old.starts.entries → SameStates old new
+  same-unchanged old new gap entries = λ b. state-same old new b gap (λ q upto. ap (λ es. lookup (is_at (nat_cmp q)) es) entries)
+
+  pub puts-updated : (old new : RunMap S) (start : ℕ) (v : S) → new.gap ≡ old.gap → Updates nat_cmp old.starts new.starts start (Some v) → PutsState start v old new
+  puts-updated old new start v gap u = record {
+    gap = gap;
+    here = state-at_start new start v (get-updated old.starts new.starts start (Some v) u);
+    others = get-others old.starts new.starts start (Some v) u;
+  }
+
+  -- the start is taken out where the state before it is the new one
+  pub puts-joined : (old new : RunMap S) (start : ℕ) (v : S) → new.gap ≡ old.gap → Updates nat_cmp old.starts new.starts start None → v ≡ state_before old start → PutsState start v old new
+  puts-joined old new start v gap u before =
+      let others = get-others old.starts new.starts start None u in
+      record {
+        gap = gap;
+        here = state-no_start new start (get-updated old.starts new.starts start None u)
+          ∙ before-same old new start gap (λ q below. others q (λ same. omega arith)) ∙ sym before;
+        others = others;
+      }
+
+  pub puts-kept : (old new : RunMap S) (start : ℕ) (v w : S) → new ≡ old → get nat_cmp old.starts start ≡ Some w → v ≡ w → PutsState start v old new
+  puts-kept old new start v w same is value = record {
+    gap = ap (λ r. r.gap) same;
+    here = ap (λ r. state_at r start) same ∙ state-at_start old start w is ∙ sym value;
+    others = λ q other. ap (λ r. get nat_cmp r.starts q) same;
+  }
+
+  pub puts-below : (old new : RunMap S) (start b : ℕ) (v : S) → PutsState start v old new → b < start → state_at new b ≡ state_at old b
+  puts-below old new start b v puts below = state-same old new b puts.gap (λ q upto. puts.others q (λ same. omega arith))
+
+  pub puts-above : (old new : RunMap S) (start lo b : ℕ) (v : S) → PutsState start v old new → start ≤ lo → lo ≤ b → state_at new lo ≡ state_at old lo → state_at new b ≡ state_at old b
+  puts-above old new start lo b v puts after from here = state-same_from old new lo b from here (λ q above. puts.others q (λ same. omega arith))
+
+  -- a start that takes the state which holds there changes no state
+  pub puts-same : (old new : RunMap S) (start : ℕ) (v : S) → PutsState start v old new → v ≡ state_at old start → SameStates old new
+  puts-same old new start v puts value = λ b. elim (cases_lt b start) [
+    | inl below ↦ puts-below old new start b v puts below
+    | inr above ↦ puts-above old new start start b v puts (omega arith) above (puts.here ∙ value)
+  ]
+
+  -- ---- the run of a start takes a state
+
+  pub start-kept : (old new : RunMap S) (start q : ℕ) (v w : S) → PutsState start v old new → start < q → get nat_cmp old.starts q ≡ Some w → get nat_cmp new.starts q ≡ Some w
+  start-kept old new start q v w puts after is = puts.others q (λ same. omega arith) ∙ is
+
+  pub has_start-kept : (old new : RunMap S) (start q : ℕ) (v : S) → PutsState start v old new → start < q → HasStart old q → HasStart new q
+  has_start-kept old new start q v puts after has = ap is_some (puts.others q (λ same. omega arith)) ∙ has
+
+  pub puts-run : (old new : RunMap S) (start next b : ℕ) (v : S) → PutsState start v old new → NoStart (start + 1) next old → start ≤ b → b < next → state_at new b ≡ v
+  puts-run old new start next b v puts none from within =
+      state-in_run new start b from (λ q low high. puts.others q (λ same. omega arith) ∙ none q low (omega arith)) ∙ puts.here
+
+  pub puts-before_next : (old new : RunMap S) (start next : ℕ) (v : S) → PutsState start v old new → NoStart (start + 1) next old → start < next → state_before new next ≡ v
+  puts-before_next old new start next v puts none after =
+      before-in_run new start next after (λ q low high. puts.others q (λ same. omega arith) ∙ none q low high) ∙ puts.here
+
+  module _ (change : S → S) where
+    changed : Bool → S → S
+    changed t s = if t then change s else s
+
+    pub changes-none : (first : ℕ) (old : RunMap S) → ChangesBetween first first change old old
+    unfolding changed
+    changes-none first old = record {
+      states = λ b. elim (cases_lt b first) [
+        | inl below ↦ sym (ap (λ t. changed t (state_at old b)) (between-below first first b below))
+        | inr above ↦ sym (ap (λ t. changed t (state_at old b)) (between-above first first b above))
+      ];
+    }
+
+    -- the run of one more start has its new state
+    pub changes-run : (first start next : ℕ) (s : S) (old mid new : RunMap S) → first ≤ start → start < next → NoStart (start + 1) next mid →
+        (next_state : S) → get nat_cmp mid.starts next ≡ Some next_state → get nat_cmp mid.starts start ≡ Some s →
+        (v : S) → v ≡ change s → PutsState start v mid new → ChangesBetween first start change old mid → ChangesBetween first next change old new
+    unfolding changed
+    changes-run first start next s old mid new from after none next_state next_is is v value puts so_far = record {
+      states = λ b. elim (cases_lt b start) [
+        | inl below ↦ puts-below mid new start b v puts below ∙ so_far.states b
+            ∙ ap (λ t. changed t (state_at old b)) (elim (cases_lt b first) [
+              | inl early ↦ between-below first start b early ∙ sym (between-below first next b early)
+              | inr late ↦ between-yes first start b late below ∙ sym (between-yes first next b late (omega arith))
+            ])
+        | inr above ↦ elim (cases_lt b next) [
+          | inl within ↦
+              let was : state_at mid b ≡ s = state-in_run mid start b above (λ q low high. none q low (omega arith)) ∙ state-at_start mid start s is in
+              let before : state_at mid b ≡ state_at old b = so_far.states b ∙ ap (λ t. changed t (state_at old b)) (between-above first start b above) in
+              puts-run mid new start next b v puts none above within
+              ∙ value ∙ ap change (sym was ∙ before)
+              ∙ sym (ap (λ t. changed t (state_at old b)) (between-yes first next b (omega arith) within))
+          | inr beyond ↦
+              let there : state_at new next ≡ state_at mid next =
+              state-at_start new next next_state (start-kept mid new start next v next_state puts after next_is) ∙ sym (state-at_start mid next next_state next_is) in
+              puts-above mid new start next b v puts (omega arith) beyond there ∙ so_far.states b
+              ∙ ap (λ t. changed t (state_at old b)) (between-above first start b above ∙ sym (between-above first next b beyond))
+        ]
+      ];
+    }
+
+    pub changes-same : (first end : ℕ) (old mid new : RunMap S) → ChangesBetween first end change old mid → SameStates mid new → ChangesBetween first end change old new
+    changes-same first end old mid new changes same = record { states = λ b. same b ∙ changes.states b }
+
+    pub same-changes : (first end : ℕ) (old mid new : RunMap S) → SameStates old mid → ChangesBetween first end change mid new → ChangesBetween first end change old new
+    unfolding changed
+    same-changes first end old mid new same changes = record { states = λ b. changes.states b ∙ ap (changed (is_between first end b)) (same b) }
