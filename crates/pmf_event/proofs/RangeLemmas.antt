@@ -1,8 +1,8 @@
 -- Laws of the searches over a range of numbers.
-use Rattle.std.proofs.Common.{◌≡◌, ℕ, zero, suc, ◌+◌, ◌<◌, ◌≤◌, Bool, true, false, if◌then◌else◌, refl, sym, ◌∙◌, ap, arith, inl, inr}
-use Rattle.std.specs.Prelude.{Some, None}
-use Rattle.std.proofs.lemmas.Bool.{cases_eq}
-use Rattle.pmf_event.specs.Ranges.{first_from, count_from}
+use Rattle.std.proofs.Common.{◌≡◌, ℕ, zero, suc, ◌+◌, ◌<◌, ◌≤◌, min, Bool, true, false, nat_le, if◌then◌else◌, refl, sym, ◌∙◌, ap, arith, inl, inr}
+use Rattle.std.specs.Prelude.{Option, Some, None}
+use Rattle.std.proofs.lemmas.Bool.{cases_eq, leb-true, leb-false}
+use Rattle.pmf_event.specs.Ranges.{first_from, count_from, lesser, least_from}
 
 -- none of the n numbers from b on passes
 abbrev pub NonePass : (ℕ → Bool) → ℕ → ℕ → Type 0
@@ -84,3 +84,104 @@ count_from-same s t b zero same = refl
 count_from-same s t b (suc n) same =
     ap (λ v. if v then suc (count_from s (b + 1) n) else count_from s (b + 1) n) (same b (omega arith) (omega arith))
     ∙ ap (λ c. if t b then suc c else c) (count_from-same s t (b + 1) n (λ k low high. same k (omega arith) (omega arith)))
+
+-- ---- a count in two parts, and over numbers that are all alike
+
+module _ (test : ℕ → Bool) where
+  count_if : Bool → ℕ → ℕ
+  count_if t c = if t then suc c else c
+
+  count_if-add : (t : Bool) (c d : ℕ) → count_if t (c + d) ≡ count_if t c + d
+  unfolding count_if
+  count_if-add true c d = omega arith
+  count_if-add false c d = refl
+
+  -- the m numbers from b on, and the n after them
+  pub count_from-split : (b m n : ℕ) (whole middle : ℕ) → whole ≡ m + n → middle ≡ b + m → count_from test b whole ≡ count_from test b m + count_from test middle n
+  unfolding count_from count_if
+  count_from-split b zero n whole middle all at =
+      let same : whole ≡ n = omega arith in
+      let here : middle ≡ b = omega arith in
+      ap (count_from test b) same ∙ ap (λ k. count_from test k n) (sym here) ∙ omega arith
+  count_from-split b (suc m) n zero middle all at = absurd (omega arith)
+  count_from-split b (suc m) n (suc whole) middle all at =
+      ap (count_if (test b)) (count_from-split (b + 1) m n whole middle (omega arith) (omega arith))
+      ∙ count_if-add (test b) (count_from test (b + 1) m) (count_from test middle n)
+
+  pub count_from-bound : (b n : ℕ) → count_from test b n ≤ n
+  unfolding count_from
+  count_from-bound b zero = omega arith
+  count_from-bound b (suc n) =
+      let rest = count_from-bound (b + 1) n in
+      elim (test b) as (λ v. (if v then suc (count_from test (b + 1) n) else count_from test (b + 1) n) ≤ suc n) [ true ↦ omega arith | false ↦ omega arith ]
+
+  pub count_from-all : (b n : ℕ) → ((k : ℕ) → b ≤ k → k < b + n → test k ≡ true) → count_from test b n ≡ n
+  unfolding count_from count_if
+  count_from-all b zero all = refl
+  count_from-all b (suc n) all =
+      ap (λ v. count_if v (count_from test (b + 1) n)) (all b (omega arith) (omega arith))
+      ∙ ap suc (count_from-all (b + 1) n (λ k low high. all k (omega arith) (omega arith)))
+
+  pub count_from-none : (b n : ℕ) → NonePass test b n → count_from test b n ≡ 0
+  unfolding count_from count_if
+  count_from-none b zero none = refl
+  count_from-none b (suc n) none =
+      ap (λ v. count_if v (count_from test (b + 1) n)) (none b (omega arith) (omega arith))
+      ∙ count_from-none (b + 1) n (λ k low high. none k (omega arith) (omega arith))
+
+-- ---- the lesser of values that may be missing
+
+lesser-min : (x y : ℕ) → lesser (Some x) (Some y) ≡ Some (min x y)
+lesser-min x y = elim (nat_le x y) as (λ v. nat_le x y ≡ v → (if v then Some x else Some y) ≡ Some (min x y)) [
+  | true ↦ λ is. let low = leb-true x y is in let same : x ≡ min x y = omega arith in ap (λ k. Some k) same
+  | false ↦ λ is. let high = leb-false x y is in let same : y ≡ min x y = omega arith in ap (λ k. Some k) same
+] refl
+
+pub lesser-none : (x : Option ℕ) → lesser x None ≡ x
+lesser-none None = refl
+lesser-none (Some x) = refl
+
+pub lesser-itself : (x : Option ℕ) → lesser x x ≡ x
+lesser-itself None = refl
+lesser-itself (Some x) = let same : min x x ≡ x = omega arith in lesser-min x x ∙ ap (λ k. Some k) same
+
+pub lesser-assoc : (x y z : Option ℕ) → lesser (lesser x y) z ≡ lesser x (lesser y z)
+lesser-assoc None y z = refl
+lesser-assoc (Some x) None z = refl
+lesser-assoc (Some x) (Some y) None = lesser-none (lesser (Some x) (Some y))
+lesser-assoc (Some x) (Some y) (Some z) =
+    let same : min (min x y) z ≡ min x (min y z) = omega arith in
+    ap (λ o. lesser o (Some z)) (lesser-min x y) ∙ lesser-min (min x y) z ∙ ap (λ k. Some k) same
+    ∙ sym (lesser-min x (min y z)) ∙ ap (lesser (Some x)) (sym (lesser-min y z))
+
+-- ---- the least value in two parts, and over numbers that are all alike
+
+module _ (value : ℕ → Option ℕ) where
+  -- the m numbers from b on, and the n after them
+  pub least_from-split : (b m n : ℕ) (whole middle : ℕ) → whole ≡ m + n → middle ≡ b + m → least_from value b whole ≡ lesser (least_from value b m) (least_from value middle n)
+  unfolding least_from
+  least_from-split b zero n whole middle all at =
+      let same : whole ≡ n = omega arith in
+      let here : middle ≡ b = omega arith in
+      ap (least_from value b) same ∙ ap (λ k. least_from value k n) (sym here)
+  least_from-split b (suc m) n zero middle all at = absurd (omega arith)
+  least_from-split b (suc m) n (suc whole) middle all at =
+      ap (lesser (value b)) (least_from-split (b + 1) m n whole middle (omega arith) (omega arith))
+      ∙ sym (lesser-assoc (value b) (least_from value (b + 1) m) (least_from value middle n))
+
+  pub least_from-alike : (b n : ℕ) (x : Option ℕ) → 0 < n → ((k : ℕ) → b ≤ k → k < b + n → value k ≡ x) → least_from value b n ≡ x
+  unfolding least_from
+  least_from-alike b zero x some alike = absurd (omega arith)
+  least_from-alike b (suc zero) x some alike = lesser-none (value b) ∙ alike b (omega arith) (omega arith)
+  least_from-alike b (suc (suc n)) x some alike =
+      ap (λ v. lesser v (least_from value (b + 1) (suc n))) (alike b (omega arith) (omega arith))
+      ∙ ap (lesser x) (least_from-alike (b + 1) (suc n) x (omega arith) (λ k low high. alike k (omega arith) (omega arith)))
+      ∙ lesser-itself x
+
+-- values that agree on the range have the same least
+pub least_from-same : (v w : ℕ → Option ℕ) (b n : ℕ) → ((k : ℕ) → b ≤ k → k < b + n → v k ≡ w k) → least_from v b n ≡ least_from w b n
+unfolding least_from
+least_from-same v w b zero same = refl
+least_from-same v w b (suc n) same =
+    ap (λ x. lesser x (least_from v (b + 1) n)) (same b (omega arith) (omega arith))
+    ∙ ap (lesser (w b)) (least_from-same v w (b + 1) n (λ k low high. same k (omega arith) (omega arith)))

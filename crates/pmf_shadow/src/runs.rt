@@ -99,16 +99,12 @@ impl<S: State> RunMap<S> {
         ensures kept { (b : ℕ) → HasStart self.old b → HasStart self.new b }
         ensures same { SameStates self.old self.new }
     {
-        match self.starts.range(..=place).next_back() {
-            Some((start, _)) if *start == place => {}
-            Some((_, state)) => {
-                let state = *state;
-                self.starts.insert(place, state)?;
-            }
-            None => {
-                self.starts.insert(place, self.gap)?;
-            }
-        }
+        let state = match self.starts.range(..=place).next_back() {
+            Some((start, _)) if *start == place => return Ok(()),
+            Some((_, state)) => *state,
+            None => self.gap,
+        };
+        self.starts.insert(place, state)?;
         Ok(())
     }
 
