@@ -1,3 +1,4 @@
 pub mod RunLemmas
 pub mod StandsLemmas
 pub mod PairLemmas
+pub mod AskLemmas

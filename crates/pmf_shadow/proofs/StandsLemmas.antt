@@ -29,18 +29,18 @@ use Rattle.pmf_shadow.specs.Shadow.{stored_at, byte_at, dirty_unless, line_at, S
 
 -- ---- one byte
 
-store_of : List Event → ℕ → Option ℕ → Option Stored
+pub store_of : List Event → ℕ → Option ℕ → Option Stored
 store_of es l w = if l == 0 then None else Some (record { last = l; opens = epoch_of es l; written_back = w })
 
-store_of-none : (es : List Event) (l : ℕ) (w : Option ℕ) → l ≡ 0 → store_of es l w ≡ None
+pub store_of-none : (es : List Event) (l : ℕ) (w : Option ℕ) → l ≡ 0 → store_of es l w ≡ None
 unfolding store_of
 store_of-none es l w zero_is = ap (λ v. if v then None else Some (record { last = l; opens = epoch_of es l; written_back = w })) ((Decides-eqb l 0).1 zero_is)
 
-store_of-some : (es : List Event) (l : ℕ) (w : Option ℕ) → 0 < l → store_of es l w ≡ Some (record { last = l; opens = epoch_of es l; written_back = w })
+pub store_of-some : (es : List Event) (l : ℕ) (w : Option ℕ) → 0 < l → store_of es l w ≡ Some (record { last = l; opens = epoch_of es l; written_back = w })
 unfolding store_of
 store_of-some es l w some = ap (λ v. if v then None else Some (record { last = l; opens = epoch_of es l; written_back = w })) (not_eqb l 0 (λ zero_is. omega arith))
 
-stored_at-is : (es : List Event) (p b : ℕ) → stored_at es p b ≡ store_of es (last_store es p b) (write_back_epoch (stores b) (line_of_byte b) es p)
+pub stored_at-is : (es : List Event) (p b : ℕ) → stored_at es p b ≡ store_of es (last_store es p b) (write_back_epoch (stores b) (line_of_byte b) es p)
 unfolding store_of
 stored_at-is es p b = refl
 
@@ -111,18 +111,18 @@ module _ (es : List Event) (p b : ℕ) (e : Event) (here : event_at es (suc p) �
 
 -- ---- one line
 
-line_is : ℕ → Option ℕ → LineState
+pub line_is : ℕ → Option ℕ → LineState
 line_is l w = if l == 0 then Untouched else dirty_unless w
 
-line_is-none : (l : ℕ) (w : Option ℕ) → l ≡ 0 → line_is l w ≡ Untouched
+pub line_is-none : (l : ℕ) (w : Option ℕ) → l ≡ 0 → line_is l w ≡ Untouched
 unfolding line_is
 line_is-none l w zero_is = ap (λ v. if v then Untouched else dirty_unless w) ((Decides-eqb l 0).1 zero_is)
 
-line_is-some : (l : ℕ) (w : Option ℕ) → 0 < l → line_is l w ≡ dirty_unless w
+pub line_is-some : (l : ℕ) (w : Option ℕ) → 0 < l → line_is l w ≡ dirty_unless w
 unfolding line_is
 line_is-some l w some = ap (λ v. if v then Untouched else dirty_unless w) (not_eqb l 0 (λ zero_is. omega arith))
 
-line_at-is : (es : List Event) (p l : ℕ) → line_at es p l ≡ line_is (last (stores_line l) es p) (write_back_epoch (stores_line l) l es p)
+pub line_at-is : (es : List Event) (p l : ℕ) → line_at es p l ≡ line_is (last (stores_line l) es p) (write_back_epoch (stores_line l) l es p)
 unfolding line_is
 line_at-is es p l = refl
 
@@ -306,4 +306,15 @@ stands-empty shadow es fences bytes lines = record {
       (stored_at-is es 0 b ∙ store_of-none es (last_store es 0 b) (write_back_epoch (stores b) (line_of_byte b) es 0) (last-none (stores b) es))
       (ap (at (excludes b) es) (last-none (marks b) es)));
   lines = λ n. lines n ∙ sym (line_at-is es 0 (n * 64) ∙ line_is-none (last (stores_line (n * 64)) es 0) (write_back_epoch (stores_line (n * 64)) (n * 64) es 0) (last-none (stores_line (n * 64)) es));
+}
+
+-- ---- after room was made
+
+pub changes-after_room : {S : Type 0} (change : S → S) (old mid new : RunMap S) (f e first end : ℕ) → f ≡ first → e ≡ end → SameStates old mid →
+    ChangesBetween f e change mid new → ChangesBetween first end change old new
+changes-after_room change old mid new f e first end at_first at_end same changes = record {
+  states = λ b. changes.states b
+      ∙ ap (λ s. if is_between f e b then change s else s) (same b)
+      ∙ ap (λ k. if is_between k e b then change (state_at old b) else state_at old b) at_first
+      ∙ ap (λ k. if is_between first k b then change (state_at old b) else state_at old b) at_end;
 }
