@@ -2,3 +2,4 @@ pub mod RunLemmas
 pub mod StandsLemmas
 pub mod PairLemmas
 pub mod AskLemmas
+pub mod WalkLemmas
