@@ -1,12 +1,12 @@
 -- What is kept answers the questions as the definitions do.
-use Rattle.std.proofs.Common.{◌≡◌, ℕ, suc, ◌+◌, ◌*◌, ◌<◌, ◌≤◌, Bool, true, false, not, ◌&&◌, ◌==◌, nat_lt, nat_le, if◌then◌else◌, List, refl, sym, ◌∙◌, ap, arith, inl, inr}
+use Rattle.std.proofs.Common.{◌≡◌, ℕ, suc, ◌+◌, ◌-◌, ◌*◌, ◌/◌, ◌^◌, ◌<◌, ◌≤◌, Bool, true, false, not, ◌&&◌, ◌==◌, nat_lt, nat_le, if◌then◌else◌, List, refl, sym, ◌∙◌, ap, arith, inl, inr}
 use Rattle.std.specs.Prelude.{◌||◌, Option, Some, None, is_none}
 use Rattle.std.proofs.lemmas.Bool.{cases_lt, cases_eq, leb-true, le-leb, le-ltb, ltb-false}
 use Rattle.std.proofs.lemmas.Bool.Decides.{Decides-eqb}
 use borrow.Author.Tests.{ltb-true}
 use Rattle.pmf_event.specs.declared.event.Event.{Event}
 use Rattle.pmf_event.specs.declared.interval.Interval.{Interval}
-use Rattle.pmf_event.specs.Span.{Extent}
+use Rattle.pmf_event.specs.Span.{Extent, IsValidExtent}
 use Rattle.pmf_event.specs.Line.{line_of_byte}
 use Rattle.pmf_event.specs.Places.{count}
 use Rattle.pmf_event.specs.Ranges.{first_from, count_from, first_byte}
@@ -17,7 +17,7 @@ use Rattle.pmf_event.specs.Exclusion.{is_excluded, is_included}
 use Rattle.pmf_event.specs.Persist.{is_checked, is_exposed}
 use Rattle.pmf_event.specs.FlushWarnings.{is_clean, is_pending, numbered, first_line, line_count, lines_from, lines_where}
 use Rattle.pmf_event.proofs.PlacesLemmas.{lt-ltb}
-use Rattle.pmf_event.proofs.RangeLemmas.{first_from-same, count_from-same}
+use Rattle.pmf_event.proofs.RangeLemmas.{first-passes, first_from-same, count_from-same}
 use Rattle.pmf_event.proofs.WriteBackLemmas.{not_eqb, epoch_unless-none, epoch_unless-some, epoch_after-none, epoch_after-some, closing-from_epoch, closing-none, closing-late}
 use Rattle.pmf_shadow.specs.declared.byte.ByteState.{ByteState}
 use Rattle.pmf_shadow.specs.declared.byte.Stored.{Stored}
@@ -232,6 +232,36 @@ module _ (es : List Event) (p l : ℕ) where
             ∙ pending-cases fences w
             ∙ sym (ap (line_pending fences) (line_at-is es p l ∙ line_is-some k w (omega arith)))
       ]
+
+-- ---- the lines of a span, found by their numbers
+
+lines-found : (test : ℕ → Bool) (s : Extent) (line end : ℕ) → line ≡ s.first / 64 → end ≡ (s.first + s.size - 1) / 64 + 1 →
+    lines_by test s ≡ lines_from (first_from test line (end - line)) (count_from test line (end - line))
+unfolding lines_by
+lines-found test s line end at_first at_end =
+    sym (ap (λ e. lines_from (first_from test line (e - line)) (count_from test line (e - line))) at_end
+    ∙ ap (λ k. lines_from (first_from test k ((s.first + s.size - 1) / 64 + 1 - k)) (count_from test k ((s.first + s.size - 1) / 64 + 1 - k))) at_first)
+
+pub lines-none : (test : ℕ → Bool) (s : Extent) (line end : ℕ) (found : Option ℕ) → line ≡ s.first / 64 → end ≡ (s.first + s.size - 1) / 64 + 1 →
+    found ≡ first_from test line (end - line) → found ≡ None → None ≡ lines_by test s
+lines-none test s line end found at_first at_end is none =
+    sym (lines-found test s line end at_first at_end ∙ ap (λ o. lines_from o (count_from test line (end - line))) (sym is ∙ none))
+
+pub lines-some : (test : ℕ → Bool) (s : Extent) (line end n count : ℕ) (found : Option ℕ) → line ≡ s.first / 64 → end ≡ (s.first + s.size - 1) / 64 + 1 →
+    found ≡ first_from test line (end - line) → found ≡ Some n → count ≡ count_from test line (end - line) →
+    Some (record { least = n * 64; count = count }) ≡ lines_by test s
+lines-some test s line end n count found at_first at_end is some counted =
+    sym (lines-found test s line end at_first at_end ∙ ap (λ o. lines_from o (count_from test line (end - line))) (sym is ∙ some)
+    ∙ ap (λ c. Some (record { least = n * 64; count = c })) (sym counted))
+
+pub number-fits : (test : ℕ → Bool) (s : Extent) (line end n : ℕ) (found : Option ℕ) → line ≡ s.first / 64 → end ≡ (s.first + s.size - 1) / 64 + 1 →
+    found ≡ first_from test line (end - line) → found ≡ Some n → IsValidExtent s.first s.size → n * 64 < 2 ^ 63
+number-fits test s line end n found at_first at_end is some valid =
+    let first = first-passes test line (end - line) n (sym is ∙ some) in
+    let within = first.within in
+    let from = first.from in
+    let ends = valid.ends in
+    let size = valid.not_empty in omega arith
 
 -- ---- the questions
 

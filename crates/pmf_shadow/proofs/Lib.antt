@@ -3,3 +3,4 @@ pub mod StandsLemmas
 pub mod PairLemmas
 pub mod AskLemmas
 pub mod WalkLemmas
+pub mod PieceLemmas

@@ -211,21 +211,29 @@ eqb-false : (x y : ℕ) → (x ≡ y → ⊥) → (x == y) ≡ false
 eqb-false x y other = elim (x == y) as (λ v. (x == y) ≡ v → v ≡ false) [ true ↦ λ is. absurd (other ((Decides-eqb x y).0 is)) | false ↦ λ is. refl ] refl
 
 module _ (line : ℕ) where
-  by_line-on : (on off : ℕ → Bool) (x : ℕ) → line_of_byte x ≡ line → by_line line on off x ≡ on x
+  pub by_line-on : (on off : ℕ → Bool) (x : ℕ) → line_of_byte x ≡ line → by_line line on off x ≡ on x
   unfolding by_line
   by_line-on on off x same = ap (λ v. if v then on x else off x) (eqb-true (line_of_byte x) line same)
 
-  by_line-off : (on off : ℕ → Bool) (x : ℕ) → (line_of_byte x ≡ line → ⊥) → by_line line on off x ≡ off x
+  pub by_line-off : (on off : ℕ → Bool) (x : ℕ) → (line_of_byte x ≡ line → ⊥) → by_line line on off x ≡ off x
   unfolding by_line
   by_line-off on off x other = ap (λ v. if v then on x else off x) (eqb-false (line_of_byte x) line other)
 
-  on_line-on : (value : ℕ → Option ℕ) (x : ℕ) → line_of_byte x ≡ line → on_line line value x ≡ value x
+  pub on_line-on : (value : ℕ → Option ℕ) (x : ℕ) → line_of_byte x ≡ line → on_line line value x ≡ value x
   unfolding on_line
   on_line-on value x same = ap (λ v. if v then value x else None) (eqb-true (line_of_byte x) line same)
 
-  off_line-off : (value : ℕ → Option ℕ) (x : ℕ) → (line_of_byte x ≡ line → ⊥) → off_line line value x ≡ value x
+  pub off_line-off : (value : ℕ → Option ℕ) (x : ℕ) → (line_of_byte x ≡ line → ⊥) → off_line line value x ≡ value x
   unfolding off_line
   off_line-off value x other = ap (λ v. if v then None else value x) (eqb-false (line_of_byte x) line other)
+
+  pub on_line-off : (value : ℕ → Option ℕ) (x : ℕ) → (line_of_byte x ≡ line → ⊥) → on_line line value x ≡ None
+  unfolding on_line
+  on_line-off value x other = ap (λ v. if v then value x else None) (eqb-false (line_of_byte x) line other)
+
+  pub off_line-on : (value : ℕ → Option ℕ) (x : ℕ) → line_of_byte x ≡ line → off_line line value x ≡ None
+  unfolding off_line
+  off_line-on value x same = ap (λ v. if v then None else value x) (eqb-true (line_of_byte x) line same)
 
   line-from_on : (value : ℕ → Option ℕ) (x v : ℕ) → on_line line value x ≡ Some v → (line_of_byte x ≡ line) × (value x ≡ Some v)
   unfolding on_line

@@ -1,5 +1,5 @@
 -- The pairs that an order assertion speaks of, by what the shadow keeps of their bytes.
-use Rattle.std.specs.Prelude.{◌≡◌, ℕ, ◌+◌, ◌<◌, ◌≤◌, Bool, true, false, ◌==◌, nat_lt, List, Option, None, Some, if◌then◌else◌}
+use Rattle.std.specs.Prelude.{◌≡◌, ℕ, ◌+◌, ◌<◌, ◌≤◌, Bool, true, false, ◌==◌, List, Option, None, Some, if◌then◌else◌}
 use Rattle.pmf_event.specs.declared.event.Event.{Event}
 use Rattle.pmf_event.specs.declared.profile.Profile.{Profile}
 use Rattle.pmf_event.specs.Line.{line_of_byte}
@@ -51,14 +51,6 @@ on_line line value b = if line_of_byte b == line then value b else None
 -- a value off the line alone
 unfoldable pub off_line : ℕ → (ℕ → Option ℕ) → ℕ → Option ℕ
 off_line line value b = if line_of_byte b == line then None else value b
-
--- the lesser of two numbers
-abbrev pub lower : ℕ → ℕ → ℕ
-lower a b = if nat_lt a b then a else b
-
--- the greater of two numbers
-abbrev pub upper : ℕ → ℕ → ℕ
-upper a b = if nat_lt a b then b else a
 
 -- one of the n numbers from b on with this value
 pub record HasValue (value : ℕ → Option ℕ) (b n v : ℕ) : Type 0 where

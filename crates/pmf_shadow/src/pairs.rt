@@ -1,12 +1,12 @@
 //! The least pair of an order assertion, found by a few walks and not by trying pairs.
 
-ghost use Rattle.std.specs.Prelude.{◌≡◌, ℕ, ◌%◌, ◌<◌, List};
+ghost use Rattle.std.specs.Prelude.{◌≡◌, ℕ, ◌%◌, ◌<◌, List, min, max};
 ghost use Rattle.pmf_event.specs.declared.event.Event.{Event};
 ghost use Rattle.pmf_event.specs.declared.span.TheConstants.{ADDRESS_LIMIT, LINE_SIZE};
 ghost use Rattle.pmf_event.specs.Ranges.{first_byte};
 ghost use Rattle.pmf_event.specs.Order.{least_pair};
 ghost use Rattle.pmf_shadow.specs.Runs.{passing, keyed};
-ghost use Rattle.pmf_shadow.specs.Pairs.{by_epochs, by_line, by_lines, kept, off_line, on_line, pairs_of, lower, upper, IsLeastValue};
+ghost use Rattle.pmf_shadow.specs.Pairs.{by_epochs, by_line, by_lines, kept, off_line, on_line, pairs_of, IsLeastValue};
 ghost use Rattle.pmf_shadow.specs.Shadow.{StandsFor};
 ghost use Rattle.pmf_shadow.specs.States.{kept_opening, kept_place};
 
@@ -111,13 +111,13 @@ impl Shadow {
 }
 
 fn lower(a: u64, b: u64) -> u64
-    ensures { result ≡ lower a b }
+    ensures { result ≡ min a b }
 {
     if a < b { a } else { b }
 }
 
 fn upper(a: u64, b: u64) -> u64
-    ensures { result ≡ upper a b }
+    ensures { result ≡ max a b }
 {
     if a < b { b } else { a }
 }

@@ -181,11 +181,13 @@ impl Shadow {
         ensures { result ≡ lines_by (passing (T.passes test.now) self.now.lines) span.now }
     {
         let (line, end) = (line_number(span.first()), line_number(end_of(span) - 1) + 1);
-        let least = self.lines.first_where(line, end, test)?;
-        Some(Lines {
-            least: least * LINE_SIZE,
-            count: self.lines.count_where(line, end, test),
-        })
+        match self.lines.first_where(line, end, test) {
+            None => None,
+            Some(least) => Some(Lines {
+                least: least * LINE_SIZE,
+                count: self.lines.count_where(line, end, test),
+            }),
+        }
     }
 }
 

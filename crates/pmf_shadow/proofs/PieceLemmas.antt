@@ -1,0 +1,225 @@
+-- A search of a span in three pieces: before a line, on it, and after it.
+use Rattle.std.proofs.Common.{◌≡◌, ℕ, zero, suc, ◌+◌, ◌-◌, ◌%◌, ◌<◌, ◌≤◌, Bool, true, false, refl, sym, ◌∙◌, ap, arith, inl, inr, min, max}
+use Rattle.std.specs.Prelude.{◌⊎◌, Option, Some, None, is_some}
+use Rattle.std.proofs.lemmas.Bool.{cases_lt, cases_eq, leb-true, leb-false}
+use Rattle.std.specs.Prelude.{nat_le, if◌then◌else◌}
+use Rattle.pmf_event.specs.Line.{line_of_byte}
+use Rattle.pmf_event.specs.Ranges.{first_from, lesser, least_from}
+use Rattle.pmf_event.proofs.LineLemmas.{line-bounds, line-unique}
+use Rattle.pmf_event.proofs.RangeLemmas.{NonePass, IsFirst, first_from-none, first_from-some, none-passes, first-passes}
+use Rattle.pmf_shadow.specs.Pairs.{by_line, on_line, off_line, HasValue, IsLeastValue}
+use Rattle.pmf_shadow.proofs.PairLemmas.{by_line-on, by_line-off, on_line-on, on_line-off, off_line-on, off_line-off}
+
+some-or-none : (o : Option ℕ) → ((k : ℕ) × (o ≡ Some k)) ⊎ (o ≡ None)
+some-or-none None = inr refl
+some-or-none (Some k) = inl (k, refl)
+
+some-is : (o : Option ℕ) → is_some o ≡ true → (k : ℕ) × (o ≡ Some k)
+some-is None is = let bad : false ≡ true = is in cc
+some-is (Some k) is = (k, refl)
+
+none-is : (o : Option ℕ) → is_some o ≡ false → o ≡ None
+none-is None is = refl
+none-is (Some k) is = let bad : true ≡ false = is in cc
+
+module _ (line : ℕ) (aligned : line % 64 ≡ 0) where
+  below : (k : ℕ) → k < line → line_of_byte k ≡ line → ⊥
+  below k low same = let bounds = line-bounds k in let at_most = bounds.0 in omega arith
+
+  above : (k : ℕ) → line + 64 ≤ k → line_of_byte k ≡ line → ⊥
+  above k high same = let bounds = line-bounds k in let more = bounds.1 in omega arith
+
+  inside : (k : ℕ) → line ≤ k → k < line + 64 → line_of_byte k ≡ line
+  inside k low high = line-unique k line aligned low high
+
+  module _ (on off : ℕ → Bool) (first size end : ℕ) (at_end : end ≡ first + size) where
+    pub piece-before : (o : Option ℕ) → o ≡ first_from off first (min end line - first) → is_some o ≡ true → o ≡ first_from (by_line line on off) first size
+    piece-before o is some =
+        let found = some-is o some in
+        let k = found.0 in
+        let own = first-passes off first (min end line - first) k (sym is ∙ found.1) in
+        let from = own.from in
+        let within = own.within in
+        found.1 ∙ sym (first_from-some (by_line line on off) first size k (record {
+          from = own.from;
+          within = omega arith;
+          passes = by_line-off line on off k (below k (omega arith)) ∙ own.passes;
+          before = λ j low high. by_line-off line on off j (below j (omega arith)) ∙ own.before j low high;
+        }))
+
+    pub piece-within : (o : Option ℕ) → is_some (first_from off first (min end line - first)) ≡ false →
+        o ≡ first_from on (max first line) (min end (line + 64) - max first line) → is_some o ≡ true → o ≡ first_from (by_line line on off) first size
+    piece-within o none is some =
+        let found = some-is o some in
+        let k = found.0 in
+        let none_before = none-passes off first (min end line - first) (none-is (first_from off first (min end line - first)) none) in
+        let own = first-passes on (max first line) (min end (line + 64) - max first line) k (sym is ∙ found.1) in
+        let from = own.from in
+        let within = own.within in
+        found.1 ∙ sym (first_from-some (by_line line on off) first size k (record {
+          from = omega arith;
+          within = omega arith;
+          passes = by_line-on line on off k (inside k (omega arith) (omega arith)) ∙ own.passes;
+          before = λ j low high. elim (cases_lt j line) [
+            | inl under ↦ by_line-off line on off j (below j under) ∙ none_before j low (omega arith)
+            | inr over ↦ by_line-on line on off j (inside j over (omega arith)) ∙ own.before j (omega arith) high
+          ];
+        }))
+
+    pub piece-after : (o : Option ℕ) → is_some (first_from off first (min end line - first)) ≡ false →
+        is_some (first_from on (max first line) (min end (line + 64) - max first line)) ≡ false →
+        o ≡ first_from off (max first (line + 64)) (end - max first (line + 64)) → o ≡ first_from (by_line line on off) first size
+    piece-after o none none_on is =
+        let z = max first (line + 64) in
+        let none_before = none-passes off first (min end line - first) (none-is (first_from off first (min end line - first)) none) in
+        let none_within = none-passes on (max first line) (min end (line + 64) - max first line) (none-is (first_from on (max first line) (min end (line + 64) - max first line)) none_on) in
+        let early : (j : ℕ) → first ≤ j → j < end → j < z → by_line line on off j ≡ false = λ j low high under. elim (cases_lt j line) [
+          | inl before ↦ by_line-off line on off j (below j before) ∙ none_before j low (omega arith)
+          | inr over ↦ by_line-on line on off j (inside j over (omega arith)) ∙ none_within j (omega arith) (omega arith)
+        ] in
+        elim (some-or-none o) [
+          | inl found ↦
+              let k = found.0 in
+              let own = first-passes off z (end - z) k (sym is ∙ found.1) in
+              let from = own.from in
+              let within = own.within in
+              found.1 ∙ sym (first_from-some (by_line line on off) first size k (record {
+                from = omega arith;
+                within = omega arith;
+                passes = by_line-off line on off k (above k (omega arith)) ∙ own.passes;
+                before = λ j low high. elim (cases_lt j z) [
+                  | inl under ↦ early j low (omega arith) under
+                  | inr over ↦ by_line-off line on off j (above j (omega arith)) ∙ own.before j over high
+                ];
+              }))
+          | inr nothing ↦
+              let none_after = none-passes off z (end - z) (sym is ∙ nothing) in
+              nothing ∙ sym (first_from-none (by_line line on off) first size (λ j low high. elim (cases_lt j z) [
+                | inl under ↦ early j low (omega arith) under
+                | inr over ↦ by_line-off line on off j (above j (omega arith)) ∙ none_after j over (omega arith)
+              ]))
+        ]
+
+-- ---- least values
+
+lesser-left : (x : ℕ) (o : Option ℕ) (v : ℕ) → lesser (Some x) o ≡ Some v → (v ≤ x) × ((y : ℕ) → o ≡ Some y → v ≤ y) × ((v ≡ x) ⊎ (o ≡ Some v))
+lesser-left x None v is = let same : Some x ≡ Some v = is in let own : x ≡ v = cc in (omega arith, (λ y bad. cc), inl (sym own))
+lesser-left x (Some y) v is =
+    elim (nat_le x y) as (λ t. nat_le x y ≡ t → (if t then Some x else Some y) ≡ Some v → (v ≤ x) × ((z : ℕ) → Some y ≡ Some z → v ≤ z) × ((v ≡ x) ⊎ (Some y ≡ Some v))) [
+      | true ↦ λ low same. let own : x ≡ v = cc in let under = leb-true x y low in (omega arith, (λ z at. let here : y ≡ z = cc in omega arith), inl (sym own))
+      | false ↦ λ high same. let own : y ≡ v = cc in let over = leb-false x y high in (omega arith, (λ z at. let here : y ≡ z = cc in omega arith), inr same)
+    ] refl is
+
+lesser-none-both : (x y : Option ℕ) → lesser x y ≡ None → (x ≡ None) × (y ≡ None)
+lesser-none-both None y is = (refl, is)
+lesser-none-both (Some x) None is = let bad : Some x ≡ None = is in cc
+lesser-none-both (Some x) (Some y) is =
+    elim (nat_le x y) as (λ t. (if t then Some x else Some y) ≡ None → (Some x ≡ None) × (Some y ≡ None)) [
+      | true ↦ λ bad. cc
+      | false ↦ λ bad. cc
+    ] is
+
+-- two parts that hold every value between them
+pub parts-least : (value one other : ℕ → Option ℕ) (b n c m d l : ℕ) (x y : Option ℕ) → IsLeastValue one c m x → IsLeastValue other d l y →
+    ((k : ℕ) → b ≤ k → k < b + n → (v : ℕ) → value k ≡ Some v → ((c ≤ k) × (k < c + m) × (one k ≡ Some v)) ⊎ ((d ≤ k) × (k < d + l) × (other k ≡ Some v))) →
+    ((k v : ℕ) → c ≤ k → k < c + m → one k ≡ Some v → (b ≤ k) × (k < b + n) × (value k ≡ Some v)) →
+    ((k v : ℕ) → d ≤ k → k < d + l → other k ≡ Some v → (b ≤ k) × (k < b + n) × (value k ≡ Some v)) →
+    IsLeastValue value b n (lesser x y)
+parts-least value one other b n c m d l x y first second covered left right = record {
+  none = λ none k low high. no_value (value k) (λ v is. let both = lesser-none-both x y none in elim (covered k low high v is) [
+    | inl here ↦ let bad : None ≡ Some v = sym (first.none both.0 k here.0 here.1) ∙ here.2 in cc
+    | inr there ↦ let bad : None ≡ Some v = sym (second.none both.1 k there.0 there.1) ∙ there.2 in cc
+  ]);
+  has = λ v is. chosen x y refl refl v is;
+  bound = λ v is k u low high at. elim (covered k low high u at) [
+    | inl here ↦ below_left x y refl v is k u here.0 here.1 here.2
+    | inr there ↦ below_right x y refl v is k u there.0 there.1 there.2
+  ];
+}
+  where
+    no_value : (o : Option ℕ) → ((v : ℕ) → o ≡ Some v → ⊥) → o ≡ None
+    no_value None never = refl
+    no_value (Some v) never = absurd (never v refl)
+
+    from_left : (v : ℕ) → x ≡ Some v → HasValue value b n v
+    from_left v is = let own = first.has v is in let there = left own.place v own.from own.within own.is in
+        record { place = own.place; from = there.0; within = there.1; is = there.2 }
+
+    from_right : (v : ℕ) → y ≡ Some v → HasValue value b n v
+    from_right v is = let own = second.has v is in let there = right own.place v own.from own.within own.is in
+        record { place = own.place; from = there.0; within = there.1; is = there.2 }
+
+    chosen : (p q : Option ℕ) → x ≡ p → y ≡ q → (v : ℕ) → lesser p q ≡ Some v → HasValue value b n v
+    chosen None q is_x is_y v is = from_right v (is_y ∙ is)
+    chosen (Some p) q is_x is_y v is = let either = lesser-left p q v is in elim either.2 [
+      | inl same ↦ from_left v (is_x ∙ ap (λ k. Some k) (sym same))
+      | inr there ↦ from_right v (is_y ∙ there)
+    ]
+
+    below_left : (p q : Option ℕ) → x ≡ p → (v : ℕ) → lesser p q ≡ Some v → (k u : ℕ) → c ≤ k → k < c + m → one k ≡ Some u → v ≤ u
+    below_left None q is_x v is k u low high at = let bad : None ≡ Some u = sym (first.none is_x k low high) ∙ at in cc
+    below_left (Some p) q is_x v is k u low high at = let own = first.bound p is_x k u low high at in let less = (lesser-left p q v is).0 in omega arith
+
+    below_right : (p q : Option ℕ) → y ≡ q → (v : ℕ) → lesser p q ≡ Some v → (k u : ℕ) → d ≤ k → k < d + l → other k ≡ Some u → v ≤ u
+    below_right p None is_y v is k u low high at = let bad : None ≡ Some u = sym (second.none is_y k low high) ∙ at in cc
+    below_right None (Some q) is_y v is k u low high at = second.bound v (is_y ∙ is) k u low high at
+    below_right (Some p) (Some q) is_y v is k u low high at =
+        let own = second.bound q is_y k u low high at in let less = (lesser-left p (Some q) v is).1 q refl in omega arith
+
+pub least_from-is : (value : ℕ → Option ℕ) (b n : ℕ) → IsLeastValue value b n (least_from value b n)
+unfolding least_from
+least_from-is value b zero = record {
+  none = λ none k low high. absurd (omega arith);
+  has = λ v bad. cc;
+  bound = λ v bad k u low high at. absurd (omega arith);
+}
+least_from-is value b (suc n) = parts-least value value value b (suc n) b 1 (b + 1) n (value b) (least_from value (b + 1) n)
+    (record {
+      none = λ none k low high. let same : k ≡ b = omega arith in ap value same ∙ none;
+      has = λ v is. record { place = b; from = omega arith; within = omega arith; is = is };
+      bound = λ v is k u low high at. let same : k ≡ b = omega arith in let own : Some v ≡ Some u = sym is ∙ ap value (sym same) ∙ at in let level : v ≡ u = cc in omega arith;
+    })
+    (least_from-is value (b + 1) n)
+    (λ k low high v is. elim (cases_eq k b) [
+      | inl same ↦ inl (omega arith, omega arith, is)
+      | inr apart ↦ inr (omega arith, omega arith, is)
+    ])
+    (λ k v low high is. (omega arith, omega arith, is))
+    (λ k v low high is. (omega arith, omega arith, is))
+
+module _ (line : ℕ) (aligned : line % 64 ≡ 0) (value : ℕ → Option ℕ) (first size end : ℕ) (at_end : end ≡ first + size) where
+  pub least-on : IsLeastValue (on_line line value) first size (least_from value (max first line) (min end (line + 64) - max first line))
+  least-on =
+      let v = max first line in
+      let own = least_from-is value v (min end (line + 64) - v) in record {
+        none = λ none k low high. elim (cases_eq (line_of_byte k) line) [
+          | inl same ↦ let bounds = line-bounds k in let at_least = bounds.0 in let below_end = bounds.1 in on_line-on line value k same ∙ own.none none k (omega arith) (omega arith)
+          | inr other ↦ on_line-off line value k other
+        ];
+        has = λ u is. let there = own.has u is in let from = there.from in let within = there.within in record {
+          place = there.place; from = omega arith; within = omega arith;
+          is = on_line-on line value there.place (inside line aligned there.place (omega arith) (omega arith)) ∙ there.is;
+        };
+        bound = λ u is k w low high at. elim (cases_eq (line_of_byte k) line) [
+          | inl same ↦ let bounds = line-bounds k in let at_least = bounds.0 in let below_end = bounds.1 in own.bound u is k w (omega arith) (omega arith) (sym (on_line-on line value k same) ∙ at)
+          | inr other ↦ let bad : None ≡ Some w = sym (on_line-off line value k other) ∙ at in cc
+        ];
+      }
+
+  pub least-off : IsLeastValue (off_line line value) first size (lesser (least_from value first (min end line - first)) (least_from value (max first (line + 64)) (end - max first (line + 64))))
+  least-off =
+      let z = max first (line + 64) in
+      parts-least (off_line line value) value value first size first (min end line - first) z (end - z) _ _
+      (least_from-is value first (min end line - first)) (least_from-is value z (end - z))
+      (λ k low high v at. elim (cases_eq (line_of_byte k) line) [
+        | inl same ↦ let bad : None ≡ Some v = sym (off_line-on line value k same) ∙ at in cc
+        | inr other ↦ elim (cases_lt k line) [
+          | inl under ↦ inl (low, omega arith, sym (off_line-off line value k other) ∙ at)
+          | inr over ↦ elim (cases_lt k (line + 64)) [
+            | inl within ↦ absurd (other (inside line aligned k over within))
+            | inr past ↦ inr (omega arith, omega arith, sym (off_line-off line value k other) ∙ at)
+          ]
+        ]
+      ])
+      (λ k v low high at. (low, omega arith, off_line-off line value k (below line aligned k (omega arith)) ∙ at))
+      (λ k v low high at. (omega arith, omega arith, off_line-off line value k (above line aligned k (omega arith)) ∙ at))

@@ -1,0 +1,6 @@
+use Rattle.std.proofs.Common.{◌∙◌}
+use Rattle.pmf_shadow.proofs.AskLemmas.{included-same}
+use Rattle.pmf_shadow.proofs.shadow.Shadow.least_included.Goals as goal
+
+pub returns : goal.returns
+returns c = λ es p stands. c.first_in.ensures ∙ included-same c.args.self.now es p stands c.args.span

@@ -1,0 +1,6 @@
+use Rattle.std.proofs.Common.{◌∙◌}
+use Rattle.pmf_shadow.proofs.AskLemmas.{exposed-same}
+use Rattle.pmf_shadow.proofs.shadow.Shadow.least_open.Goals as goal
+
+pub returns : goal.returns
+returns c = λ es p stands. c.first_in.ensures ∙ exposed-same c.args.self.now es p stands c.args.span

@@ -1,0 +1,6 @@
+use Rattle.std.proofs.Common.{◌∙◌}
+use Rattle.pmf_shadow.proofs.AskLemmas.{pending-same}
+use Rattle.pmf_shadow.proofs.shadow.Shadow.pending_lines.Goals as goal
+
+pub returns : goal.returns
+returns c = λ es p stands. c.lines_in.ensures ∙ pending-same c.args.self.now es p stands c.args.span

@@ -1,0 +1,7 @@
+use Rattle.std.proofs.Common.{◌∙◌, ap, ℕ}
+use Rattle.std.specs.Prelude.{Option, is_some}
+use Rattle.pmf_shadow.proofs.AskLemmas.{checked-same}
+use Rattle.pmf_shadow.proofs.shadow.Shadow.written_included.Goals as goal
+
+pub returns : goal.returns
+returns c = λ es p stands. c.is_some.ensures ∙ ap (λ (o : Option ℕ). is_some o) (c.first_in.ensures ∙ checked-same c.args.self.now es p stands c.args.span)
