@@ -1,7 +1,7 @@
 -- The states of a map of runs: at a start, within a run, before a start, and after one run is changed.
 use Rattle.std.proofs.Common.{◌≡◌, ℕ, zero, suc, ◌+◌, ◌<◌, ◌≤◌, Bool, true, false, ◌&&◌, nat_lt, nat_le, if◌then◌else◌, nat_eq, List, [], ◌∷◌, ◌++◌, refl, sym, ◌∙◌, ap, subst, arith, inl, inr}
 use Rattle.std.specs.Prelude.{Option, Some, None, unwrap_or, is_some, IsSome}
-use Rattle.std.specs.Ordering.{nat_cmp, is_lt, is_gt, is_eq, is_le}
+use Rattle.std.specs.Ordering.{nat_cmp, is_lt, is_gt, is_eq}
 use Rattle.std.specs.declared.cmp.Ordering.TheVariants.{Less, Equal, Greater}
 use Rattle.std.specs.declared.ops.Bound.TheVariants.{Included, Excluded, Unbounded}
 use Rattle.std.specs.BTreeMap.{BTreeMap, get, is_at, Updates}
@@ -9,7 +9,7 @@ use Rattle.std.specs.BTreeMap.Range.{IsRangeOf}
 use Rattle.std.specs.Map.{lookup}
 use Rattle.std.proofs.lemmas.Bool.{cases_lt, cases_eq, le-leb, lt-ltb, le-ltb, lt-leb, ne_eqb, eq-eqb, false≢true}
 use Rattle.pmf_shadow.specs.declared.runs.RunMap.{RunMap}
-use Rattle.pmf_shadow.specs.Runs.{state_from, state_at, state_before, HasStart, SameStates, is_between, ChangesBetween, PutsState, NoStart, IsNextRun}
+use Rattle.pmf_shadow.specs.Runs.{state_from, state_at, state_before, HasStart, SameStates, is_between, ChangesBetween, PutsState, NoStart}
 
 -- ---- the order of two numbers
 
@@ -146,7 +146,7 @@ module _ {S : Type 0} where
       let here = range.3 e t is in
       let low : e.0 ≤ p = elim (cases_lt p e.0) [ inl above ↦ absurd (false≢true (sym (here.0.1) ∙ ap is_gt (cmp-greater e.0 p above))) | inr below ↦ below ] in
       state-in_run r e.0 p low (λ q after upto. none-from_test (get nat_cmp r.starts q) (is_lt (nat_cmp e.0 q)) (ap is_lt (cmp-less e.0 q (omega arith)))
-        (λ some. range.4 e t is q (tt, not_greater q p (omega arith)) some))
+      (λ some. range.4 e t is q (tt, not_greater q p (omega arith)) some))
       ∙ state-at_start r e.0 e.1 here.1
     where
       not_greater : (q p : ℕ) → q ≤ p → is_gt (nat_cmp q p) ≡ false
@@ -163,7 +163,7 @@ module _ {S : Type 0} where
       let here = range.3 e t is in
       let low : e.0 < p = elim (cases_lt e.0 p) [ inl below ↦ below | inr above ↦ absurd (not_less e.0 p above here.0.1) ] in
       before-in_run r e.0 p low (λ q after upto. none-from_test (get nat_cmp r.starts q) (is_lt (nat_cmp e.0 q)) (ap is_lt (cmp-less e.0 q (omega arith)))
-        (λ some. range.4 e t is q (tt, cmp-less q p upto) some))
+      (λ some. range.4 e t is q (tt, cmp-less q p upto) some))
       ∙ state-at_start r e.0 e.1 here.1
     where
       not_less : (k p : ℕ) → p ≤ k → nat_cmp k p ≡ Less → ⊥
@@ -194,7 +194,7 @@ module _ {S : Type 0} where
       record {
         gap = gap;
         here = state-no_start new start (get-updated old.starts new.starts start None u)
-          ∙ before-same old new start gap (λ q below. others q (λ same. omega arith)) ∙ sym before;
+            ∙ before-same old new start gap (λ q below. others q (λ same. omega arith)) ∙ sym before;
         others = others;
       }
 

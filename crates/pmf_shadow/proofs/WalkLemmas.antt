@@ -1,17 +1,17 @@
 -- A walk over the runs that lie in a range: what is left of it, and what a question has found so far.
-use Rattle.std.proofs.Common.{◌≡◌, ℕ, zero, suc, ◌+◌, ◌-◌, ◌<◌, ◌≤◌, Bool, true, false, not, ◌&&◌, cond, List, [], ◌∷◌, refl, sym, ◌∙◌, ap, subst, arith, inl, inr}
+use Rattle.std.proofs.Common.{◌≡◌, ℕ, ◌+◌, ◌-◌, ◌<◌, ◌≤◌, Bool, true, false, not, ◌&&◌, cond, List, [], ◌∷◌, refl, sym, ◌∙◌, ap, subst, arith, inl, inr}
 use Rattle.std.specs.Prelude.{Option, Some, None, if◌then◌else◌}
 use Rattle.std.specs.Ordering.{nat_cmp, is_lt, is_eq, is_le}
 use Rattle.std.specs.declared.cmp.Ordering.TheVariants.{Less}
 use Rattle.std.specs.declared.ops.Bound.TheVariants.{Included, Excluded}
 use Rattle.std.specs.List.{AllByRecursion}
 use Rattle.std.specs.List.Sorted.{IsStrictlySortedBy}
-use Rattle.std.specs.BTreeMap.{BTreeMap, get, is_at, IsOrdered}
+use Rattle.std.specs.BTreeMap.{get, is_at, IsOrdered}
 use Rattle.std.specs.BTreeMap.Range.{range_contains, entries_between}
 use Rattle.std.specs.Map.{lookup, keys_of}
 use Rattle.std.proofs.lemmas.Bool.{cases_lt, cases_eq, false≢true}
 use Rattle.pmf_event.specs.Ranges.{first_from, count_from, lesser, least_from}
-use Rattle.pmf_event.proofs.RangeLemmas.{NonePass, IsFirst, first_from-none, first_from-some, count_from-split, count_from-bound, count_from-all, count_from-none, least_from-split, least_from-alike, lesser-none, lesser-itself}
+use Rattle.pmf_event.proofs.RangeLemmas.{first_from-none, first_from-some, count_from-split, count_from-bound, count_from-all, count_from-none, least_from-split, least_from-alike}
 use Rattle.pmf_shadow.specs.declared.runs.RunMap.{RunMap}
 use Rattle.pmf_shadow.specs.Runs.{state_at, NoStart, passing, keyed}
 use Rattle.pmf_shadow.proofs.RunLemmas.{cmp-less, cmp-equal, cmp-greater, state-at_start, state-in_run}
@@ -77,24 +77,26 @@ module _ {S : Type 0} where
     walks-entries place (e ∷ es) within from sorted agree none = elim (cases_lt e.0 lo) [
       | inl below ↦
           let rest = walks-entries place es within from sorted.1
-            (λ q low high. agree q low high ∙ lookup-other q e es (λ same. omega arith))
-            (λ q low high. sym (lookup-other q e es (λ same. omega arith)) ∙ none q low high) in
+          (λ q low high. agree q low high ∙ lookup-other q e es (λ same. omega arith))
+          (λ q low high. sym (lookup-other q e es (λ same. omega arith)) ∙ none q low high) in
           subst (λ t. Walks r place hi (cond t (e ∷ entries_between nat_cmp (Included lo) (Excluded hi) es) (entries_between nat_cmp (Included lo) (Excluded hi) es))) (sym (contains-below lo hi e.0 below)) rest
       | inr above ↦ elim (cases_lt e.0 hi) [
         | inr beyond ↦
             let rest = walks-entries place es within from sorted.1
-              (λ q low high. agree q low high ∙ lookup-other q e es (λ same. omega arith))
-              (λ q low high. sym (lookup-other q e es (λ same. omega arith)) ∙ none q low high) in
+            (λ q low high. agree q low high ∙ lookup-other q e es (λ same. omega arith))
+            (λ q low high. sym (lookup-other q e es (λ same. omega arith)) ∙ none q low high) in
             subst (λ t. Walks r place hi (cond t (e ∷ entries_between nat_cmp (Included lo) (Excluded hi) es) (entries_between nat_cmp (Included lo) (Excluded hi) es))) (sym (contains-above lo hi e.0 beyond)) rest
         | inl inside ↦
             let after : place < e.0 = elim (cases_lt place e.0) [ inl later ↦ later | inr earlier ↦ let bad = sym (lookup-here e es) ∙ none e.0 above earlier in cc ] in
             let rest = walks-entries e.0 es inside (omega arith) sorted.1
-              (λ q low high. agree q (omega arith) high ∙ lookup-other q e es (λ same. omega arith))
-              (λ q low high. lookup-none e.0 es sorted.0 q high) in
-            let whole : Walks r place hi (e ∷ entries_between nat_cmp (Included lo) (Excluded hi) es) = (after,
+            (λ q low high. agree q (omega arith) high ∙ lookup-other q e es (λ same. omega arith))
+            (λ q low high. lookup-none e.0 es sorted.0 q high) in
+            let whole : Walks r place hi (e ∷ entries_between nat_cmp (Included lo) (Excluded hi) es) = (
+              after,
               (λ q low high. agree q (omega arith) (omega arith) ∙ lookup-other q e es (λ same. omega arith) ∙ lookup-none e.0 es sorted.0 q (omega arith)),
               agree e.0 after inside ∙ lookup-here e es,
-              rest) in
+              rest,
+            ) in
             subst (λ t. Walks r place hi (cond t (e ∷ entries_between nat_cmp (Included lo) (Excluded hi) es) (entries_between nat_cmp (Included lo) (Excluded hi) es))) (sym (contains-within lo hi e.0 above inside)) whole
       ]
     ]
@@ -216,6 +218,20 @@ module _ {S : Type 0} where
         let bound = count_from-bound (passing passes r) first (place - first) in
         let is = so_far.count_is in omega arith
 
+    pub counted-fits : (e : ℕ × S) (es rest : List (ℕ × S)) (count place : ℕ) (counts : Bool) → rest ≡ e ∷ es → Counted rest count place counts → count + (e.0 - place) ≤ end
+    counted-fits e es rest count place counts is so_far =
+        let walk : Walks r place end (e ∷ es) = subst (Walks r place end) is so_far.walk in
+        let bound = counted-bound rest count place counts so_far in
+        let before = so_far.from in
+        let after = walk.0 in
+        let within = walks-within r e.0 end es walk.3 in omega arith
+
+    pub counted-fits_end : (rest : List (ℕ × S)) (count place : ℕ) (counts : Bool) → Counted rest count place counts → count + (end - place) ≤ end
+    counted-fits_end rest count place counts so_far =
+        let bound = counted-bound rest count place counts so_far in
+        let before = so_far.from in
+        let within = walks-within r place end rest so_far.walk in omega arith
+
     counted-split : (place next : ℕ) → first ≤ place → place < next →
         count_from (passing passes r) first (next - first) ≡ count_from (passing passes r) first (place - first) + count_from (passing passes r) place (next - place)
     counted-split place next from after = count_from-split (passing passes r) first (place - first) (next - place) (next - first) place (omega arith) (omega arith)
@@ -284,7 +300,7 @@ module _ {S : Type 0} where
     least-with_run place next none from after =
         least_from-split (keyed key r) first (place - first) (next - place) (next - first) place (omega arith) (omega arith)
         ∙ ap (lesser (least_from (keyed key r) first (place - first)))
-          (least_from-alike (keyed key r) place (next - place) (keyed key r place) (omega arith) (λ k low high. key-alike place next k none low (omega arith)))
+        (least_from-alike (keyed key r) place (next - place) (keyed key r place) (omega arith) (λ k low high. key-alike place next k none low (omega arith)))
 
     least-upto : (place next : ℕ) → NoStart (place + 1) next r → first ≤ place → place < next →
         least_from (keyed key r) first (place + 1 - first) ≡ least_from (keyed key r) first (next - first)
@@ -300,20 +316,20 @@ module _ {S : Type 0} where
       place = first;
       from = omega arith;
       least_is = sym (least_from-alike (keyed key r) first (first + 1 - first) least (omega arith)
-        (λ k low high. let same : k ≡ first = omega arith in ap (keyed key r) same ∙ keyed-at first s (sym here) ∙ sym is));
+          (λ k low high. let same : k ≡ first = omega arith in ap (keyed key r) same ∙ keyed-at first s (sym here) ∙ sym is));
       walk = walk;
     }
 
-    pub least-more : (e : ℕ × S) (es rest : List (ℕ × S)) (least : Option ℕ) → rest ≡ e ∷ es → LeastSoFar rest least → LeastSoFar es (lesser least (key e.1))
-    least-more e es rest least is so_far =
+    pub least-more : (e : ℕ × S) (es rest : List (ℕ × S)) (least new_least : Option ℕ) → new_least ≡ lesser least (key e.1) → rest ≡ e ∷ es → LeastSoFar rest least → LeastSoFar es new_least
+    least-more e es rest least new_least new is so_far =
         let walk : Walks r so_far.place end (e ∷ es) = subst (Walks r so_far.place end) is so_far.walk in
         let before = so_far.from in
         let after = walk.0 in record {
           place = e.0;
           from = omega arith;
-          least_is = ap (λ x. lesser x (key e.1)) (so_far.least_is ∙ least-upto so_far.place e.0 walk.1 before after)
-            ∙ ap (lesser (least_from (keyed key r) first (e.0 - first))) (sym (keyed-at e.0 e.1 (walks-state r so_far.place end e es walk)))
-            ∙ sym (least-with_run e.0 (e.0 + 1) (λ q low high. absurd (omega arith)) (omega arith) (omega arith));
+          least_is = new ∙ ap (λ x. lesser x (key e.1)) (so_far.least_is ∙ least-upto so_far.place e.0 walk.1 before after)
+              ∙ ap (lesser (least_from (keyed key r) first (e.0 - first))) (sym (keyed-at e.0 e.1 (walks-state r so_far.place end e es walk)))
+              ∙ sym (least-with_run e.0 (e.0 + 1) (λ q low high. absurd (omega arith)) (omega arith) (omega arith));
           walk = walk.3;
         }
 

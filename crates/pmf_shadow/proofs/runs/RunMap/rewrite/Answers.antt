@@ -1,8 +1,8 @@
-use Rattle.std.proofs.Common.{◌≡◌, refl, sym, ◌∙◌, ap, subst, arith}
+use Rattle.std.proofs.Common.{◌≡◌, sym, ◌∙◌, ap, subst, arith}
 use Rattle.std.specs.Prelude.{Some}
 use Rattle.std.specs.Ordering.{nat_cmp}
 use Rattle.std.specs.BTreeMap.{get}
-use Rattle.pmf_shadow.specs.Runs.{ChangesBetween, state_at}
+use Rattle.pmf_shadow.specs.Runs.{ChangesBetween}
 use Rattle.pmf_shadow.proofs.RunLemmas.{start-is, start-kept, has_start-kept, state-at_start, puts-same, puts-before_next, changes-none, changes-run, changes-same}
 use Rattle.pmf_shadow.proofs.runs.RunMap.rewrite.Goals as goal
 
@@ -32,7 +32,7 @@ loop-start-preserved g c =
       ends = has_start-kept mid new start c.args.end v c.put.ensures c.loop-start-test.true so_far.ends;
       before = sym (puts-before_next mid new start there v c.put.ensures next.between next.after);
       changes = changes-run (g.C.Change.changed c.args.change.now) c.args.first start there c.loop-start.state c.args.self.now mid new
-        so_far.low next.after next.between c.next_run-next.result.1 next.start so_far.begins v c.changed-changed.ensures c.put.ensures so_far.changes;
+          so_far.low next.after next.between c.next_run-next.result.1 next.start so_far.begins v c.changed-changed.ensures c.put.ensures so_far.changes;
     }
 
 pub returns : goal.returns
