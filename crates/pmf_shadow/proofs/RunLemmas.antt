@@ -9,7 +9,8 @@ use Rattle.std.specs.BTreeMap.Range.{IsRangeOf}
 use Rattle.std.specs.Map.{lookup}
 use Rattle.std.proofs.lemmas.Bool.{cases_lt, cases_eq, le-leb, lt-ltb, le-ltb, lt-leb, ne_eqb, eq-eqb, false≢true}
 use Rattle.pmf_shadow.specs.declared.runs.RunMap.{RunMap}
-use Rattle.pmf_shadow.specs.Runs.{state_from, state_at, state_before, HasStart, SameStates, is_between, ChangesBetween, PutsState, NoStart}
+use Rattle.pmf_shadow.specs.Runs.{state_from, state_at, HasStart, SameStates, is_between, ChangesBetween}
+use Rattle.pmf_shadow.specs.RunSteps.{state_before, PutsState, NoStart, IsKept, IsNextChange}
 
 -- ---- the order of two numbers
 
@@ -226,13 +227,15 @@ module _ {S : Type 0} where
   pub has_start-kept : (old new : RunMap S) (start q : ℕ) (v : S) → PutsState start v old new → start < q → HasStart old q → HasStart new q
   has_start-kept old new start q v puts after has = ap is_some (puts.others q (λ same. omega arith)) ∙ has
 
-  pub puts-run : (old new : RunMap S) (start next b : ℕ) (v : S) → PutsState start v old new → NoStart (start + 1) next old → start ≤ b → b < next → state_at new b ≡ v
-  puts-run old new start next b v puts none from within =
-      state-in_run new start b from (λ q low high. puts.others q (λ same. omega arith) ∙ none q low (omega arith)) ∙ puts.here
+  has_start-before : (old new : RunMap S) (start q : ℕ) (v : S) → PutsState start v old new → start < q → HasStart new q → HasStart old q
+  has_start-before old new start q v puts after has = ap is_some (sym (puts.others q (λ same. omega arith))) ∙ has
 
-  pub puts-before_next : (old new : RunMap S) (start next : ℕ) (v : S) → PutsState start v old new → NoStart (start + 1) next old → start < next → state_before new next ≡ v
-  puts-before_next old new start next v puts none after =
-      before-in_run new start next after (λ q low high. puts.others q (λ same. omega arith) ∙ none q low high) ∙ puts.here
+  -- from another start on, nothing is changed
+  puts-beyond : (old new : RunMap S) (start lo b : ℕ) (v : S) → PutsState start v old new → start < lo → lo ≤ b → HasStart old lo → state_at new b ≡ state_at old b
+  puts-beyond old new start lo b v puts after from has =
+      let is = start-is old lo has in
+      puts-above old new start lo b v puts (omega arith) from
+      (state-at_start new lo (state_at old lo) (puts.others lo (λ same. omega arith) ∙ is))
 
   module _ (change : S → S) where
     changed : Bool → S → S
@@ -247,31 +250,43 @@ module _ {S : Type 0} where
       ];
     }
 
-    -- the run of one more start has its new state
-    pub changes-run : (first start next : ℕ) (s : S) (old mid new : RunMap S) → first ≤ start → start < next → NoStart (start + 1) next mid →
-        (next_state : S) → get nat_cmp mid.starts next ≡ Some next_state → get nat_cmp mid.starts start ≡ Some s →
+    changed-in_run : (start b : ℕ) (s v : S) (mid new : RunMap S) → PutsState start v mid new → v ≡ change s → get nat_cmp mid.starts start ≡ Some s →
+        start ≤ b → NoStart (start + 1) (b + 1) new → state_at new b ≡ change (state_at mid b)
+    changed-in_run start b s v mid new puts value is above none =
+        state-in_run new start b above none ∙ puts.here ∙ value
+        ∙ ap change (sym (state-at_start mid start s is) ∙ sym (state-in_run mid start b above (λ q low high. sym (puts.others q (λ same. omega arith)) ∙ none q low high)))
+
+    -- the run of one more start has its new state, and the runs up to the next one that changes are kept
+    pub changes-upto : (first start end next : ℕ) (s : S) (old mid new : RunMap S) → first ≤ start → IsNextChange new change start end next →
+        (next_state : S) → get nat_cmp new.starts next ≡ Some next_state → get nat_cmp mid.starts start ≡ Some s →
         (v : S) → v ≡ change s → PutsState start v mid new → ChangesBetween first start change old mid → ChangesBetween first next change old new
     unfolding changed
-    changes-run first start next s old mid new from after none next_state next_is is v value puts so_far = record {
+    changes-upto first start end next s old mid new from ahead next_state next_is is v value puts so_far = record {
       states = λ b. elim (cases_lt b start) [
         | inl below ↦ puts-below mid new start b v puts below ∙ so_far.states b
             ∙ ap (λ t. changed t (state_at old b)) (elim (cases_lt b first) [
               | inl early ↦ between-below first start b early ∙ sym (between-below first next b early)
-              | inr late ↦ between-yes first start b late below ∙ sym (between-yes first next b late (omega arith))
+              | inr late ↦ let after = ahead.after in between-yes first start b late below ∙ sym (between-yes first next b late (omega arith))
             ])
-        | inr above ↦ elim (cases_lt b next) [
-          | inl within ↦
-              let was : state_at mid b ≡ s = state-in_run mid start b above (λ q low high. none q low (omega arith)) ∙ state-at_start mid start s is in
-              let before : state_at mid b ≡ state_at old b = so_far.states b ∙ ap (λ t. changed t (state_at old b)) (between-above first start b above) in
-              puts-run mid new start next b v puts none above within
-              ∙ value ∙ ap change (sym was ∙ before)
-              ∙ sym (ap (λ t. changed t (state_at old b)) (between-yes first next b (omega arith) within))
-          | inr beyond ↦
-              let there : state_at new next ≡ state_at mid next =
-              state-at_start new next next_state (start-kept mid new start next v next_state puts after next_is) ∙ sym (state-at_start mid next next_state next_is) in
-              puts-above mid new start next b v puts (omega arith) beyond there ∙ so_far.states b
-              ∙ ap (λ t. changed t (state_at old b)) (between-above first start b above ∙ sym (between-above first next b beyond))
-        ]
+        | inr above ↦
+            let before : state_at mid b ≡ state_at old b = so_far.states b ∙ ap (λ t. changed t (state_at old b)) (between-above first start b above) in
+            elim (cases_lt b next) [
+              | inl within ↦
+                  let here : state_at new b ≡ change (state_at mid b) = elim (cases_lt start b) [
+                    | inl after ↦ elim (ahead.between b after within) [
+                      | inl none ↦ changed-in_run start b s v mid new puts value is above none
+                      | inr kept ↦
+                          let same : state_at new b ≡ state_at mid b = puts-beyond mid new start kept.start b v puts kept.after kept.upto (has_start-before mid new start kept.start v puts kept.after kept.has_start) in
+                          sym kept.same ∙ ap change same
+                    ]
+                    | inr upto ↦ changed-in_run start b s v mid new puts value is above (λ q low high. absurd (omega arith))
+                  ] in
+                  here ∙ ap change before
+                  ∙ sym (ap (λ t. changed t (state_at old b)) (between-yes first next b (omega arith) within))
+              | inr later ↦
+                  let same : state_at new b ≡ state_at mid b = puts-beyond mid new start next b v puts ahead.after later (has_start-before mid new start next v puts ahead.after (ap is_some next_is)) in
+                  same ∙ before ∙ sym (ap (λ t. changed t (state_at old b)) (between-above first next b later))
+            ]
       ];
     }
 
