@@ -10,6 +10,3 @@
 mod runs;
 
 pub use runs::{Change, Key, RunMap, State, Test};
-
-#[cfg(test)]
-mod tests;

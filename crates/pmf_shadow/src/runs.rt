@@ -8,6 +8,8 @@ use std::collections::BTreeMap;
 
 mod asking;
 mod changing;
+#[cfg(test)]
+mod tests;
 
 /// A small state that a [`RunMap`] may hold. Values that `==` calls equal are the same.
 pub trait State: Copy + PartialEq {
