@@ -4,3 +4,4 @@ pub mod PairLemmas
 pub mod AskLemmas
 pub mod WalkLemmas
 pub mod PieceLemmas
+pub mod OrderLemmas

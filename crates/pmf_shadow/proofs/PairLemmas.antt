@@ -109,7 +109,7 @@ second-is : (test : Stored → Stored → Bool) (k : Stored) (u v : Option Store
 second-is test k u None is = ap (λ w. both_hold test w None) is
 second-is test k u (Some m) is = ap (λ w. both_hold test w (Some m)) is
 
-late-monotone : (low high : ℕ) (w : Option ℕ) → low ≤ high → is_late high w ≡ true → is_late low w ≡ true
+pub late-monotone : (low high : ℕ) (w : Option ℕ) → low ≤ high → is_late high w ≡ true → is_late low w ≡ true
 late-monotone low high None below late = refl
 late-monotone low high (Some w) below late = let at_most = leb-true high w late in le-leb low w (omega arith)
 
@@ -250,11 +250,11 @@ module _ (line : ℕ) where
   ]
 
 module _ (ties : Bool) (kept : ℕ → Option Stored) where
-  by_lines-on : (x y : ℕ) → line_of_byte x ≡ line_of_byte y → by_lines ties kept x y ≡ both_hold (by_place ties) (kept x) (kept y)
+  pub by_lines-on : (x y : ℕ) → line_of_byte x ≡ line_of_byte y → by_lines ties kept x y ≡ both_hold (by_place ties) (kept x) (kept y)
   unfolding by_lines
   by_lines-on x y same = ap (λ v. if v then both_hold (by_place ties) (kept x) (kept y) else both_hold by_epoch (kept x) (kept y)) (eqb-true (line_of_byte x) (line_of_byte y) same)
 
-  by_lines-off : (x y : ℕ) → (line_of_byte x ≡ line_of_byte y → ⊥) → by_lines ties kept x y ≡ both_hold by_epoch (kept x) (kept y)
+  pub by_lines-off : (x y : ℕ) → (line_of_byte x ≡ line_of_byte y → ⊥) → by_lines ties kept x y ≡ both_hold by_epoch (kept x) (kept y)
   unfolding by_lines
   by_lines-off x y other = ap (λ v. if v then both_hold (by_place ties) (kept x) (kept y) else both_hold by_epoch (kept x) (kept y)) (eqb-false (line_of_byte x) (line_of_byte y) other)
 

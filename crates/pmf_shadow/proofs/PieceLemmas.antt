@@ -1,8 +1,9 @@
 -- A search of a span in three pieces: before a line, on it, and after it.
-use Rattle.std.proofs.Common.{◌≡◌, ℕ, zero, suc, ◌+◌, ◌-◌, ◌%◌, ◌<◌, ◌≤◌, Bool, true, false, refl, sym, ◌∙◌, ap, arith, inl, inr, min, max}
+use Rattle.std.proofs.Common.{◌≡◌, ℕ, zero, suc, ◌+◌, ◌-◌, ◌%◌, ◌<◌, ◌≤◌, Bool, true, false, refl, sym, ◌∙◌, ap, arith, subst, inl, inr, min, max}
 use Rattle.std.specs.Prelude.{◌⊎◌, Option, Some, None, is_some}
 use Rattle.std.proofs.lemmas.Bool.{cases_lt, cases_eq, leb-true, leb-false}
 use Rattle.std.specs.Prelude.{nat_le, if◌then◌else◌}
+use Rattle.pmf_event.specs.Span.{Extent}
 use Rattle.pmf_event.specs.Line.{line_of_byte}
 use Rattle.pmf_event.specs.Ranges.{first_from, lesser, least_from}
 use Rattle.pmf_event.proofs.LineLemmas.{line-bounds, line-unique}
@@ -223,3 +224,10 @@ module _ (line : ℕ) (aligned : line % 64 ≡ 0) (value : ℕ → Option ℕ) (
       ])
       (λ k v low high at. (low, omega arith, off_line-off line value k (below line aligned k (omega arith)) ∙ at))
       (λ k v low high at. (omega arith, omega arith, off_line-off line value k (above line aligned k (omega arith)) ∙ at))
+
+-- the least value of a whole span
+pub least-of_span : (value : ℕ → Option ℕ) (s : Extent) (first end : ℕ) (o : Option ℕ) → first ≡ s.first → end ≡ s.first + s.size →
+    o ≡ least_from value first (end - first) → IsLeastValue value s.first s.size o
+least-of_span value s first end o at_first at_end is =
+    let whole : end - first ≡ s.size = omega arith in
+    subst (IsLeastValue value s.first s.size) (sym (is ∙ ap (λ k. least_from value k (end - first)) at_first ∙ ap (least_from value s.first) whole)) (least_from-is value s.first s.size)

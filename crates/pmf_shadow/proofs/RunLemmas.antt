@@ -1,7 +1,7 @@
 -- The states of a map of runs: at a start, within a run, before a start, and after one run is changed.
 use Rattle.std.proofs.Common.{◌≡◌, ℕ, zero, suc, ◌+◌, ◌<◌, ◌≤◌, Bool, true, false, ◌&&◌, nat_lt, nat_le, if◌then◌else◌, nat_eq, List, [], ◌∷◌, ◌++◌, refl, sym, ◌∙◌, ap, subst, arith, inl, inr}
 use Rattle.std.specs.Prelude.{Option, Some, None, unwrap_or, is_some, IsSome}
-use Rattle.std.specs.Ordering.{nat_cmp, is_lt, is_gt, is_eq, is_le}
+use Rattle.std.specs.Ordering.{nat_cmp, is_lt, is_gt, is_eq}
 use Rattle.std.specs.declared.cmp.Ordering.TheVariants.{Less, Equal, Greater}
 use Rattle.std.specs.declared.ops.Bound.TheVariants.{Included, Excluded, Unbounded}
 use Rattle.std.specs.BTreeMap.{BTreeMap, get, is_at, Updates}
@@ -9,7 +9,8 @@ use Rattle.std.specs.BTreeMap.Range.{IsRangeOf}
 use Rattle.std.specs.Map.{lookup}
 use Rattle.std.proofs.lemmas.Bool.{cases_lt, cases_eq, le-leb, lt-ltb, le-ltb, lt-leb, ne_eqb, eq-eqb, false≢true}
 use Rattle.pmf_shadow.specs.declared.runs.RunMap.{RunMap}
-use Rattle.pmf_shadow.specs.Runs.{state_from, state_at, state_before, HasStart, SameStates, is_between, ChangesBetween, PutsState, NoStart, IsNextRun}
+use Rattle.pmf_shadow.specs.Runs.{state_from, state_at, HasStart, SameStates, is_between, ChangesBetween}
+use Rattle.pmf_shadow.specs.RunSteps.{state_before, PutsState, NoStart, IsKept, IsNextChange}
 
 -- ---- the order of two numbers
 
@@ -146,7 +147,7 @@ module _ {S : Type 0} where
       let here = range.3 e t is in
       let low : e.0 ≤ p = elim (cases_lt p e.0) [ inl above ↦ absurd (false≢true (sym (here.0.1) ∙ ap is_gt (cmp-greater e.0 p above))) | inr below ↦ below ] in
       state-in_run r e.0 p low (λ q after upto. none-from_test (get nat_cmp r.starts q) (is_lt (nat_cmp e.0 q)) (ap is_lt (cmp-less e.0 q (omega arith)))
-        (λ some. range.4 e t is q (tt, not_greater q p (omega arith)) some))
+      (λ some. range.4 e t is q (tt, not_greater q p (omega arith)) some))
       ∙ state-at_start r e.0 e.1 here.1
     where
       not_greater : (q p : ℕ) → q ≤ p → is_gt (nat_cmp q p) ≡ false
@@ -163,7 +164,7 @@ module _ {S : Type 0} where
       let here = range.3 e t is in
       let low : e.0 < p = elim (cases_lt e.0 p) [ inl below ↦ below | inr above ↦ absurd (not_less e.0 p above here.0.1) ] in
       before-in_run r e.0 p low (λ q after upto. none-from_test (get nat_cmp r.starts q) (is_lt (nat_cmp e.0 q)) (ap is_lt (cmp-less e.0 q (omega arith)))
-        (λ some. range.4 e t is q (tt, cmp-less q p upto) some))
+      (λ some. range.4 e t is q (tt, cmp-less q p upto) some))
       ∙ state-at_start r e.0 e.1 here.1
     where
       not_less : (k p : ℕ) → p ≤ k → nat_cmp k p ≡ Less → ⊥
@@ -194,7 +195,7 @@ module _ {S : Type 0} where
       record {
         gap = gap;
         here = state-no_start new start (get-updated old.starts new.starts start None u)
-          ∙ before-same old new start gap (λ q below. others q (λ same. omega arith)) ∙ sym before;
+            ∙ before-same old new start gap (λ q below. others q (λ same. omega arith)) ∙ sym before;
         others = others;
       }
 
@@ -226,13 +227,15 @@ module _ {S : Type 0} where
   pub has_start-kept : (old new : RunMap S) (start q : ℕ) (v : S) → PutsState start v old new → start < q → HasStart old q → HasStart new q
   has_start-kept old new start q v puts after has = ap is_some (puts.others q (λ same. omega arith)) ∙ has
 
-  pub puts-run : (old new : RunMap S) (start next b : ℕ) (v : S) → PutsState start v old new → NoStart (start + 1) next old → start ≤ b → b < next → state_at new b ≡ v
-  puts-run old new start next b v puts none from within =
-      state-in_run new start b from (λ q low high. puts.others q (λ same. omega arith) ∙ none q low (omega arith)) ∙ puts.here
+  has_start-before : (old new : RunMap S) (start q : ℕ) (v : S) → PutsState start v old new → start < q → HasStart new q → HasStart old q
+  has_start-before old new start q v puts after has = ap is_some (sym (puts.others q (λ same. omega arith))) ∙ has
 
-  pub puts-before_next : (old new : RunMap S) (start next : ℕ) (v : S) → PutsState start v old new → NoStart (start + 1) next old → start < next → state_before new next ≡ v
-  puts-before_next old new start next v puts none after =
-      before-in_run new start next after (λ q low high. puts.others q (λ same. omega arith) ∙ none q low high) ∙ puts.here
+  -- from another start on, nothing is changed
+  puts-beyond : (old new : RunMap S) (start lo b : ℕ) (v : S) → PutsState start v old new → start < lo → lo ≤ b → HasStart old lo → state_at new b ≡ state_at old b
+  puts-beyond old new start lo b v puts after from has =
+      let is = start-is old lo has in
+      puts-above old new start lo b v puts (omega arith) from
+      (state-at_start new lo (state_at old lo) (puts.others lo (λ same. omega arith) ∙ is))
 
   module _ (change : S → S) where
     changed : Bool → S → S
@@ -247,31 +250,43 @@ module _ {S : Type 0} where
       ];
     }
 
-    -- the run of one more start has its new state
-    pub changes-run : (first start next : ℕ) (s : S) (old mid new : RunMap S) → first ≤ start → start < next → NoStart (start + 1) next mid →
-        (next_state : S) → get nat_cmp mid.starts next ≡ Some next_state → get nat_cmp mid.starts start ≡ Some s →
+    changed-in_run : (start b : ℕ) (s v : S) (mid new : RunMap S) → PutsState start v mid new → v ≡ change s → get nat_cmp mid.starts start ≡ Some s →
+        start ≤ b → NoStart (start + 1) (b + 1) new → state_at new b ≡ change (state_at mid b)
+    changed-in_run start b s v mid new puts value is above none =
+        state-in_run new start b above none ∙ puts.here ∙ value
+        ∙ ap change (sym (state-at_start mid start s is) ∙ sym (state-in_run mid start b above (λ q low high. sym (puts.others q (λ same. omega arith)) ∙ none q low high)))
+
+    -- the run of one more start has its new state, and the runs up to the next one that changes are kept
+    pub changes-upto : (first start end next : ℕ) (s : S) (old mid new : RunMap S) → first ≤ start → IsNextChange new change start end next →
+        (next_state : S) → get nat_cmp new.starts next ≡ Some next_state → get nat_cmp mid.starts start ≡ Some s →
         (v : S) → v ≡ change s → PutsState start v mid new → ChangesBetween first start change old mid → ChangesBetween first next change old new
     unfolding changed
-    changes-run first start next s old mid new from after none next_state next_is is v value puts so_far = record {
+    changes-upto first start end next s old mid new from ahead next_state next_is is v value puts so_far = record {
       states = λ b. elim (cases_lt b start) [
         | inl below ↦ puts-below mid new start b v puts below ∙ so_far.states b
             ∙ ap (λ t. changed t (state_at old b)) (elim (cases_lt b first) [
               | inl early ↦ between-below first start b early ∙ sym (between-below first next b early)
-              | inr late ↦ between-yes first start b late below ∙ sym (between-yes first next b late (omega arith))
+              | inr late ↦ let after = ahead.after in between-yes first start b late below ∙ sym (between-yes first next b late (omega arith))
             ])
-        | inr above ↦ elim (cases_lt b next) [
-          | inl within ↦
-              let was : state_at mid b ≡ s = state-in_run mid start b above (λ q low high. none q low (omega arith)) ∙ state-at_start mid start s is in
-              let before : state_at mid b ≡ state_at old b = so_far.states b ∙ ap (λ t. changed t (state_at old b)) (between-above first start b above) in
-              puts-run mid new start next b v puts none above within
-              ∙ value ∙ ap change (sym was ∙ before)
-              ∙ sym (ap (λ t. changed t (state_at old b)) (between-yes first next b (omega arith) within))
-          | inr beyond ↦
-              let there : state_at new next ≡ state_at mid next =
-              state-at_start new next next_state (start-kept mid new start next v next_state puts after next_is) ∙ sym (state-at_start mid next next_state next_is) in
-              puts-above mid new start next b v puts (omega arith) beyond there ∙ so_far.states b
-              ∙ ap (λ t. changed t (state_at old b)) (between-above first start b above ∙ sym (between-above first next b beyond))
-        ]
+        | inr above ↦
+            let before : state_at mid b ≡ state_at old b = so_far.states b ∙ ap (λ t. changed t (state_at old b)) (between-above first start b above) in
+            elim (cases_lt b next) [
+              | inl within ↦
+                  let here : state_at new b ≡ change (state_at mid b) = elim (cases_lt start b) [
+                    | inl after ↦ elim (ahead.between b after within) [
+                      | inl none ↦ changed-in_run start b s v mid new puts value is above none
+                      | inr kept ↦
+                          let same : state_at new b ≡ state_at mid b = puts-beyond mid new start kept.start b v puts kept.after kept.upto (has_start-before mid new start kept.start v puts kept.after kept.has_start) in
+                          sym kept.same ∙ ap change same
+                    ]
+                    | inr upto ↦ changed-in_run start b s v mid new puts value is above (λ q low high. absurd (omega arith))
+                  ] in
+                  here ∙ ap change before
+                  ∙ sym (ap (λ t. changed t (state_at old b)) (between-yes first next b (omega arith) within))
+              | inr later ↦
+                  let same : state_at new b ≡ state_at mid b = puts-beyond mid new start next b v puts ahead.after later (has_start-before mid new start next v puts ahead.after (ap is_some next_is)) in
+                  same ∙ before ∙ sym (ap (λ t. changed t (state_at old b)) (between-above first next b later))
+            ]
       ];
     }
 

@@ -1,20 +1,21 @@
 -- A walk over the runs that lie in a range: what is left of it, and what a question has found so far.
-use Rattle.std.proofs.Common.{◌≡◌, ℕ, zero, suc, ◌+◌, ◌-◌, ◌<◌, ◌≤◌, Bool, true, false, not, ◌&&◌, cond, List, [], ◌∷◌, refl, sym, ◌∙◌, ap, subst, arith, inl, inr}
-use Rattle.std.specs.Prelude.{Option, Some, None, if◌then◌else◌}
+use Rattle.std.proofs.Common.{◌≡◌, ℕ, ◌+◌, ◌-◌, ◌<◌, ◌≤◌, Bool, true, false, not, ◌&&◌, cond, List, [], ◌∷◌, refl, sym, ◌∙◌, ap, subst, arith, inl, inr}
+use Rattle.std.specs.Prelude.{◌⊎◌, Option, Some, None, is_some, if◌then◌else◌}
 use Rattle.std.specs.Ordering.{nat_cmp, is_lt, is_eq, is_le}
 use Rattle.std.specs.declared.cmp.Ordering.TheVariants.{Less}
 use Rattle.std.specs.declared.ops.Bound.TheVariants.{Included, Excluded}
 use Rattle.std.specs.List.{AllByRecursion}
 use Rattle.std.specs.List.Sorted.{IsStrictlySortedBy}
-use Rattle.std.specs.BTreeMap.{BTreeMap, get, is_at, IsOrdered}
+use Rattle.std.specs.BTreeMap.{get, is_at, IsOrdered}
 use Rattle.std.specs.BTreeMap.Range.{range_contains, entries_between}
 use Rattle.std.specs.Map.{lookup, keys_of}
 use Rattle.std.proofs.lemmas.Bool.{cases_lt, cases_eq, false≢true}
 use Rattle.pmf_event.specs.Ranges.{first_from, count_from, lesser, least_from}
-use Rattle.pmf_event.proofs.RangeLemmas.{NonePass, IsFirst, first_from-none, first_from-some, count_from-split, count_from-bound, count_from-all, count_from-none, least_from-split, least_from-alike, lesser-none, lesser-itself}
+use Rattle.pmf_event.proofs.RangeLemmas.{first_from-none, first_from-some, count_from-split, count_from-bound, count_from-all, count_from-none, least_from-split, least_from-alike}
 use Rattle.pmf_shadow.specs.declared.runs.RunMap.{RunMap}
-use Rattle.pmf_shadow.specs.Runs.{state_at, NoStart, passing, keyed}
-use Rattle.pmf_shadow.proofs.RunLemmas.{cmp-less, cmp-equal, cmp-greater, state-at_start, state-in_run}
+use Rattle.pmf_shadow.specs.Runs.{state_at, HasStart, passing, keyed}
+use Rattle.pmf_shadow.specs.RunSteps.{state_before, NoStart, IsKept, IsNextChange}
+use Rattle.pmf_shadow.proofs.RunLemmas.{cmp-less, cmp-equal, cmp-greater, state-at_start, state-in_run, before-in_run}
 
 -- the entries are the starts after place up to the end, in order
 abbrev pub Walks : {S : Type 0} → RunMap S → ℕ → ℕ → List (ℕ × S) → Type 0
@@ -54,6 +55,15 @@ less-below k y less = elim (cases_lt k y) [
   ])
 ]
 
+past-same : (hi k : ℕ) → is_lt (nat_cmp hi k) ≡ is_le (nat_cmp (hi + 1) k)
+past-same hi k = elim (cases_lt hi k) [
+  | inl after ↦ ap is_lt (cmp-less hi k after) ∙ sym (not_above (hi + 1) k (omega arith))
+  | inr upto ↦ elim (cases_eq hi k) [
+    | inl same ↦ ap is_lt (cmp-equal hi k same) ∙ sym (ap is_le (cmp-greater (hi + 1) k (omega arith)))
+    | inr other ↦ ap is_lt (cmp-greater hi k (omega arith)) ∙ sym (ap is_le (cmp-greater (hi + 1) k (omega arith)))
+  ]
+]
+
 module _ {S : Type 0} where
   lookup-other : (q : ℕ) (e : ℕ × S) (es : List (ℕ × S)) → (q ≡ e.0 → ⊥) → lookup (is_at (nat_cmp q)) (e ∷ es) ≡ lookup (is_at (nat_cmp q)) es
   lookup-other q e es other = ap (λ t. cond t (Some e.1) (lookup (is_at (nat_cmp q)) es)) (not_at q e.0 other)
@@ -77,24 +87,26 @@ module _ {S : Type 0} where
     walks-entries place (e ∷ es) within from sorted agree none = elim (cases_lt e.0 lo) [
       | inl below ↦
           let rest = walks-entries place es within from sorted.1
-            (λ q low high. agree q low high ∙ lookup-other q e es (λ same. omega arith))
-            (λ q low high. sym (lookup-other q e es (λ same. omega arith)) ∙ none q low high) in
+          (λ q low high. agree q low high ∙ lookup-other q e es (λ same. omega arith))
+          (λ q low high. sym (lookup-other q e es (λ same. omega arith)) ∙ none q low high) in
           subst (λ t. Walks r place hi (cond t (e ∷ entries_between nat_cmp (Included lo) (Excluded hi) es) (entries_between nat_cmp (Included lo) (Excluded hi) es))) (sym (contains-below lo hi e.0 below)) rest
       | inr above ↦ elim (cases_lt e.0 hi) [
         | inr beyond ↦
             let rest = walks-entries place es within from sorted.1
-              (λ q low high. agree q low high ∙ lookup-other q e es (λ same. omega arith))
-              (λ q low high. sym (lookup-other q e es (λ same. omega arith)) ∙ none q low high) in
+            (λ q low high. agree q low high ∙ lookup-other q e es (λ same. omega arith))
+            (λ q low high. sym (lookup-other q e es (λ same. omega arith)) ∙ none q low high) in
             subst (λ t. Walks r place hi (cond t (e ∷ entries_between nat_cmp (Included lo) (Excluded hi) es) (entries_between nat_cmp (Included lo) (Excluded hi) es))) (sym (contains-above lo hi e.0 beyond)) rest
         | inl inside ↦
             let after : place < e.0 = elim (cases_lt place e.0) [ inl later ↦ later | inr earlier ↦ let bad = sym (lookup-here e es) ∙ none e.0 above earlier in cc ] in
             let rest = walks-entries e.0 es inside (omega arith) sorted.1
-              (λ q low high. agree q (omega arith) high ∙ lookup-other q e es (λ same. omega arith))
-              (λ q low high. lookup-none e.0 es sorted.0 q high) in
-            let whole : Walks r place hi (e ∷ entries_between nat_cmp (Included lo) (Excluded hi) es) = (after,
+            (λ q low high. agree q (omega arith) high ∙ lookup-other q e es (λ same. omega arith))
+            (λ q low high. lookup-none e.0 es sorted.0 q high) in
+            let whole : Walks r place hi (e ∷ entries_between nat_cmp (Included lo) (Excluded hi) es) = (
+              after,
               (λ q low high. agree q (omega arith) (omega arith) ∙ lookup-other q e es (λ same. omega arith) ∙ lookup-none e.0 es sorted.0 q (omega arith)),
               agree e.0 after inside ∙ lookup-here e es,
-              rest) in
+              rest,
+            ) in
             subst (λ t. Walks r place hi (cond t (e ∷ entries_between nat_cmp (Included lo) (Excluded hi) es) (entries_between nat_cmp (Included lo) (Excluded hi) es))) (sym (contains-within lo hi e.0 above inside)) whole
       ]
     ]
@@ -216,6 +228,20 @@ module _ {S : Type 0} where
         let bound = count_from-bound (passing passes r) first (place - first) in
         let is = so_far.count_is in omega arith
 
+    pub counted-fits : (e : ℕ × S) (es rest : List (ℕ × S)) (count place : ℕ) (counts : Bool) → rest ≡ e ∷ es → Counted rest count place counts → count + (e.0 - place) ≤ end
+    counted-fits e es rest count place counts is so_far =
+        let walk : Walks r place end (e ∷ es) = subst (Walks r place end) is so_far.walk in
+        let bound = counted-bound rest count place counts so_far in
+        let before = so_far.from in
+        let after = walk.0 in
+        let within = walks-within r e.0 end es walk.3 in omega arith
+
+    pub counted-fits_end : (rest : List (ℕ × S)) (count place : ℕ) (counts : Bool) → Counted rest count place counts → count + (end - place) ≤ end
+    counted-fits_end rest count place counts so_far =
+        let bound = counted-bound rest count place counts so_far in
+        let before = so_far.from in
+        let within = walks-within r place end rest so_far.walk in omega arith
+
     counted-split : (place next : ℕ) → first ≤ place → place < next →
         count_from (passing passes r) first (next - first) ≡ count_from (passing passes r) first (place - first) + count_from (passing passes r) place (next - place)
     counted-split place next from after = count_from-split (passing passes r) first (place - first) (next - place) (next - first) place (omega arith) (omega arith)
@@ -284,7 +310,7 @@ module _ {S : Type 0} where
     least-with_run place next none from after =
         least_from-split (keyed key r) first (place - first) (next - place) (next - first) place (omega arith) (omega arith)
         ∙ ap (lesser (least_from (keyed key r) first (place - first)))
-          (least_from-alike (keyed key r) place (next - place) (keyed key r place) (omega arith) (λ k low high. key-alike place next k none low (omega arith)))
+        (least_from-alike (keyed key r) place (next - place) (keyed key r place) (omega arith) (λ k low high. key-alike place next k none low (omega arith)))
 
     least-upto : (place next : ℕ) → NoStart (place + 1) next r → first ≤ place → place < next →
         least_from (keyed key r) first (place + 1 - first) ≡ least_from (keyed key r) first (next - first)
@@ -300,20 +326,20 @@ module _ {S : Type 0} where
       place = first;
       from = omega arith;
       least_is = sym (least_from-alike (keyed key r) first (first + 1 - first) least (omega arith)
-        (λ k low high. let same : k ≡ first = omega arith in ap (keyed key r) same ∙ keyed-at first s (sym here) ∙ sym is));
+          (λ k low high. let same : k ≡ first = omega arith in ap (keyed key r) same ∙ keyed-at first s (sym here) ∙ sym is));
       walk = walk;
     }
 
-    pub least-more : (e : ℕ × S) (es rest : List (ℕ × S)) (least : Option ℕ) → rest ≡ e ∷ es → LeastSoFar rest least → LeastSoFar es (lesser least (key e.1))
-    least-more e es rest least is so_far =
+    pub least-more : (e : ℕ × S) (es rest : List (ℕ × S)) (least new_least : Option ℕ) → new_least ≡ lesser least (key e.1) → rest ≡ e ∷ es → LeastSoFar rest least → LeastSoFar es new_least
+    least-more e es rest least new_least new is so_far =
         let walk : Walks r so_far.place end (e ∷ es) = subst (Walks r so_far.place end) is so_far.walk in
         let before = so_far.from in
         let after = walk.0 in record {
           place = e.0;
           from = omega arith;
-          least_is = ap (λ x. lesser x (key e.1)) (so_far.least_is ∙ least-upto so_far.place e.0 walk.1 before after)
-            ∙ ap (lesser (least_from (keyed key r) first (e.0 - first))) (sym (keyed-at e.0 e.1 (walks-state r so_far.place end e es walk)))
-            ∙ sym (least-with_run e.0 (e.0 + 1) (λ q low high. absurd (omega arith)) (omega arith) (omega arith));
+          least_is = new ∙ ap (λ x. lesser x (key e.1)) (so_far.least_is ∙ least-upto so_far.place e.0 walk.1 before after)
+              ∙ ap (lesser (least_from (keyed key r) first (e.0 - first))) (sym (keyed-at e.0 e.1 (walks-state r so_far.place end e es walk)))
+              ∙ sym (least-with_run e.0 (e.0 + 1) (λ q low high. absurd (omega arith)) (omega arith) (omega arith));
           walk = walk.3;
         }
 
@@ -321,3 +347,103 @@ module _ {S : Type 0} where
     least-end rest least is so_far =
         let walk : Walks r so_far.place end [] = subst (Walks r so_far.place end) is so_far.walk in
         so_far.least_is ∙ least-upto so_far.place end walk.1 so_far.from walk.0
+
+  -- ---- the next run that a change has to look at
+
+  module _ (change : S → S) (r : RunMap S) (first end : ℕ) where
+    abbrev Stays : ℕ → Type 0
+    Stays k = NoStart (first + 1) (k + 1) r ⊎ IsKept r change first k
+
+    -- the walk has met nothing but kept runs, and holds the state of the last
+    pub record Keeps (rest : List (ℕ × S)) (before : S) : Type 0 where
+      pub place : ℕ
+      pub from : first ≤ place
+      pub below : place < end
+      pub before_is : before ≡ state_at r place
+      pub kept : (k : ℕ) → first < k → k ≤ place → Stays k
+      pub walk : Walks r place (end + 1) rest
+
+    pub keeps-start : (rest : List (ℕ × S)) (before : S) → first < end → before ≡ state_at r first → Walks r first (end + 1) rest → Keeps rest before
+    keeps-start rest before within is walk = record {
+      place = first;
+      from = omega arith;
+      below = within;
+      before_is = is;
+      kept = λ k after upto. absurd (omega arith);
+      walk = walk;
+    }
+
+    kept-in_run : (rest : List (ℕ × S)) (before : S) (keeps : Keeps rest before) (next : ℕ) → NoStart (keeps.place + 1) next r → (k : ℕ) → first < k → k < next → Stays k
+    kept-in_run rest before keeps next none k after within = elim (cases_lt keeps.place k) [
+      | inr upto ↦ keeps.kept k after upto
+      | inl later ↦ elim (cases_eq keeps.place first) [
+        | inl same ↦ inl (λ q low high. none q (omega arith) (omega arith))
+        | inr other ↦ let from = keeps.from in elim (keeps.kept keeps.place (omega arith) (omega arith)) [
+          | inl free ↦ inl (λ q low high. elim (cases_lt keeps.place q) [ inl above ↦ none q (omega arith) (omega arith) | inr upto ↦ free q low (omega arith) ])
+          | inr kept ↦ let upto = kept.upto in inr (record {
+            start = kept.start;
+            after = kept.after;
+            upto = omega arith;
+            has_start = kept.has_start;
+            same = let alike = run-alike r keeps.place next k none (omega arith) within in ap change alike ∙ kept.same ∙ sym alike;
+          })
+        ]
+      ]
+    ]
+
+    pub keeps-more : (e : ℕ × S) (es rest : List (ℕ × S)) (before : S) → rest ≡ e ∷ es → Keeps rest before → (e.0 ≡ end → ⊥) → change e.1 ≡ e.1 → Keeps es e.1
+    keeps-more e es rest before is keeps other same =
+        let walk : Walks r keeps.place (end + 1) (e ∷ es) = subst (Walks r keeps.place (end + 1)) is keeps.walk in
+        let from = keeps.from in
+        let after = walk.0 in
+        let here = walks-state r keeps.place (end + 1) e es walk in
+        let within = walks-within r e.0 (end + 1) es walk.3 in record {
+          place = e.0;
+          from = omega arith;
+          below = omega arith;
+          before_is = sym here;
+          kept = λ k later upto. elim (cases_eq k e.0) [
+            | inr apart ↦ kept-in_run rest before keeps e.0 walk.1 k later (omega arith)
+            | inl equal ↦ inr (record {
+              start = e.0;
+              after = omega arith;
+              upto = omega arith;
+              has_start = ap is_some walk.2;
+              same = let is_e : state_at r k ≡ e.1 = ap (state_at r) equal ∙ here in ap change is_e ∙ same ∙ sym is_e;
+            })
+          ];
+          walk = walk.3;
+        }
+
+    pub keeps-next : (e : ℕ × S) (es rest : List (ℕ × S)) (before : S) → rest ≡ e ∷ es → Keeps rest before → IsNextChange r change first end e.0
+    keeps-next e es rest before is keeps =
+        let walk : Walks r keeps.place (end + 1) (e ∷ es) = subst (Walks r keeps.place (end + 1)) is keeps.walk in
+        let from = keeps.from in
+        let after = walk.0 in
+        let within = walks-within r e.0 (end + 1) es walk.3 in record {
+          after = omega arith;
+          within = omega arith;
+          between = λ k later below. kept-in_run rest before keeps e.0 walk.1 k later below;
+        }
+
+    pub keeps-run : (e : ℕ × S) (es rest : List (ℕ × S)) (before : S) → rest ≡ e ∷ es → Keeps rest before → (get nat_cmp r.starts e.0 ≡ Some e.1) × (before ≡ state_before r e.0)
+    keeps-run e es rest before is keeps =
+        let walk : Walks r keeps.place (end + 1) (e ∷ es) = subst (Walks r keeps.place (end + 1)) is keeps.walk in
+        (walk.2, keeps.before_is ∙ sym (before-in_run r keeps.place e.0 walk.0 walk.1))
+
+    -- the walk meets the end, which is a start
+    pub keeps-not_all : (rest : List (ℕ × S)) (before : S) → rest ≡ [] → Keeps rest before → HasStart r end → ⊥
+    keeps-not_all rest before is keeps has =
+        let walk : Walks r keeps.place (end + 1) [] = subst (Walks r keeps.place (end + 1)) is keeps.walk in
+        let below = keeps.below in
+        false≢true (sym (ap is_some (walk.1 end (omega arith) (omega arith))) ∙ has)
+
+  same-bound : (lo hi : ℕ) (es : List (ℕ × S)) → entries_between nat_cmp (Included lo) (Included hi) es ≡ entries_between nat_cmp (Included lo) (Excluded (hi + 1)) es
+  same-bound lo hi [] = refl
+  same-bound lo hi (e ∷ es) =
+      ap (λ v. cond (is_le (nat_cmp lo e.0) && not v) (e ∷ entries_between nat_cmp (Included lo) (Included hi) es) (entries_between nat_cmp (Included lo) (Included hi) es)) (past-same hi e.0)
+      ∙ ap (λ rest. cond (is_le (nat_cmp lo e.0) && not (is_le (nat_cmp (hi + 1) e.0))) (e ∷ rest) rest) (same-bound lo hi es)
+
+  -- what `range(first + 1..=end)` gives
+  pub walks-range_to : (r : RunMap S) (first end : ℕ) (es : List (ℕ × S)) → first < end → IsOrdered nat_cmp r.starts → es ≡ entries_between nat_cmp (Included (first + 1)) (Included end) r.starts.entries → Walks r first (end + 1) es
+  walks-range_to r first end es within ordered is = walks-range r first (end + 1) es (omega arith) ordered (is ∙ same-bound (first + 1) end r.starts.entries)

@@ -1,6 +1,6 @@
 -- A map from numbers to states that is kept as runs: a run begins at each start and ends where the
 -- next one begins, and the gap's state holds before the first. Defined here.
-use Rattle.std.specs.Prelude.{◌≡◌, ℕ, zero, suc, ◌+◌, ◌<◌, ◌≤◌, Bool, ◌&&◌, nat_lt, nat_le, Option, None, Some, if◌then◌else◌, unwrap_or}
+use Rattle.std.specs.Prelude.{◌≡◌, ℕ, zero, suc, Bool, ◌&&◌, nat_lt, nat_le, Option, if◌then◌else◌, unwrap_or}
 use Rattle.std.specs.Ordering.{nat_cmp}
 use Rattle.std.specs.BTreeMap.{BTreeMap, ContainsKey, get}
 use Rattle.pmf_shadow.specs.declared.runs.RunMap.{RunMap}
@@ -13,11 +13,6 @@ state_from gap starts (suc b) = unwrap_or (get nat_cmp starts (suc b)) (state_fr
 -- the state of a number in a map of runs
 unfoldable pub state_at : {S : Type 0} → RunMap S → ℕ → S
 state_at runs b = state_from runs.gap runs.starts b
-
--- the state that holds right before a number, which before 0 is the gap's
-unfoldable pub state_before : {S : Type 0} → RunMap S → ℕ → S
-state_before runs zero = runs.gap
-state_before runs (suc b) = state_at runs b
 
 -- the map has a start at the number
 abbrev pub HasStart : {S : Type 0} → RunMap S → ℕ → Type 0
@@ -42,20 +37,3 @@ passing passes runs b = passes (state_at runs b)
 -- the key that the state of a number has, if it has one
 unfoldable pub keyed : {S : Type 0} → (S → Option ℕ) → RunMap S → ℕ → Option ℕ
 keyed key runs b = key (state_at runs b)
-
--- the run that begins at the start has the state, and no other start and no gap is another
-pub record PutsState {S : Type 0} (start : ℕ) (state : S) (old new : RunMap S) : Type 0 where
-  pub gap : new.gap ≡ old.gap
-  pub here : state_at new start ≡ state
-  pub others : (b : ℕ) → (b ≡ start → ⊥) → get nat_cmp new.starts b ≡ get nat_cmp old.starts b
-
--- no run begins from first up to the end
-abbrev pub NoStart : {S : Type 0} → ℕ → ℕ → RunMap S → Type 0
-NoStart first end runs = (b : ℕ) → first ≤ b → b < end → get nat_cmp runs.starts b ≡ None
-
--- the run after the one of a number begins at next, no later than the end
-pub record IsNextRun {S : Type 0} (runs : RunMap S) (place end next : ℕ) (state : S) : Type 0 where
-  pub after : place < next
-  pub within : next ≤ end
-  pub start : get nat_cmp runs.starts next ≡ Some state
-  pub between : NoStart (place + 1) next runs

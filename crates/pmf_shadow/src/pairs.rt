@@ -36,18 +36,21 @@ impl Shadow {
     {
         let epoch = self.bytes.least_key(b.first(), end_of(b), &Opening)?;
         let byte = self.first_in(a, &IsLate { epoch })?;
-        let written_back = self.bytes.at(byte).checked()?.written_back;
-        let after = self.first_in(b, &ComesAfter { written_back })?;
+        let stored = self.bytes.at(byte).checked()?;
+        let later = ComesAfter { written_back: stored.written_back };
+        let after = self.first_in(b, &later)?;
         Some((byte, after))
     }
 
     // The least pair by the order of stores on one line, and by epochs elsewhere. The earliest epoch
     // of `b` lies on one line; every byte off that line meets it there.
     fn least_by_lines(&self, a: &Span, b: &Span, ties: bool) -> Option<(u64, u64)>
-        ensures { result ≡ least_pair (by_lines ties (kept self.now.bytes)) a.now b.now }
+        ensures { (es : List Event) (p : ℕ) → StandsFor self.now es p
+            → result ≡ least_pair (by_lines ties (kept self.now.bytes)) a.now b.now }
     {
         let epoch = self.bytes.least_key(b.first(), end_of(b), &Opening)?;
-        let line = line_of(self.first_in(b, &OpensIn { epoch })?);
+        let early = self.first_in(b, &OpensIn { epoch })?;
+        let line = line_of(early);
         let first = self.least_place_on(b, line)?;
         let elsewhere = self.least_opening_off(b, line);
         let has_one = HasOneBy { ties, first, elsewhere };

@@ -8,6 +8,8 @@ use std::collections::BTreeMap;
 
 mod asking;
 mod changing;
+#[cfg(test)]
+mod tests;
 
 pub(crate) use self::asking::lesser;
 
@@ -61,7 +63,8 @@ pub struct RunMap<S> {
 }
 
 impl<S: State> RunMap<S> {
-    ghost use Rattle.pmf_shadow.specs.Runs.{HasStart, SameStates, ChangesBetween, state_at, state_before};
+    ghost use Rattle.pmf_shadow.specs.Runs.{HasStart, SameStates, ChangesBetween, state_at};
+    ghost use Rattle.pmf_shadow.specs.RunSteps.{state_before};
 
     /// The map in which each number has the state `gap`. It takes no memory.
     pub fn new(alloc: Global, gap: S) -> RunMap<S>

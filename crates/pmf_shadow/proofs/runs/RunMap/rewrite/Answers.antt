@@ -1,47 +1,42 @@
-use Rattle.std.proofs.Common.{◌≡◌, refl, sym, ◌∙◌, ap, subst, arith}
-use Rattle.std.specs.Prelude.{Some}
-use Rattle.std.specs.Ordering.{nat_cmp}
-use Rattle.std.specs.BTreeMap.{get}
-use Rattle.pmf_shadow.specs.Runs.{ChangesBetween, state_at}
-use Rattle.pmf_shadow.proofs.RunLemmas.{start-is, start-kept, has_start-kept, state-at_start, puts-same, puts-before_next, changes-none, changes-run, changes-same}
+use Rattle.std.proofs.Common.{◌≡◌, sym, subst, arith}
+use Rattle.pmf_shadow.specs.Runs.{ChangesBetween}
+use Rattle.pmf_shadow.proofs.RunLemmas.{has_start-kept, state-at_start, puts-same, changes-none, changes-upto, changes-same}
 use Rattle.pmf_shadow.proofs.runs.RunMap.rewrite.Goals as goal
 
-pub loop-start-init : goal.loop-start-init
-loop-start-init g c = record {
-  low = omega arith;
-  high = c.requires.ordered;
-  begins = start-is c.args.self.now c.args.first c.requires.starts_at_first ∙ ap (λ s. Some s) (sym c.at-state.ensures);
-  ends = c.requires.starts_at_end;
-  before = c.before-before.ensures;
-  changes = changes-none (g.C.Change.changed c.args.change.now) c.args.first c.args.self.now;
-}
+pub loop-run-init : goal.loop-run-init
+loop-run-init g c =
+    let at_first = c.run_at-run.ensures.start in record {
+      low = omega (arith, at_first);
+      high = let ordered = c.requires.ordered in omega (arith, at_first);
+      run = c.run_at-run.ensures.run;
+      ends = c.requires.starts_at_end;
+      changes = subst (λ b. ChangesBetween c.args.first b (g.C.Change.changed c.args.change.now) c.args.self.now c.args.self.now) (sym at_first)
+          (changes-none (g.C.Change.changed c.args.change.now) c.args.first c.args.self.now);
+    }
 
-pub loop-start-preserved : goal.loop-start-preserved
-loop-start-preserved g c =
-    let so_far = c.loop-start.invariant in
-    let next = c.next_run-next.ensures in
-    let mid = c.loop-start.self in
-    let new = c.put.new.self in
-    let start = c.loop-start.start in
-    let there = c.next_run-next.result.0 in
-    let v = c.changed-changed.result in
-    record {
-      low = omega (arith, so_far.low, next.after);
-      high = next.within;
-      begins = start-kept mid new start there v c.next_run-next.result.1 c.put.ensures next.after next.start;
-      ends = has_start-kept mid new start c.args.end v c.put.ensures c.loop-start-test.true so_far.ends;
-      before = sym (puts-before_next mid new start there v c.put.ensures next.between next.after);
-      changes = changes-run (g.C.Change.changed c.args.change.now) c.args.first start there c.loop-start.state c.args.self.now mid new
-        so_far.low next.after next.between c.next_run-next.result.1 next.start so_far.begins v c.changed-changed.ensures c.put.ensures so_far.changes;
+pub next_to_change-run-requires-clause-starts_at_end : goal.next_to_change-run-requires-clause-starts_at_end
+next_to_change-run-requires-clause-starts_at_end g c =
+    has_start-kept c.loop-run.self c.put.new.self c.loop-run.run.start c.args.end c.changed-changed.result c.put.ensures c.loop-run-test.true c.loop-run.invariant.ends
+
+pub loop-run-preserved : goal.loop-run-preserved
+loop-run-preserved g c =
+    let so_far = c.loop-run.invariant in
+    let ahead = c.next_to_change-run.ensures.next in record {
+      low = let low = so_far.low in let after = ahead.after in omega arith;
+      high = ahead.within;
+      run = c.next_to_change-run.ensures.run;
+      ends = has_start-kept c.loop-run.self c.put.new.self c.loop-run.run.start c.args.end c.changed-changed.result c.put.ensures c.loop-run-test.true so_far.ends;
+      changes = changes-upto (g.C.Change.changed c.args.change.now) c.args.first c.loop-run.run.start c.args.end c.next_to_change-run.result.start c.loop-run.run.state
+          c.args.self.now c.loop-run.self c.put.new.self so_far.low ahead c.next_to_change-run.result.state c.next_to_change-run.ensures.run.start so_far.run.start
+          c.changed-changed.result c.changed-changed.ensures c.put.ensures so_far.changes;
     }
 
 pub returns : goal.returns
 returns g c =
-    let so_far = c.loop-start.invariant in
-    let mid = c.loop-start.self in
-    let at_end : c.loop-start.start ≡ c.args.end = omega (arith, so_far.high, c.loop-start-test.false) in
-    let begins : get nat_cmp mid.starts c.args.end ≡ Some c.loop-start.state = subst (λ b. get nat_cmp mid.starts b ≡ Some c.loop-start.state) at_end so_far.begins in
-    let changes : ChangesBetween c.args.first c.args.end (g.C.Change.changed c.args.change.now) c.args.self.now mid =
-    subst (λ b. ChangesBetween c.args.first b (g.C.Change.changed c.args.change.now) c.args.self.now mid) at_end so_far.changes in
-    changes-same (g.C.Change.changed c.args.change.now) c.args.first c.args.end c.args.self.now mid c.put-2.new.self changes
-    (puts-same mid c.put-2.new.self c.args.end c.loop-start.state c.put-2.ensures (sym (state-at_start mid c.args.end c.loop-start.state begins)))
+    let so_far = c.loop-run.invariant in
+    let at_end : c.loop-run.run.start ≡ c.args.end = omega (arith, so_far.high, c.loop-run-test.false) in
+    let changes : ChangesBetween c.args.first c.args.end (g.C.Change.changed c.args.change.now) c.args.self.now c.loop-run.self =
+    subst (λ b. ChangesBetween c.args.first b (g.C.Change.changed c.args.change.now) c.args.self.now c.loop-run.self) at_end so_far.changes in
+    changes-same (g.C.Change.changed c.args.change.now) c.args.first c.args.end c.args.self.now c.loop-run.self c.put-2.new.self changes
+    (puts-same c.loop-run.self c.put-2.new.self c.loop-run.run.start c.loop-run.run.state c.put-2.ensures
+    (sym (state-at_start c.loop-run.self c.loop-run.run.start c.loop-run.run.state so_far.run.start)))

@@ -1,18 +1,16 @@
-use Rattle.std.proofs.Common.{◌≡◌, ◌≤◌, ◌-◌, Some}
-use Rattle.std.specs.Ordering.{nat_cmp}
-use Rattle.std.specs.BTreeMap.{get}
-use Rattle.pmf_shadow.specs.Runs.{HasStart, ChangesBetween, state_before}
+use Rattle.std.proofs.Common.{◌≤◌, ◌-◌}
+use Rattle.pmf_shadow.specs.Runs.{HasStart, ChangesBetween}
+use Rattle.pmf_shadow.specs.RunSteps.{IsRun}
 use Rattle.pmf_shadow.proofs.runs.RunMap.rewrite.Given as goal
 
-abbrev pub invariant-loop-start : goal.invariant-loop-start
-invariant-loop-start g l = record {
-  low : l.first ≤ l.start;
-  high : l.start ≤ l.end;
-  begins : get nat_cmp l.self.starts l.start ≡ Some l.state;
+abbrev pub invariant-loop-run : goal.invariant-loop-run
+invariant-loop-run g l = record {
+  low : l.first ≤ l.run.start;
+  high : l.run.start ≤ l.end;
+  run : IsRun l.self l.run;
   ends : HasStart l.self l.end;
-  before : l.before ≡ state_before l.self l.start;
-  changes : ChangesBetween l.first l.start (g.C.Change.changed l.change) l.initial.self l.self;
+  changes : ChangesBetween l.first l.run.start (g.C.Change.changed l.change) l.initial.self l.self;
 }
 
-abbrev pub decreases-loop-start : goal.decreases-loop-start
-decreases-loop-start g l = l.end - l.start
+abbrev pub decreases-loop-run : goal.decreases-loop-run
+decreases-loop-run g l = l.end - l.run.start

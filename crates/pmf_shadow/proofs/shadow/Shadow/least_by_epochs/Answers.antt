@@ -1,0 +1,57 @@
+use Rattle.std.proofs.Common.{◌≡◌, ℕ, refl, sym, ◌∙◌, ap}
+use Rattle.std.specs.Prelude.{Some, None}
+use Rattle.pmf_event.specs.Order.{paired, with_partner}
+use Rattle.pmf_event.proofs.RangeLemmas.{first-passes}
+use Rattle.pmf_shadow.specs.Runs.{passing, keyed}
+use Rattle.pmf_shadow.specs.States.{kept_opening, checked_store, late_for}
+use Rattle.pmf_shadow.specs.Pairs.{kept, by_epochs}
+use Rattle.pmf_shadow.proofs.PieceLemmas.{least-of_span}
+use Rattle.pmf_shadow.proofs.OrderLemmas.{epochs-none, epochs-found, epochs-partner, never-lost}
+use Rattle.pmf_shadow.proofs.shadow.Shadow.least_by_epochs.Goals as goal
+
+pub returns-in_err-epoch : goal.returns-in_err-epoch
+unfolding keyed kept
+returns-in_err-epoch c =
+    let b = c.args.b.now in
+    let least = least-of_span (keyed kept_opening c.args.self.now.bytes) b c.first.result c.end_of.result None c.first.ensures.value c.end_of.ensures.value (sym c.in_err-epoch.was ∙ c.least_key.ensures) in
+    c.from_residual.ensures ∙ sym (epochs-none (kept c.args.self.now.bytes) c.args.a.now b least)
+
+pub returns-in_err-byte : goal.returns-in_err-byte
+unfolding keyed kept passing
+returns-in_err-byte c =
+    let b = c.args.b.now in
+    let m = c.in_ok-epoch.epoch in
+    let least = least-of_span (keyed kept_opening c.args.self.now.bytes) b c.first.result c.end_of.result (Some m) c.first.ensures.value c.end_of.ensures.value (sym c.in_ok-epoch.was ∙ c.least_key.ensures) in
+    c.from_residual-in_err-byte.ensures
+    ∙ sym (epochs-found (kept c.args.self.now.bytes) c.args.a.now b m least _ (λ x. refl) ∙ ap (with_partner (by_epochs (kept c.args.self.now.bytes)) b) (sym c.first_in.ensures ∙ c.in_err-byte.was))
+
+pub returns-in_err-stored : goal.returns-in_err-stored
+unfolding passing
+returns-in_err-stored c =
+    let found = first-passes _ c.args.a.now.first c.args.a.now.size c.in_ok-byte.byte (sym c.first_in.ensures ∙ c.in_ok-byte.was) in
+    absurd (never-lost (late_for c.in_ok-epoch.epoch) _ found.passes (sym (c.checked.ensures ∙ ap checked_store c.at.ensures) ∙ c.in_err-stored.was))
+
+pub returns-in_err-after : goal.returns-in_err-after
+unfolding keyed kept passing
+returns-in_err-after c =
+    let b = c.args.b.now in
+    let m = c.in_ok-epoch.epoch in
+    let x = c.in_ok-byte.byte in
+    let k = c.in_ok-stored.stored in
+    let least = least-of_span (keyed kept_opening c.args.self.now.bytes) b c.first.result c.end_of.result (Some m) c.first.ensures.value c.end_of.ensures.value (sym c.in_ok-epoch.was ∙ c.least_key.ensures) in
+    let own : kept c.args.self.now.bytes x ≡ Some k = sym (c.checked.ensures ∙ ap checked_store c.at.ensures) ∙ c.in_ok-stored.was in
+    c.from_residual-in_err-after.ensures
+    ∙ sym (epochs-found (kept c.args.self.now.bytes) c.args.a.now b m least _ (λ x. refl) ∙ ap (with_partner (by_epochs (kept c.args.self.now.bytes)) b) (sym c.first_in.ensures ∙ c.in_ok-byte.was)
+    ∙ ap (paired x) (epochs-partner (kept c.args.self.now.bytes) b x k own _ (λ y. refl) ∙ sym c.first_in-2.ensures ∙ c.in_err-after.was))
+
+pub returns : goal.returns
+unfolding keyed kept passing
+returns c =
+    let b = c.args.b.now in
+    let m = c.in_ok-epoch.epoch in
+    let x = c.in_ok-byte.byte in
+    let k = c.in_ok-stored.stored in
+    let least = least-of_span (keyed kept_opening c.args.self.now.bytes) b c.first.result c.end_of.result (Some m) c.first.ensures.value c.end_of.ensures.value (sym c.in_ok-epoch.was ∙ c.least_key.ensures) in
+    let own : kept c.args.self.now.bytes x ≡ Some k = sym (c.checked.ensures ∙ ap checked_store c.at.ensures) ∙ c.in_ok-stored.was in
+    sym (epochs-found (kept c.args.self.now.bytes) c.args.a.now b m least _ (λ x. refl) ∙ ap (with_partner (by_epochs (kept c.args.self.now.bytes)) b) (sym c.first_in.ensures ∙ c.in_ok-byte.was)
+    ∙ ap (paired x) (epochs-partner (kept c.args.self.now.bytes) b x k own _ (λ y. refl) ∙ sym c.first_in-2.ensures ∙ c.in_ok-after.was))

@@ -1,0 +1,414 @@
+ghost use Rattle.std.specs.Prelude.{None, Some, ◌≤◌};
+ghost use Rattle.std.proofs.Common.{rules};
+ghost use Rattle.pmf_shadow.specs.declared.runs.tests.Colour.TheVariants.{Red, Green, Blue};
+
+use super::{Change, Key, RunMap, State, Test};
+use std::alloc::{AllocError, Global};
+use std::process::Abort;
+use std::test::Fail;
+
+mod plain;
+
+use plain::{PLACES, Plain};
+
+#[derive(Clone, Copy, Debug, PartialEq, Eq)]
+enum Colour {
+    Red,
+    Green,
+    Blue,
+}
+
+impl State for Colour {
+    ghost exact = { Prim.search rules };
+}
+
+/// Gives one state to all.
+#[derive(Clone, Copy, Debug)]
+struct To<S>(S);
+
+impl<S: State> Change<S> for To<S> {
+    ghost changed = { λ to _state. to.0 };
+
+    fn changed(&self, _state: S) -> S {
+        self.0
+    }
+}
+
+/// Red to green, green to blue, blue to red.
+#[derive(Clone, Copy, Debug)]
+struct Next;
+
+impl Change<Colour> for Next {
+    ghost changed = { λ _next. elim [ Red ↦ Green | Green ↦ Blue | Blue ↦ Red ] };
+
+    fn changed(&self, state: Colour) -> Colour {
+        match state {
+            Colour::Red => Colour::Green,
+            Colour::Green => Colour::Blue,
+            Colour::Blue => Colour::Red,
+        }
+    }
+}
+
+/// Whether it is this state.
+#[derive(Clone, Copy, Debug)]
+struct Is<S>(S);
+
+impl<S: State> Test<S> for Is<S> {
+    ghost passes = { λ is state. S.eq is.0 state };
+
+    fn passes(&self, state: S) -> bool {
+        self.0 == state
+    }
+}
+
+/// Green is 5, blue is 3, and red has no number.
+#[derive(Clone, Copy, Debug)]
+struct Number;
+
+impl Key<Colour> for Number {
+    ghost key = { λ _number. elim [ Red ↦ None | Green ↦ Some 5 | Blue ↦ Some 3 ] };
+
+    fn key(&self, state: Colour) -> Option<u32> {
+        match state {
+            Colour::Red => None,
+            Colour::Green => Some(5),
+            Colour::Blue => Some(3),
+        }
+    }
+}
+
+/// A change of some numbers.
+#[derive(Clone, Copy, Debug)]
+enum Brush {
+    To(Colour),
+    Next,
+}
+
+impl Brush {
+    fn paint(self, map: &mut RunMap<Colour>, first: u64, end: u64) -> Result<(), AllocError>
+        requires { first ≤ end }
+    {
+        match self {
+            Brush::To(colour) => map.change(first, end, &To(colour)),
+            Brush::Next => map.change(first, end, &Next),
+        }
+    }
+
+    fn paint_plain(self, plain: &mut Plain, first: u64, end: u64) {
+        match self {
+            Brush::To(colour) => plain.change(first, end, &To(colour)),
+            Brush::Next => plain.change(first, end, &Next),
+        }
+    }
+}
+
+#[test]
+fn a_new_map_has_one_state_and_no_run(rt: HostRuntime) {
+    let map = RunMap::new(rt.alloc(), Colour::Green);
+    for place in [0, 1, 1 << 63, u64::MAX] {
+        assert_eq!(rt; map.at(place), Colour::Green);
+    }
+    assert_eq!(rt; map.starts.len(), 0);
+}
+
+#[test]
+fn a_set_holds_what_was_put_in_last(rt: HostRuntime) -> Result<(), Fail> {
+    let top = u64::MAX;
+    for (changes, members, starts, what) in [
+        ([].as_slice(), [].as_slice(), 0, "none"),
+        (
+            [(8, 16, true)].as_slice(),
+            [(8, 16)].as_slice(),
+            2,
+            "one range",
+        ),
+        (
+            [(8, 8, true)].as_slice(),
+            [].as_slice(),
+            0,
+            "an empty range",
+        ),
+        (
+            [(0, 4, true)].as_slice(),
+            [(0, 4)].as_slice(),
+            2,
+            "from 0 on",
+        ),
+        (
+            [(0, top, true)].as_slice(),
+            [(0, top)].as_slice(),
+            2,
+            "all but the last number",
+        ),
+        (
+            [(8, 16, true), (8, 16, true)].as_slice(),
+            [(8, 16)].as_slice(),
+            2,
+            "twice",
+        ),
+        (
+            [(8, 16, true), (8, 16, false)].as_slice(),
+            [].as_slice(),
+            0,
+            "put in and taken out",
+        ),
+        (
+            [(8, 16, true), (0, 32, false)].as_slice(),
+            [].as_slice(),
+            0,
+            "taken out with more",
+        ),
+        (
+            [(8, 16, true), (16, 24, true)].as_slice(),
+            [(8, 24)].as_slice(),
+            2,
+            "neighbours are one run",
+        ),
+        (
+            [(16, 24, true), (8, 16, true)].as_slice(),
+            [(8, 24)].as_slice(),
+            2,
+            "neighbours the other way round",
+        ),
+        (
+            [(8, 24, true), (12, 16, false)].as_slice(),
+            [(8, 12), (16, 24)].as_slice(),
+            4,
+            "a hole",
+        ),
+        (
+            [(8, 24, true), (12, 16, false), (12, 16, true)].as_slice(),
+            [(8, 24)].as_slice(),
+            2,
+            "a hole is filled",
+        ),
+        (
+            [(8, 16, true), (20, 24, true), (0, 32, true)].as_slice(),
+            [(0, 32)].as_slice(),
+            2,
+            "over two runs",
+        ),
+        (
+            [(8, 16, true), (20, 24, true), (12, 22, true)].as_slice(),
+            [(8, 24)].as_slice(),
+            2,
+            "from within one run into another",
+        ),
+        (
+            [(8, 16, true), (20, 24, true), (12, 22, false)].as_slice(),
+            [(8, 12), (22, 24)].as_slice(),
+            4,
+            "cut at both sides",
+        ),
+    ] {
+        let mut set = RunMap::new(rt.alloc(), false);
+        for (first, end, state) in changes {
+            if *first <= *end {
+                set.change(*first, *end, &To(*state))?;
+            }
+        }
+        let mut at = 0;
+        let mut count = 0u64;
+        for (first, end) in members {
+            assert_eq!(rt; set.first_where(at, top, &Is(true)), Some(*first), "{what}");
+            assert_eq!(rt;
+                set.first_where(*first, top, &Is(false)).unwrap_or(top),
+                *end,
+                "{what}"
+            );
+            count = count.wrapping_add(end.wrapping_sub(*first));
+            at = *end;
+        }
+        assert_eq!(rt; set.first_where(at, top, &Is(true)), None, "{what}");
+        assert_eq!(rt; set.count_where(0, top, &Is(true)), count, "{what}");
+        assert_eq!(rt; set.starts.len(), starts, "{what}");
+    }
+    Ok(())
+}
+
+/// 10 to 20 green, 20 to 30 blue, 40 to 50 green, the rest red.
+fn painted(alloc: Global) -> Result<RunMap<Colour>, AllocError> {
+    let mut map = RunMap::new(alloc, Colour::Red);
+    map.change(10, 20, &To(Colour::Green))?;
+    map.change(20, 30, &To(Colour::Blue))?;
+    map.change(40, 50, &To(Colour::Green))?;
+    Ok(map)
+}
+
+#[test]
+fn a_change_follows_each_state_of_its_range(rt: HostRuntime) -> Result<(), Fail> {
+    let mut map = painted(rt.alloc())?;
+    map.change(15, 25, &Next)?;
+    for (place, want) in [
+        (9, Colour::Red),
+        (10, Colour::Green),
+        (14, Colour::Green),
+        (15, Colour::Blue),
+        (19, Colour::Blue),
+        (20, Colour::Red),
+        (24, Colour::Red),
+        (25, Colour::Blue),
+        (29, Colour::Blue),
+        (30, Colour::Red),
+        (39, Colour::Red),
+        (40, Colour::Green),
+        (49, Colour::Green),
+        (50, Colour::Red),
+    ] {
+        assert_eq!(rt; map.at(place), want, "at {place}");
+    }
+    assert_eq!(rt; map.starts.len(), 7);
+    Ok(())
+}
+
+#[test]
+fn questions_are_about_their_range_alone(rt: HostRuntime) -> Result<(), Fail> {
+    let map = painted(rt.alloc())?;
+    for (first, end, blue, greens, least) in [
+        (0, 10, None, 0, None),
+        (0, 11, None, 1, Some(5)),
+        (10, 20, None, 10, Some(5)),
+        (12, 21, Some(20), 8, Some(3)),
+        (20, 30, Some(20), 0, Some(3)),
+        (25, 26, Some(25), 0, Some(3)),
+        (25, 45, Some(25), 5, Some(3)),
+        (30, 40, None, 0, None),
+        (30, 41, None, 1, Some(5)),
+        (45, 45, None, 0, None),
+        (45, 10, None, 0, None),
+        (0, u64::MAX, Some(20), 20, Some(3)),
+    ] {
+        assert_eq!(rt;
+            map.first_where(first, end, &Is(Colour::Blue)),
+            blue,
+            "{first} to {end}"
+        );
+        assert_eq!(rt;
+            map.count_where(first, end, &Is(Colour::Green)),
+            greens,
+            "{first} to {end}"
+        );
+        assert_eq!(rt;
+            map.least_key(first, end, &Number),
+            least,
+            "{first} to {end}"
+        );
+    }
+    Ok(())
+}
+
+#[test]
+fn room_changes_no_state_and_a_rewriting_needs_no_more(rt: HostRuntime) -> Result<(), Fail> {
+    let mut map = painted(rt.alloc())?;
+    map.make_room(15, 25)?;
+    assert_eq!(rt; map.starts.len(), 7);
+    assert_eq!(rt; map.count_where(0, 64, &Is(Colour::Green)), 20);
+    assert_eq!(rt; map.count_where(0, 64, &Is(Colour::Blue)), 10);
+    map.rewrite(15, 25, &To(Colour::Blue));
+    assert_eq!(rt; map.starts.len(), 5);
+    assert_eq!(rt; map.count_where(0, 64, &Is(Colour::Green)), 15);
+    assert_eq!(rt; map.count_where(0, 64, &Is(Colour::Blue)), 15);
+    Ok(())
+}
+
+#[test]
+fn the_size_of_a_range_costs_nothing(rt: HostRuntime) -> Result<(), Fail> {
+    let end = 1 << 63;
+    let mut map = RunMap::new(rt.alloc(), Colour::Red);
+    map.change(0, end, &To(Colour::Blue))?;
+    map.change(end / 2, end / 2 + 1, &To(Colour::Green))?;
+    assert_eq!(rt; map.first_where(0, end, &Is(Colour::Green)), Some(end / 2));
+    assert_eq!(rt; map.count_where(0, end, &Is(Colour::Blue)), end - 1);
+    assert_eq!(rt; map.least_key(0, end, &Number), Some(3));
+    map.change(0, u64::MAX, &To(Colour::Red))?;
+    assert_eq!(rt; map.starts.len(), 0);
+    Ok(())
+}
+
+/// Numbers that look random, the same ones in each run of the test.
+#[derive(Debug, Drop)]
+struct Numbers(u64);
+
+impl Numbers {
+    fn next(&mut self) -> u64 {
+        self.0 = self
+            .0
+            .wrapping_mul(6_364_136_223_846_793_005)
+            .wrapping_add(1_442_695_040_888_963_407);
+        self.0 >> 33
+    }
+
+    fn colour(&mut self) -> Colour {
+        match self.next() % 3 {
+            0 => Colour::Red,
+            1 => Colour::Green,
+            _ => Colour::Blue,
+        }
+    }
+
+    fn brush(&mut self) -> Brush {
+        if self.next() % 3 == 0 {
+            Brush::Next
+        } else {
+            Brush::To(self.colour())
+        }
+    }
+
+    /// Two places, the lesser first.
+    fn range(&mut self) -> (u64, u64)
+        ensures { result.0 ≤ result.1 }
+    {
+        let one = self.next() % (PLACES + 1);
+        let other = self.next() % (PLACES + 1);
+        (one.min(other), one.max(other))
+    }
+}
+
+/// The map has the states of the array, and no two neighbours of one state.
+fn assert_states(rt: &impl Abort, map: &RunMap<Colour>, plain: &Plain) {
+    for place in 0..PLACES + 2 {
+        assert_eq!(rt; map.at(place), plain.at(place), "at {place}");
+    }
+}
+
+fn assert_answers(rt: &impl Abort, map: &RunMap<Colour>, plain: &Plain, numbers: &mut Numbers) {
+    let (first, end) = numbers.range();
+    let test = Is(numbers.colour());
+    assert_eq!(rt;
+        map.first_where(first, end, &test),
+        plain.first_where(first, end, &test)
+    );
+    assert_eq!(rt;
+        map.count_where(first, end, &test),
+        plain.count_where(first, end, &test)
+    );
+    assert_eq!(rt;
+        map.least_key(first, end, &Number),
+        plain.least_key(first, end, &Number)
+    );
+}
+
+#[test]
+fn a_map_answers_as_an_array_does(rt: HostRuntime) -> Result<(), Fail> {
+    let mut numbers = Numbers(1);
+    for _list in 0..1000 {
+        let mut map = RunMap::new(rt.alloc(), Colour::Red);
+        let mut plain = Plain::new();
+        let changes = numbers.next() % 12;
+        for _change in 0..changes {
+            let (first, end) = numbers.range();
+            let brush = numbers.brush();
+            let painted = brush.paint(&mut map, first, end);
+            if painted.is_err() {
+                assert_states(&rt, &map, &plain);
+            }
+            painted?;
+            brush.paint_plain(&mut plain, first, end);
+            assert_answers(&rt, &map, &plain, &mut numbers);
+        }
+        assert_states(&rt, &map, &plain);
+        assert_eq!(rt; map.starts.len(), plain.borders());
+    }
+    Ok(())
+}
