@@ -1,6 +1,6 @@
 -- What is kept of two bytes says whether they are unordered, and whether the pair is certified; and the
 -- walks that the shadow makes find the least pair.
-use Rattle.std.proofs.Common.{◌≡◌, ℕ, suc, ◌+◌, ◌-◌, ◌<◌, ◌≤◌, Bool, true, false, not, ◌&&◌, ◌==◌, nat_lt, nat_le, if◌then◌else◌, List, refl, sym, ◌∙◌, ap, arith, inl, inr}
+use Rattle.std.proofs.Common.{◌≡◌, ℕ, suc, ◌+◌, ◌-◌, ◌<◌, ◌≤◌, Bool, true, false, not, ◌&&◌, ◌==◌, nat_lt, nat_le, if◌then◌else◌, List, refl, sym, ◌∙◌, ap, subst, arith, inl, inr}
 use Rattle.std.specs.Prelude.{◌||◌, Option, Some, None}
 use Rattle.std.proofs.lemmas.Bool.{cases_lt, cases_eq, leb-true, le-leb, le-ltb}
 use Rattle.std.proofs.lemmas.Bool.Decides.{Decides-eqb}
@@ -21,7 +21,7 @@ use Rattle.pmf_event.specs.Persist.{is_checked}
 use Rattle.pmf_event.specs.Order.{is_closed_by, precedes, share_line, is_stored_before, is_ordered, is_unordered, is_certified, paired, with_partner, least_pair}
 use Rattle.pmf_event.proofs.PlacesLemmas.{lt-ltb, least-passes, count-mono, greatest-bound}
 use Rattle.pmf_event.proofs.EventLemmas.{and-true}
-use Rattle.pmf_event.proofs.RangeLemmas.{IsFirst, first-passes, first_from-same}
+use Rattle.pmf_event.proofs.RangeLemmas.{none-passes, first_from-same}
 use Rattle.pmf_event.proofs.WriteBackLemmas.{epoch_unless-none, epoch_unless-some, last-bound}
 use Rattle.pmf_shadow.specs.declared.byte.ByteState.{ByteState}
 use Rattle.pmf_shadow.specs.declared.byte.Stored.{Stored}
@@ -30,7 +30,7 @@ use Rattle.pmf_shadow.specs.Runs.{state_at}
 use Rattle.pmf_shadow.specs.States.{checked_store, holds_of, any_store, is_late, late_for, late_for_any, is_before, opens_in, stored_by, comes_after, has_one_by, opening_of, place_of}
 use Rattle.pmf_shadow.specs.Pairs.{kept, both_hold, by_epoch, by_place, by_epochs, by_lines, by_line, on_line, off_line, IsLeastValue}
 use Rattle.pmf_shadow.specs.Shadow.{stored_at, byte_at, closing, StandsFor}
-use Rattle.pmf_shadow.proofs.PairLemmas.{late-monotone, least_pair-by, least_pair-none, least_pair-same, no_pairs-by_epochs, has_partner-by_epochs, partner-by_epochs, no_pairs-by_lines, has_partner-by_lines, partner-by_lines, by_lines-on, by_lines-off}
+use Rattle.pmf_shadow.proofs.PairLemmas.{late-monotone, least_pair-by, least_pair-none, least_pair-same, no_pairs-by_epochs, has_partner-by_epochs, partner-by_epochs, no_pairs-by_lines, has_partner-by_lines, partner-by_lines, by_lines-on, by_lines-off, by_line-on, by_line-off, on_line-on}
 use Rattle.pmf_shadow.proofs.AskLemmas.{IsWritten, written-from_stored, interval-written, checked-is}
 
 not_leb : (a b : ℕ) → b < a → nat_le a b ≡ false
@@ -370,3 +370,44 @@ opens-to m (Some k) is = let same : Some k.opens ≡ Some m = is in let own : k.
 pub place-from_opening : (m : ℕ) (o : Option Stored) → opening_of o ≡ Some m → place_of o ≡ None → ⊥
 place-from_opening m None is none = let bad : None ≡ Some m = is in cc
 place-from_opening m (Some k) is none = let bad : Some k.last ≡ None = none in cc
+
+-- the same, where the line of the earliest epoch has a name of its own
+pub lines-found-at : (shadow : Shadow) (es : List Event) (p : ℕ) → StandsFor shadow es p → (ties : Bool) (a b : Extent) (m early line first : ℕ) (elsewhere : Option ℕ) →
+    IsLeastValue (λ x. opening_of (kept shadow.bytes x)) b.first b.size (Some m) →
+    b.first ≤ early → early < b.first + b.size → opening_of (kept shadow.bytes early) ≡ Some m → line ≡ line_of_byte early →
+    IsLeastValue (on_line line (λ x. place_of (kept shadow.bytes x))) b.first b.size (Some first) →
+    IsLeastValue (off_line line (λ x. opening_of (kept shadow.bytes x))) b.first b.size elsewhere →
+    (on off : ℕ → Bool) → ((x : ℕ) → on x ≡ holds_of (has_one_by ties first elsewhere) (kept shadow.bytes x)) → ((x : ℕ) → off x ≡ holds_of (late_for m) (kept shadow.bytes x)) →
+    least_pair (by_lines ties (kept shadow.bytes)) a b ≡ with_partner (by_lines ties (kept shadow.bytes)) b (first_byte (by_line line on off) a)
+lines-found-at shadow es p stands ties a b m early line first elsewhere least from within opens same least_on least_off on off is_on is_off =
+    subst (λ l. IsLeastValue (on_line l (λ x. place_of (kept shadow.bytes x))) b.first b.size (Some first) →
+    IsLeastValue (off_line l (λ x. opening_of (kept shadow.bytes x))) b.first b.size elsewhere →
+    least_pair (by_lines ties (kept shadow.bytes)) a b ≡ with_partner (by_lines ties (kept shadow.bytes)) b (first_byte (by_line l on off) a))
+    (sym same) (λ one other. lines-found shadow es p stands ties a b m early first elsewhere least from within opens one other on off is_on is_off) least_on least_off
+
+pub lines-partner-at : (ties : Bool) (kept : ℕ → Option Stored) (b : Extent) (x line : ℕ) (k : Stored) → kept x ≡ Some k → line ≡ line_of_byte x → (on off : ℕ → Bool) →
+    ((y : ℕ) → on y ≡ holds_of (stored_by ties k.last) (kept y)) → ((y : ℕ) → off y ≡ holds_of (comes_after k.written_back) (kept y)) →
+    first_byte (by_lines ties kept x) b ≡ first_byte (by_line line on off) b
+lines-partner-at ties kept b x line k own same on off is_on is_off =
+    lines-partner ties kept b x k own on off is_on is_off ∙ ap (λ l. first_byte (by_line l on off) b) (sym same)
+
+-- some byte of the span lies in the earliest epoch
+pub early-found : (kept : ℕ → Option Stored) (b : Extent) (m : ℕ) → IsLeastValue (λ x. opening_of (kept x)) b.first b.size (Some m) →
+    (test : ℕ → Bool) → ((x : ℕ) → test x ≡ holds_of (opens_in m) (kept x)) → first_byte test b ≡ None → ⊥
+early-found kept b m least test is none =
+    let has = least.has m refl in
+    let bad : false ≡ true = sym (none-passes test b.first b.size none has.place has.from has.within) ∙ is has.place ∙ opens-to m (kept has.place) has.is in cc
+
+-- that byte has a place on its line
+pub place-found : (kept : ℕ → Option Stored) (b : Extent) (m early line : ℕ) → b.first ≤ early → early < b.first + b.size → opening_of (kept early) ≡ Some m →
+    line ≡ line_of_byte early → IsLeastValue (on_line line (λ x. place_of (kept x))) b.first b.size None → ⊥
+place-found kept b m early line from within opens same least =
+    place-from_opening m (kept early) opens (sym (on_line-on line (λ x. place_of (kept x)) early (sym same)) ∙ least.none refl early from within)
+
+-- a byte that either test finds is kept
+pub found-kept : (line : ℕ) (one other : Stored → Bool) (kept : ℕ → Option Stored) (on off : ℕ → Bool) → ((x : ℕ) → on x ≡ holds_of one (kept x)) → ((x : ℕ) → off x ≡ holds_of other (kept x)) →
+    (x : ℕ) → by_line line on off x ≡ true → kept x ≡ None → ⊥
+found-kept line one other kept on off is_on is_off x passes none = elim (cases_eq (line_of_byte x) line) [
+  | inl same ↦ never-lost one (kept x) (sym (is_on x) ∙ sym (by_line-on line on off x same) ∙ passes) none
+  | inr apart ↦ never-lost other (kept x) (sym (is_off x) ∙ sym (by_line-off line on off x apart) ∙ passes) none
+]

@@ -3,6 +3,7 @@
 ghost use Rattle.std.specs.Prelude.{◌≡◌, ℕ, ◌%◌, ◌<◌, List, min, max};
 ghost use Rattle.pmf_event.specs.declared.event.Event.{Event};
 ghost use Rattle.pmf_event.specs.declared.span.TheConstants.{ADDRESS_LIMIT, LINE_SIZE};
+ghost use Rattle.pmf_event.specs.Span.{IsValidExtent};
 ghost use Rattle.pmf_event.specs.Ranges.{first_byte};
 ghost use Rattle.pmf_event.specs.Order.{least_pair};
 ghost use Rattle.pmf_shadow.specs.Runs.{passing, keyed};
@@ -72,8 +73,10 @@ impl Shadow {
     ) -> Option<u64>
         requires line { line % LINE_SIZE ≡ 0 }
         requires room { line < ADDRESS_LIMIT }
-        ensures { result ≡ first_byte (by_line line (passing (T.passes on.now) self.now.bytes)
+        ensures value { result ≡ first_byte (by_line line
+            (passing (T.passes on.now) self.now.bytes)
             (passing (U.passes off.now) self.now.bytes)) span.now }
+        ensures valid { IsValidExtent span.now.first span.now.size }
     {
         let (first, end) = (span.first(), end_of(span));
         let next = line + LINE_SIZE;

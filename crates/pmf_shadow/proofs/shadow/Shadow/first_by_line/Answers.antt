@@ -5,8 +5,8 @@ use Rattle.pmf_shadow.specs.Runs.{passing}
 use Rattle.pmf_shadow.proofs.PieceLemmas.{piece-before, piece-within, piece-after}
 use Rattle.pmf_shadow.proofs.shadow.Shadow.first_by_line.Goals as goal
 
-pub returns-then-is_some : goal.returns-then-is_some
-returns-then-is_some g c =
+pub returns-then-is_some-clause-value : goal.returns-then-is_some-clause-value
+returns-then-is_some-clause-value g c =
     let s = c.args.span.now in
     let on = passing (g.T.Test.passes c.args.on.now) c.args.self.now.bytes in
     let off = passing (g.U.Test.passes c.args.off.now) c.args.self.now.bytes in
@@ -15,8 +15,8 @@ returns-then-is_some g c =
     c.first_where-before.ensures ∙ ap (λ u. first_from off c.first-first.result (u - c.first-first.result)) c.lower.ensures ∙ ap (λ f. first_from off f (min end c.args.line - f)) c.first-first.ensures.value in
     piece-before c.args.line c.requires.line on off s.first s.size end c.end_of-end.ensures.value c.first_where-before.result before (sym c.is_some.ensures ∙ c.if-is_some.true)
 
-pub returns-then-is_some-2 : goal.returns-then-is_some-2
-returns-then-is_some-2 g c =
+pub returns-then-is_some-2-clause-value : goal.returns-then-is_some-2-clause-value
+returns-then-is_some-2-clause-value g c =
     let s = c.args.span.now in
     let on = passing (g.T.Test.passes c.args.on.now) c.args.self.now.bytes in
     let off = passing (g.U.Test.passes c.args.off.now) c.args.self.now.bytes in
@@ -29,8 +29,8 @@ returns-then-is_some-2 g c =
     piece-within c.args.line c.requires.line on off s.first s.size end c.end_of-end.ensures.value c.first_where-within.result
     (ap (λ (o : Option ℕ). is_some o) (sym before) ∙ sym c.is_some.ensures ∙ c.if-is_some.false) within (sym c.is_some-2.ensures ∙ c.if-is_some-2.true)
 
-pub returns : goal.returns
-returns g c =
+pub returns-clause-value : goal.returns-clause-value
+returns-clause-value g c =
     let s = c.args.span.now in
     let on = passing (g.T.Test.passes c.args.on.now) c.args.self.now.bytes in
     let off = passing (g.U.Test.passes c.args.off.now) c.args.self.now.bytes in
