@@ -14,7 +14,8 @@ use Rattle.std.proofs.lemmas.Bool.Decides.{Decides-eqb}
 use Rattle.std.proofs.lemmas.Bool.{lt-ltb, le-leb, cases_eq}
 use Rattle.std.proofs.lemmas.List.Splits.{slice_split_none, slice_split_at}
 use Rattle.pmf_storelog.specs.Numbers.{is_digit_in, is_numeral, numeral_of, number_of}
-use Rattle.pmf_storelog.specs.Canonical.{address, field_of, fields_of_span}
+use Rattle.pmf_event.specs.Address.{address}
+use Rattle.pmf_storelog.specs.Canonical.{field_of, fields_of_span}
 
 -- a number below 16 ^ m has at most m hexadecimal digits
 onto-length : (k m n : ℕ) (acc : List ℕ) → 0 < m → n < 16 ^ m → length (digits_onto k 16 false n acc) ≤ m + length acc

@@ -9,7 +9,8 @@ use Rattle.pmf_event.specs.declared.event.Event.{Event}
 use Rattle.pmf_event.specs.declared.event.Event.TheVariants.{Store, Flush, Fence, Persist, Ordered, Exclude, Include, TxBegin, TxAdd, TxEnd, CheckStart, CheckEnd}
 use Rattle.pmf_storelog.specs.declared.record.Saying.TheVariants.{Happens, Enters}
 use Rattle.pmf_storelog.specs.Records.{record_of, saying_of, saying_of_fields, section_of_fields, section_of_number, event_over, span_of_fields, stored_span, fields_of}
-use Rattle.pmf_storelog.specs.Canonical.{address, field_of, fields_of_span, fields_of_event, name_of}
+use Rattle.pmf_event.specs.Address.{address}
+use Rattle.pmf_storelog.specs.Canonical.{field_of, fields_of_span, fields_of_event, name_of}
 use Rattle.pmf_storelog.proofs.CanonicalLemmas.{Fits, address-NoFieldEnd, fields_of-more, fields_of-last, fields_of-span, span_of_texts-address, number_of-address}
 use Rattle.pmf_storelog.proofs.PlainLemmas.{AllFit, text_of_event, text_of_marker}
 use Rattle.pmf_storelog.specs.Spelling.{AllValid, IsRead}

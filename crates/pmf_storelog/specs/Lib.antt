@@ -1,4 +1,5 @@
 pub use Rattle.pmf_event.specs.Span
+pub use Rattle.pmf_event.specs.Address
 pub use Rattle.pmf_event.specs.Section
 pub mod Separators
 pub mod Numbers
