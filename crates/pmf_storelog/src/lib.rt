@@ -19,6 +19,8 @@
 mod fault;
 mod fields;
 mod log;
+#[cfg(test)]
+mod marker_tests;
 mod number;
 mod progress;
 mod reader;
