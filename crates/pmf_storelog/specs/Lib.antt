@@ -5,6 +5,7 @@ pub mod Separators
 pub mod Numbers
 pub mod Records
 pub mod Fields
+pub mod Quick
 pub mod LogValue
 pub mod LogText
 pub mod Answers

@@ -23,6 +23,7 @@ mod log;
 mod marker_tests;
 mod number;
 mod progress;
+mod quick;
 mod reader;
 mod reading;
 mod record;

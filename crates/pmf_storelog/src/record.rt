@@ -5,6 +5,7 @@ ghost use Rattle.pmf_event.specs.Span.{extent_of};
 use crate::fault::Cause;
 use crate::fields::Fields;
 use crate::number::read_number;
+use crate::quick::read_quickly;
 use pmf_event::{Event, Span};
 
 /// What a record says that isn't refused.
@@ -19,8 +20,18 @@ pub(crate) enum Saying {
 }
 
 /// What a trimmed record says, or why it is refused.
-#[tactic(auto, unfolding(crate::specs::Records::record_of))]
+#[inline]
 pub(crate) fn read_record(text: &[u8]) -> Result<Saying, Cause>
+    ensures { result ≡ record_of text.now }
+{
+    match read_quickly(text) {
+        Some(saying) => Ok(saying),
+        None => read_plainly(text),
+    }
+}
+
+#[tactic(auto, unfolding(crate::specs::Records::record_of))]
+fn read_plainly(text: &[u8]) -> Result<Saying, Cause>
     ensures { result ≡ record_of text.now }
 {
     let mut fields = Fields::new(text);
