@@ -1,4 +1,5 @@
 pub mod Span
+pub mod Address
 pub mod Line
 pub mod Ranges
 pub mod Section

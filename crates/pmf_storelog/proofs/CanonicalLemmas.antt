@@ -14,7 +14,8 @@ use Rattle.std.proofs.lemmas.Bool.Decides.{Decides-eqb}
 use Rattle.std.proofs.lemmas.Bool.{lt-ltb, le-leb, cases_eq}
 use Rattle.std.proofs.lemmas.List.Splits.{slice_split_none, slice_split_at}
 use Rattle.pmf_storelog.specs.Numbers.{is_digit_in, is_numeral, numeral_of, number_of}
-use Rattle.pmf_storelog.specs.Canonical.{address, field_of, fields_of_span}
+use Rattle.pmf_event.specs.Address.{address}
+use Rattle.pmf_storelog.specs.Canonical.{field_of, fields_of_span}
 
 -- a number below 16 ^ m has at most m hexadecimal digits
 onto-length : (k m n : ℕ) (acc : List ℕ) → 0 < m → n < 16 ^ m → length (digits_onto k 16 false n acc) ≤ m + length acc
@@ -47,7 +48,7 @@ all_digits : (radix : ℕ) (ds : List ℕ) → AllDigits radix ds → list_all (
 all_digits radix [] each = refl
 all_digits radix (d ∷ ds) each = rw (lt-ltb (digit_value d) radix each.0) (all_digits radix ds each.1)
 
-numeral_of-digits : (ds : List ℕ) (n : ℕ) → 0 < length ds → length ds ≤ 16 → AllDigits 16 ds → digits_value 16 ds ≡ n → n < 2 ^ 64 → numeral_of 16 16 ds ≡ Some n
+pub numeral_of-digits : (ds : List ℕ) (n : ℕ) → 0 < length ds → length ds ≤ 16 → AllDigits 16 ds → digits_value 16 ds ≡ n → n < 2 ^ 64 → numeral_of 16 16 ds ≡ Some n
 unfolding numeral_of is_numeral
 numeral_of-digits ds n some few each value small =
     rw (lt-ltb 0 (length ds) some, le-leb (length ds) 16 few, all_digits 16 ds each, value, lt-ltb n (2 ^ 64) small) refl
@@ -69,7 +70,7 @@ not_digit c digit = elim (cases_eq c 59) [
   | inr other ↦ elim (c == 59) as (λ v. (c == 59) ≡ v → v ≡ false) [ true ↦ λ is. absurd (other ((Decides-eqb c 59).0 is)) | false ↦ λ is. refl ] refl
 ]
 
-digits-NoFieldEnd : (ds : List ℕ) → AllDigits 16 ds → NoFieldEnd ds
+pub digits-NoFieldEnd : (ds : List ℕ) → AllDigits 16 ds → NoFieldEnd ds
 digits-NoFieldEnd [] each = tt
 digits-NoFieldEnd (d ∷ ds) each = (not_digit d each.0, digits-NoFieldEnd ds each.1)
 

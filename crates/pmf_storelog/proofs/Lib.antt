@@ -1,6 +1,7 @@
 pub mod SplitLemmas
 pub mod NumberLemmas
 pub mod FieldLemmas
+pub mod DigitLemmas
 pub mod PartLemmas
 pub mod LogLemmas
 pub mod SectionLemmas
@@ -9,6 +10,7 @@ pub mod ProgressLemmas
 pub mod ReaderLemmas
 pub mod CallerLemmas
 pub mod CanonicalLemmas
+pub mod QuickLemmas
 pub mod LineLemmas
 pub mod PlainLemmas
 pub mod RoundTripLemmas

@@ -13,7 +13,8 @@ use Rattle.pmf_event.specs.declared.event.Event.{Event}
 use Rattle.pmf_event.specs.declared.event.Event.TheVariants.{Store, Flush, Fence, Persist, Ordered, Exclude, Include, TxBegin, TxAdd, TxEnd, CheckStart, CheckEnd}
 use Rattle.pmf_event.specs.Span.{Extent}
 use Rattle.pmf_storelog.specs.Separators.{is_separator, is_blank}
-use Rattle.pmf_storelog.specs.Canonical.{address, field_of, fields_of_span, fields_of_event, name_of}
+use Rattle.pmf_event.specs.Address.{address}
+use Rattle.pmf_storelog.specs.Canonical.{field_of, fields_of_span, fields_of_event, name_of}
 use Rattle.pmf_storelog.proofs.CanonicalLemmas.{Fits}
 use Rattle.pmf_storelog.proofs.LineLemmas.{IsPlain}
 

@@ -8,8 +8,9 @@ use Rattle.pmf_event.specs.declared.span.TheConstants.{SPAN_LIMIT, ADDRESS_LIMIT
 use Rattle.pmf_event.specs.declared.event.Event.{Event}
 use Rattle.pmf_event.specs.declared.event.Event.TheVariants.{Store, Flush, Fence, Persist, Ordered, Exclude, Include, TxBegin, TxAdd, TxEnd, CheckStart, CheckEnd}
 use Rattle.pmf_storelog.specs.declared.record.Saying.TheVariants.{Happens, Enters}
-use Rattle.pmf_storelog.specs.Records.{record_of, saying_of, saying_of_fields, section_of_fields, section_of_number, event_over, span_of_fields, stored_span, fields_of}
-use Rattle.pmf_storelog.specs.Canonical.{address, field_of, fields_of_span, fields_of_event, name_of}
+use Rattle.pmf_storelog.specs.Records.{record_of, saying_of, saying_of_fields, section_of_fields, section_of_number, event_over, span_of_fields, stored_span, order_of_fields, order_of_texts, fields_of}
+use Rattle.pmf_event.specs.Address.{address}
+use Rattle.pmf_storelog.specs.Canonical.{field_of, fields_of_span, fields_of_event, name_of}
 use Rattle.pmf_storelog.proofs.CanonicalLemmas.{Fits, address-NoFieldEnd, fields_of-more, fields_of-last, fields_of-span, span_of_texts-address, number_of-address}
 use Rattle.pmf_storelog.proofs.PlainLemmas.{AllFit, text_of_event, text_of_marker}
 use Rattle.pmf_storelog.specs.Spelling.{AllValid, IsRead}
@@ -74,6 +75,32 @@ module _ (s : Extent) (valid : IsValidExtent s.first s.size) where
       ∙ ap (λ fs. codes "STORE" ∷ address s.first ∷ codes "0x0" ∷ fs) (fields_of-last (address s.size) (address-NoFieldEnd s.size fits.size)))
       ∙ ap (event_over Store) (span_of_texts-address s fits (extent_of-valid s valid))
 
+-- the order of the spans that four numbers spell
+order_of_texts-address : (a b : Extent) → IsValidExtent a.first a.size → IsValidExtent b.first b.size →
+    order_of_texts (address a.first) (address a.size) (address b.first) (address b.size) ≡ Ok (Happens (Ordered a b))
+unfolding order_of_texts
+order_of_texts-address a b valid_a valid_b =
+    let fits_a = fits_of a valid_a in
+    let fits_b = fits_of b valid_b in
+    rw (number_of-address a.first fits_a.first, number_of-address a.size fits_a.size, number_of-address b.first fits_b.first, number_of-address b.size fits_b.size, extent_of-valid a valid_a, extent_of-valid b valid_b) refl
+
+record_of-ordered : (a b : Extent) → IsValidExtent a.first a.size → IsValidExtent b.first b.size →
+    record_of (codes "PMT.ORDERED" ++ (fields_of_span a ++ fields_of_span b)) ≡ Ok (Happens (Ordered a b))
+unfolding record_of saying_of order_of_fields fields_of_span field_of
+record_of-ordered a b valid_a valid_b =
+    let fits_a = fits_of a valid_a in
+    let fits_b = fits_of b valid_b in
+    let name = codes "PMT.ORDERED" in
+    let last = address b.first ++ 59 ∷ address b.size in
+    ap saying_of_fields
+    (fields_of-more name ((address a.first ++ 59 ∷ address a.size) ++ 59 ∷ last) (search rules)
+    ∙ ap (λ rest. name ∷ fields_of rest) (append_assoc (address a.first) (59 ∷ address a.size) (59 ∷ last))
+    ∙ ap (λ fs. name ∷ fs) (fields_of-more (address a.first) (address a.size ++ 59 ∷ last) (address-NoFieldEnd a.first fits_a.first))
+    ∙ ap (λ fs. name ∷ address a.first ∷ fs) (fields_of-more (address a.size) last (address-NoFieldEnd a.size fits_a.size))
+    ∙ ap (λ fs. name ∷ address a.first ∷ address a.size ∷ fs) (fields_of-more (address b.first) (address b.size) (address-NoFieldEnd b.first fits_b.first))
+    ∙ ap (λ fs. name ∷ address a.first ∷ address a.size ∷ address b.first ∷ fs) (fields_of-last (address b.size) (address-NoFieldEnd b.size fits_b.size)))
+    ∙ order_of_texts-address a b valid_a valid_b
+
 record_of-fence : record_of (codes "FENCE" ++ []) ≡ Ok (Happens Fence)
 unfolding record_of saying_of
 record_of-fence = ap saying_of_fields (fields_of-last (codes "FENCE") (search rules))
@@ -85,7 +112,7 @@ record_of-event (Store s) valid read = record_of-store s valid
 record_of-event (Flush s) valid read = record_of-flush s valid
 record_of-event Fence valid read = record_of-fence
 record_of-event (Persist s) valid read = record_of-persist s valid
-record_of-event (Ordered a b) valid read = absurd read
+record_of-event (Ordered a b) valid read = record_of-ordered a b valid.0 valid.1
 record_of-event (Exclude s) valid read = record_of-exclude s valid
 record_of-event (Include s) valid read = record_of-include s valid
 record_of-event TxBegin valid read = absurd read

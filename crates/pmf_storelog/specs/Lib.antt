@@ -1,9 +1,11 @@
 pub use Rattle.pmf_event.specs.Span
+pub use Rattle.pmf_event.specs.Address
 pub use Rattle.pmf_event.specs.Section
 pub mod Separators
 pub mod Numbers
 pub mod Records
 pub mod Fields
+pub mod Quick
 pub mod LogValue
 pub mod LogText
 pub mod Answers

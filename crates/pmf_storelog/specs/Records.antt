@@ -5,7 +5,7 @@ use Rattle.std.specs.Str.{bytes_eq}
 use Rattle.pmf_event.specs.Span.{Extent, extent_of}
 use Rattle.pmf_event.specs.declared.span.SpanFault.{SpanFault}
 use Rattle.pmf_event.specs.declared.event.Event.{Event}
-use Rattle.pmf_event.specs.declared.event.Event.TheVariants.{Store, Flush, Fence, Persist, Exclude, Include}
+use Rattle.pmf_event.specs.declared.event.Event.TheVariants.{Store, Flush, Fence, Persist, Ordered, Exclude, Include}
 use Rattle.pmf_storelog.specs.declared.record.Saying.{Saying}
 use Rattle.pmf_storelog.specs.declared.record.Saying.TheVariants.{Happens, Enters, Skipped}
 use Rattle.pmf_storelog.specs.declared.fault.Cause.{Cause}
@@ -53,6 +53,34 @@ abbrev pub event_over : (Extent → Event) → Result Extent Cause → Result Sa
 event_over kind (Ok span) = Ok (Happens (kind span))
 event_over kind (Err cause) = Err cause
 
+-- the order of two spans; a fault of the first comes before one of the second
+abbrev pub order_over : Result Extent Cause → Result Extent Cause → Result Saying Cause
+order_over (Ok before) (Ok after) = Ok (Happens (Ordered before after))
+order_over (Ok before) (Err cause) = Err cause
+order_over (Err cause) after = Err cause
+
+-- the order of the spans of these numbers, two each, where all four are numbers
+abbrev pub order_of_numbers : Option ℕ → Option ℕ → Option ℕ → Option ℕ → Result Saying Cause
+order_of_numbers (Some a) (Some sa) (Some b) (Some sb) =
+    order_over (span_or_cause (extent_of a sa)) (span_or_cause (extent_of b sb))
+order_of_numbers (Some a) (Some sa) (Some b) None = Err BadNumber
+order_of_numbers (Some a) (Some sa) None sb = Err BadNumber
+order_of_numbers (Some a) None b sb = Err BadNumber
+order_of_numbers None sa b sb = Err BadNumber
+
+-- the order of the spans that these texts spell, two each
+unfoldable pub order_of_texts : List ℕ → List ℕ → List ℕ → List ℕ → Result Saying Cause
+order_of_texts a sa b sb = order_of_numbers (number_of a) (number_of sa) (number_of b) (number_of sb)
+
+-- the order of a record whose fields are the first address and the size of either span; further ones
+-- are ignored
+unfoldable pub order_of_fields : List (List ℕ) → Result Saying Cause
+order_of_fields [] = Err TooFewFields
+order_of_fields (a ∷ []) = Err TooFewFields
+order_of_fields (a ∷ sa ∷ []) = Err TooFewFields
+order_of_fields (a ∷ sa ∷ b ∷ []) = Err TooFewFields
+order_of_fields (a ∷ sa ∷ b ∷ sb ∷ more) = order_of_texts a sa b sb
+
 -- the section of a number, where it is one
 abbrev pub section_of_number : Option ℕ → Result Saying Cause
 section_of_number (Some number) = Ok (Enters number)
@@ -74,6 +102,7 @@ saying_of name fields =
     else if bytes_eq name (codes "FLUSH") then event_over Flush (span_of_fields fields)
     else if bytes_eq name (codes "FENCE") then Ok (Happens Fence)
     else if bytes_eq name (codes "PMT.PERSIST") then event_over Persist (span_of_fields fields)
+    else if bytes_eq name (codes "PMT.ORDERED") then order_of_fields fields
     else if bytes_eq name (codes "PMT.EXCLUDE") then event_over Exclude (span_of_fields fields)
     else if bytes_eq name (codes "PMT.INCLUDE") then event_over Include (span_of_fields fields)
     else if bytes_eq name (codes "PMT.SECTION") then section_of_fields fields

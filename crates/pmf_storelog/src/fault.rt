@@ -22,7 +22,7 @@ pub enum Cause {
     /// A field that is to be a number is none, or is 2^64 or more.
     #[error("bad number")]
     BadNumber,
-    /// The numbers are no span.
+    /// The numbers are no span. Of two spans the first one's fault comes first.
     #[error("{0}")]
     BadSpan(SpanFault),
     /// The name begins with `PMT.` and is no marker that is known.

@@ -55,7 +55,7 @@ impl<'a> Fields<'a> {
 // The first field, and the text after it where a semicolon ends it.
 #[inline]
 #[tactic(auto, unfolding(crate::specs::Fields::fields_left))]
-fn cut(text: &[u8]) -> (&[u8], Option<&[u8]>)
+pub(crate) fn cut(text: &[u8]) -> (&[u8], Option<&[u8]>)
     ensures { fields_of text.now ≡ result.0.now ∷ fields_left (option_copied result.1) }
 {
     match field_end(text) {

@@ -19,8 +19,11 @@
 mod fault;
 mod fields;
 mod log;
+#[cfg(test)]
+mod marker_tests;
 mod number;
 mod progress;
+mod quick;
 mod reader;
 mod reading;
 mod record;

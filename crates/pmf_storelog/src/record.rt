@@ -1,9 +1,11 @@
 ghost use Rattle.std.specs.Prelude.{◌≡◌};
-ghost use Rattle.pmf_storelog.specs.Records.{record_of, other_name, saying_of, section_of_fields, span_of_fields, span_of_texts, stored_span};
+ghost use Rattle.pmf_storelog.specs.Records.{record_of, order_of_fields, order_of_texts, other_name, saying_of, section_of_fields, span_of_fields, span_of_texts, span_or_cause, stored_span};
+ghost use Rattle.pmf_event.specs.Span.{extent_of};
 
 use crate::fault::Cause;
 use crate::fields::Fields;
 use crate::number::read_number;
+use crate::quick::read_quickly;
 use pmf_event::{Event, Span};
 
 /// What a record says that isn't refused.
@@ -18,8 +20,18 @@ pub(crate) enum Saying {
 }
 
 /// What a trimmed record says, or why it is refused.
-#[tactic(auto, unfolding(crate::specs::Records::record_of))]
+#[inline]
 pub(crate) fn read_record(text: &[u8]) -> Result<Saying, Cause>
+    ensures { result ≡ record_of text.now }
+{
+    match read_quickly(text) {
+        Some(saying) => Ok(saying),
+        None => read_plainly(text),
+    }
+}
+
+#[tactic(auto, unfolding(crate::specs::Records::record_of))]
+fn read_plainly(text: &[u8]) -> Result<Saying, Cause>
     ensures { result ≡ record_of text.now }
 {
     let mut fields = Fields::new(text);
@@ -45,6 +57,9 @@ fn read_fields(name: &[u8], fields: &mut Fields) -> Result<Saying, Cause>
     }
     if name == b"PMT.PERSIST".as_slice() {
         return Ok(Saying::Happens(Event::Persist(read_span(fields)?)));
+    }
+    if name == b"PMT.ORDERED".as_slice() {
+        return read_order(fields);
     }
     if name == b"PMT.EXCLUDE".as_slice() {
         return Ok(Saying::Happens(Event::Exclude(read_span(fields)?)));
@@ -101,16 +116,56 @@ fn read_span(fields: &mut Fields) -> Result<Span, Cause>
     span_from(first, size)
 }
 
+// The order of two spans: first address and size of either.
+#[tactic(auto, unfolding(crate::specs::Records::order_of_fields))]
+fn read_order(fields: &mut Fields) -> Result<Saying, Cause>
+    ensures { result ≡ order_of_fields fields.old }
+{
+    let first = fields.field()?;
+    let size = fields.field()?;
+    let other_first = fields.field()?;
+    let other_size = fields.field()?;
+    order_from(first, size, other_first, other_size)
+}
+
+// All four numbers are read before a span is made, and the first span before the second.
+#[tactic(auto, unfolding(crate::specs::Records::order_of_texts))]
+fn order_from(a: &[u8], sa: &[u8], b: &[u8], sb: &[u8]) -> Result<Saying, Cause>
+    ensures { result ≡ order_of_texts a.now sa.now b.now sb.now }
+{
+    match (
+        read_number(a),
+        read_number(sa),
+        read_number(b),
+        read_number(sb),
+    ) {
+        (Some(a), Some(sa), Some(b), Some(sb)) => {
+            let before = span_of(a, sa)?;
+            let after = span_of(b, sb)?;
+            Ok(Saying::Happens(Event::Ordered(before, after)))
+        }
+        _ => Err(Cause::BadNumber),
+    }
+}
+
 // Both numbers are read before the span is made: a bad number comes before a bad span.
 #[tactic(auto, unfolding(crate::specs::Records::span_of_texts))]
 fn span_from(first: &[u8], size: &[u8]) -> Result<Span, Cause>
     ensures { result ≡ span_of_texts first.now size.now }
 {
     match (read_number(first), read_number(size)) {
-        (Some(first), Some(size)) => match Span::make(first, size) {
-            Ok(span) => Ok(span),
-            Err(fault) => Err(Cause::BadSpan(fault)),
-        },
+        (Some(first), Some(size)) => span_of(first, size),
         _ => Err(Cause::BadNumber),
+    }
+}
+
+// The span of two numbers, or its fault as a record's.
+#[inline]
+fn span_of(first: u64, size: u64) -> Result<Span, Cause>
+    ensures { result ≡ span_or_cause (extent_of first size) }
+{
+    match Span::make(first, size) {
+        Ok(span) => Ok(span),
+        Err(fault) => Err(Cause::BadSpan(fault)),
     }
 }

@@ -90,6 +90,8 @@ fn what_is_written_reads_as_the_section_alone(rt: HostRuntime) -> Result<(), Fai
             Event::Exclude(last),
             Event::Include(most),
             Event::Persist(last),
+            Event::Ordered(last, most),
+            Event::Ordered(most, last),
         ],
     )?;
     let text = write_section(rt.alloc(), &section)?;

@@ -199,7 +199,6 @@ fn bad_numbers(rt: HostRuntime) {
 #[test]
 fn markers_that_are_not_checked_yet_are_refused(rt: HostRuntime) {
     for log in [
-        "PMT.ORDERED;0x1000;8;0x2000;8",
         "PMT.TXBEGIN",
         "PMT.TXADD;0x1000;8",
         "PMT.TXEND",
