@@ -43,14 +43,14 @@ unfoldable pub lines_where : (ℕ → Bool) → Extent → Option Lines
 lines_where test s = lines_from (first_from (numbered test) (first_line s) (line_count s)) (count_from (numbered test) (first_line s) (line_count s))
 
 -- DOUBLED with these lines, if there are any
-abbrev pub doubled : Option Lines → Option Finding
-doubled None = None
-doubled (Some lines) = Some (FlushDoubled lines.least lines.count)
+abbrev pub doubled_finding : Option Lines → Option Finding
+doubled_finding None = None
+doubled_finding (Some lines) = Some (FlushDoubled lines.least lines.count)
 
 -- NEEDLESS with these lines, if there are any
-abbrev pub needless : Option Lines → Option Finding
-needless None = None
-needless (Some lines) = Some (FlushNeedless lines.least lines.count)
+abbrev pub needless_finding : Option Lines → Option Finding
+needless_finding None = None
+needless_finding (Some lines) = Some (FlushNeedless lines.least lines.count)
 
 -- a finding as a list, if there is one
 abbrev pub if_any : Option Finding → List Finding
@@ -60,4 +60,4 @@ if_any (Some finding) = finding ∷ []
 -- what is found of a write-back over the span that follows place p: its pending lines, then its clean
 -- lines
 unfoldable pub flush_findings : List Event → ℕ → Extent → List Finding
-flush_findings es p s = if_any (doubled (lines_where (is_pending es p) s)) ++ if_any (needless (lines_where (is_clean es p) s))
+flush_findings es p s = if_any (doubled_finding (lines_where (is_pending es p) s)) ++ if_any (needless_finding (lines_where (is_clean es p) s))

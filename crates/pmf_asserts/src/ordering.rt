@@ -1,0 +1,46 @@
+ghost use Rattle.std.specs.Prelude.{◌≡◌, ℕ, List};
+ghost use Rattle.pmf_event.specs.declared.event.Event.{Event};
+ghost use Rattle.pmf_event.specs.Store.{last_store};
+ghost use Rattle.pmf_event.specs.Order.{ordered_finding};
+ghost use Rattle.pmf_shadow.specs.Shadow.{StandsFor};
+
+use pmf_event::{Finding, Profile, Span};
+use pmf_shadow::Shadow;
+
+/// What an order assertion finds after the events that the shadow stands for: EMPTY where one of the
+/// spans has no checked byte, FAIL with the least certified unordered pair and the place after which a
+/// crash shows it, SAMELINE with the least unordered pair where none is certified, else PASS (PMTest,
+/// ASPLOS 2019: isOrderedBefore; SAMELINE and the least pair are the project's own).
+pub fn check_ordered(shadow: &Shadow, a: Span, b: Span, profile: Profile) -> Finding
+    ensures { (es : List Event) (p : ℕ) → StandsFor shadow.now es p
+        → result ≡ ordered_finding profile es p a b }
+{
+    if !shadow.written_included(a) {
+        return Finding::OrderedEmpty;
+    }
+    if !shadow.written_included(b) {
+        return Finding::OrderedEmpty;
+    }
+    match shadow.least_pair(a, b, true, profile) {
+        Some((byte, after)) => Finding::OrderedFail {
+            byte,
+            after,
+            crash: last_store(shadow, after),
+        },
+        None => match shadow.least_pair(a, b, false, profile) {
+            Some((byte, after)) => Finding::OrderedSameLine { byte, after },
+            None => Finding::OrderedPass,
+        },
+    }
+}
+
+// The place of the last store of the byte, or 0 where it is unwritten.
+fn last_store(shadow: &Shadow, byte: u64) -> u32
+    ensures { (es : List Event) (p : ℕ) → StandsFor shadow.now es p
+        → result ≡ last_store es p byte }
+{
+    match shadow.interval_at(byte) {
+        None => 0,
+        Some(interval) => interval.last,
+    }
+}
