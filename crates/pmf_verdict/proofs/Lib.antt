@@ -1,3 +1,3 @@
-pub mod ShadowLemmas
 pub mod RowsLemmas
 pub mod SoundLemmas
+pub mod WalkLemmas

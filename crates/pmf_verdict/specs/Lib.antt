@@ -2,10 +2,13 @@ pub use Rattle.pmf_event.specs.Span
 pub use Rattle.pmf_event.specs.Section
 pub use Rattle.pmf_event.specs.Store
 pub use Rattle.pmf_event.specs.Persist
+pub use Rattle.pmf_event.specs.Order
+pub use Rattle.pmf_event.specs.FlushWarnings
 pub use Rattle.pmf_image.specs.Holds
 pub mod Rows
+pub mod Checked
+pub mod Walks
 pub mod Sound
 pub mod Text
 pub mod Outcome
 pub mod Report
-pub mod Shadow

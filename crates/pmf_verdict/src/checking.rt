@@ -1,10 +1,16 @@
-ghost use Rattle.std.specs.Prelude.{◌≡◌, ◌≤◌, length, IfOk, IfErr};
-ghost use Rattle.pmf_verdict.specs.Rows.{rows_of};
+ghost use Rattle.std.specs.Prelude.{◌≡◌, ℕ, suc, ◌≤◌, ◌<◌, [], ◌∷◌, ◌++◌, List, Some, length, map, OnOk, IfOk, IfErr};
+ghost use Rattle.pmf_event.specs.declared.event.Event.{Event};
+ghost use Rattle.pmf_event.specs.FlushWarnings.{if_any};
+ghost use Rattle.pmf_event.specs.Store.{event_at};
+ghost use Rattle.pmf_verdict.specs.Walks.{Walks};
+ghost use Rattle.pmf_verdict.specs.Checked.{rows_in};
+ghost use Rattle.pmf_verdict.specs.Rows.{row_at, rows_of};
 ghost use Rattle.pmf_verdict.specs.Sound.{PassesHold};
 
-use crate::shadow::Shadow;
 use crate::verdict::Verdict;
-use pmf_event::{EVENT_LIMIT, Event, Row, Rows, Section};
+use pmf_asserts::{check_flush, check_ordered, check_persist};
+use pmf_event::{EVENT_LIMIT, Event, Finding, Profile, Row, Rows, Section, Span};
+use pmf_shadow::Shadow;
 use std::alloc::{AllocError, Global};
 use std::sync::Arc;
 use thiserror::Error;
@@ -17,34 +23,113 @@ pub enum CheckFault {
     OutOfMemory,
 }
 
-fn rows_for(alloc: Global, events: &[Event]) -> Result<Rows, AllocError>
-    requires { length events.now ≤ EVENT_LIMIT }
-    ensures { IfOk result (λ rows. rows ≡ rows_of events.now) }
-{
-    let mut shadow = Shadow::new(alloc);
-    let mut rows = Rows::new(alloc);
-    for (index, event) in events.iter().enumerate() {
-        shadow.apply(event)?;
-        if let Event::Persist(span) = event {
-            let place = index as u32 + 1;
-            let finding = shadow.persist(*span);
-            rows.push(Row { place, finding })?;
-        }
-    }
-    Ok(rows)
+// The rows of a section as far as it has been walked.
+#[derive(Drop)]
+struct Walk {
+    shadow: Shadow,
+    rows: Rows,
+    profile: Profile,
 }
 
-/// Checks the section. The only refusal is [`CheckFault::OutOfMemory`], and the section comes back
-/// with it. Takes memory for a state of each byte that an event touches, and for the rows.
-pub fn check(alloc: Global, section: Arc<Section>) -> Result<Verdict, (CheckFault, Arc<Section>)>
-    ensures checked { IfOk result (λ verdict. verdict ≡ section.value) }
+impl Walk {
+    fn say(&mut self, place: u32, finding: Finding) -> Result<(), AllocError>
+        ensures { OnOk result (self.new ≡ record self.old
+            { rows = self.old.rows ++ row_at place finding ∷ [] }) }
+    {
+        self.rows.push(Row { place, finding })?;
+        Ok(())
+    }
+
+    fn say_if_any(&mut self, place: u32, finding: Option<Finding>) -> Result<(), AllocError>
+        ensures { OnOk result (self.new ≡ record self.old
+            { rows = self.old.rows ++ map (row_at place) (if_any finding) }) }
+    {
+        if let Some(finding) = finding {
+            self.say(place, finding)?;
+        }
+        Ok(())
+    }
+
+    // A write-back is judged before it takes effect.
+    fn write_back(&mut self, place: u32, span: Span) -> Result<(), AllocError>
+        ensures walks { OnOk result ((es : List Event) (p : ℕ) → Walks self.old es p
+            → event_at es (suc p) ≡ Some (Event.Flush span) → place ≡ suc p
+            → Walks self.new es (suc p)) }
+        ensures profile { OnOk result (self.new.profile ≡ self.old.profile) }
+    {
+        let found = check_flush(&self.shadow, span);
+        self.say_if_any(place, found.doubled)?;
+        self.say_if_any(place, found.needless)?;
+        self.shadow.flush(span)?;
+        Ok(())
+    }
+
+    // Walks over the event at this place.
+    fn follow(&mut self, place: u32, event: Event) -> Result<(), AllocError>
+        requires { (es : List Event) × (p : ℕ) × Walks self.old es p
+            × (p < EVENT_LIMIT) }
+        ensures walks { OnOk result ((es : List Event) (p : ℕ) → Walks self.old es p
+            → event_at es (suc p) ≡ Some event → place ≡ suc p
+            → Walks self.new es (suc p)) }
+        ensures profile { OnOk result (self.new.profile ≡ self.old.profile) }
+    {
+        match event {
+            Event::Store(span) => self.shadow.store(place, span)?,
+            Event::Flush(span) => self.write_back(place, span)?,
+            Event::Fence => self.shadow.fence(),
+            Event::Persist(span) => {
+                let finding = check_persist(&self.shadow, span);
+                self.say(place, finding)?
+            }
+            Event::Ordered(a, b) => {
+                let finding = check_ordered(&self.shadow, a, b, self.profile);
+                self.say(place, finding)?
+            }
+            Event::Exclude(span) => self.shadow.exclude(span)?,
+            Event::Include(span) => self.shadow.include(span)?,
+            Event::TxBegin
+            | Event::TxAdd(_)
+            | Event::TxEnd
+            | Event::CheckStart
+            | Event::CheckEnd => {}
+        }
+        Ok(())
+    }
+}
+
+fn rows_for(alloc: Global, events: &[Event], profile: Profile) -> Result<Rows, AllocError>
+    requires { length events.now ≤ EVENT_LIMIT }
+    ensures { IfOk result (λ rows. rows ≡ rows_of profile events.now) }
+{
+    let mut walk = Walk {
+        shadow: Shadow::new(alloc),
+        rows: Rows::new(alloc),
+        profile,
+    };
+    for (index, event) in events.iter().enumerate() {
+        walk.follow(index as u32 + 1, *event)?;
+    }
+    Ok(walk.rows)
+}
+
+/// Checks the section by the profile. The only refusal is [`CheckFault::OutOfMemory`], and the section
+/// comes back with it. Takes memory for a run of each distinct state of neighbouring bytes and lines,
+/// and for the rows.
+pub fn check(
+    alloc: Global,
+    section: Arc<Section>,
+    profile: Profile,
+) -> Result<Verdict, (CheckFault, Arc<Section>)>
+    ensures checked { IfOk result
+        (λ verdict. verdict ≡ record { section = section.value; profile = profile }) }
     // What these rows show as passed holds in every crash image that the rules allow; `rows` shows
     // them.
-    ensures sound { IfOk result (λ verdict. PassesHold verdict.events (rows_of verdict.events)) }
+    ensures sound { IfOk result
+        (λ verdict. PassesHold verdict.section.events (rows_in verdict)) }
     ensures returned { IfErr result (λ refused. refused.1.value ≡ section.value) }
 {
-    match rows_for(alloc, section.events()) {
-        Ok(rows) => Ok(Verdict::of_rows(section, rows)),
+    match rows_for(alloc, section.events(), profile) {
+        Ok(rows) => Ok(Verdict::of_rows(section, profile, rows)),
         Err(AllocError) => Err((CheckFault::OutOfMemory, section)),
     }
 }

@@ -7,13 +7,12 @@
 //!
 //! Not promised here: that the section holds all of its thread's stores, write-backs and fences on
 //! its lines, that no other thread writes those lines meanwhile, that the hardware keeps the rules
-//! of `pmf_image`, or that a failed assertion is a fault of the program that was logged. For now only
-//! persist assertions give rows.
+//! of `pmf_image`, or that a failed assertion is a fault of the program that was logged. For now the
+//! markers of transactions give no rows.
 #![tactic(auto)]
 
 mod checking;
 mod outcome;
-mod shadow;
 mod text;
 mod verdict;
 

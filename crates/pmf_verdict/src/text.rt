@@ -2,7 +2,7 @@
 
 ghost use Rattle.std.specs.Prelude.{◌≡◌, ◌++◌, OnOk, IfOk};
 ghost use Rattle.std.specs.String.{string_bytes};
-ghost use Rattle.pmf_verdict.specs.Rows.{rows_of};
+ghost use Rattle.pmf_verdict.specs.Checked.{rows_in};
 ghost use Rattle.pmf_verdict.specs.Text.{text_of_pair, text_of_finding, text_of_row, text_of_rows};
 
 use crate::verdict::Verdict;
@@ -72,7 +72,7 @@ fn push_row(text: &mut String, row: &Row) -> Result<(), AllocError>
 
 /// The rows of the verdict, one text line each. Takes memory for the text alone.
 pub fn write_rows(alloc: Global, verdict: &Verdict) -> Result<Vec<u8>, AllocError>
-    ensures { IfOk result (λ text. text.items ≡ text_of_rows (rows_of verdict.now.events)) }
+    ensures { IfOk result (λ text. text.items ≡ text_of_rows (rows_in verdict.now)) }
 {
     let mut text = String::new(alloc);
     for row in verdict.rows() {

@@ -1,54 +1,67 @@
 ghost use Rattle.std.specs.Prelude.{◌≡◌};
-ghost use Rattle.pmf_event.specs.Section.{Trace};
+ghost use Rattle.pmf_verdict.specs.Checked.{Checked, rows_in};
 ghost use Rattle.pmf_verdict.specs.Rows.{rows_of};
 ghost use Rattle.pmf_verdict.specs.Sound.{PassesHold};
 
-use pmf_event::{Name, Row, Rows, Section};
+use pmf_event::{Name, Profile, Row, Rows, Section};
 use std::marker::Model;
 use std::sync::Arc;
 
-/// A section and the rows of its own events. Contracts see it as the section.
+/// A section, a profile, and the rows of the section's own events by that profile. Contracts see it
+/// as the section and the profile.
 #[derive(Debug, Drop)]
 pub struct Verdict {
     section: Arc<Section>,
+    profile: Profile,
     rows: Rows,
 }
 
 impl Model for Verdict {
-    ghost Value = { Trace };
+    ghost Value = { Checked };
 
-    ghost view = { λ v. v.section.value };
+    ghost view = { λ v. record { section = v.section.value; profile = v.profile } };
 
-    ghost invariant = { λ v. v.rows ≡ rows_of v.section.value.events };
+    ghost invariant = { λ v. v.rows ≡ rows_of v.profile v.section.value.events };
 }
 
 impl Verdict {
-    pub(crate) fn of_rows(section: Arc<Section>, rows: Rows) -> Verdict
-        requires { rows ≡ rows_of section.value.events }
-        ensures { result ≡ section.value }
+    pub(crate) fn of_rows(section: Arc<Section>, profile: Profile, rows: Rows) -> Verdict
+        requires { rows ≡ rows_of profile section.value.events }
+        ensures { result ≡ record { section = section.value; profile = profile } }
     {
-        Verdict { section, rows }
+        Verdict {
+            section,
+            profile,
+            rows,
+        }
     }
 
     /// The name of the section.
     pub fn name(&self) -> Name
-        ensures { result ≡ self.now.name }
+        ensures { result ≡ self.now.section.name }
     {
         self.section.name()
     }
 
     /// The section.
     pub fn section(&self) -> &Arc<Section>
-        ensures { result.now.value ≡ self.now }
+        ensures { result.now.value ≡ self.now.section }
     {
         &self.section
     }
 
+    /// The profile by which it was checked.
+    pub fn profile(&self) -> Profile
+        ensures { result ≡ self.now.profile }
+    {
+        self.profile
+    }
+
     /// The rows of the section, in the order of its events.
     pub fn rows(&self) -> &[Row]
-        ensures value { result.now ≡ rows_of self.now.events }
+        ensures value { result.now ≡ rows_in self.now }
         // What is shown as passed holds in every crash image that the rules allow.
-        ensures sound { PassesHold self.now.events result.now }
+        ensures sound { PassesHold self.now.section.events result.now }
     {
         self.rows.as_slice()
     }

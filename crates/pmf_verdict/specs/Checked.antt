@@ -1,0 +1,15 @@
+-- A section that was checked, as a value.
+use Rattle.std.specs.Prelude.{List}
+use Rattle.pmf_event.specs.declared.profile.Profile.{Profile}
+use Rattle.pmf_event.specs.declared.row.Row.{Row}
+use Rattle.pmf_event.specs.Section.{Trace}
+use Rattle.pmf_verdict.specs.Rows.{rows_of}
+
+-- the section, and the profile by which it was checked
+pub record Checked : Type 0 where
+  pub section : Trace
+  pub profile : Profile
+
+-- its rows
+abbrev pub rows_in : Checked → List Row
+rows_in checked = rows_of checked.profile checked.section.events
