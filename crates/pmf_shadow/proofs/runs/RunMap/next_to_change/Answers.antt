@@ -32,7 +32,8 @@ returns-then-start-end-clause-next g c =
 pub loop-start-preserved : goal.loop-start-preserved
 loop-start-preserved g c =
     let same : c.changed-changed.result ≡ c.in-Some.state.now = g.met.S.State.exact c.changed-changed.result c.in-Some.state.now (not-false _ (sym c.if-ne.ensures)) in
+    let kept : g.C.Change.changed c.args.change.now c.in-Some.state.now ≡ c.in-Some.state.now = cc (c.changed-changed.ensures, same) in
     let keeps : Keeps (g.C.Change.changed c.args.change.now) c.args.self.now c.args.place c.args.end c.next.new.self c.in-Some.state.now =
     keeps-more (g.C.Change.changed c.args.change.now) c.args.self.now c.args.place c.args.end (c.in-Some.start.now, c.in-Some.state.now) c.next.new.self c.loop-start.start-iterator
-    c.loop-start.before c.in-Some.ensures.steps c.loop-start.invariant c.if-start-end.false (subst (λ s. s ≡ c.in-Some.state.now) c.changed-changed.ensures same) in
+    c.loop-start.before c.in-Some.ensures.steps c.loop-start.invariant c.if-start-end.false kept in
     subst (Keeps (g.C.Change.changed c.args.change.now) c.args.self.now c.args.place c.args.end c.next.new.self) (sym same) keeps
