@@ -1,7 +1,11 @@
-pub mod RunLemmas
-pub mod StandsLemmas
-pub mod PairLemmas
-pub mod AskLemmas
-pub mod WalkLemmas
-pub mod PieceLemmas
 pub mod OrderLemmas
+pub mod RunLemmas
+pub mod ChangeLemmas
+pub mod WalkLemmas
+pub mod KeptLemmas
+pub mod AskingLemmas
+pub mod StandsLemmas
+pub mod QuestionLemmas
+pub mod PairLemmas
+pub mod PieceLemmas
+pub mod UnorderedLemmas

@@ -1,413 +1,50 @@
--- What is kept of two bytes says whether they are unordered, and whether the pair is certified; and the
--- walks that the shadow makes find the least pair.
-use Rattle.std.proofs.Common.{◌≡◌, ℕ, suc, ◌+◌, ◌-◌, ◌<◌, ◌≤◌, Bool, true, false, not, ◌&&◌, ◌==◌, nat_lt, nat_le, if◌then◌else◌, List, refl, sym, ◌∙◌, ap, subst, arith, inl, inr}
-use Rattle.std.specs.Prelude.{◌||◌, Option, Some, None}
-use Rattle.std.proofs.lemmas.Bool.{cases_lt, cases_eq, leb-true, le-leb, le-ltb}
-use Rattle.std.proofs.lemmas.Bool.Decides.{Decides-eqb}
-use borrow.Author.Tests.{ltb-true}
-use Rattle.pmf_event.specs.declared.event.Event.{Event}
-use Rattle.pmf_event.specs.declared.profile.Profile.{Profile}
-use Rattle.pmf_event.specs.declared.profile.Profile.TheVariants.{One, Two}
-use Rattle.pmf_event.specs.declared.interval.Interval.{Interval}
-use Rattle.pmf_event.specs.Span.{Extent}
-use Rattle.pmf_event.specs.Line.{line_of_byte}
-use Rattle.pmf_event.specs.Places.{least, count}
-use Rattle.pmf_event.specs.Ranges.{first_from, first_byte}
-use Rattle.pmf_event.specs.Store.{at, stores, is_fence, last, last_store, epoch_of}
-use Rattle.pmf_event.specs.WriteBack.{write_back_epoch, epoch_unless}
-use Rattle.pmf_event.specs.Interval.{writes_back, first_write_back, interval_at}
-use Rattle.pmf_event.specs.Exclusion.{is_excluded}
-use Rattle.pmf_event.specs.Persist.{is_checked}
-use Rattle.pmf_event.specs.Order.{is_closed_by, precedes, share_line, is_stored_before, is_ordered, is_unordered, is_certified, paired, with_partner, least_pair}
-use Rattle.pmf_event.proofs.PlacesLemmas.{lt-ltb, least-passes, count-mono, greatest-bound}
-use Rattle.pmf_event.proofs.EventLemmas.{and-true}
-use Rattle.pmf_event.proofs.RangeLemmas.{none-passes, first_from-same}
-use Rattle.pmf_event.proofs.WriteBackLemmas.{epoch_unless-none, epoch_unless-some, last-bound}
-use Rattle.pmf_shadow.specs.declared.byte.ByteState.{ByteState}
-use Rattle.pmf_shadow.specs.declared.byte.Stored.{Stored}
-use Rattle.pmf_shadow.specs.declared.shadow.Shadow.{Shadow}
-use Rattle.pmf_shadow.specs.Runs.{state_at}
-use Rattle.pmf_shadow.specs.States.{checked_store, holds_of, any_store, is_late, late_for, late_for_any, is_before, opens_in, stored_by, comes_after, has_one_by, opening_of, place_of}
-use Rattle.pmf_shadow.specs.Pairs.{kept, both_hold, by_epoch, by_place, by_epochs, by_lines, by_line, on_line, off_line, IsLeastValue}
-use Rattle.pmf_shadow.specs.Shadow.{stored_at, byte_at, closing, StandsFor}
-use Rattle.pmf_shadow.proofs.PairLemmas.{late-monotone, least_pair-by, least_pair-none, least_pair-same, no_pairs-by_epochs, has_partner-by_epochs, partner-by_epochs, no_pairs-by_lines, has_partner-by_lines, partner-by_lines, by_lines-on, by_lines-off, by_line-on, by_line-off, on_line-on}
-use Rattle.pmf_shadow.proofs.AskLemmas.{IsWritten, written-from_stored, interval-written, checked-is}
+-- The order of two numbers, as a map compares its keys.
+use Rattle.std.proofs.Common.{◌≡◌, ℕ, ◌+◌, ◌<◌, ◌≤◌, true, false, nat_eq, if◌then◌else◌, sym, ◌∙◌, ap, arith, inl, inr}
+use Rattle.std.specs.Ordering.{nat_cmp, is_lt, is_gt, is_eq, is_le}
+use Rattle.std.specs.declared.cmp.Ordering.TheVariants.{Less, Equal, Greater}
+use Rattle.std.specs.BTreeMap.{is_at}
+use Rattle.std.proofs.lemmas.Bool.{cases_lt, cases_eq, lt-ltb, le-ltb, ne_eqb, eq-eqb, false≢true}
 
-not_leb : (a b : ℕ) → b < a → nat_le a b ≡ false
-not_leb a b below = elim (nat_le a b) as (λ v. nat_le a b ≡ v → v ≡ false) [ true ↦ λ is. let bad = leb-true a b is in absurd (omega arith) | false ↦ λ is. refl ] refl
+pub cmp-less : (x y : ℕ) → x < y → nat_cmp x y ≡ Less
+cmp-less x y below = ap (λ v. if v then Less else (if nat_eq x y then Equal else Greater)) (lt-ltb x y below)
 
--- ---- what is kept of a checked byte
+pub cmp-equal : (x y : ℕ) → x ≡ y → nat_cmp x y ≡ Equal
+cmp-equal x y same =
+    ap (λ v. if v then Less else (if nat_eq x y then Equal else Greater)) (le-ltb x y (omega arith))
+    ∙ ap (λ v. if v then Equal else Greater) (eq-eqb x y same)
 
--- what the events say of a byte of which this is kept
-pub record IsKept (es : List Event) (p x : ℕ) (k : Stored) : Type 0 where
-  pub checked : is_checked es p x ≡ true
-  pub written : IsWritten es p x k
-  pub interval : interval_at es p x ≡ Some (record { last = k.last; opens = k.opens; closes = closing (count (at is_fence es) p) k.written_back })
+pub cmp-greater : (x y : ℕ) → y < x → nat_cmp x y ≡ Greater
+cmp-greater x y above =
+    ap (λ v. if v then Less else (if nat_eq x y then Equal else Greater)) (le-ltb x y (omega arith))
+    ∙ ap (λ v. if v then Equal else Greater) (ne_eqb x y (λ same. omega arith))
 
-store-of_checked : (s : ByteState) (k : Stored) → checked_store s ≡ Some k → s.stored ≡ Some k
-store-of_checked s k is = elim s.excluded as (λ v. (if v then None else s.stored) ≡ Some k → s.stored ≡ Some k) [
-  | true ↦ λ bad. let wrong : None ≡ Some k = bad in cc
-  | false ↦ λ same. same
-] is
+pub not_greater : (x y : ℕ) → x ≤ y → is_gt (nat_cmp x y) ≡ false
+not_greater x y upto = elim (cases_eq x y) [ inl same ↦ ap is_gt (cmp-equal x y same) | inr other ↦ ap is_gt (cmp-less x y (omega arith)) ]
 
-module _ (shadow : Shadow) (es : List Event) (p : ℕ) (stands : StandsFor shadow es p) where
-  kept-is : (x : ℕ) → kept shadow.bytes x ≡ checked_store (byte_at es p x)
-  unfolding kept
-  kept-is x = ap checked_store (stands.bytes x)
+pub upto-not_greater : (x y : ℕ) → is_gt (nat_cmp x y) ≡ false → x ≤ y
+upto-not_greater x y not_more = elim (cases_lt y x) [ inl above ↦ absurd (false≢true (sym not_more ∙ ap is_gt (cmp-greater x y above))) | inr upto ↦ upto ]
 
-  checked-kept : (x : ℕ) → is_checked es p x ≡ holds_of any_store (kept shadow.bytes x)
-  checked-kept x = checked-is es p x ∙ ap (holds_of any_store) (sym (kept-is x))
+pub not_above : (lo k : ℕ) → lo ≤ k → is_le (nat_cmp lo k) ≡ true
+not_above lo k from = elim (cases_eq lo k) [ inl same ↦ ap is_le (cmp-equal lo k same) | inr other ↦ ap is_le (cmp-less lo k (omega arith)) ]
 
-  pub kept-some : (x : ℕ) (k : Stored) → kept shadow.bytes x ≡ Some k → IsKept es p x k
-  kept-some x k is =
-      let stored : stored_at es p x ≡ Some k = store-of_checked (byte_at es p x) k (sym (kept-is x) ∙ is) in record {
-        checked = checked-kept x ∙ ap (holds_of any_store) is;
-        written = written-from_stored es p x k stored;
-        interval = interval-written es p x k stored;
-      }
+pub not_at : (q k : ℕ) → (q ≡ k → ⊥) → is_at (nat_cmp q) k ≡ false
+not_at q k other = elim (cases_lt q k) [ inl below ↦ ap is_eq (cmp-less q k below) | inr above ↦ ap is_eq (cmp-greater q k (omega arith)) ]
 
-  unchecked-none : (x : ℕ) → kept shadow.bytes x ≡ None → is_checked es p x ≡ false
-  unchecked-none x is = checked-kept x ∙ ap (holds_of any_store) is
-
--- ---- epochs do not fall
-
-epoch-mono : (es : List Event) (i j : ℕ) → i ≤ j → epoch_of es i ≤ epoch_of es j
-unfolding epoch_of
-epoch-mono es i j low = count-mono (at is_fence es) (i - 1) (j - 1) (omega arith)
-
-epoch-bound : (es : List Event) (i p : ℕ) → i ≤ p → epoch_of es i ≤ count (at is_fence es) p
-unfolding epoch_of
-epoch-bound es i p low = count-mono (at is_fence es) (i - 1) p (omega arith)
-
-epoch-place : (es : List Event) (k w : ℕ) → epoch_unless es k ≡ Some w → (0 < k) × (epoch_of es k ≡ w)
-epoch-place es k w is = elim (cases_eq k 0) [
-  | inl zero_is ↦ let bad : None ≡ Some w = sym (epoch_unless-none es k zero_is) ∙ is in cc
-  | inr other ↦ let same : Some (epoch_of es k) ≡ Some w = sym (epoch_unless-some es k (omega arith)) ∙ is in (omega arith, cc)
+pub less-below : (k y : ℕ) → nat_cmp k y ≡ Less → k < y
+less-below k y less = elim (cases_lt k y) [
+  | inl below ↦ below
+  | inr above ↦ absurd (elim (cases_eq k y) [
+    | inl same ↦ false≢true (sym (ap is_lt (cmp-equal k y same)) ∙ ap is_lt less)
+    | inr other ↦ false≢true (sym (ap is_lt (cmp-greater k y (omega arith))) ∙ ap is_lt less)
+  ])
 ]
 
--- a write-back lies in no epoch before that of the store
-own-late : (es : List Event) (p x : ℕ) (o : Option ℕ) → write_back_epoch (stores x) (line_of_byte x) es p ≡ o → is_late (epoch_of es (last_store es p x)) o ≡ true
-unfolding write_back_epoch first_write_back writes_back
-own-late es p x None is = refl
-own-late es p x (Some w) is =
-    let k = last (stores x) es p in
-    let place = least (writes_back es (line_of_byte x) k) p in
-    let own = epoch-place es place w is in
-    let passed = and-true _ _ (least-passes (writes_back es (line_of_byte x) k) p own.0) in
-    let after = ltb-true k place passed.0 in
-    let rise = epoch-mono es k place (omega arith) in
-    let same = own.1 in le-leb (epoch_of es k) w (omega arith)
-
-at_most-from_before : (ties : Bool) (i j : ℕ) → is_before ties i j ≡ true → i ≤ j
-at_most-from_before ties i j is = elim (nat_lt i j) as (λ v. nat_lt i j ≡ v → (v || (ties && i == j)) ≡ true → i ≤ j) [
-  | true ↦ λ less more. let low = ltb-true i j less in omega arith
-  | false ↦ λ other tie. let both = and-true ties (i == j) tie in let same : i ≡ j = (Decides-eqb i j).0 both.1 in omega arith
-] refl is
-
--- a byte that was stored no earlier than another was written back in no epoch before the other's
-pub stored-later : (es : List Event) (p x y : ℕ) (k m : Stored) → IsWritten es p x k → IsWritten es p y m → m.last ≤ k.last → is_late m.opens k.written_back ≡ true
-stored-later es p x y k m own other low =
-    let at_x = own.place in
-    let at_y = other.place in
-    let open_x = own.epoch in
-    let open_y = other.epoch in
-    let rise = epoch-mono es (last_store es p y) (last_store es p x) (omega arith) in
-    late-monotone m.opens k.opens k.written_back (omega arith)
-    (ap (λ o. is_late o k.written_back) own.epoch ∙ own-late es p x k.written_back (sym own.write_back))
-
--- ---- unordered and certified pairs
-
-not-closed : (fences opens : ℕ) (o : Option ℕ) → opens ≤ fences → not (is_closed_by (closing fences o) opens) ≡ is_late opens o
-not-closed fences opens None low = refl
-not-closed fences opens (Some w) low = elim (cases_lt w fences) [
-  | inl ended ↦ ap (λ c. not (is_closed_by c opens)) (closing_some fences w ended) ∙ elim (cases_lt w opens) [
-    | inl before ↦ ap (λ v. not v) (le-leb (w + 1) opens (omega arith)) ∙ sym (not_leb opens w before)
-    | inr after ↦ ap (λ v. not v) (not_leb (w + 1) opens (omega arith)) ∙ sym (le-leb opens w after)
+-- up to a number is below the next one
+pub past-same : (hi k : ℕ) → is_lt (nat_cmp hi k) ≡ is_le (nat_cmp (hi + 1) k)
+past-same hi k = elim (cases_lt hi k) [
+  | inl after ↦ ap is_lt (cmp-less hi k after) ∙ sym (not_above (hi + 1) k (omega arith))
+  | inr upto ↦ elim (cases_eq hi k) [
+    | inl same ↦ ap is_lt (cmp-equal hi k same) ∙ sym (ap is_le (cmp-greater (hi + 1) k (omega arith)))
+    | inr other ↦ ap is_lt (cmp-greater hi k (omega arith)) ∙ sym (ap is_le (cmp-greater (hi + 1) k (omega arith)))
   ]
-  | inr late ↦ ap (λ c. not (is_closed_by c opens)) (closing_none fences w late) ∙ sym (le-leb opens w (omega arith))
-]
-  where
-    closing_some : (fences w : ℕ) → w < fences → closing fences (Some w) ≡ Some (w + 1)
-    closing_some fences w ended = ap (λ v. if v then Some (w + 1) else None) (lt-ltb w fences ended)
-
-    closing_none : (fences w : ℕ) → fences ≤ w → closing fences (Some w) ≡ None
-    closing_none fences w late = ap (λ v. if v then Some (w + 1) else None) (le-ltb w fences late)
-
-eqb-cases : (x y : ℕ) → (x ≡ y → ⊥) → (x == y) ≡ false
-eqb-cases x y other = elim (x == y) as (λ v. (x == y) ≡ v → v ≡ false) [ true ↦ λ is. absurd (other ((Decides-eqb x y).0 is)) | false ↦ λ is. refl ] refl
-
-or-false : (v : Bool) → (v || false) ≡ v
-or-false true = refl
-or-false false = refl
-
-and-true-right : (v : Bool) → (v && true) ≡ v
-and-true-right true = refl
-and-true-right false = refl
-
-and-false : (v : Bool) → (v && false) ≡ false
-and-false true = refl
-and-false false = refl
-
-or-true : (v : Bool) → (v || true) ≡ true
-or-true true = refl
-or-true false = refl
-
-module _ (es : List Event) (p x y : ℕ) (k m : Stored) (own : IsKept es p x k) (other : IsKept es p y m) where
-  -- the two checked bytes, by their epochs
-  apart : Bool
-  apart = not (precedes (interval_at es p x) (interval_at es p y))
-
-  apart-is : apart ≡ is_late m.opens k.written_back
-  unfolding apart
-  apart-is =
-      let bound = last-bound (stores y) es p in
-      let open_y = other.written.epoch in
-      let most = epoch-bound es (last_store es p y) p bound in
-      ap (λ o. not (precedes o (interval_at es p y))) own.interval
-      ∙ ap (λ o. not (precedes (Some (record { last = k.last; opens = k.opens; closes = closing (count (at is_fence es) p) k.written_back })) o)) other.interval
-      ∙ not-closed (count (at is_fence es) p) m.opens k.written_back (omega arith)
-
-  both-checked : (v : Bool) → (is_checked es p x && is_checked es p y && v) ≡ v
-  both-checked v = ap (λ c. c && is_checked es p y && v) own.checked ∙ ap (λ c. c && v) other.checked
-
-  before-is : is_stored_before es p x y ≡ nat_lt k.last m.last
-  unfolding is_stored_before
-  before-is = ap (λ i. nat_lt i (last_store es p y)) (sym own.written.place) ∙ ap (nat_lt k.last) (sym other.written.place)
-
-  after-is : is_stored_before es p y x ≡ nat_lt m.last k.last
-  unfolding is_stored_before
-  after-is = ap (λ i. nat_lt i (last_store es p x)) (sym other.written.place) ∙ ap (nat_lt m.last) (sym own.written.place)
-
-  pub unordered-one : is_unordered One es p x y ≡ is_late m.opens k.written_back
-  unfolding is_unordered is_ordered apart
-  unordered-one = both-checked apart ∙ apart-is
-
-  pub unordered-two-off : share_line x y ≡ false → is_unordered Two es p x y ≡ is_late m.opens k.written_back
-  unfolding is_unordered is_ordered apart
-  unordered-two-off off =
-      both-checked (not (precedes (interval_at es p x) (interval_at es p y) || (share_line x y && is_stored_before es p x y)))
-      ∙ ap (λ s. not (precedes (interval_at es p x) (interval_at es p y) || (s && is_stored_before es p x y))) off
-      ∙ ap (λ v. not v) (or-false (precedes (interval_at es p x) (interval_at es p y)))
-      ∙ apart-is
-
-  unordered-two-on : share_line x y ≡ true → is_unordered Two es p x y ≡ not (precedes (interval_at es p x) (interval_at es p y) || nat_lt k.last m.last)
-  unfolding is_unordered is_ordered
-  unordered-two-on on =
-      both-checked (not (precedes (interval_at es p x) (interval_at es p y) || (share_line x y && is_stored_before es p x y)))
-      ∙ ap (λ s. not (precedes (interval_at es p x) (interval_at es p y) || (s && is_stored_before es p x y))) on
-      ∙ ap (λ v. not (precedes (interval_at es p x) (interval_at es p y) || v)) before-is
-
-  later-two : share_line x y ≡ true → m.last ≤ k.last → is_unordered Two es p x y ≡ true
-  unfolding apart
-  later-two on low =
-      unordered-two-on on
-      ∙ ap (λ v. not (precedes (interval_at es p x) (interval_at es p y) || v)) (le-ltb k.last m.last low)
-      ∙ ap (λ v. not v) (or-false (precedes (interval_at es p x) (interval_at es p y)))
-      ∙ apart-is ∙ stored-later es p x y k m own.written other.written low
-
-  pub unordered-two : share_line x y ≡ true → is_unordered Two es p x y ≡ is_before true m.last k.last
-  unordered-two on = elim (cases_lt k.last m.last) [
-    | inl before ↦
-        unordered-two-on on
-        ∙ ap (λ v. not (precedes (interval_at es p x) (interval_at es p y) || v)) (lt-ltb k.last m.last before)
-        ∙ ap (λ v. not v) (or-true (precedes (interval_at es p x) (interval_at es p y)))
-        ∙ sym (ap (λ v. v || (true && m.last == k.last)) (le-ltb m.last k.last (omega arith)) ∙ eqb-cases m.last k.last (λ same. omega arith))
-    | inr after ↦ later-two on after ∙ sym (elim (cases_eq m.last k.last) [
-      | inl same ↦ ap (λ v. nat_lt m.last k.last || v) ((Decides-eqb m.last k.last).1 same) ∙ or-true (nat_lt m.last k.last)
-      | inr apart ↦ ap (λ v. v || (true && m.last == k.last)) (lt-ltb m.last k.last (omega arith))
-    ])
-  ]
-
-  certified-off : (profile : Profile) → share_line x y ≡ false → is_unordered profile es p x y ≡ is_late m.opens k.written_back → is_certified profile es p x y ≡ is_late m.opens k.written_back
-  unfolding is_certified
-  certified-off profile off is =
-      ap (λ s. is_unordered profile es p x y && (not s || is_stored_before es p y x)) off ∙ and-true-right (is_unordered profile es p x y) ∙ is
-
-  certified-on : (profile : Profile) → share_line x y ≡ true → (m.last < k.last → is_unordered profile es p x y ≡ true) → is_certified profile es p x y ≡ is_before false m.last k.last
-  unfolding is_certified
-  certified-on profile on later =
-      ap (λ s. is_unordered profile es p x y && (not s || is_stored_before es p y x)) on
-      ∙ ap (λ v. is_unordered profile es p x y && v) after-is
-      ∙ elim (cases_lt m.last k.last) [
-        | inl before ↦ ap (λ v. is_unordered profile es p x y && v) (lt-ltb m.last k.last before) ∙ and-true-right (is_unordered profile es p x y) ∙ later before
-            ∙ sym (ap (λ v. v || (false && m.last == k.last)) (lt-ltb m.last k.last before))
-        | inr after ↦ ap (λ v. is_unordered profile es p x y && v) (le-ltb m.last k.last after) ∙ and-false (is_unordered profile es p x y)
-            ∙ sym (ap (λ v. v || (false && m.last == k.last)) (le-ltb m.last k.last after))
-      ]
-
-  pub certified-apart : (profile : Profile) → share_line x y ≡ false → is_certified profile es p x y ≡ is_late m.opens k.written_back
-  certified-apart One off = certified-off One off unordered-one
-  certified-apart Two off = certified-off Two off (unordered-two-off off)
-
-  pub certified-together : (profile : Profile) → share_line x y ≡ true → is_certified profile es p x y ≡ is_before false m.last k.last
-  certified-together One on = certified-on One on (λ before. unordered-one ∙ stored-later es p x y k m own.written other.written (omega arith))
-  certified-together Two on = certified-on Two on (λ before. later-two on (omega arith))
-
-unordered-unchecked : (profile : Profile) (es : List Event) (p x y : ℕ) → (is_checked es p x && is_checked es p y) ≡ false → is_unordered profile es p x y ≡ false
-unfolding is_unordered
-unordered-unchecked profile es p x y none = elim (is_checked es p x) as (λ c. (c && is_checked es p y) ≡ false → (c && is_checked es p y && not (is_ordered profile es p x y)) ≡ false) [
-  | true ↦ λ other. ap (λ d. d && not (is_ordered profile es p x y)) other
-  | false ↦ λ other. refl
-] none
-
-certified-unchecked : (profile : Profile) (es : List Event) (p x y : ℕ) → (is_checked es p x && is_checked es p y) ≡ false → is_certified profile es p x y ≡ false
-unfolding is_certified
-certified-unchecked profile es p x y none = ap (λ v. v && (not (share_line x y) || is_stored_before es p y x)) (unordered-unchecked profile es p x y none)
-
-both_hold-right : (test : Stored → Stored → Bool) (u : Option Stored) → both_hold test u None ≡ false
-both_hold-right test None = refl
-both_hold-right test (Some k) = refl
-
-module _ (shadow : Shadow) (es : List Event) (p : ℕ) (stands : StandsFor shadow es p) where
-  neither-left : (x y : ℕ) → kept shadow.bytes x ≡ None → (is_checked es p x && is_checked es p y) ≡ false
-  neither-left x y none = ap (λ v. v && is_checked es p y) (unchecked-none shadow es p stands x none)
-
-  neither-right : (x y : ℕ) → kept shadow.bytes y ≡ None → (is_checked es p x && is_checked es p y) ≡ false
-  neither-right x y none = ap (λ v. is_checked es p x && v) (unchecked-none shadow es p stands y none) ∙ and-false (is_checked es p x)
-
-  both-is : (test : Stored → Stored → Bool) (x y : ℕ) (k m : Stored) → kept shadow.bytes x ≡ Some k → kept shadow.bytes y ≡ Some m →
-      both_hold test (kept shadow.bytes x) (kept shadow.bytes y) ≡ test k m
-  both-is test x y k m one other = ap (λ u. both_hold test u (kept shadow.bytes y)) one ∙ ap (both_hold test (Some k)) other
-
-  epochs-by : (x y : ℕ) (u v : Option Stored) → kept shadow.bytes x ≡ u → kept shadow.bytes y ≡ v → is_unordered One es p x y ≡ by_epochs (kept shadow.bytes) x y
-  unfolding by_epochs
-  epochs-by x y (Some k) (Some m) one other =
-      unordered-one es p x y k m (kept-some shadow es p stands x k one) (kept-some shadow es p stands y m other) ∙ sym (both-is by_epoch x y k m one other)
-  epochs-by x y None v one other = unordered-unchecked One es p x y (neither-left x y one) ∙ sym (ap (λ w. both_hold by_epoch w (kept shadow.bytes y)) one)
-  epochs-by x y (Some k) None one other =
-      unordered-unchecked One es p x y (neither-right x y other) ∙ sym (ap (both_hold by_epoch (kept shadow.bytes x)) other ∙ both_hold-right by_epoch (kept shadow.bytes x))
-
-  pub epochs-is : (x y : ℕ) → is_unordered One es p x y ≡ by_epochs (kept shadow.bytes) x y
-  epochs-is x y = epochs-by x y (kept shadow.bytes x) (kept shadow.bytes y) refl refl
-
-  -- a test of pairs that is right on a line and off it is that of the walks by lines
-  lines-by : (ties : Bool) (want : ℕ → ℕ → Bool) →
-      ((x y : ℕ) (k m : Stored) → IsKept es p x k → IsKept es p y m → share_line x y ≡ true → want x y ≡ is_before ties m.last k.last) →
-      ((x y : ℕ) (k m : Stored) → IsKept es p x k → IsKept es p y m → share_line x y ≡ false → want x y ≡ is_late m.opens k.written_back) →
-      ((x y : ℕ) → (is_checked es p x && is_checked es p y) ≡ false → want x y ≡ false) →
-      (x y : ℕ) (u v : Option Stored) → kept shadow.bytes x ≡ u → kept shadow.bytes y ≡ v → want x y ≡ by_lines ties (kept shadow.bytes) x y
-  lines-by ties want on off none x y (Some k) (Some m) one other = elim (cases_eq (line_of_byte x) (line_of_byte y)) [
-    | inl same ↦
-        on x y k m (kept-some shadow es p stands x k one) (kept-some shadow es p stands y m other) ((Decides-eqb (line_of_byte x) (line_of_byte y)).1 same)
-        ∙ sym (by_lines-on ties (kept shadow.bytes) x y same ∙ both-is (by_place ties) x y k m one other)
-    | inr apart ↦
-        off x y k m (kept-some shadow es p stands x k one) (kept-some shadow es p stands y m other) (eqb-cases (line_of_byte x) (line_of_byte y) apart)
-        ∙ sym (by_lines-off ties (kept shadow.bytes) x y apart ∙ both-is by_epoch x y k m one other)
-  ]
-  lines-by ties want on off none x y None v one other = none x y (neither-left x y one) ∙ sym (elim (cases_eq (line_of_byte x) (line_of_byte y)) [
-    | inl same ↦ by_lines-on ties (kept shadow.bytes) x y same ∙ ap (λ w. both_hold (by_place ties) w (kept shadow.bytes y)) one
-    | inr apart ↦ by_lines-off ties (kept shadow.bytes) x y apart ∙ ap (λ w. both_hold by_epoch w (kept shadow.bytes y)) one
-  ])
-  lines-by ties want on off none x y (Some k) None one other = none x y (neither-right x y other) ∙ sym (elim (cases_eq (line_of_byte x) (line_of_byte y)) [
-    | inl same ↦ by_lines-on ties (kept shadow.bytes) x y same ∙ ap (both_hold (by_place ties) (kept shadow.bytes x)) other ∙ both_hold-right (by_place ties) (kept shadow.bytes x)
-    | inr apart ↦ by_lines-off ties (kept shadow.bytes) x y apart ∙ ap (both_hold by_epoch (kept shadow.bytes x)) other ∙ both_hold-right by_epoch (kept shadow.bytes x)
-  ])
-
-  pub unordered-two-is : (x y : ℕ) → is_unordered Two es p x y ≡ by_lines true (kept shadow.bytes) x y
-  unordered-two-is x y = lines-by true (is_unordered Two es p)
-      (λ x y k m own other on. unordered-two es p x y k m own other on)
-      (λ x y k m own other off. unordered-two-off es p x y k m own other off)
-      (λ x y none. unordered-unchecked Two es p x y none) x y (kept shadow.bytes x) (kept shadow.bytes y) refl refl
-
-  pub certified-is : (profile : Profile) (x y : ℕ) → is_certified profile es p x y ≡ by_lines false (kept shadow.bytes) x y
-  certified-is profile x y = lines-by false (is_certified profile es p)
-      (λ x y k m own other on. certified-together es p x y k m own other profile on)
-      (λ x y k m own other off. certified-apart es p x y k m own other profile off)
-      (λ x y none. certified-unchecked profile es p x y none) x y (kept shadow.bytes x) (kept shadow.bytes y) refl refl
-
-  falls : (ties : Bool) (x y : ℕ) (k m : Stored) → kept shadow.bytes x ≡ Some k → kept shadow.bytes y ≡ Some m → is_before ties m.last k.last ≡ true → is_late m.opens k.written_back ≡ true
-  falls ties x y k m one other before =
-      stored-later es p x y k m (kept-some shadow es p stands x k one).written (kept-some shadow es p stands y m other).written (at_most-from_before ties m.last k.last before)
-
-  -- the walks by lines find the least pair
-  pub lines-found : (ties : Bool) (a b : Extent) (m early first : ℕ) (elsewhere : Option ℕ) →
-      IsLeastValue (λ x. opening_of (kept shadow.bytes x)) b.first b.size (Some m) →
-      b.first ≤ early → early < b.first + b.size → opening_of (kept shadow.bytes early) ≡ Some m →
-      IsLeastValue (on_line (line_of_byte early) (λ x. place_of (kept shadow.bytes x))) b.first b.size (Some first) →
-      IsLeastValue (off_line (line_of_byte early) (λ x. opening_of (kept shadow.bytes x))) b.first b.size elsewhere →
-      (on off : ℕ → Bool) → ((x : ℕ) → on x ≡ holds_of (has_one_by ties first elsewhere) (kept shadow.bytes x)) → ((x : ℕ) → off x ≡ holds_of (late_for m) (kept shadow.bytes x)) →
-      least_pair (by_lines ties (kept shadow.bytes)) a b ≡ with_partner (by_lines ties (kept shadow.bytes)) b (first_byte (by_line (line_of_byte early) on off) a)
-  lines-found ties a b m early first elsewhere least from within opens least_on least_off on off is_on is_off =
-      least_pair-by (by_lines ties (kept shadow.bytes)) a b (by_line (line_of_byte early) on off)
-      (has_partner-by_lines ties (kept shadow.bytes) b (falls ties) m least early from within opens first least_on elsewhere least_off on off is_on is_off)
-
--- the partner that the walk finds
-pub lines-partner : (ties : Bool) (kept : ℕ → Option Stored) (b : Extent) (x : ℕ) (k : Stored) → kept x ≡ Some k → (on off : ℕ → Bool) →
-    ((y : ℕ) → on y ≡ holds_of (stored_by ties k.last) (kept y)) → ((y : ℕ) → off y ≡ holds_of (comes_after k.written_back) (kept y)) →
-    first_byte (by_lines ties kept x) b ≡ first_byte (by_line (line_of_byte x) on off) b
-lines-partner ties kept b x k own on off is_on is_off = first_from-same _ _ b.first b.size (λ y low high. partner-by_lines ties kept on off x k own is_on is_off y)
-
--- the walks by epochs find the least pair
-pub epochs-found : (kept : ℕ → Option Stored) (a b : Extent) (m : ℕ) → IsLeastValue (λ x. opening_of (kept x)) b.first b.size (Some m) →
-    (late : ℕ → Bool) → ((x : ℕ) → late x ≡ holds_of (late_for m) (kept x)) →
-    least_pair (by_epochs kept) a b ≡ with_partner (by_epochs kept) b (first_byte late a)
-epochs-found kept a b m least late is_late_at = least_pair-by (by_epochs kept) a b late (λ x. has_partner-by_epochs kept b m least x ∙ sym (is_late_at x))
-
-pub epochs-partner : (kept : ℕ → Option Stored) (b : Extent) (x : ℕ) (k : Stored) → kept x ≡ Some k → (later : ℕ → Bool) →
-    ((y : ℕ) → later y ≡ holds_of (comes_after k.written_back) (kept y)) → first_byte (by_epochs kept x) b ≡ first_byte later b
-epochs-partner kept b x k own later is_later = first_from-same _ _ b.first b.size (λ y low high. partner-by_epochs kept b x k own y ∙ sym (is_later y))
-
-pub epochs-none : (kept : ℕ → Option Stored) (a b : Extent) → IsLeastValue (λ x. opening_of (kept x)) b.first b.size None → least_pair (by_epochs kept) a b ≡ None
-epochs-none kept a b least = least_pair-none (by_epochs kept) a b (no_pairs-by_epochs kept b least)
-
-pub lines-none : (ties : Bool) (kept : ℕ → Option Stored) (a b : Extent) → IsLeastValue (λ x. opening_of (kept x)) b.first b.size None → least_pair (by_lines ties kept) a b ≡ None
-lines-none ties kept a b least = least_pair-none (by_lines ties kept) a b (no_pairs-by_lines ties kept b least)
-
--- a byte that a test of what is kept finds is kept
-pub never-lost : (test : Stored → Bool) (o : Option Stored) → holds_of test o ≡ true → o ≡ None → ⊥
-never-lost test None holds none = let bad : false ≡ true = holds in cc
-never-lost test (Some k) holds none = let bad : Some k ≡ None = none in cc
-
--- the byte of the earliest epoch
-pub opens-from : (m : ℕ) (o : Option Stored) → holds_of (opens_in m) o ≡ true → opening_of o ≡ Some m
-opens-from m None holds = let bad : false ≡ true = holds in cc
-opens-from m (Some k) holds = ap (λ e. Some e) ((Decides-eqb k.opens m).0 holds)
-
-pub opens-to : (m : ℕ) (o : Option Stored) → opening_of o ≡ Some m → holds_of (opens_in m) o ≡ true
-opens-to m None is = let bad : None ≡ Some m = is in cc
-opens-to m (Some k) is = let same : Some k.opens ≡ Some m = is in let own : k.opens ≡ m = cc in (Decides-eqb k.opens m).1 own
-
-pub place-from_opening : (m : ℕ) (o : Option Stored) → opening_of o ≡ Some m → place_of o ≡ None → ⊥
-place-from_opening m None is none = let bad : None ≡ Some m = is in cc
-place-from_opening m (Some k) is none = let bad : Some k.last ≡ None = none in cc
-
--- the same, where the line of the earliest epoch has a name of its own
-pub lines-found-at : (shadow : Shadow) (es : List Event) (p : ℕ) → StandsFor shadow es p → (ties : Bool) (a b : Extent) (m early line first : ℕ) (elsewhere : Option ℕ) →
-    IsLeastValue (λ x. opening_of (kept shadow.bytes x)) b.first b.size (Some m) →
-    b.first ≤ early → early < b.first + b.size → opening_of (kept shadow.bytes early) ≡ Some m → line ≡ line_of_byte early →
-    IsLeastValue (on_line line (λ x. place_of (kept shadow.bytes x))) b.first b.size (Some first) →
-    IsLeastValue (off_line line (λ x. opening_of (kept shadow.bytes x))) b.first b.size elsewhere →
-    (on off : ℕ → Bool) → ((x : ℕ) → on x ≡ holds_of (has_one_by ties first elsewhere) (kept shadow.bytes x)) → ((x : ℕ) → off x ≡ holds_of (late_for m) (kept shadow.bytes x)) →
-    least_pair (by_lines ties (kept shadow.bytes)) a b ≡ with_partner (by_lines ties (kept shadow.bytes)) b (first_byte (by_line line on off) a)
-lines-found-at shadow es p stands ties a b m early line first elsewhere least from within opens same least_on least_off on off is_on is_off =
-    subst (λ l. IsLeastValue (on_line l (λ x. place_of (kept shadow.bytes x))) b.first b.size (Some first) →
-    IsLeastValue (off_line l (λ x. opening_of (kept shadow.bytes x))) b.first b.size elsewhere →
-    least_pair (by_lines ties (kept shadow.bytes)) a b ≡ with_partner (by_lines ties (kept shadow.bytes)) b (first_byte (by_line l on off) a))
-    (sym same) (λ one other. lines-found shadow es p stands ties a b m early first elsewhere least from within opens one other on off is_on is_off) least_on least_off
-
-pub lines-partner-at : (ties : Bool) (kept : ℕ → Option Stored) (b : Extent) (x line : ℕ) (k : Stored) → kept x ≡ Some k → line ≡ line_of_byte x → (on off : ℕ → Bool) →
-    ((y : ℕ) → on y ≡ holds_of (stored_by ties k.last) (kept y)) → ((y : ℕ) → off y ≡ holds_of (comes_after k.written_back) (kept y)) →
-    first_byte (by_lines ties kept x) b ≡ first_byte (by_line line on off) b
-lines-partner-at ties kept b x line k own same on off is_on is_off =
-    lines-partner ties kept b x k own on off is_on is_off ∙ ap (λ l. first_byte (by_line l on off) b) (sym same)
-
--- some byte of the span lies in the earliest epoch
-pub early-found : (kept : ℕ → Option Stored) (b : Extent) (m : ℕ) → IsLeastValue (λ x. opening_of (kept x)) b.first b.size (Some m) →
-    (test : ℕ → Bool) → ((x : ℕ) → test x ≡ holds_of (opens_in m) (kept x)) → first_byte test b ≡ None → ⊥
-early-found kept b m least test is none =
-    let has = least.has m refl in
-    let bad : false ≡ true = sym (none-passes test b.first b.size none has.place has.from has.within) ∙ is has.place ∙ opens-to m (kept has.place) has.is in cc
-
--- that byte has a place on its line
-pub place-found : (kept : ℕ → Option Stored) (b : Extent) (m early line : ℕ) → b.first ≤ early → early < b.first + b.size → opening_of (kept early) ≡ Some m →
-    line ≡ line_of_byte early → IsLeastValue (on_line line (λ x. place_of (kept x))) b.first b.size None → ⊥
-place-found kept b m early line from within opens same least =
-    place-from_opening m (kept early) opens (sym (on_line-on line (λ x. place_of (kept x)) early (sym same)) ∙ least.none refl early from within)
-
--- a byte that either test finds is kept
-pub found-kept : (line : ℕ) (one other : Stored → Bool) (kept : ℕ → Option Stored) (on off : ℕ → Bool) → ((x : ℕ) → on x ≡ holds_of one (kept x)) → ((x : ℕ) → off x ≡ holds_of other (kept x)) →
-    (x : ℕ) → by_line line on off x ≡ true → kept x ≡ None → ⊥
-found-kept line one other kept on off is_on is_off x passes none = elim (cases_eq (line_of_byte x) line) [
-  | inl same ↦ never-lost one (kept x) (sym (is_on x) ∙ sym (by_line-on line on off x same) ∙ passes) none
-  | inr apart ↦ never-lost other (kept x) (sym (is_off x) ∙ sym (by_line-off line on off x apart) ∙ passes) none
 ]

@@ -1,49 +1,16 @@
--- The states of a map of runs: at a start, within a run, before a start, and after one run is changed.
-use Rattle.std.proofs.Common.{◌≡◌, ℕ, zero, suc, ◌+◌, ◌<◌, ◌≤◌, Bool, true, false, ◌&&◌, nat_lt, nat_le, if◌then◌else◌, nat_eq, List, [], ◌∷◌, ◌++◌, refl, sym, ◌∙◌, ap, subst, arith, inl, inr}
+-- The states of a map of runs: at a start, within a run, before a start, and after one start takes a state.
+use Rattle.std.proofs.Common.{◌≡◌, ℕ, zero, suc, ◌+◌, ◌<◌, ◌≤◌, Bool, true, false, List, [], ◌∷◌, ◌++◌, refl, sym, ◌∙◌, ap, subst, arith, inl, inr}
 use Rattle.std.specs.Prelude.{Option, Some, None, unwrap_or, is_some, IsSome}
-use Rattle.std.specs.Ordering.{nat_cmp, is_lt, is_gt, is_eq}
-use Rattle.std.specs.declared.cmp.Ordering.TheVariants.{Less, Equal, Greater}
+use Rattle.std.specs.Ordering.{nat_cmp, is_lt}
 use Rattle.std.specs.declared.ops.Bound.TheVariants.{Included, Excluded, Unbounded}
 use Rattle.std.specs.BTreeMap.{BTreeMap, get, is_at, Updates}
 use Rattle.std.specs.BTreeMap.Range.{IsRangeOf}
 use Rattle.std.specs.Map.{lookup}
-use Rattle.std.proofs.lemmas.Bool.{cases_lt, cases_eq, le-leb, lt-ltb, le-ltb, lt-leb, ne_eqb, eq-eqb, false≢true}
+use Rattle.std.proofs.lemmas.Bool.{cases_lt, cases_eq, false≢true}
 use Rattle.pmf_shadow.specs.declared.runs.RunMap.{RunMap}
-use Rattle.pmf_shadow.specs.Runs.{state_from, state_at, HasStart, SameStates, is_between, ChangesBetween}
-use Rattle.pmf_shadow.specs.RunSteps.{state_before, PutsState, NoStart, IsKept, IsNextChange}
-
--- ---- the order of two numbers
-
-pub cmp-less : (x y : ℕ) → x < y → nat_cmp x y ≡ Less
-cmp-less x y below = ap (λ v. if v then Less else (if nat_eq x y then Equal else Greater)) (lt-ltb x y below)
-
-pub cmp-equal : (x y : ℕ) → x ≡ y → nat_cmp x y ≡ Equal
-cmp-equal x y same =
-    ap (λ v. if v then Less else (if nat_eq x y then Equal else Greater)) (le-ltb x y (omega arith))
-    ∙ ap (λ v. if v then Equal else Greater) (eq-eqb x y same)
-
-pub cmp-greater : (x y : ℕ) → y < x → nat_cmp x y ≡ Greater
-cmp-greater x y above =
-    ap (λ v. if v then Less else (if nat_eq x y then Equal else Greater)) (le-ltb x y (omega arith))
-    ∙ ap (λ v. if v then Equal else Greater) (ne_eqb x y (λ same. omega arith))
-
--- ---- whether a number lies between two
-
-between-yes : (first end b : ℕ) → first ≤ b → b < end → is_between first end b ≡ true
-unfolding is_between
-between-yes first end b from within = ap (λ v. v && nat_lt b end) (le-leb first b from) ∙ lt-ltb b end within
-
-between-below : (first end b : ℕ) → b < first → is_between first end b ≡ false
-unfolding is_between
-between-below first end b below = ap (λ v. v && nat_lt b end) (lt-leb first b below)
-
-and-false : (x : Bool) → (x && false) ≡ false
-and-false true = refl
-and-false false = refl
-
-between-above : (first end b : ℕ) → end ≤ b → is_between first end b ≡ false
-unfolding is_between
-between-above first end b above = ap (λ v. nat_le first b && v) (le-ltb b end above) ∙ and-false (nat_le first b)
+use Rattle.pmf_shadow.specs.Runs.{state_from, state_at, HasStart, SameStates}
+use Rattle.pmf_shadow.specs.RunSteps.{state_before, PutsState, NoStart}
+use Rattle.pmf_shadow.proofs.OrderLemmas.{cmp-less, not_greater, upto-not_greater, less-below, not_at}
 
 -- ---- what a change at one key says of the others
 
@@ -52,13 +19,7 @@ module _ {S : Type 0} where
   get-updated m n k w u = u.1
 
   pub get-others : (m n : BTreeMap ℕ S) (k : ℕ) (w : Option S) → Updates nat_cmp m n k w → (q : ℕ) → (q ≡ k → ⊥) → get nat_cmp n q ≡ get nat_cmp m q
-  get-others m n k w u q other = u.2 q (elim (cases_lt k q) [
-    | inl below ↦ ap is_eq (cmp-less k q below)
-    | inr above ↦ elim (cases_eq k q) [
-      | inl same ↦ absurd (other (sym same))
-      | inr apart ↦ ap is_eq (cmp-greater k q (omega arith))
-    ]
-  ])
+  get-others m n k w u q other = u.2 q (not_at k q (λ same. other (sym same)))
 
   -- ---- a state by the starts
 
@@ -145,33 +106,21 @@ module _ {S : Type 0} where
   pub state-at_last : (r : RunMap S) (p : ℕ) (es t : List (ℕ × S)) (e : ℕ × S) → IsRangeOf nat_cmp Unbounded (Included p) r.starts es → es ≡ t ++ e ∷ [] → state_at r p ≡ e.1
   state-at_last r p es t e range is =
       let here = range.3 e t is in
-      let low : e.0 ≤ p = elim (cases_lt p e.0) [ inl above ↦ absurd (false≢true (sym (here.0.1) ∙ ap is_gt (cmp-greater e.0 p above))) | inr below ↦ below ] in
+      let low = upto-not_greater e.0 p here.0.1 in
       state-in_run r e.0 p low (λ q after upto. none-from_test (get nat_cmp r.starts q) (is_lt (nat_cmp e.0 q)) (ap is_lt (cmp-less e.0 q (omega arith)))
       (λ some. range.4 e t is q (tt, not_greater q p (omega arith)) some))
       ∙ state-at_start r e.0 e.1 here.1
-    where
-      not_greater : (q p : ℕ) → q ≤ p → is_gt (nat_cmp q p) ≡ false
-      not_greater q p upto = elim (cases_eq q p) [ inl same ↦ ap is_gt (cmp-equal q p same) | inr other ↦ ap is_gt (cmp-less q p (omega arith)) ]
 
   pub state-at_none : (r : RunMap S) (p : ℕ) (es : List (ℕ × S)) → IsRangeOf nat_cmp Unbounded (Included p) r.starts es → es ≡ [] → state_at r p ≡ r.gap
   state-at_none r p es range is = state-in_gap r p (λ q low high. range.5 is q (tt, not_greater q p (omega arith)))
-    where
-      not_greater : (q p : ℕ) → q ≤ p → is_gt (nat_cmp q p) ≡ false
-      not_greater q p upto = elim (cases_eq q p) [ inl same ↦ ap is_gt (cmp-equal q p same) | inr other ↦ ap is_gt (cmp-less q p (omega arith)) ]
 
   pub before-at_last : (r : RunMap S) (p : ℕ) (es t : List (ℕ × S)) (e : ℕ × S) → IsRangeOf nat_cmp Unbounded (Excluded p) r.starts es → es ≡ t ++ e ∷ [] → state_before r p ≡ e.1
   before-at_last r p es t e range is =
       let here = range.3 e t is in
-      let low : e.0 < p = elim (cases_lt e.0 p) [ inl below ↦ below | inr above ↦ absurd (not_less e.0 p above here.0.1) ] in
+      let low = less-below e.0 p here.0.1 in
       before-in_run r e.0 p low (λ q after upto. none-from_test (get nat_cmp r.starts q) (is_lt (nat_cmp e.0 q)) (ap is_lt (cmp-less e.0 q (omega arith)))
       (λ some. range.4 e t is q (tt, cmp-less q p upto) some))
       ∙ state-at_start r e.0 e.1 here.1
-    where
-      not_less : (k p : ℕ) → p ≤ k → nat_cmp k p ≡ Less → ⊥
-      not_less k p above is = elim (cases_eq k p) [
-        | inl same ↦ false≢true (sym (ap is_lt (cmp-equal k p same)) ∙ ap is_lt is)
-        | inr other ↦ false≢true (sym (ap is_lt (cmp-greater k p (omega arith))) ∙ ap is_lt is)
-      ]
 
   pub before-at_none : (r : RunMap S) (p : ℕ) (es : List (ℕ × S)) → IsRangeOf nat_cmp Unbounded (Excluded p) r.starts es → es ≡ [] → state_before r p ≡ r.gap
   before-at_none r p es range is = before-in_gap r p (λ q low high. range.5 is q (tt, cmp-less q p high))
@@ -221,78 +170,15 @@ module _ {S : Type 0} where
 
   -- ---- the run of a start takes a state
 
-  pub start-kept : (old new : RunMap S) (start q : ℕ) (v w : S) → PutsState start v old new → start < q → get nat_cmp old.starts q ≡ Some w → get nat_cmp new.starts q ≡ Some w
-  start-kept old new start q v w puts after is = puts.others q (λ same. omega arith) ∙ is
-
   pub has_start-kept : (old new : RunMap S) (start q : ℕ) (v : S) → PutsState start v old new → start < q → HasStart old q → HasStart new q
   has_start-kept old new start q v puts after has = ap is_some (puts.others q (λ same. omega arith)) ∙ has
 
-  has_start-before : (old new : RunMap S) (start q : ℕ) (v : S) → PutsState start v old new → start < q → HasStart new q → HasStart old q
+  pub has_start-before : (old new : RunMap S) (start q : ℕ) (v : S) → PutsState start v old new → start < q → HasStart new q → HasStart old q
   has_start-before old new start q v puts after has = ap is_some (sym (puts.others q (λ same. omega arith))) ∙ has
 
   -- from another start on, nothing is changed
-  puts-beyond : (old new : RunMap S) (start lo b : ℕ) (v : S) → PutsState start v old new → start < lo → lo ≤ b → HasStart old lo → state_at new b ≡ state_at old b
+  pub puts-beyond : (old new : RunMap S) (start lo b : ℕ) (v : S) → PutsState start v old new → start < lo → lo ≤ b → HasStart old lo → state_at new b ≡ state_at old b
   puts-beyond old new start lo b v puts after from has =
       let is = start-is old lo has in
       puts-above old new start lo b v puts (omega arith) from
       (state-at_start new lo (state_at old lo) (puts.others lo (λ same. omega arith) ∙ is))
-
-  module _ (change : S → S) where
-    changed : Bool → S → S
-    changed t s = if t then change s else s
-
-    pub changes-none : (first : ℕ) (old : RunMap S) → ChangesBetween first first change old old
-    unfolding changed
-    changes-none first old = record {
-      states = λ b. elim (cases_lt b first) [
-        | inl below ↦ sym (ap (λ t. changed t (state_at old b)) (between-below first first b below))
-        | inr above ↦ sym (ap (λ t. changed t (state_at old b)) (between-above first first b above))
-      ];
-    }
-
-    changed-in_run : (start b : ℕ) (s v : S) (mid new : RunMap S) → PutsState start v mid new → v ≡ change s → get nat_cmp mid.starts start ≡ Some s →
-        start ≤ b → NoStart (start + 1) (b + 1) new → state_at new b ≡ change (state_at mid b)
-    changed-in_run start b s v mid new puts value is above none =
-        state-in_run new start b above none ∙ puts.here ∙ value
-        ∙ ap change (sym (state-at_start mid start s is) ∙ sym (state-in_run mid start b above (λ q low high. sym (puts.others q (λ same. omega arith)) ∙ none q low high)))
-
-    -- the run of one more start has its new state, and the runs up to the next one that changes are kept
-    pub changes-upto : (first start end next : ℕ) (s : S) (old mid new : RunMap S) → first ≤ start → IsNextChange new change start end next →
-        (next_state : S) → get nat_cmp new.starts next ≡ Some next_state → get nat_cmp mid.starts start ≡ Some s →
-        (v : S) → v ≡ change s → PutsState start v mid new → ChangesBetween first start change old mid → ChangesBetween first next change old new
-    unfolding changed
-    changes-upto first start end next s old mid new from ahead next_state next_is is v value puts so_far = record {
-      states = λ b. elim (cases_lt b start) [
-        | inl below ↦ puts-below mid new start b v puts below ∙ so_far.states b
-            ∙ ap (λ t. changed t (state_at old b)) (elim (cases_lt b first) [
-              | inl early ↦ between-below first start b early ∙ sym (between-below first next b early)
-              | inr late ↦ let after = ahead.after in between-yes first start b late below ∙ sym (between-yes first next b late (omega arith))
-            ])
-        | inr above ↦
-            let before : state_at mid b ≡ state_at old b = so_far.states b ∙ ap (λ t. changed t (state_at old b)) (between-above first start b above) in
-            elim (cases_lt b next) [
-              | inl within ↦
-                  let here : state_at new b ≡ change (state_at mid b) = elim (cases_lt start b) [
-                    | inl after ↦ elim (ahead.between b after within) [
-                      | inl none ↦ changed-in_run start b s v mid new puts value is above none
-                      | inr kept ↦
-                          let same : state_at new b ≡ state_at mid b = puts-beyond mid new start kept.start b v puts kept.after kept.upto (has_start-before mid new start kept.start v puts kept.after kept.has_start) in
-                          sym kept.same ∙ ap change same
-                    ]
-                    | inr upto ↦ changed-in_run start b s v mid new puts value is above (λ q low high. absurd (omega arith))
-                  ] in
-                  here ∙ ap change before
-                  ∙ sym (ap (λ t. changed t (state_at old b)) (between-yes first next b (omega arith) within))
-              | inr later ↦
-                  let same : state_at new b ≡ state_at mid b = puts-beyond mid new start next b v puts ahead.after later (has_start-before mid new start next v puts ahead.after (ap is_some next_is)) in
-                  same ∙ before ∙ sym (ap (λ t. changed t (state_at old b)) (between-above first next b later))
-            ]
-      ];
-    }
-
-    pub changes-same : (first end : ℕ) (old mid new : RunMap S) → ChangesBetween first end change old mid → SameStates mid new → ChangesBetween first end change old new
-    changes-same first end old mid new changes same = record { states = λ b. same b ∙ changes.states b }
-
-    pub same-changes : (first end : ℕ) (old mid new : RunMap S) → SameStates old mid → ChangesBetween first end change mid new → ChangesBetween first end change old new
-    unfolding changed
-    same-changes first end old mid new same changes = record { states = λ b. changes.states b ∙ ap (changed (is_between first end b)) (same b) }

@@ -13,7 +13,8 @@ mod tests;
 
 pub(crate) use self::asking::lesser;
 
-/// A small state that a [`RunMap`] may hold. Values that `==` calls equal are the same.
+/// A small state that a [`RunMap`] may hold. Values that `==` calls equal are the same, which a search
+/// proves where `PartialEq` is derived: `ghost exact = { Prim.search rules };`.
 pub trait State: Copy + PartialEq {
     ghost exact: { (x y : Self) → Self.eq x y ≡ true → x ≡ y };
 }
@@ -52,8 +53,10 @@ pub trait Key<S> {
 /// A state for each number, kept as runs of equal states: bytes of memory, cache lines by number, or
 /// a set of numbers where the state is a `bool`.
 ///
-/// Memory follows the number of runs, whatever their length. A call that meets `k` runs of the `n`
-/// that are held takes O((k + 1) log n) steps.
+/// Memory follows the number of runs, whatever their length: after a change neighbours of equal state
+/// are one run. A look-up takes O(log n) steps in `n` runs, a question a look-up and a step for each
+/// run that it meets, and a change O((k + 1) log n) where it alters `k` runs, and a step for each run
+/// that it leaves as it is.
 #[derive(Debug, Drop)]
 pub struct RunMap<S> {
     /// The state of the numbers before the first start.
@@ -112,7 +115,8 @@ impl<S: State> RunMap<S> {
     }
 
     /// Makes starts at both ends of a range, so that a [`RunMap::rewrite`] of it needs no memory. This
-    /// changes no state, also after an `Err`.
+    /// changes no state, also after an `Err`, which is want of memory. A start that no rewriting
+    /// follows stays, and costs the memory of a run.
     pub fn make_room(&mut self, first: u64, end: u64) -> Result<(), AllocError>
         ensures room { OnOk result (HasStart self.new first × HasStart self.new end) }
         ensures same { SameStates self.old self.new }
@@ -122,8 +126,8 @@ impl<S: State> RunMap<S> {
         Ok(())
     }
 
-    /// Changes the states of the numbers from `first` up to `end`. After an `Err`, which is want of
-    /// memory, each number has the state that it had.
+    /// Changes the states of the numbers from `first` up to `end`, which is not one of them. After an
+    /// `Err`, which is want of memory, each number has the state that it had.
     pub fn change<C: Change<S>>(
         &mut self,
         first: u64,

@@ -9,7 +9,8 @@ impl<S: State> RunMap<S> {
     ghost use Rattle.pmf_event.specs.Ranges.{first_from, count_from, least_from};
     ghost use Rattle.pmf_shadow.specs.Runs.{passing, keyed};
 
-    /// The least number from `first` up to `end` whose state passes.
+    /// The least number from `first` up to `end` whose state passes. An empty range has none, also one
+    /// whose end is below its first number. The walk ends at the first run that passes.
     pub fn first_where<T: Test<S>>(&self, first: u64, end: u64, test: &T) -> Option<u64>
         ensures { result ≡ first_from (passing (T.passes test.now) self.now) first (end - first) }
     {
@@ -50,7 +51,8 @@ impl<S: State> RunMap<S> {
         count
     }
 
-    /// The least key that a state of the numbers from `first` up to `end` has.
+    /// The least key that a state of the numbers from `first` up to `end` has, if one of them has any.
+    /// The key of a run is asked once.
     pub fn least_key<K: Key<S>>(&self, first: u64, end: u64, key: &K) -> Option<u32>
         ensures { result ≡ least_from (keyed (K.key key.now) self.now) first (end - first) }
     {

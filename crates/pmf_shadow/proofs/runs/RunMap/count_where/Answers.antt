@@ -1,5 +1,6 @@
 use Rattle.std.proofs.Common.{◌≡◌, ◌≤◌, ◌+◌, ◌-◌, if◌then◌else◌, sym, ◌∙◌, ap, arith}
-use Rattle.pmf_shadow.proofs.WalkLemmas.{walks-range, counted-none, counted-start, counted-fits, counted-fits_end, counted-more, counted-end}
+use Rattle.pmf_shadow.proofs.WalkLemmas.{walks-range}
+use Rattle.pmf_shadow.proofs.AskingLemmas.{counted-none, counted-start, counted-fits, counted-fits_end, counted-more, counted-end}
 use Rattle.pmf_shadow.proofs.runs.RunMap.count_where.Goals as goal
 use Rattle.pmf_shadow.proofs.runs.RunMap.count_where.Goals.{then-counted, else-counted}
 

@@ -1,4 +1,4 @@
-use Rattle.pmf_shadow.proofs.WalkLemmas.{Counted}
+use Rattle.pmf_shadow.proofs.AskingLemmas.{Counted}
 use Rattle.pmf_shadow.proofs.runs.RunMap.count_where.Given as goal
 
 abbrev pub invariant-loop-start : goal.invariant-loop-start

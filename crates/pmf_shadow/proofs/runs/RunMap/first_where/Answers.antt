@@ -1,5 +1,6 @@
 use Rattle.std.proofs.Common.{sym, ◌∙◌, arith}
-use Rattle.pmf_shadow.proofs.WalkLemmas.{walks-range, found-none, found-first, found-start, not_found-start, not_found-more, not_found-end}
+use Rattle.pmf_shadow.proofs.WalkLemmas.{walks-range}
+use Rattle.pmf_shadow.proofs.AskingLemmas.{found-none, found-first, found-start, not_found-start, not_found-more, not_found-end}
 use Rattle.pmf_shadow.proofs.runs.RunMap.first_where.Goals as goal
 
 pub returns-then-end-first : goal.returns-then-end-first

@@ -1,4 +1,4 @@
-use Rattle.pmf_shadow.proofs.WalkLemmas.{NotFound}
+use Rattle.pmf_shadow.proofs.AskingLemmas.{NotFound}
 use Rattle.pmf_shadow.proofs.runs.RunMap.first_where.Given as goal
 
 abbrev pub invariant-loop-start : goal.invariant-loop-start

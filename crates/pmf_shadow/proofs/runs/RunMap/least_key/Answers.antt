@@ -1,6 +1,7 @@
 use Rattle.std.proofs.Common.{sym, ◌∙◌, ap, arith}
 use Rattle.pmf_event.specs.Ranges.{lesser}
-use Rattle.pmf_shadow.proofs.WalkLemmas.{walks-range, least-none, least-start, least-more, least-end}
+use Rattle.pmf_shadow.proofs.WalkLemmas.{walks-range}
+use Rattle.pmf_shadow.proofs.AskingLemmas.{least-none, least-start, least-more, least-end}
 use Rattle.pmf_shadow.proofs.runs.RunMap.least_key.Goals as goal
 
 pub returns-then-end-first : goal.returns-then-end-first

@@ -1,4 +1,4 @@
-use Rattle.pmf_shadow.proofs.WalkLemmas.{LeastSoFar}
+use Rattle.pmf_shadow.proofs.AskingLemmas.{LeastSoFar}
 use Rattle.pmf_shadow.proofs.runs.RunMap.least_key.Given as goal
 
 abbrev pub invariant-loop-state : goal.invariant-loop-state

@@ -1,9 +1,10 @@
-use Rattle.std.proofs.Common.{◌≡◌, ◌+◌, sym, ◌∙◌, ap, subst, arith}
+use Rattle.std.proofs.Common.{◌≡◌, ◌+◌, sym, ◌∙◌, subst}
 use Rattle.std.specs.Ordering.{nat_cmp}
 use Rattle.std.specs.declared.ops.Bound.TheVariants.{Included}
 use Rattle.std.specs.BTreeMap.Range.{entries_between}
 use Rattle.std.proofs.lemmas.Bool.{not-false}
-use Rattle.pmf_shadow.proofs.WalkLemmas.{Keeps, walks-range_to, keeps-start, keeps-more, keeps-next, keeps-run}
+use Rattle.pmf_shadow.proofs.WalkLemmas.{walks-range_to}
+use Rattle.pmf_shadow.proofs.KeptLemmas.{Keeps, keeps-start, keeps-more, keeps-next, keeps-run}
 use Rattle.pmf_shadow.proofs.runs.RunMap.next_to_change.Goals as goal
 
 pub loop-start-init : goal.loop-start-init
@@ -31,7 +32,8 @@ returns-then-start-end-clause-next g c =
 pub loop-start-preserved : goal.loop-start-preserved
 loop-start-preserved g c =
     let same : c.changed-changed.result ≡ c.in-Some.state.now = g.met.S.State.exact c.changed-changed.result c.in-Some.state.now (not-false _ (sym c.if-ne.ensures)) in
+    let kept : g.C.Change.changed c.args.change.now c.in-Some.state.now ≡ c.in-Some.state.now = cc (c.changed-changed.ensures, same) in
     let keeps : Keeps (g.C.Change.changed c.args.change.now) c.args.self.now c.args.place c.args.end c.next.new.self c.in-Some.state.now =
     keeps-more (g.C.Change.changed c.args.change.now) c.args.self.now c.args.place c.args.end (c.in-Some.start.now, c.in-Some.state.now) c.next.new.self c.loop-start.start-iterator
-    c.loop-start.before c.in-Some.ensures.steps c.loop-start.invariant c.if-start-end.false (sym c.changed-changed.ensures ∙ same) in
+    c.loop-start.before c.in-Some.ensures.steps c.loop-start.invariant c.if-start-end.false kept in
     subst (Keeps (g.C.Change.changed c.args.change.now) c.args.self.now c.args.place c.args.end c.next.new.self) (sym same) keeps

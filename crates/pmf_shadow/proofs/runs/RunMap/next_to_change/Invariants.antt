@@ -1,4 +1,4 @@
-use Rattle.pmf_shadow.proofs.WalkLemmas.{Keeps}
+use Rattle.pmf_shadow.proofs.KeptLemmas.{Keeps}
 use Rattle.pmf_shadow.proofs.runs.RunMap.next_to_change.Given as goal
 
 abbrev pub invariant-loop-start : goal.invariant-loop-start

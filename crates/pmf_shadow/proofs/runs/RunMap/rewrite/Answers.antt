@@ -1,6 +1,7 @@
 use Rattle.std.proofs.Common.{◌≡◌, sym, subst, arith}
 use Rattle.pmf_shadow.specs.Runs.{ChangesBetween}
-use Rattle.pmf_shadow.proofs.RunLemmas.{has_start-kept, state-at_start, puts-same, changes-none, changes-upto, changes-same}
+use Rattle.pmf_shadow.proofs.RunLemmas.{has_start-kept, state-at_start, puts-same}
+use Rattle.pmf_shadow.proofs.ChangeLemmas.{changes-none, changes-upto, changes-same}
 use Rattle.pmf_shadow.proofs.runs.RunMap.rewrite.Goals as goal
 
 pub loop-run-init : goal.loop-run-init

@@ -1,5 +1,5 @@
 use Rattle.std.proofs.Common.{◌∙◌}
-use Rattle.pmf_shadow.proofs.AskLemmas.{clean-same}
+use Rattle.pmf_shadow.proofs.QuestionLemmas.{clean-same}
 use Rattle.pmf_shadow.proofs.shadow.Shadow.clean_lines.Goals as goal
 
 pub returns : goal.returns

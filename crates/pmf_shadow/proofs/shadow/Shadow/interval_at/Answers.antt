@@ -1,6 +1,6 @@
 use Rattle.std.proofs.Common.{◌∙◌, ap}
 use Rattle.std.specs.Prelude.{Some}
-use Rattle.pmf_shadow.proofs.AskLemmas.{interval-same-some}
+use Rattle.pmf_shadow.proofs.QuestionLemmas.{interval-same-some}
 use Rattle.pmf_shadow.proofs.shadow.Shadow.interval_at.Goals as goal
 
 pub returns-in-Some : goal.returns-in-Some

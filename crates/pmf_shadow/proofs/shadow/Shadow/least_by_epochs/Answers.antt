@@ -6,7 +6,7 @@ use Rattle.pmf_shadow.specs.Runs.{passing, keyed}
 use Rattle.pmf_shadow.specs.States.{kept_opening, checked_store, late_for}
 use Rattle.pmf_shadow.specs.Pairs.{kept, by_epochs}
 use Rattle.pmf_shadow.proofs.PieceLemmas.{least-of_span}
-use Rattle.pmf_shadow.proofs.OrderLemmas.{epochs-none, epochs-found, epochs-partner, never-lost}
+use Rattle.pmf_shadow.proofs.UnorderedLemmas.{epochs-none, epochs-found, epochs-partner, never-lost}
 use Rattle.pmf_shadow.proofs.shadow.Shadow.least_by_epochs.Goals as goal
 
 pub returns-in_err-epoch : goal.returns-in_err-epoch

@@ -1,5 +1,5 @@
 use Rattle.std.proofs.Common.{◌∙◌}
-use Rattle.pmf_shadow.proofs.AskLemmas.{included-same}
+use Rattle.pmf_shadow.proofs.QuestionLemmas.{included-same}
 use Rattle.pmf_shadow.proofs.shadow.Shadow.least_included.Goals as goal
 
 pub returns : goal.returns

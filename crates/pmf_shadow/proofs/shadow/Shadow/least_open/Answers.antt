@@ -1,5 +1,5 @@
 use Rattle.std.proofs.Common.{◌∙◌}
-use Rattle.pmf_shadow.proofs.AskLemmas.{exposed-same}
+use Rattle.pmf_shadow.proofs.QuestionLemmas.{exposed-same}
 use Rattle.pmf_shadow.proofs.shadow.Shadow.least_open.Goals as goal
 
 pub returns : goal.returns

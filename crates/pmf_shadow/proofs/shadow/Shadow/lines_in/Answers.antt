@@ -1,6 +1,6 @@
 use Rattle.std.proofs.Common.{◌≡◌, ◌+◌, ◌-◌, ◌/◌, ◌∙◌, ap, arith}
 use Rattle.pmf_shadow.specs.Runs.{passing}
-use Rattle.pmf_shadow.proofs.AskLemmas.{lines-none, lines-some, number-fits}
+use Rattle.pmf_shadow.proofs.QuestionLemmas.{lines-none, lines-some, number-fits}
 use Rattle.pmf_shadow.proofs.shadow.Shadow.lines_in.Goals as goal
 
 pub overflow_mul-result : goal.overflow_mul-result

@@ -1,5 +1,5 @@
 use Rattle.std.proofs.Common.{◌∙◌}
-use Rattle.pmf_shadow.proofs.AskLemmas.{pending-same}
+use Rattle.pmf_shadow.proofs.QuestionLemmas.{pending-same}
 use Rattle.pmf_shadow.proofs.shadow.Shadow.pending_lines.Goals as goal
 
 pub returns : goal.returns

@@ -1,6 +1,6 @@
 use Rattle.std.proofs.Common.{◌∙◌, ap, ℕ}
 use Rattle.std.specs.Prelude.{Option, is_some}
-use Rattle.pmf_shadow.proofs.AskLemmas.{checked-same}
+use Rattle.pmf_shadow.proofs.QuestionLemmas.{checked-same}
 use Rattle.pmf_shadow.proofs.shadow.Shadow.written_included.Goals as goal
 
 pub returns : goal.returns
