@@ -24,6 +24,8 @@ mod marker_tests;
 mod number;
 mod progress;
 mod quick;
+#[cfg(test)]
+mod quick_tests;
 mod reader;
 mod reading;
 mod record;

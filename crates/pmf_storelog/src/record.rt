@@ -31,7 +31,7 @@ pub(crate) fn read_record(text: &[u8]) -> Result<Saying, Cause>
 }
 
 #[tactic(auto, unfolding(crate::specs::Records::record_of))]
-fn read_plainly(text: &[u8]) -> Result<Saying, Cause>
+pub(crate) fn read_plainly(text: &[u8]) -> Result<Saying, Cause>
     ensures { result ≡ record_of text.now }
 {
     let mut fields = Fields::new(text);

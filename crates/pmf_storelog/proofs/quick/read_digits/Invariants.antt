@@ -1,4 +1,4 @@
-use Rattle.std.proofs.Common.{◌-◌, ◌≡◌, ◌≤◌, length, take}
+use Rattle.std.proofs.Common.{◌-◌, ◌≡◌, ◌≤◌, take}
 use Rattle.std.specs.Str.Parse.{AllDigits, digits_value}
 use Rattle.pmf_storelog.proofs.quick.read_digits.Given as goal
 
@@ -6,7 +6,7 @@ abbrev pub invariant-loop-count : goal.invariant-loop-count
 invariant-loop-count l = record {
   within : l.count ≤ l.most;
   digits : AllDigits 16 (take l.count l.text);
-  value_is : l.value ≡ digits_value 16 (take l.count l.text)
+  value_is : l.value ≡ digits_value 16 (take l.count l.text);
 }
 
 abbrev pub decreases-loop-count : goal.decreases-loop-count

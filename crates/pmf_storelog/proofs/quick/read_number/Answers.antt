@@ -1,4 +1,4 @@
-use Rattle.std.proofs.Common.{◌≡◌, ◌-◌, length, take, drop, refl, sym, ◌∙◌}
+use Rattle.std.proofs.Common.{◌-◌, length, take, drop, sym, ◌∙◌}
 use Rattle.std.specs.Prelude.{codes}
 use Rattle.pmf_storelog.specs.Fields.{fields_left}
 use Rattle.pmf_storelog.proofs.QuickLemmas.{begins_with, none_left, some_left, cut_at, first_is, number_more, number_last}

@@ -1,4 +1,4 @@
-use Rattle.std.proofs.Common.{sym, ◌∙◌}
+use Rattle.std.proofs.Common.{sym}
 use Rattle.pmf_storelog.specs.Fields.{fields_left}
 use Rattle.pmf_storelog.proofs.QuickLemmas.{span_of_numbers_read}
 use Rattle.pmf_storelog.proofs.quick.read_span.Goals as goal
