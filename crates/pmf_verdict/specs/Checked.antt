@@ -13,3 +13,7 @@ pub record Checked : Type 0 where
 -- its rows
 abbrev pub rows_in : Checked → List Row
 rows_in checked = rows_of checked.profile checked.section.events
+
+-- the section, checked by the profile
+abbrev pub checked_by : Profile → Trace → Checked
+checked_by profile section = record { section = section; profile = profile }

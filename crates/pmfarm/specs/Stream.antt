@@ -1,10 +1,12 @@
 -- What check_stream reads and writes, and what each of its answers says. Defined here.
-use Rattle.std.specs.Prelude.{◌≡◌, ◌≢◌, ℕ, ◌+◌, ◌<◌, ◌≤◌, ◌⊎◌, List, length, take, Option, Result, Ok, Err}
+use Rattle.std.specs.Prelude.{◌≡◌, ◌≢◌, ℕ, ◌+◌, ◌<◌, ◌≤◌, ◌⊎◌, List, length, map, take, Option, Result, Ok, Err}
 use Rattle.std.specs.Io.KnownBytes.{Consumes, Appends, IsAtEnd}
 use Rattle.pmf_storelog.specs.declared.fault.LogFault.{LogFault}
 use Rattle.pmf_storelog.specs.declared.fault.TheConstants.{LOG_LIMIT}
 use Rattle.pmf_storelog.specs.LogValue.{LogValue}
 use Rattle.pmf_storelog.specs.LogText.{log_of, IsFaultOfAll, out_of_memory}
+use Rattle.pmf_event.specs.declared.profile.Profile.{Profile}
+use Rattle.pmf_verdict.specs.Checked.{checked_by}
 use Rattle.pmf_verdict.specs.Report.{report_of, rows_with_in}
 use Rattle.pmf_verdict.specs.declared.outcome.Outcome.TheVariants.{Fail}
 use Rattle.pmfarm.specs.declared.stream.Done.{Done}
@@ -30,16 +32,16 @@ pub record IsFaultOf (run : ℕ) (old new : Option (List ℕ)) (found : LogFault
   pub first : log_of run bytes ≡ Err found
   pub for_all : IsAtEnd new ⊎ IsFaultOfAll found bytes
 
--- exactly the report of the log's sections was written, and what is told of it is so
-pub record Reports (log : LogValue) (old new : Option (List ℕ)) (done : Done) : Type 0 where
-  pub written : Appends old new (report_of log.sections)
+-- exactly the report of the log's sections by the profile was written, and what is told of it is so
+pub record Reports (profile : Profile) (log : LogValue) (old new : Option (List ℕ)) (done : Done) : Type 0 where
+  pub written : Appends old new (report_of (map (checked_by profile) log.sections))
   pub skipped : done.skipped ≡ log.skipped
-  pub fails : done.fails ≡ rows_with_in Fail log.sections
+  pub fails : done.fails ≡ rows_with_in Fail (map (checked_by profile) log.sections)
 
--- exactly this many bytes of the report were written, and not all
-pub record CutsOff (log : LogValue) (old new : Option (List ℕ)) (written : ℕ) : Type 0 where
-  pub short : written < length (report_of log.sections)
-  pub prefix : Appends old new (take written (report_of log.sections))
+-- exactly this many bytes of that report were written, and not all
+pub record CutsOff (profile : Profile) (log : LogValue) (old new : Option (List ℕ)) (written : ℕ) : Type 0 where
+  pub short : written < length (report_of (map (checked_by profile) log.sections))
+  pub prefix : Appends old new (take written (report_of (map (checked_by profile) log.sections)))
 
 -- the fact of a log's fault, want of memory aside
 abbrev pub IfLogFault : {T : Type 0} → Result T StreamFault → (LogFault → Type 0) → Type 0

@@ -1,10 +1,13 @@
 use clap::{Arg, Command, Error, value_parser};
+use pmf_event::Profile;
 use std::alloc::Global;
 
 const AFTER_HELP: &str = "\
 Examples:
   pmfarm check < store.log          the report of the log
   pmfarm check --run 7 < store.log  the same, its sections named 7.N
+  pmfarm check --profile 2 < store.log
+                                    a pair on one line is also ordered by its stores
 
 Exit status:
   0  no row of the report counts as fail
@@ -18,6 +21,8 @@ Exit status:
 pub struct Settings {
     /// The run in the name of each section.
     pub run: u64,
+    /// By which rule order assertions judge two bytes of one line.
+    pub profile: Profile,
 }
 
 /// What the words of a command line ask for.
@@ -32,11 +37,22 @@ pub enum Request {
 pub fn request_of<'a>(alloc: Global, words: &'a [String]) -> Result<Request, Error> {
     let matches = program(alloc)?.try_get_matches_from(words)?;
     // `check` is the only command, and the parser lets nothing pass without one.
-    let run = match matches.subcommand_matches("check") {
-        Some(check) => check.get_one::<u64>("run").unwrap_or(0),
-        None => 0,
+    let (run, profile) = match matches.subcommand_matches("check") {
+        Some(check) => (
+            check.get_one::<u64>("run").unwrap_or(0),
+            profile_of(check.get_str("profile")),
+        ),
+        None => (0, Profile::One),
     };
-    Ok(Request::Check(Settings { run }))
+    Ok(Request::Check(Settings { run, profile }))
+}
+
+// The parser lets `1` and `2` pass alone.
+fn profile_of(word: Option<&str>) -> Profile {
+    match word {
+        Some("2") => Profile::Two,
+        _ => Profile::One,
+    }
 }
 
 fn program<'a>(alloc: Global) -> Result<Command<'a>, Error> {
@@ -57,9 +73,16 @@ fn check<'a>(alloc: Global) -> Result<Command<'a>, Error> {
         .value_parser(value_parser!(u64))
         .default_value("0")
         .help("The run in the name of each section");
+    let profile = Arg::new(alloc, "profile")
+        .long("profile")
+        .value_name("P")
+        .value_parser(["1", "2"].as_slice())
+        .default_value("1")
+        .help("The rule for two bytes of one cache line");
     let check = Command::new(alloc, "check")
         .about("Reads a log from standard input and writes its report to standard output")
         .after_help(AFTER_HELP)
-        .arg(run)?;
+        .arg(run)?
+        .arg(profile)?;
     Ok(check)
 }

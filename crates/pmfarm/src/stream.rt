@@ -2,6 +2,7 @@
 
 ghost use Rattle.std.specs.Prelude.{◌≡◌, ◌+◌, map, IfOk};
 ghost use Rattle.pmf_storelog.specs.LogValue.{LogValue};
+ghost use Rattle.pmf_verdict.specs.Checked.{checked_by};
 ghost use Rattle.pmfarm.specs.Failures.{CanCountOneMore};
 ghost use Rattle.pmfarm.specs.Stream.{CutsOff, IfLogFault, IfWriteFault, IsFaultOf, IsLogOf, OnOtherFault, Reports, failed_reads, failed_writes};
 
@@ -11,7 +12,7 @@ use crate::request::Settings;
 use crate::sink::Sink;
 use crate::source::{Source, read_piece};
 use crate::writing::write_text;
-use pmf_event::Section;
+use pmf_event::{Profile, Section};
 use pmf_storelog::{LOG_LIMIT, Log, LogFault, LogReader};
 use pmf_verdict::{Outcome, Verdict, check};
 use std::alloc::{AllocError, Global};
@@ -87,13 +88,17 @@ fn read_log<R: Source>(alloc: Global, reader: &mut R, run: u64) -> Result<Log, S
     }
 }
 
-fn check_all(alloc: Global, sections: &[Arc<Section>]) -> Result<Vec<Verdict>, AllocError>
-    ensures { IfOk result
-        (λ verdicts. verdicts.items ≡ map (λ section. section.value) sections.now) }
+fn check_all(
+    alloc: Global,
+    sections: &[Arc<Section>],
+    profile: Profile,
+) -> Result<Vec<Verdict>, AllocError>
+    ensures { IfOk result (λ verdicts. verdicts.items
+        ≡ map (checked_by profile) (map (λ section. section.value) sections.now)) }
 {
     let mut verdicts = Vec::new(alloc);
     for section in sections {
-        match check(alloc, Arc::try_clone(section)?) {
+        match check(alloc, Arc::try_clone(section)?, profile) {
             Ok(verdict) => verdicts.push(verdict)?,
             Err(_) => return Err(AllocError),
         }
@@ -101,7 +106,7 @@ fn check_all(alloc: Global, sections: &[Arc<Section>]) -> Result<Vec<Verdict>, A
     Ok(verdicts)
 }
 
-/// Reads a log, checks its sections and writes their report. Reads in pieces, at most one byte more
+/// Reads a log, checks its sections by the profile and writes their report. Reads in pieces, at most one byte more
 /// than a log may have, and stops at the first fault of the log; writes nothing before the whole
 /// log was read and checked.
 ///
@@ -121,14 +126,14 @@ pub fn check_stream<R: Source, W: Sink>(
     // written.
     ensures ok { IfOk result (λ done. (log : LogValue)
         × IsLogOf settings.run (R.left reader.old) (R.left reader.new) log
-        × Reports log (W.held writer.old) (W.held writer.new) done) }
+        × Reports settings.profile log (W.held writer.old) (W.held writer.new) done) }
     // Want of memory aside, the first fault of what was read, and of every log that begins so.
     ensures log { IfLogFault result
         (IsFaultOf settings.run (R.left reader.old) (R.left reader.new)) }
     // Exactly so many bytes of the report were written.
     ensures cut { IfWriteFault result (λ written. (log : LogValue)
         × IsLogOf settings.run (R.left reader.old) (R.left reader.new) log
-        × CutsOff log (W.held writer.old) (W.held writer.new) written) }
+        × CutsOff settings.profile log (W.held writer.old) (W.held writer.new) written) }
 
     // ReadFault exactly where a read of this call failed, WriteFault exactly where a write did.
     ensures reads { R.failed_calls reader.new ≡ R.failed_calls reader.old + failed_reads result }
@@ -137,7 +142,7 @@ pub fn check_stream<R: Source, W: Sink>(
     ensures unwritten { OnOtherFault result (writer.new ≡ writer.old) }
 {
     let log = read_log(alloc, reader, settings.run)?;
-    let verdicts = check_all(alloc, log.sections())?;
+    let verdicts = check_all(alloc, log.sections(), settings.profile)?;
     let text = report(alloc, &verdicts)?;
     match write_text(writer, &text) {
         Ok(()) => Ok(Done {

@@ -2,6 +2,7 @@
 use super::fakes::{ByteSink, PieceSource};
 use crate::request::Settings;
 use crate::stream::{Done, StreamFault, check_stream};
+use pmf_event::Profile;
 use pmf_storelog::{Cause, LogFault};
 use std::alloc::Global;
 
@@ -12,7 +13,7 @@ const SEPARATORS: [u8; 65_536] = [b'|'; 65_536];
 fn checked(alloc: Global, pieces: &[&[u8]], again: usize) -> (ByteSink, Result<Done, StreamFault>) {
     let mut sink = ByteSink::new(alloc);
     let mut source = PieceSource::new(pieces).again(again);
-    let answer = check_stream(alloc, &mut source, &mut sink, Settings { run: 0 });
+    let answer = check_stream(alloc, &mut source, &mut sink, Settings { run: 0, profile: Profile::One });
     (sink, answer)
 }
 

@@ -1,6 +1,7 @@
 // What the words of the command line ask for, and the status where they are refused.
 use crate::request::{Request, Settings, request_of};
 use crate::status::Status;
+use pmf_event::Profile;
 use std::alloc::{AllocError, Global};
 use std::test::Fail;
 
@@ -25,7 +26,7 @@ fn check_takes_a_run_of_64_bits(rt: HostRuntime) -> Result<(), Fail> {
     for (words, run) in cases {
         let words = strings(rt.alloc(), words)?;
         let request = request_of(rt.alloc(), words.as_slice())?;
-        assert!(rt; request == Request::Check(Settings { run }), "at run {run}");
+        assert!(rt; request == Request::Check(Settings { run, profile: Profile::One }), "at run {run}");
     }
     Ok(())
 }
