@@ -57,7 +57,7 @@ fn check_to<R: Eprint, S: Source, W: Sink>(
     requires write { CanCountOneMore (W.failed_calls sink.old) }
     ensures { (answer : Result Done StreamFault) × (result ≡ status_of_answer answer)
         × IfOk answer (λ done. (log : LogValue) × IsLogOf settings.run (S.left source.old) (S.left source.new) log
-        × Reports log (W.held sink.old) (W.held sink.new) done)
+        × Reports settings.profile log (W.held sink.old) (W.held sink.new) done)
         × IfLogFault answer (IsFaultOf settings.run (S.left source.old) (S.left source.new))
         × (S.failed_calls source.new ≡ S.failed_calls source.old + failed_reads answer)
         × (W.failed_calls sink.new ≡ W.failed_calls sink.old + failed_writes answer) }
