@@ -1,6 +1,7 @@
 mod failing;
 mod fakes;
 mod limits;
+mod orders;
 mod rows;
 mod streams;
 mod words;

@@ -8,7 +8,10 @@ use crate::stream::{Done, StreamFault, check_stream};
 use pmf_event::Profile;
 use pmf_storelog::{Cause, LogFault};
 
-const RUN: Settings = Settings { run: 0, profile: Profile::One };
+const RUN: Settings = Settings {
+    run: 0,
+    profile: Profile::One,
+};
 
 // Two stores of one line, of which the second comes after the write-back.
 const LOG: &[u8] = b"STORE;0x1000;0;8|FLUSH;0x1000;0x40|STORE;0x1008;0;8|FENCE\

@@ -13,7 +13,15 @@ const SEPARATORS: [u8; 65_536] = [b'|'; 65_536];
 fn checked(alloc: Global, pieces: &[&[u8]], again: usize) -> (ByteSink, Result<Done, StreamFault>) {
     let mut sink = ByteSink::new(alloc);
     let mut source = PieceSource::new(pieces).again(again);
-    let answer = check_stream(alloc, &mut source, &mut sink, Settings { run: 0, profile: Profile::One });
+    let answer = check_stream(
+        alloc,
+        &mut source,
+        &mut sink,
+        Settings {
+            run: 0,
+            profile: Profile::One,
+        },
+    );
     (sink, answer)
 }
 

@@ -9,7 +9,10 @@ use pmf_storelog::{Cause, LogFault};
 use std::alloc::Global;
 use std::process::Abort;
 
-const RUN: Settings = Settings { run: 0, profile: Profile::One };
+const RUN: Settings = Settings {
+    run: 0,
+    profile: Profile::One,
+};
 
 // What a check of the log writes, and what it answers.
 fn checked(alloc: Global, log: &str) -> (ByteSink, Result<Done, StreamFault>) {
@@ -230,7 +233,15 @@ total sections=1 pass=0 fail=0 warn=0 empty=0
     ] {
         let mut sink = ByteSink::new(rt.alloc());
         let mut source = PieceSource::new(&pieces);
-        let answer = check_stream(rt.alloc(), &mut source, &mut sink, Settings { run, profile: Profile::One });
+        let answer = check_stream(
+            rt.alloc(),
+            &mut source,
+            &mut sink,
+            Settings {
+                run,
+                profile: Profile::One,
+            },
+        );
         let done = Done {
             skipped: 0,
             fails: 0,

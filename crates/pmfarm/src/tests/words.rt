@@ -26,7 +26,31 @@ fn check_takes_a_run_of_64_bits(rt: HostRuntime) -> Result<(), Fail> {
     for (words, run) in cases {
         let words = strings(rt.alloc(), words)?;
         let request = request_of(rt.alloc(), words.as_slice())?;
-        assert!(rt; request == Request::Check(Settings { run, profile: Profile::One }), "at run {run}");
+        assert!(rt;
+            request
+                == Request::Check(Settings {
+                    run,
+                    profile: Profile::One
+                }),
+            "at run {run}"
+        );
+    }
+    Ok(())
+}
+
+#[test]
+fn check_takes_profile_1_or_2(rt: HostRuntime) -> Result<(), Fail> {
+    let cases = [
+        (&["pmfarm", "check"][..], Profile::One),
+        (&["pmfarm", "check", "--profile", "1"][..], Profile::One),
+        (&["pmfarm", "check", "--profile", "2"][..], Profile::Two),
+        (&["pmfarm", "check", "--profile=2"][..], Profile::Two),
+    ];
+    for (words, profile) in cases {
+        let words = strings(rt.alloc(), words)?;
+        let request = request_of(rt.alloc(), words.as_slice())?;
+        let want = Request::Check(Settings { run: 0, profile });
+        assert!(rt; request == want, "at profile {profile:?}");
     }
     Ok(())
 }
@@ -42,6 +66,13 @@ fn words_that_are_no_request_are_refused(rt: HostRuntime) -> Result<(), Fail> {
         &["pmfarm", "check", "--run", "-1"][..],
         &["pmfarm", "check", "--run", "18446744073709551616"][..],
         &["pmfarm", "check", "--run", "1", "--run", "2"][..],
+        &["pmfarm", "check", "--profile"][..],
+        &["pmfarm", "check", "--profile", "0"][..],
+        &["pmfarm", "check", "--profile", "3"][..],
+        &["pmfarm", "check", "--profile", "02"][..],
+        &["pmfarm", "check", "--profile", "two"][..],
+        &["pmfarm", "check", "--profile", ""][..],
+        &["pmfarm", "check", "--profile", "1", "--profile", "2"][..],
     ];
     for words in cases {
         let status = status_at(rt.alloc(), words)?;
