@@ -9,9 +9,18 @@ that keeps its data in order: stores of 8 to 64 bytes at random places of 64 MB,
 each cache line that they met, and a fence. `sections` and `interleaved` are the same events, in
 sections of 1,000, one after another and in runs of 20 of each in turn; both end with an unknown
 marker, so that the log is read to its end and nothing of it is checked.
+
+The others are checked. `tree` is one section of a B-tree with an undo log beside it, in 64 MB: small
+stores, a write-back of each line, fences, a PERSIST and an ORDERED now and then. `trees` and
+`woven` are the same program in sections of 1,000 events, one after another and in runs of 20.
+`sparse` stores one byte at random places of 1 GB, then writes all of it back in large spans, fences,
+asks and writes it back again; `wide` the same, with a fifteenth as many questions and write-backs
+over spans of 4 GB. `segments` stores, writes back and asks after 4,096 spans of 64 KB, over and over.
+`orders` has wide ORDERED assertions over a great many stores.
 """
 
 import argparse
+import itertools
 import random
 
 LINE = 64
@@ -102,7 +111,165 @@ def interleaved(random_, events):
     yield FAULT
 
 
-KINDS = {"fences": fences, "stores": stores, "sections": sections, "interleaved": interleaved}
+def append(random_, at):
+    """An entry of the undo log at this address: its stores, its lines, and a fence."""
+    size = random_.choice((24, 32, 48, 64))
+    first, end = at, at + size
+    while first < end:
+        part = min(end - first, random_.choice((8, 8, 16, 32)))
+        yield store(random_, first, part)
+        first += part
+    for line in range(at - at % LINE, end, LINE):
+        yield flush(line)
+    yield "FENCE"
+
+
+def change(random_, node):
+    """A node's header and an entry with some that it shifts: stores, lines, a fence."""
+    spans = [(node, 8)]
+    slot = random_.randrange(1, 29)
+    for entry in range(slot, slot + random_.randrange(1, 4)):
+        spans.append((node + 16 * entry, random_.choice((8, 16, 16, 16))))
+    if random_.random() < 0.1:
+        spans.append((node + LINE * random_.randrange(8), LINE))
+    for first, size in spans:
+        yield store(random_, first, size)
+    lines = sorted({byte - byte % LINE for first, size in spans for byte in (first, first + size - 1)})
+    if random_.random() < 0.02 and len(lines) > 1:
+        lines.pop()
+    for line in lines:
+        yield flush(line)
+    if random_.random() < 0.01:
+        yield flush(lines[0])
+    yield "FENCE"
+
+
+def tree(random_, events, base=BASE, space=SPACE):
+    """Operations of a B-tree of 512-byte nodes, each with an entry of its undo log."""
+    return itertools.islice(operations(random_, base, space), events)
+
+
+def operations(random_, base, space):
+    """Half of the operations go to a sixteenth of the nodes."""
+    nodes = space * 7 // 8 // 512
+    log, at = base + nodes * 512, 0
+    for operation in itertools.count(1):
+        hot = random_.random() < 0.5
+        node = base + 512 * random_.randrange(max(1, nodes // 16) if hot else nodes)
+        yield from append(random_, log + at)
+        yield from change(random_, node)
+        if operation % 3 == 0:
+            yield f"PMT.PERSIST;{node:#x};0x8"
+        if operation % 5 == 0:
+            yield f"PMT.ORDERED;{log + at:#x};0x18;{node:#x};0x8"
+        at = (at + LINE) % (space // 8 - LINE)
+
+
+def trees_of(random_, events):
+    """A thousand events of a tree of its own for each section."""
+    for number, start in enumerate(range(0, events, SECTION)):
+        base = BASE + number * (1 << 20)
+        yield list(tree(random_, min(SECTION, events - start), base, 1 << 16))
+
+
+def trees(random_, events):
+    """Section after section."""
+    for number, part in enumerate(trees_of(random_, events)):
+        yield f"PMT.SECTION;{number}"
+        yield from part
+
+
+def woven(random_, events):
+    """A run of each section in turn."""
+    parts = list(trees_of(random_, events))
+    for start in range(0, SECTION, RUN):
+        for number, part in enumerate(parts):
+            yield f"PMT.SECTION;{number}"
+            yield from part[start : start + RUN]
+
+
+GIGABYTE = 1 << 30
+
+
+def scattered(random_, events):
+    """Stores of one byte all over a gigabyte."""
+    for _ in range(events):
+        yield store(random_, random_.randrange(GIGABYTE), 1)
+
+
+def sparse(random_, events):
+    """Scattered stores, and then all of the gigabyte written back, asked after, and written back."""
+    yield from scattered(random_, events)
+    for first in range(0, GIGABYTE, 1 << 16):
+        yield f"FLUSH;{first:#x};0x10000"
+    yield "FENCE"
+    for first in range(0, GIGABYTE, 1 << 20):
+        yield f"PMT.PERSIST;{first:#x};0x10000"
+    for first in range(0, GIGABYTE, 1 << 16):
+        yield f"FLUSH;{first:#x};0x10000"
+
+
+def wide(random_, events):
+    """Scattered stores, and then questions and write-backs over four gigabytes."""
+    yield from scattered(random_, events)
+    yield "FLUSH;0x0;0x100000000"
+    for turn in range(events // 15):
+        yield "FLUSH;0x0;0x100000000"
+        yield f"PMT.PERSIST;{random_.randrange(GIGABYTE):#x};0x100000000"
+        yield store(random_, random_.randrange(GIGABYTE), 1)
+        if turn % 100 == 0:
+            yield "FENCE"
+
+
+def segments(random_, events):
+    """4,096 spans of 64 KB, stored, written back, fenced and asked after, again and again."""
+    spans = [(number << 16, 1 << 16) for number in range(4096)]
+    for _ in range(max(1, events // (2 * len(spans) + 2))):
+        for first, size in spans:
+            yield store(random_, first, size)
+        for first, size in spans:
+            yield f"FLUSH;{first:#x};{size:#x}"
+        yield "FENCE"
+        yield "PMT.PERSIST;0x0;0x10000"
+
+
+def orders(random_, events):
+    """Two halves of many stores, the one fenced, and wide order assertions between them."""
+    half = 1 << 22
+    second = BASE + half
+    for first in range(BASE, second, 16):
+        yield store(random_, first, 8)
+    yield f"FLUSH;{BASE:#x};{half:#x}"
+    yield "FENCE"
+    for first in range(second, second + half, 16):
+        yield store(random_, first, 8)
+    for turn in range(events // 100):
+        for _ in range(4):
+            first = second + 16 * random_.randrange(half // 16)
+            yield store(random_, first, 8)
+            yield flush(first - first % LINE)
+        yield "FENCE"
+        size = random_.choice((1 << 12, 1 << 16, 1 << 20, half))
+        a = BASE + LINE * random_.randrange((half - size) // LINE + 1)
+        b = second + LINE * random_.randrange((half - size) // LINE + 1)
+        yield f"PMT.ORDERED;{a:#x};{size:#x};{b:#x};{size:#x}"
+        if turn % 4 == 0:
+            yield f"PMT.ORDERED;{b:#x};{size:#x};{a:#x};{size:#x}"
+
+
+KINDS = {
+    "fences": fences,
+    "stores": stores,
+    "sections": sections,
+    "interleaved": interleaved,
+    "tree": tree,
+    "trees": trees,
+    "woven": woven,
+    "sparse": sparse,
+    "wide": wide,
+    "segments": segments,
+    "orders": orders,
+}
 
 
 def write_log(path, records):
