@@ -1,5 +1,5 @@
 -- Spans of bytes: the first address and how many bytes. The limits are the project's own.
-use Rattle.std.specs.Prelude.{ℕ, ◌+◌, ◌<◌, ◌≤◌, Bool, nat_lt, nat_le, ◌&&◌, ◌==◌, Result, Ok, Err, if◌then◌else◌}
+use Rattle.std.specs.Prelude.{ℕ, ◌+◌, ◌<◌, ◌≤◌, Bool, nat_lt, nat_le, ◌&&◌, ◌==◌, List, codes, Result, Ok, Err, if◌then◌else◌}
 use Rattle.pmf_event.specs.declared.span.TheConstants.{SPAN_LIMIT, ADDRESS_LIMIT}
 use Rattle.pmf_event.specs.declared.span.SpanFault.{SpanFault}
 use Rattle.pmf_event.specs.declared.span.SpanFault.TheVariants.{ZeroSize, TooLarge, PastEnd}
@@ -22,6 +22,12 @@ extent_of first size =
     else if nat_lt SPAN_LIMIT size then Err TooLarge
     else if nat_lt ADDRESS_LIMIT (first + size) then Err PastEnd
     else Ok (record { first = first; size = size })
+
+-- the words of a fault
+abbrev pub words_of_fault : SpanFault → List ℕ
+words_of_fault ZeroSize = codes "size is zero"
+words_of_fault TooLarge = codes "size is too large"
+words_of_fault PastEnd = codes "range ends past 2^63"
 
 -- whether the byte is one of the span's
 abbrev pub covers_byte : Extent → ℕ → Bool

@@ -2,8 +2,9 @@ ghost use Rattle.std.specs.Prelude.{◌≡◌, ◌+◌, ◌<◌, ◌≤◌, ◌^
 ghost use Rattle.pmf_event.specs.Line.{line_of_byte, meets_span};
 ghost use Rattle.pmf_event.specs.Span.{Extent, IsValidExtent, covers_byte, extent_of};
 
+use std::error::Error;
+use std::fmt;
 use std::marker::Model;
-use thiserror::Error;
 
 /// How many bytes a cache line has. A line is named by the address of its first byte.
 pub const LINE_SIZE: u64 = 64;
@@ -32,18 +33,32 @@ impl Model for Span {
 }
 
 /// Why two numbers are no span: the first that applies, in this order.
-#[derive(Clone, Copy, Debug, PartialEq, Eq, Error)]
+#[derive(Clone, Copy, Debug, PartialEq, Eq)]
 pub enum SpanFault {
     /// The size is 0.
-    #[error("size is zero")]
     ZeroSize,
     /// The size is above [`SPAN_LIMIT`].
-    #[error("size is too large")]
     TooLarge,
     /// The span would end above [`ADDRESS_LIMIT`].
-    #[error("range ends past 2^63")]
     PastEnd,
 }
+
+impl fmt::Display for SpanFault {
+    ghost use Rattle.std.specs.Prelude.{Some};
+    ghost use Rattle.pmf_event.specs.Span.{words_of_fault};
+
+    ghost output = { λ fault. Some (words_of_fault fault) };
+
+    fn fmt<W: fmt::Write>(&self, f: &mut fmt::Formatter<W>) -> fmt::Result {
+        f.write_str(match self {
+            SpanFault::ZeroSize => "size is zero",
+            SpanFault::TooLarge => "size is too large",
+            SpanFault::PastEnd => "range ends past 2^63",
+        })
+    }
+}
+
+impl Error for SpanFault {}
 
 impl Span {
     /// The span of `size` bytes from the address `first` on, or the first fault that applies.

@@ -8,6 +8,7 @@ pub mod Fields
 pub mod Quick
 pub mod LogValue
 pub mod LogText
+pub mod FaultText
 pub mod Answers
 pub mod Sections
 pub mod Tally

@@ -2,9 +2,8 @@ ghost use Rattle.std.specs.Prelude.{◌≡◌, ◌+◌};
 
 use pmf_event::SpanFault;
 use std::alloc::{AllocError, AllocFailed};
-use std::error::Error as StdError;
+use std::error::Error;
 use std::fmt;
-use thiserror::Error;
 
 /// The greatest length of a log, in bytes: 2^28.
 pub const LOG_LIMIT: usize = 1 << 28;
@@ -14,36 +13,50 @@ pub const SECTION_LIMIT: usize = 1 << 16;
 
 /// Why a log is refused. Within a record the first that applies decides, in this order:
 /// UnknownMarker, TooFewFields, BadNumber, BadSpan, TooManySections, TooManyEvents, OutOfMemory.
-#[derive(Clone, Copy, Debug, PartialEq, Eq, Error)]
+#[derive(Clone, Copy, Debug, PartialEq, Eq)]
 pub enum Cause {
     /// The record lacks a field that its name asks for.
-    #[error("too few fields")]
     TooFewFields,
     /// A field that is to be a number is none, or is 2^64 or more.
-    #[error("bad number")]
     BadNumber,
     /// The numbers are no span. Of two spans the first one's fault comes first.
-    #[error("{0}")]
     BadSpan(SpanFault),
     /// The name begins with `PMT.` and is no marker that is known.
-    #[error("unknown marker")]
     UnknownMarker,
     /// The marker would make one section more than [`SECTION_LIMIT`].
-    #[error("too many sections")]
     TooManySections,
     /// The event would be one too many in its section.
-    #[error("too many events in the section")]
     TooManyEvents,
     /// The log has more than [`LOG_LIMIT`] bytes.
-    #[error("log is too long")]
     TooLong,
     /// The room for a section, an event, an unfinished record or the list of sections was refused.
-    #[error("out of memory")]
     OutOfMemory,
     /// The reader has refused before.
-    #[error("the reader is spent")]
     Spent,
 }
+
+impl fmt::Display for Cause {
+    ghost use Rattle.std.specs.Prelude.{Some};
+    ghost use Rattle.pmf_storelog.specs.FaultText.{words_of_cause};
+
+    ghost output = { λ cause. Some (words_of_cause cause) };
+
+    fn fmt<W: fmt::Write>(&self, f: &mut fmt::Formatter<W>) -> fmt::Result {
+        match self {
+            Cause::TooFewFields => f.write_str("too few fields"),
+            Cause::BadNumber => f.write_str("bad number"),
+            Cause::BadSpan(fault) => write!(f, "{fault}"),
+            Cause::UnknownMarker => f.write_str("unknown marker"),
+            Cause::TooManySections => f.write_str("too many sections"),
+            Cause::TooManyEvents => f.write_str("too many events in the section"),
+            Cause::TooLong => f.write_str("log is too long"),
+            Cause::OutOfMemory => f.write_str("out of memory"),
+            Cause::Spent => f.write_str("the reader is spent"),
+        }
+    }
+}
+
+impl Error for Cause {}
 
 /// The first fault of a log.
 #[derive(Clone, Copy, Debug, PartialEq, Eq)]
@@ -57,6 +70,11 @@ pub struct LogFault {
 }
 
 impl fmt::Display for LogFault {
+    ghost use Rattle.std.specs.Prelude.{Some};
+    ghost use Rattle.pmf_storelog.specs.FaultText.{text_of_fault};
+
+    ghost output = { λ fault. Some (text_of_fault fault) };
+
     fn fmt<W: fmt::Write>(&self, f: &mut fmt::Formatter<W>) -> fmt::Result {
         if self.at == 0 {
             write!(f, "{}", self.cause)
@@ -66,7 +84,7 @@ impl fmt::Display for LogFault {
     }
 }
 
-impl StdError for LogFault {}
+impl Error for LogFault {}
 
 impl LogFault {
     /// Want of memory, which is no record's fault.

@@ -4,12 +4,16 @@ use crate::record::{Saying, read_plainly};
 use pmf_event::{Event, Span};
 use std::test::Fail;
 
-// The event that is said, if the answer is one; a section's number and no answer are none.
-fn event_of(saying: Option<Saying>) -> Option<Event> {
+// The event that is said, if it is one.
+fn event_of(saying: &Saying) -> Option<Event> {
     match saying {
-        Some(Saying::Happens(event)) => Some(event),
+        Saying::Happens(event) => Some(*event),
         _ => None,
     }
+}
+
+fn quick_event(text: &[u8]) -> Option<Event> {
+    event_of(&read_quickly(text)?)
 }
 
 #[test]
@@ -26,10 +30,10 @@ fn the_usual_spelling_is_read_quickly_and_as_plainly(rt: HostRuntime) -> Result<
         ("FLUSH;0x0000000000001000;0x8;x", Event::Flush(bytes)),
         ("FENCE", Event::Fence),
     ] {
-        let quick = event_of(read_quickly(text.as_bytes()));
-        assert_eq!(rt; quick, Some(event), "at {text}");
-        let plain = event_of(read_plainly(text.as_bytes()).ok());
-        assert_eq!(rt; plain, Some(event), "plainly at {text}");
+        let want = Some(event);
+        assert_eq!(rt; quick_event(text.as_bytes()), want, "at {text}");
+        let plain = read_plainly(text.as_bytes())?;
+        assert_eq!(rt; event_of(&plain), want, "plainly at {text}");
     }
     Ok(())
 }

@@ -255,6 +255,7 @@ fn faults_are_shown_with_their_record(rt: HostRuntime) -> Result<(), Fail> {
         ),
         (9, Cause::TooLong, "record 9: log is too long"),
         (0, Cause::OutOfMemory, "out of memory"),
+        (0, Cause::Spent, "the reader is spent"),
     ] {
         let text = format!(in rt.alloc(); "{}", LogFault { at, cause })?;
         assert_eq!(rt; text.as_str(), want);
