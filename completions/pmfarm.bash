@@ -4,8 +4,10 @@ _pmfarm() {
     COMPREPLY=()
     if [ "$COMP_CWORD" -eq 1 ]; then
         mapfile -t COMPREPLY < <(compgen -W 'check help --help -h --version -V' -- "$word")
+    elif [ "$command" = check ] && [ "$before" = --profile ]; then
+        mapfile -t COMPREPLY < <(compgen -W '1 2' -- "$word")
     elif [ "$command" = check ] && [ "$before" != --run ]; then
-        mapfile -t COMPREPLY < <(compgen -W '--run --help -h' -- "$word")
+        mapfile -t COMPREPLY < <(compgen -W '--run --profile --help -h' -- "$word")
     elif [ "$command" = help ]; then
         mapfile -t COMPREPLY < <(compgen -W 'check' -- "$word")
     fi

@@ -5,4 +5,5 @@ complete -c pmfarm -n __fish_use_subcommand -a help -d 'print help'
 complete -c pmfarm -n __fish_use_subcommand -s V -l version -d 'print the version'
 complete -c pmfarm -s h -l help -d 'print help'
 complete -c pmfarm -n '__fish_seen_subcommand_from check' -l run -x -d 'the run in the name of each section'
+complete -c pmfarm -n '__fish_seen_subcommand_from check' -l profile -x -a '1 2' -d 'the rule for two bytes of one cache line'
 complete -c pmfarm -n '__fish_seen_subcommand_from help' -a check
