@@ -3,13 +3,16 @@ use Rattle.std.proofs.Common.{◌≡◌, ℕ, List, [], ◌∷◌, refl}
 use Rattle.pmf_event.specs.Span.{Extent}
 use Rattle.pmf_event.specs.declared.event.Event.{Event}
 use Rattle.pmf_event.specs.declared.event.Event.TheVariants.{Store, Flush, Fence, Persist, Exclude, Include}
-use Rattle.pmf_event.specs.declared.finding.Finding.TheVariants.{PersistPass, PersistFail, PersistEmpty}
+use Rattle.pmf_event.specs.declared.finding.Finding.TheVariants.{PersistPass, PersistFail, PersistEmpty, OrderedPass, OrderedFail, OrderedSameLine, OrderedEmpty, FlushDoubled, FlushNeedless}
+use Rattle.pmf_event.specs.declared.profile.Profile.TheVariants.{One, Two}
 use Rattle.pmf_event.specs.Places.{greatest, least, count, some_between}
-use Rattle.pmf_event.specs.Store.{event_at, at, stores, flushes, is_fence, last, epoch_of}
-use Rattle.pmf_event.specs.Interval.{closes, closing_fence}
+use Rattle.pmf_event.specs.Store.{event_at, at, stores, stores_line, flushes, is_fence, last, epoch_of}
+use Rattle.pmf_event.specs.Interval.{writes_back, first_write_back, closes, closing_fence}
 use Rattle.pmf_event.specs.Exclusion.{excludes, marks, is_excluded}
-use Rattle.pmf_event.specs.Ranges.{first_from}
+use Rattle.pmf_event.specs.Ranges.{first_from, count_from}
 use Rattle.pmf_event.specs.Persist.{is_checked, is_exposed, persist_finding}
+use Rattle.pmf_event.specs.Order.{is_stored_before, is_ordered, is_unordered, is_certified, has_partner, least_pair, ordered_finding}
+use Rattle.pmf_event.specs.FlushWarnings.{is_clean, is_pending, numbered, lines_where, flush_findings}
 
 abbrev span : ℕ → ℕ → Extent
 span first size = record { first = first; size = size }
@@ -59,3 +62,67 @@ all_excluded = refl
 one_included_again : persist_finding marked 7 (span 0x1000 8) ≡ PersistFail 0x1005
 unfolding persist_finding is_exposed is_checked first_from is_excluded excludes marks closing_fence closes epoch_of last is_fence flushes stores at event_at greatest least count some_between
 one_included_again = refl
+
+-- ---- order assertions
+
+ordered_by_a_fence : ordered_finding One (Store (span 0x1000 8) ∷ line ∷ Fence ∷ Store (span 0x2000 8) ∷ []) 4 (span 0x1000 8) (span 0x2000 8) ≡ OrderedPass
+unfolding ordered_finding least_pair has_partner is_certified is_unordered is_ordered is_stored_before is_checked first_from is_excluded excludes marks closing_fence closes epoch_of last is_fence flushes stores at event_at greatest least count some_between
+ordered_by_a_fence = refl
+
+written_back_at_one_fence : ordered_finding One (Store (span 0x1000 8) ∷ Store (span 0x2000 8) ∷ line ∷ Flush (span 0x2000 0x40) ∷ Fence ∷ []) 5 (span 0x1000 8) (span 0x2000 8) ≡ OrderedFail 0x1000 0x2000 2
+unfolding ordered_finding least_pair has_partner is_certified is_unordered is_ordered is_stored_before is_checked first_from is_excluded excludes marks closing_fence closes epoch_of last is_fence flushes stores at event_at greatest least count some_between
+written_back_at_one_fence = refl
+
+two_stores_of_one_line : ordered_finding One (Store (span 0x1000 8) ∷ Store (span 0x1008 8) ∷ []) 2 (span 0x1000 8) (span 0x1008 8) ≡ OrderedSameLine 0x1000 0x1008
+unfolding ordered_finding least_pair has_partner is_certified is_unordered is_ordered is_stored_before is_checked first_from is_excluded excludes marks closing_fence closes epoch_of last is_fence flushes stores at event_at greatest least count some_between
+two_stores_of_one_line = refl
+
+two_stores_of_one_line_in_order : ordered_finding Two (Store (span 0x1000 8) ∷ Store (span 0x1008 8) ∷ []) 2 (span 0x1000 8) (span 0x1008 8) ≡ OrderedPass
+unfolding ordered_finding least_pair has_partner is_certified is_unordered is_ordered is_stored_before is_checked first_from is_excluded excludes marks closing_fence closes epoch_of last is_fence flushes stores at event_at greatest least count some_between
+two_stores_of_one_line_in_order = refl
+
+one_store_both_bytes : ordered_finding One (Store (span 0x1000 16) ∷ []) 1 (span 0x1000 8) (span 0x1008 8) ≡ OrderedSameLine 0x1000 0x1008
+unfolding ordered_finding least_pair has_partner is_certified is_unordered is_ordered is_stored_before is_checked first_from is_excluded excludes marks closing_fence closes epoch_of last is_fence flushes stores at event_at greatest least count some_between
+one_store_both_bytes = refl
+
+one_store_both_bytes_either_way : ordered_finding Two (Store (span 0x1000 16) ∷ []) 1 (span 0x1000 8) (span 0x1008 8) ≡ OrderedSameLine 0x1000 0x1008
+unfolding ordered_finding least_pair has_partner is_certified is_unordered is_ordered is_stored_before is_checked first_from is_excluded excludes marks closing_fence closes epoch_of last is_fence flushes stores at event_at greatest least count some_between
+one_store_both_bytes_either_way = refl
+
+a_store_across_two_lines : ordered_finding One (Store (span 0x103c 8) ∷ []) 1 (span 0x103c 4) (span 0x1040 4) ≡ OrderedFail 0x103c 0x1040 1
+unfolding ordered_finding least_pair has_partner is_certified is_unordered is_ordered is_stored_before is_checked first_from is_excluded excludes marks closing_fence closes epoch_of last is_fence flushes stores at event_at greatest least count some_between
+a_store_across_two_lines = refl
+
+stored_in_the_other_order : ordered_finding Two (Store (span 0x1008 8) ∷ Store (span 0x1000 8) ∷ []) 2 (span 0x1000 8) (span 0x1008 8) ≡ OrderedFail 0x1000 0x1008 1
+unfolding ordered_finding least_pair has_partner is_certified is_unordered is_ordered is_stored_before is_checked first_from is_excluded excludes marks closing_fence closes epoch_of last is_fence flushes stores at event_at greatest least count some_between
+stored_in_the_other_order = refl
+
+a_span_with_itself : ordered_finding One (Store (span 0x1000 8) ∷ []) 1 (span 0x1000 8) (span 0x1000 8) ≡ OrderedSameLine 0x1000 0x1000
+unfolding ordered_finding least_pair has_partner is_certified is_unordered is_ordered is_stored_before is_checked first_from is_excluded excludes marks closing_fence closes epoch_of last is_fence flushes stores at event_at greatest least count some_between
+a_span_with_itself = refl
+
+nothing_on_one_side : ordered_finding One (Store (span 0x1000 8) ∷ []) 1 (span 0x1000 8) (span 0x2000 8) ≡ OrderedEmpty
+unfolding ordered_finding least_pair has_partner is_certified is_unordered is_ordered is_stored_before is_checked first_from is_excluded excludes marks closing_fence closes epoch_of last is_fence flushes stores at event_at greatest least count some_between
+nothing_on_one_side = refl
+
+-- ---- flush warnings
+
+needless_from_the_start : flush_findings ([]) 0 (span 0x1000 0x40) ≡ FlushNeedless 0x1000 1 ∷ []
+unfolding flush_findings lines_where numbered is_pending is_clean first_from count_from closing_fence first_write_back closes writes_back epoch_of last is_fence flushes stores_line at event_at greatest least count some_between
+needless_from_the_start = refl
+
+doubled : flush_findings (Store (span 0x1000 8) ∷ line ∷ []) 2 (span 0x1000 0x40) ≡ FlushDoubled 0x1000 1 ∷ []
+unfolding flush_findings lines_where numbered is_pending is_clean first_from count_from closing_fence first_write_back closes writes_back epoch_of last is_fence flushes stores_line at event_at greatest least count some_between
+doubled = refl
+
+needless_after_the_fence : flush_findings (Store (span 0x1000 8) ∷ line ∷ Fence ∷ []) 3 (span 0x1000 0x40) ≡ FlushNeedless 0x1000 1 ∷ []
+unfolding flush_findings lines_where numbered is_pending is_clean first_from count_from closing_fence first_write_back closes writes_back epoch_of last is_fence flushes stores_line at event_at greatest least count some_between
+needless_after_the_fence = refl
+
+doubled_and_needless : flush_findings (Store (span 0x1000 8) ∷ line ∷ []) 2 (span 0x1000 0xc0) ≡ FlushDoubled 0x1000 1 ∷ FlushNeedless 0x1040 2 ∷ []
+unfolding flush_findings lines_where numbered is_pending is_clean first_from count_from closing_fence first_write_back closes writes_back epoch_of last is_fence flushes stores_line at event_at greatest least count some_between
+doubled_and_needless = refl
+
+not_yet_written_back : flush_findings (Store (span 0x1000 8) ∷ []) 1 (span 0x1000 0x40) ≡ []
+unfolding flush_findings lines_where numbered is_pending is_clean first_from count_from closing_fence first_write_back closes writes_back epoch_of last is_fence flushes stores_line at event_at greatest least count some_between
+not_yet_written_back = refl
