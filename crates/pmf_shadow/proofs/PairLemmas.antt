@@ -1,19 +1,19 @@
 -- The least pair without trying pairs: which bytes of the one span have a partner in the other, said by
 -- three numbers of the other, and which byte is the partner.
-use Rattle.std.proofs.Common.{◌≡◌, ℕ, suc, ◌+◌, ◌-◌, ◌%◌, ◌<◌, ◌≤◌, Bool, true, false, not, ◌&&◌, ◌==◌, nat_lt, nat_le, if◌then◌else◌, refl, sym, ◌∙◌, ap, subst, arith, inl, inr}
+use Rattle.std.proofs.Common.{◌≡◌, ℕ, ◌+◌, ◌<◌, ◌≤◌, Bool, true, false, ◌&&◌, ◌==◌, nat_lt, if◌then◌else◌, refl, sym, ◌∙◌, ap, arith, inl, inr}
 use Rattle.std.specs.Prelude.{◌||◌, ◌⊎◌, Option, Some, None, is_some}
-use Rattle.std.proofs.lemmas.Bool.{cases_lt, cases_eq, leb-true, le-leb, le-ltb, ltb-false}
+use Rattle.std.proofs.lemmas.Bool.{cases_lt, cases_eq, leb-true, le-leb}
 use Rattle.std.proofs.lemmas.Bool.Decides.{Decides-eqb}
 use borrow.Author.Tests.{ltb-true}
 use Rattle.pmf_event.specs.Span.{Extent}
 use Rattle.pmf_event.specs.Line.{line_of_byte}
 use Rattle.pmf_event.specs.Ranges.{first_from, first_byte}
-use Rattle.pmf_event.specs.Order.{share_line, has_partner, paired, with_partner, least_pair}
+use Rattle.pmf_event.specs.Order.{has_partner, paired, with_partner, least_pair}
 use Rattle.pmf_event.proofs.PlacesLemmas.{lt-ltb}
-use Rattle.pmf_event.proofs.RangeLemmas.{NonePass, IsFirst, first_from-none, first_from-some, none-passes, first-passes, first_from-same}
+use Rattle.pmf_event.proofs.RangeLemmas.{first_from-none, none-passes, first-passes, first_from-same}
 use Rattle.pmf_shadow.specs.declared.byte.Stored.{Stored}
 use Rattle.pmf_shadow.specs.States.{holds_of, is_late, late_for, late_for_any, is_before, stored_by, comes_after, has_one_by, place_of, opening_of}
-use Rattle.pmf_shadow.specs.Pairs.{both_hold, by_epoch, by_place, by_epochs, by_lines, by_line, on_line, off_line, HasValue, IsLeastValue}
+use Rattle.pmf_shadow.specs.Pairs.{both_hold, by_epoch, by_place, by_epochs, by_lines, by_line, on_line, off_line, IsLeastValue}
 
 -- ---- pairs in general
 

@@ -7,7 +7,7 @@ use Rattle.pmf_event.specs.Span.{Extent}
 use Rattle.pmf_event.specs.Line.{line_of_byte}
 use Rattle.pmf_event.specs.Ranges.{first_from, lesser, least_from}
 use Rattle.pmf_event.proofs.LineLemmas.{line-bounds, line-unique}
-use Rattle.pmf_event.proofs.RangeLemmas.{NonePass, IsFirst, first_from-none, first_from-some, none-passes, first-passes}
+use Rattle.pmf_event.proofs.RangeLemmas.{first_from-none, first_from-some, none-passes, first-passes}
 use Rattle.pmf_shadow.specs.Pairs.{by_line, on_line, off_line, HasValue, IsLeastValue}
 use Rattle.pmf_shadow.proofs.PairLemmas.{by_line-on, by_line-off, on_line-on, on_line-off, off_line-on, off_line-off}
 

@@ -1,9 +1,8 @@
 -- What is kept answers the questions as the definitions do.
-use Rattle.std.proofs.Common.{◌≡◌, ℕ, suc, ◌+◌, ◌-◌, ◌*◌, ◌/◌, ◌^◌, ◌<◌, ◌≤◌, Bool, true, false, not, ◌&&◌, ◌==◌, nat_lt, nat_le, if◌then◌else◌, List, refl, sym, ◌∙◌, ap, arith, inl, inr}
+use Rattle.std.proofs.Common.{◌≡◌, ℕ, ◌+◌, ◌-◌, ◌*◌, ◌/◌, ◌^◌, ◌<◌, ◌≤◌, Bool, true, false, not, ◌&&◌, ◌==◌, nat_lt, nat_le, if◌then◌else◌, List, refl, sym, ◌∙◌, ap, arith, inl, inr}
 use Rattle.std.specs.Prelude.{◌||◌, Option, Some, None, is_none}
-use Rattle.std.proofs.lemmas.Bool.{cases_lt, cases_eq, leb-true, le-leb, le-ltb, ltb-false}
+use Rattle.std.proofs.lemmas.Bool.{cases_lt, cases_eq, leb-true, le-leb, le-ltb}
 use Rattle.std.proofs.lemmas.Bool.Decides.{Decides-eqb}
-use borrow.Author.Tests.{ltb-true}
 use Rattle.pmf_event.specs.declared.event.Event.{Event}
 use Rattle.pmf_event.specs.declared.interval.Interval.{Interval}
 use Rattle.pmf_event.specs.Span.{Extent, IsValidExtent}
@@ -22,12 +21,11 @@ use Rattle.pmf_event.proofs.WriteBackLemmas.{not_eqb, epoch_unless-none, epoch_u
 use Rattle.pmf_shadow.specs.declared.byte.ByteState.{ByteState}
 use Rattle.pmf_shadow.specs.declared.byte.Stored.{Stored}
 use Rattle.pmf_shadow.specs.declared.line.LineState.{LineState}
-use Rattle.pmf_shadow.specs.declared.line.LineState.TheVariants.{Untouched, Dirty, WrittenBack}
 use Rattle.pmf_shadow.specs.declared.shadow.Shadow.{Shadow}
 use Rattle.pmf_shadow.specs.Runs.{state_at, passing}
 use Rattle.pmf_shadow.specs.States.{checked_store, holds_of, any_store, is_late, late_for, line_clean, line_pending}
 use Rattle.pmf_shadow.specs.Shadow.{stored_at, byte_at, dirty_unless, line_at, closing, lines_by, StandsFor}
-use Rattle.pmf_shadow.proofs.StandsLemmas.{store_of, store_of-none, store_of-some, stored_at-is, line_is, line_is-none, line_is-some, line_at-is}
+use Rattle.pmf_shadow.proofs.StandsLemmas.{store_of-none, store_of-some, stored_at-is, line_is-none, line_is-some, line_at-is}
 
 -- ---- where an interval closes
 

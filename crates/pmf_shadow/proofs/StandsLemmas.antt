@@ -1,13 +1,13 @@
 -- The shadow stands for one more event: what the definitions say of a byte and of a line after it, and
 -- that the changed runs say the same.
-use Rattle.std.proofs.Common.{◌≡◌, ℕ, suc, ◌+◌, ◌-◌, ◌*◌, ◌/◌, ◌<◌, ◌≤◌, Bool, true, false, ◌&&◌, ◌==◌, nat_lt, nat_le, if◌then◌else◌, List, refl, sym, ◌∙◌, ap, subst, arith, inl, inr}
+use Rattle.std.proofs.Common.{◌≡◌, ℕ, suc, ◌+◌, ◌-◌, ◌*◌, ◌/◌, ◌<◌, ◌≤◌, Bool, true, false, ◌==◌, if◌then◌else◌, List, refl, sym, ◌∙◌, ap, arith, inl, inr}
 use Rattle.std.specs.Prelude.{Option, Some, None, is_none}
 use Rattle.std.proofs.lemmas.Bool.{cases_eq, leb-true, le-leb}
 use Rattle.std.proofs.lemmas.Bool.Decides.{Decides-eqb}
 use borrow.Author.Tests.{ltb-true}
 use Rattle.pmf_event.specs.declared.event.Event.{Event}
-use Rattle.pmf_event.specs.declared.event.Event.TheVariants.{Store, Flush, Fence, Exclude, Include}
-use Rattle.pmf_event.specs.Span.{Extent, covers_byte}
+use Rattle.pmf_event.specs.declared.event.Event.TheVariants.{Store, Flush, Fence, Persist, Ordered, Exclude, Include, TxBegin, TxAdd, TxEnd, CheckStart, CheckEnd}
+use Rattle.pmf_event.specs.Span.{Extent}
 use Rattle.pmf_event.specs.Line.{line_of_byte, meets_line}
 use Rattle.pmf_event.specs.Places.{count}
 use Rattle.pmf_event.specs.Store.{event_at, at, stores, stores_line, flushes, is_fence, last, last_store, epoch_of}
@@ -20,12 +20,13 @@ use Rattle.pmf_event.proofs.WriteBackLemmas.{not_eqb, write_back-kept, write_bac
 use Rattle.pmf_shadow.specs.declared.byte.ByteState.{ByteState}
 use Rattle.pmf_shadow.specs.declared.byte.Stored.{Stored}
 use Rattle.pmf_shadow.specs.declared.line.LineState.{LineState}
-use Rattle.pmf_shadow.specs.declared.line.LineState.TheVariants.{Untouched, Dirty, WrittenBack}
+use Rattle.pmf_shadow.specs.declared.line.LineState.TheVariants.{Untouched}
 use Rattle.pmf_shadow.specs.declared.runs.RunMap.{RunMap}
 use Rattle.pmf_shadow.specs.declared.shadow.Shadow.{Shadow}
 use Rattle.pmf_shadow.specs.Runs.{state_at, is_between, ChangesBetween, SameStates}
 use Rattle.pmf_shadow.specs.States.{after_store, written_back_in, after_write_back, after_mark, line_after_store, line_after_write_back}
 use Rattle.pmf_shadow.specs.Shadow.{stored_at, byte_at, dirty_unless, line_at, StandsFor}
+use Rattle.pmf_shadow.specs.Laws.{is_unseen, UnseenEventsChangeNothing}
 
 -- ---- one byte
 
@@ -293,6 +294,21 @@ stands-other shadow es p e here no_fence no_store no_line no_flush no_mark stand
   bytes = λ b. stands.bytes b ∙ sym (byte-kept es p b e here (no_store b) (no_flush (line_of_byte b)) (no_mark b));
   lines = λ n. stands.lines n ∙ sym (line-kept es p (n * 64) e here (no_line (n * 64)) (no_flush (n * 64)));
 }
+
+pub stands-unseen : UnseenEventsChangeNothing
+unfolding is_unseen stores stores_line flushes marks is_fence
+stands-unseen shadow es p (Store s) here unseen stands = let bad : false ≡ true = unseen in cc
+stands-unseen shadow es p (Flush s) here unseen stands = let bad : false ≡ true = unseen in cc
+stands-unseen shadow es p Fence here unseen stands = let bad : false ≡ true = unseen in cc
+stands-unseen shadow es p (Exclude s) here unseen stands = let bad : false ≡ true = unseen in cc
+stands-unseen shadow es p (Include s) here unseen stands = let bad : false ≡ true = unseen in cc
+stands-unseen shadow es p (Persist s) here unseen stands = stands-other shadow es p (Persist s) here refl (λ b. refl) (λ l. refl) (λ l. refl) (λ b. refl) stands
+stands-unseen shadow es p (Ordered a b) here unseen stands = stands-other shadow es p (Ordered a b) here refl (λ x. refl) (λ l. refl) (λ l. refl) (λ x. refl) stands
+stands-unseen shadow es p TxBegin here unseen stands = stands-other shadow es p TxBegin here refl (λ b. refl) (λ l. refl) (λ l. refl) (λ b. refl) stands
+stands-unseen shadow es p (TxAdd s) here unseen stands = stands-other shadow es p (TxAdd s) here refl (λ b. refl) (λ l. refl) (λ l. refl) (λ b. refl) stands
+stands-unseen shadow es p TxEnd here unseen stands = stands-other shadow es p TxEnd here refl (λ b. refl) (λ l. refl) (λ l. refl) (λ b. refl) stands
+stands-unseen shadow es p CheckStart here unseen stands = stands-other shadow es p CheckStart here refl (λ b. refl) (λ l. refl) (λ l. refl) (λ b. refl) stands
+stands-unseen shadow es p CheckEnd here unseen stands = stands-other shadow es p CheckEnd here refl (λ b. refl) (λ l. refl) (λ l. refl) (λ b. refl) stands
 
 pub stands-fences : (shadow : Shadow) (es : List Event) (p : ℕ) → StandsFor shadow es p → shadow.fences ≤ p
 stands-fences shadow es p stands = let bound = count-le (at is_fence es) p in let same = stands.fences in omega arith

@@ -1,6 +1,6 @@
 -- What is kept of two bytes says whether they are unordered, and whether the pair is certified; and the
 -- walks that the shadow makes find the least pair.
-use Rattle.std.proofs.Common.{◌≡◌, ℕ, suc, ◌+◌, ◌-◌, ◌<◌, ◌≤◌, Bool, true, false, not, ◌&&◌, ◌==◌, nat_lt, nat_le, if◌then◌else◌, List, refl, sym, ◌∙◌, ap, subst, arith, inl, inr}
+use Rattle.std.proofs.Common.{◌≡◌, ℕ, ◌+◌, ◌-◌, ◌<◌, ◌≤◌, Bool, true, false, not, ◌&&◌, ◌==◌, nat_lt, nat_le, if◌then◌else◌, List, refl, sym, ◌∙◌, ap, subst, arith, inl, inr}
 use Rattle.std.specs.Prelude.{◌||◌, Option, Some, None}
 use Rattle.std.proofs.lemmas.Bool.{cases_lt, cases_eq, leb-true, le-leb, le-ltb}
 use Rattle.std.proofs.lemmas.Bool.Decides.{Decides-eqb}
@@ -8,29 +8,26 @@ use borrow.Author.Tests.{ltb-true}
 use Rattle.pmf_event.specs.declared.event.Event.{Event}
 use Rattle.pmf_event.specs.declared.profile.Profile.{Profile}
 use Rattle.pmf_event.specs.declared.profile.Profile.TheVariants.{One, Two}
-use Rattle.pmf_event.specs.declared.interval.Interval.{Interval}
 use Rattle.pmf_event.specs.Span.{Extent}
 use Rattle.pmf_event.specs.Line.{line_of_byte}
 use Rattle.pmf_event.specs.Places.{least, count}
-use Rattle.pmf_event.specs.Ranges.{first_from, first_byte}
+use Rattle.pmf_event.specs.Ranges.{first_byte}
 use Rattle.pmf_event.specs.Store.{at, stores, is_fence, last, last_store, epoch_of}
 use Rattle.pmf_event.specs.WriteBack.{write_back_epoch, epoch_unless}
 use Rattle.pmf_event.specs.Interval.{writes_back, first_write_back, interval_at}
-use Rattle.pmf_event.specs.Exclusion.{is_excluded}
 use Rattle.pmf_event.specs.Persist.{is_checked}
-use Rattle.pmf_event.specs.Order.{is_closed_by, precedes, share_line, is_stored_before, is_ordered, is_unordered, is_certified, paired, with_partner, least_pair}
-use Rattle.pmf_event.proofs.PlacesLemmas.{lt-ltb, least-passes, count-mono, greatest-bound}
+use Rattle.pmf_event.specs.Order.{is_closed_by, precedes, share_line, is_stored_before, is_ordered, is_unordered, is_certified, with_partner, least_pair}
+use Rattle.pmf_event.proofs.PlacesLemmas.{lt-ltb, least-passes, count-mono}
 use Rattle.pmf_event.proofs.EventLemmas.{and-true}
 use Rattle.pmf_event.proofs.RangeLemmas.{none-passes, first_from-same}
 use Rattle.pmf_event.proofs.WriteBackLemmas.{epoch_unless-none, epoch_unless-some, last-bound}
 use Rattle.pmf_shadow.specs.declared.byte.ByteState.{ByteState}
 use Rattle.pmf_shadow.specs.declared.byte.Stored.{Stored}
 use Rattle.pmf_shadow.specs.declared.shadow.Shadow.{Shadow}
-use Rattle.pmf_shadow.specs.Runs.{state_at}
-use Rattle.pmf_shadow.specs.States.{checked_store, holds_of, any_store, is_late, late_for, late_for_any, is_before, opens_in, stored_by, comes_after, has_one_by, opening_of, place_of}
+use Rattle.pmf_shadow.specs.States.{checked_store, holds_of, any_store, is_late, late_for, is_before, opens_in, stored_by, comes_after, has_one_by, opening_of, place_of}
 use Rattle.pmf_shadow.specs.Pairs.{kept, both_hold, by_epoch, by_place, by_epochs, by_lines, by_line, on_line, off_line, IsLeastValue}
 use Rattle.pmf_shadow.specs.Shadow.{stored_at, byte_at, closing, StandsFor}
-use Rattle.pmf_shadow.proofs.PairLemmas.{late-monotone, least_pair-by, least_pair-none, least_pair-same, no_pairs-by_epochs, has_partner-by_epochs, partner-by_epochs, no_pairs-by_lines, has_partner-by_lines, partner-by_lines, by_lines-on, by_lines-off, by_line-on, by_line-off, on_line-on}
+use Rattle.pmf_shadow.proofs.PairLemmas.{late-monotone, least_pair-by, least_pair-none, no_pairs-by_epochs, has_partner-by_epochs, partner-by_epochs, no_pairs-by_lines, has_partner-by_lines, partner-by_lines, by_lines-on, by_lines-off, by_line-on, by_line-off, on_line-on}
 use Rattle.pmf_shadow.proofs.QuestionLemmas.{IsWritten, written-from_stored, interval-written, checked-is}
 
 not_leb : (a b : ℕ) → b < a → nat_le a b ≡ false

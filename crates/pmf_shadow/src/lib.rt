@@ -8,6 +8,7 @@
 #![tactic(auto)]
 
 mod byte;
+pub mod laws;
 mod line;
 mod pairs;
 mod runs;

@@ -2,15 +2,13 @@
 use Rattle.std.proofs.Common.{◌≡◌, ℕ, suc, Bool, true, false, List, [], ◌∷◌, ◌++◌, refl, sym, ◌∙◌, ap, inl, inr}
 use Rattle.std.specs.Prelude.{◌⊎◌, Some}
 use Rattle.pmf_event.specs.declared.event.Event.{Event}
-use Rattle.pmf_event.specs.declared.event.Event.TheVariants.{Persist, Ordered, TxBegin, TxAdd, TxEnd, CheckStart, CheckEnd}
+use Rattle.pmf_event.specs.declared.event.Event.TheVariants.{TxBegin, TxAdd, TxEnd, CheckStart, CheckEnd}
 use Rattle.pmf_event.specs.declared.finding.Finding.{Finding}
 use Rattle.pmf_event.specs.declared.profile.Profile.{Profile}
 use Rattle.pmf_event.specs.Span.{Extent}
-use Rattle.pmf_event.specs.Store.{event_at, stores, stores_line, flushes, is_fence}
-use Rattle.pmf_event.specs.Exclusion.{marks}
-use Rattle.pmf_shadow.specs.declared.shadow.Shadow.{Shadow}
+use Rattle.pmf_event.specs.Store.{event_at}
 use Rattle.pmf_shadow.specs.Shadow.{StandsFor}
-use Rattle.pmf_shadow.proofs.StandsLemmas.{stands-other}
+use Rattle.pmf_shadow.specs.Laws.{is_unseen}
 use Rattle.pmf_verdict.specs.declared.checking.Walk.{Walk}
 use Rattle.pmf_verdict.specs.Rows.{findings_of, row_at, rows_upto}
 use Rattle.pmf_verdict.specs.Walks.{Walks}
@@ -45,23 +43,15 @@ module _ (old new : Walk) (es : List Event) (p : ℕ) (e : Event) (here : event_
         ∙ ap (λ q. rows_upto q es (suc p)) (sym profile);
   }
 
-module _ (shadow : Shadow) (es : List Event) (p : ℕ) (stands : StandsFor shadow es p) where
-  pub stands-persist : (s : Extent) → event_at es (suc p) ≡ Some (Persist s) → StandsFor shadow es (suc p)
-  unfolding stores stores_line flushes marks is_fence
-  stands-persist s here = stands-other shadow es p (Persist s) here refl (λ b. refl) (λ l. refl) (λ l. refl) (λ b. refl) stands
-
-  pub stands-ordered : (a b : Extent) → event_at es (suc p) ≡ Some (Ordered a b) → StandsFor shadow es (suc p)
-  unfolding stores stores_line flushes marks is_fence
-  stands-ordered a b here = stands-other shadow es p (Ordered a b) here refl (λ b. refl) (λ l. refl) (λ l. refl) (λ b. refl) stands
-
-  pub stands-marker : (e : Event) → event_at es (suc p) ≡ Some e → is_marker e ≡ true → StandsFor shadow es (suc p)
-  unfolding stores stores_line flushes marks is_fence is_marker
-  stands-marker TxBegin here marker = stands-other shadow es p TxBegin here refl (λ b. refl) (λ l. refl) (λ l. refl) (λ b. refl) stands
-  stands-marker (TxAdd s) here marker = stands-other shadow es p (TxAdd s) here refl (λ b. refl) (λ l. refl) (λ l. refl) (λ b. refl) stands
-  stands-marker TxEnd here marker = stands-other shadow es p TxEnd here refl (λ b. refl) (λ l. refl) (λ l. refl) (λ b. refl) stands
-  stands-marker CheckStart here marker = stands-other shadow es p CheckStart here refl (λ b. refl) (λ l. refl) (λ l. refl) (λ b. refl) stands
-  stands-marker CheckEnd here marker = stands-other shadow es p CheckEnd here refl (λ b. refl) (λ l. refl) (λ l. refl) (λ b. refl) stands
-  stands-marker _ here marker = let bad : false ≡ true = marker in cc
+-- what the walk has no arm for is unseen by the shadow too
+pub unseen-marker : (e : Event) → is_marker e ≡ true → is_unseen e ≡ true
+unfolding is_marker is_unseen
+unseen-marker TxBegin marker = refl
+unseen-marker (TxAdd s) marker = refl
+unseen-marker TxEnd marker = refl
+unseen-marker CheckStart marker = refl
+unseen-marker CheckEnd marker = refl
+unseen-marker _ marker = let bad : false ≡ true = marker in cc
 
 pub silent-marker : (profile : Profile) (es : List Event) (p : ℕ) (e : Event) → is_marker e ≡ true → findings_of profile es p (Some e) ≡ []
 unfolding findings_of is_marker

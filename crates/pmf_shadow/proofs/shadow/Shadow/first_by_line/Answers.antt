@@ -1,4 +1,4 @@
-use Rattle.std.proofs.Common.{◌≡◌, ℕ, Bool, ◌+◌, ◌-◌, false, min, max, sym, ◌∙◌, ap}
+use Rattle.std.proofs.Common.{◌≡◌, ℕ, ◌+◌, ◌-◌, min, max, sym, ◌∙◌, ap}
 use Rattle.std.specs.Prelude.{Option, is_some}
 use Rattle.pmf_event.specs.Ranges.{first_from}
 use Rattle.pmf_shadow.specs.Runs.{passing}

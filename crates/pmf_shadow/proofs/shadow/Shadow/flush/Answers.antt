@@ -1,4 +1,4 @@
-use Rattle.std.proofs.Common.{◌≡◌, suc, ◌+◌, ◌-◌, ◌*◌, ◌/◌, refl, sym, ◌∙◌, ap, arith}
+use Rattle.std.proofs.Common.{◌≡◌, ◌+◌, ◌-◌, ◌*◌, ◌/◌, refl, ◌∙◌, ap}
 use Rattle.pmf_shadow.specs.States.{after_write_back, line_after_write_back}
 use Rattle.pmf_shadow.proofs.StandsLemmas.{stands-flush, changes-after_room}
 use Rattle.pmf_shadow.proofs.shadow.Shadow.flush.Goals as goal

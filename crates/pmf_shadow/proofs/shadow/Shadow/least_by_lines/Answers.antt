@@ -1,6 +1,5 @@
-use Rattle.std.proofs.Common.{◌≡◌, ℕ, Bool, refl, sym, ◌∙◌, ap, subst, arith}
+use Rattle.std.proofs.Common.{◌≡◌, refl, sym, ◌∙◌, ap, subst, arith}
 use Rattle.std.specs.Prelude.{Some, None}
-use Rattle.pmf_event.specs.Line.{line_of_byte}
 use Rattle.pmf_event.specs.Order.{paired, with_partner}
 use Rattle.pmf_event.proofs.LineLemmas.{line-bounds}
 use Rattle.pmf_event.proofs.RangeLemmas.{first-passes}

@@ -1,4 +1,4 @@
-use Rattle.std.proofs.Common.{◌≡◌, ℕ, ◌+◌, ◌-◌, min, max, sym, ◌∙◌, ap, subst}
+use Rattle.std.proofs.Common.{◌≡◌, ◌+◌, ◌-◌, min, max, sym, ◌∙◌, ap, subst}
 use Rattle.pmf_event.specs.Ranges.{lesser, least_from}
 use Rattle.pmf_shadow.specs.Runs.{keyed}
 use Rattle.pmf_shadow.specs.States.{kept_opening}

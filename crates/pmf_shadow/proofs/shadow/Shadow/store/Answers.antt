@@ -1,4 +1,4 @@
-use Rattle.std.proofs.Common.{◌≡◌, suc, ◌+◌, ◌-◌, ◌*◌, ◌/◌, refl, sym, ◌∙◌, ap, arith}
+use Rattle.std.proofs.Common.{◌≡◌, ◌+◌, ◌-◌, ◌/◌, refl, ◌∙◌, ap}
 use Rattle.pmf_shadow.specs.States.{after_store, line_after_store}
 use Rattle.pmf_shadow.proofs.StandsLemmas.{stands-store, changes-after_room}
 use Rattle.pmf_shadow.proofs.shadow.Shadow.store.Goals as goal
