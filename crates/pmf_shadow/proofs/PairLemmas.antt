@@ -191,7 +191,9 @@ module _ (kept : ℕ → Option Stored) (b : Extent) where
       let is_late_here : is_late other.0.opens own.stored.written_back ≡ true =
       ap (λ o. is_late o own.stored.written_back) other.2 ∙ sym (holds_of-is kept (late_for m) x own.stored own.is) ∙ late in
       partner-from_one (by_epochs kept) b x (record {
-        place = has.place; from = has.from; within = has.within;
+        place = has.place;
+        from = has.from;
+        within = has.within;
         passes = both_hold-is kept by_epoch x has.place own.stored other.0 own.is other.1 ∙ is_late_here;
       }))
 
@@ -305,7 +307,9 @@ module _ (ties : Bool) (kept : ℕ → Option Stored) where
           let is_late_here : is_late there.0.opens own.stored.written_back ≡ true =
           ap (λ o. is_late o own.stored.written_back) there.2 ∙ sym (holds_of-is kept (late_for m) x own.stored own.is) ∙ late in
           partner-from_one (by_lines ties kept) b x (record {
-            place = early; from = from; within = within;
+            place = early;
+            from = from;
+            within = within;
             passes = by_lines-off x early other ∙ both_hold-is kept by_epoch x early own.stored there.0 own.is there.1 ∙ is_late_here;
           }))
 
@@ -328,7 +332,9 @@ module _ (ties : Bool) (kept : ℕ → Option Stored) where
             let there = line-from_off (line_of_byte early) (opening_at kept) has.place o has.is in
             let other = kept-from_opening kept has.place o (kept has.place) refl there.1 in
             record {
-              place = has.place; from = has.from; within = has.within;
+              place = has.place;
+              from = has.from;
+              within = has.within;
               passes = by_lines-off x has.place (λ shared. there.0 (sym shared ∙ same))
                   ∙ both_hold-is kept by_epoch x has.place k other.0 own other.1
                   ∙ ap (λ e. is_late e k.written_back) other.2 ∙ late;
@@ -360,7 +366,9 @@ module _ (ties : Bool) (kept : ℕ → Option Stored) where
                   let there = line-from_on (line_of_byte early) (place_at kept) has.place first has.is in
                   let other = kept-from_place kept has.place first (kept has.place) refl there.1 in
                   record {
-                    place = has.place; from = has.from; within = has.within;
+                    place = has.place;
+                    from = has.from;
+                    within = has.within;
                     passes = by_lines-on x has.place (same ∙ sym there.0)
                         ∙ both_hold-is kept (by_place ties) x has.place own.stored other.0 own.is other.1
                         ∙ ap (λ i. is_before ties i own.stored.last) other.2 ∙ before;

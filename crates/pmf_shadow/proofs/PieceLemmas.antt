@@ -198,7 +198,9 @@ module _ (line : ℕ) (aligned : line % 64 ≡ 0) (value : ℕ → Option ℕ) (
           | inr other ↦ on_line-off line value k other
         ];
         has = λ u is. let there = own.has u is in let from = there.from in let within = there.within in record {
-          place = there.place; from = omega arith; within = omega arith;
+          place = there.place;
+          from = omega arith;
+          within = omega arith;
           is = on_line-on line value there.place (inside line aligned there.place (omega arith) (omega arith)) ∙ there.is;
         };
         bound = λ u is k w low high at. elim (cases_eq (line_of_byte k) line) [

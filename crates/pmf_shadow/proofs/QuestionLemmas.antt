@@ -177,7 +177,6 @@ place-none es w is = elim (cases_eq w 0) [
 ]
 
 module _ (es : List Event) (p l : ℕ) where
-
   clean-by : (o : Option ℕ) → write_back_epoch (stores_line l) l es p ≡ o → nat_lt 0 (closing_fence (stores_line l) l es p) ≡ line_clean (count (at is_fence es) p) (dirty_unless o)
   clean-by None is = fence-none es (closing_fence (stores_line l) l es p) (closing-none (stores_line l) l es p is)
   clean-by (Some w) is = elim (cases_lt w (count (at is_fence es) p)) [

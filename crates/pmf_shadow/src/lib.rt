@@ -18,3 +18,6 @@ pub use byte::{ByteState, Stored};
 pub use line::LineState;
 pub use runs::{Change, Key, RunMap, State, Test};
 pub use shadow::Shadow;
+
+#[cfg(test)]
+mod tests;

@@ -38,7 +38,9 @@ impl Shadow {
         let epoch = self.bytes.least_key(b.first(), end_of(b), &Opening)?;
         let byte = self.first_in(a, &IsLate { epoch })?;
         let stored = self.bytes.at(byte).checked()?;
-        let later = ComesAfter { written_back: stored.written_back };
+        let later = ComesAfter {
+            written_back: stored.written_back,
+        };
         let after = self.first_in(b, &later)?;
         Some((byte, after))
     }
@@ -54,11 +56,20 @@ impl Shadow {
         let line = line_of(early);
         let first = self.least_place_on(b, line)?;
         let elsewhere = self.least_opening_off(b, line);
-        let has_one = HasOneBy { ties, first, elsewhere };
+        let has_one = HasOneBy {
+            ties,
+            first,
+            elsewhere,
+        };
         let byte = self.first_by_line(a, line, &has_one, &IsLate { epoch })?;
         let stored = self.bytes.at(byte).checked()?;
-        let before = StoredBy { place: stored.last, ties };
-        let later = ComesAfter { written_back: stored.written_back };
+        let before = StoredBy {
+            place: stored.last,
+            ties,
+        };
+        let later = ComesAfter {
+            written_back: stored.written_back,
+        };
         let after = self.first_by_line(b, line_of(byte), &before, &later)?;
         Some((byte, after))
     }
@@ -84,7 +95,9 @@ impl Shadow {
         if before.is_some() {
             return before;
         }
-        let within = self.bytes.first_where(upper(first, line), lower(end, next), on);
+        let within = self
+            .bytes
+            .first_where(upper(first, line), lower(end, next), on);
         if within.is_some() {
             return within;
         }
@@ -98,7 +111,10 @@ impl Shadow {
         ensures { IsLeastValue (on_line line (keyed kept_place self.now.bytes))
             span.now.first span.now.size result }
     {
-        let (first, end) = (upper(span.first(), line), lower(end_of(span), line + LINE_SIZE));
+        let (first, end) = (
+            upper(span.first(), line),
+            lower(end_of(span), line + LINE_SIZE),
+        );
         self.bytes.least_key(first, end, &Place)
     }
 
@@ -111,7 +127,9 @@ impl Shadow {
     {
         let (first, end) = (span.first(), end_of(span));
         let before = self.bytes.least_key(first, lower(end, line), &Opening);
-        let after = self.bytes.least_key(upper(first, line + LINE_SIZE), end, &Opening);
+        let after = self
+            .bytes
+            .least_key(upper(first, line + LINE_SIZE), end, &Opening);
         lesser(before, after)
     }
 }
