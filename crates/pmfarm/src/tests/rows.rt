@@ -116,7 +116,7 @@ total sections=1 pass=0 fail=0 warn=0 empty=0
     for (log, report) in [
         ("PMT.PERSIST;0x1000;0x8", empty),
         ("STORE;0x7fffffffffffffff;0;1", no_rows),
-        ("STORE;0x0;0;65537", no_rows),
+        ("STORE;0x0;0;0x100000000", no_rows),
     ] {
         reports(&rt, rt.alloc(), log, report, 0);
     }
@@ -132,7 +132,9 @@ fn spans_and_faults(rt: HostRuntime) {
         ("FENCE|STORE;0x10", 2, Cause::TooFewFields),
         ("PMT.PERIST;0x0;0x8", 1, Cause::UnknownMarker),
         ("STORE;0x0;0;0", 1, zero),
-        ("STORE;0x0;0;4294967297", 1, large),
+        ("STORE;0x0;0;0x100000001", 1, large),
+        ("STORE;0x7fffffff00000001;0;0x100000000", 1, past),
+        ("PMT.ORDERED;0x0;0;0x0;x", 1, Cause::BadNumber),
     ] {
         refuses(&rt, rt.alloc(), log, at, cause);
     }
