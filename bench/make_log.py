@@ -93,21 +93,29 @@ def split(random_, events):
         yield list(stores(random_, min(SECTION, events - start)))
 
 
-def sections(random_, events):
-    """Section after section, and then a fault."""
-    for number, part in enumerate(split(random_, events)):
+def row(parts):
+    """Section after section."""
+    for number, part in enumerate(parts):
         yield f"PMT.SECTION;{number}"
         yield from part
+
+
+def weave(parts):
+    """A run of each section in turn."""
+    parts = list(parts)
+    for start in range(0, SECTION, RUN):
+        yield from row(part[start : start + RUN] for part in parts)
+
+
+def sections(random_, events):
+    """Section after section, and then a fault."""
+    yield from row(split(random_, events))
     yield FAULT
 
 
 def interleaved(random_, events):
     """A run of each section in turn, and then a fault."""
-    parts = list(split(random_, events))
-    for start in range(0, SECTION, RUN):
-        for number, part in enumerate(parts):
-            yield f"PMT.SECTION;{number}"
-            yield from part[start : start + RUN]
+    yield from weave(split(random_, events))
     yield FAULT
 
 
@@ -174,18 +182,12 @@ def trees_of(random_, events):
 
 def trees(random_, events):
     """Section after section."""
-    for number, part in enumerate(trees_of(random_, events)):
-        yield f"PMT.SECTION;{number}"
-        yield from part
+    return row(trees_of(random_, events))
 
 
 def woven(random_, events):
     """A run of each section in turn."""
-    parts = list(trees_of(random_, events))
-    for start in range(0, SECTION, RUN):
-        for number, part in enumerate(parts):
-            yield f"PMT.SECTION;{number}"
-            yield from part[start : start + RUN]
+    return weave(trees_of(random_, events))
 
 
 GIGABYTE = 1 << 30
