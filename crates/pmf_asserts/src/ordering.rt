@@ -21,15 +21,16 @@ pub fn check_ordered(shadow: &Shadow, a: Span, b: Span, profile: Profile) -> Fin
     if !shadow.written_included(b) {
         return Finding::OrderedEmpty;
     }
-    match shadow.least_pair(a, b, true, profile) {
-        Some((byte, after)) => Finding::OrderedFail {
-            byte,
-            after,
-            crash: last_store(shadow, after),
-        },
-        None => match shadow.least_pair(a, b, false, profile) {
-            Some((byte, after)) => Finding::OrderedSameLine { byte, after },
-            None => Finding::OrderedPass,
+    // Most assertions pass, and then one look for pairs is enough.
+    match shadow.least_pair(a, b, false, profile) {
+        None => Finding::OrderedPass,
+        Some((byte, after)) => match shadow.least_pair(a, b, true, profile) {
+            None => Finding::OrderedSameLine { byte, after },
+            Some((byte, after)) => Finding::OrderedFail {
+                byte,
+                after,
+                crash: last_store(shadow, after),
+            },
         },
     }
 }
