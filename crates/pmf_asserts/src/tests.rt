@@ -1,0 +1,337 @@
+ghost use Rattle.std.specs.Prelude.{◌≡◌, ℕ, suc, ◌<◌, List, Some, OnOk};
+ghost use Rattle.pmf_event.specs.declared.event.Event.{Event};
+ghost use Rattle.pmf_event.specs.declared.section.TheConstants.{EVENT_LIMIT};
+ghost use Rattle.pmf_event.specs.Store.{event_at};
+ghost use Rattle.pmf_shadow.specs.Shadow.{StandsFor};
+
+use super::*;
+use pmf_event::{EVENT_LIMIT, Event, Finding, Profile, Span, SpanFault};
+use pmf_shadow::Shadow;
+use std::alloc::{AllocError, Global};
+use std::test::Fail;
+
+/// An event by its numbers.
+#[derive(Clone, Copy, Debug, PartialEq, Eq)]
+enum Step {
+    Store(u64, u64),
+    Flush(u64, u64),
+    Fence,
+    Exclude(u64, u64),
+    Include(u64, u64),
+}
+
+const STORE: Step = Step::Store(0x1000, 8);
+
+const FLUSH: Step = Step::Flush(0x1000, 0x40);
+
+const FENCE: Step = Step::Fence;
+
+const OTHER: Step = Step::Store(0x2000, 8);
+
+impl Step {
+    fn event(self) -> Result<Event, SpanFault> {
+        match self {
+            Step::Store(first, size) => Ok(Event::Store(Span::make(first, size)?)),
+            Step::Flush(first, size) => Ok(Event::Flush(Span::make(first, size)?)),
+            Step::Fence => Ok(Event::Fence),
+            Step::Exclude(first, size) => Ok(Event::Exclude(Span::make(first, size)?)),
+            Step::Include(first, size) => Ok(Event::Include(Span::make(first, size)?)),
+        }
+    }
+}
+
+fn shadow_after(alloc: Global, steps: &[Step]) -> Result<Shadow, Fail> {
+    let mut events = Vec::new(alloc);
+    for step in steps {
+        events.push(step.event()?)?;
+    }
+    Ok(shadow_of(alloc, events.as_slice())?)
+}
+
+fn shadow_of(alloc: Global, events: &[Event]) -> Result<Shadow, AllocError> {
+    if events.len() > EVENT_LIMIT {
+        return Err(AllocError);
+    }
+    let mut shadow = Shadow::new(alloc);
+    for (index, event) in events.iter().enumerate() {
+        follow(&mut shadow, index as u32 + 1, *event)?;
+    }
+    Ok(shadow)
+}
+
+/// Follows one event, which is no assertion and no marker of a transaction.
+fn follow(shadow: &mut Shadow, place: u32, event: Event) -> Result<(), AllocError>
+    requires { (es : List Event) × (p : ℕ) × StandsFor shadow.old es p × (p < EVENT_LIMIT) }
+    ensures { OnOk result ((es : List Event) (p : ℕ) → StandsFor shadow.old es p
+        → event_at es (suc p) ≡ Some event → place ≡ suc p → StandsFor shadow.new es (suc p)) }
+{
+    match event {
+        Event::Store(span) => shadow.store(place, span)?,
+        Event::Flush(span) => shadow.flush(span)?,
+        Event::Fence => shadow.fence(),
+        Event::Exclude(span) => shadow.exclude(span)?,
+        Event::Include(span) => shadow.include(span)?,
+        _ => return Err(AllocError),
+    }
+    Ok(())
+}
+
+fn persist_fail(byte: u64) -> Finding {
+    Finding::PersistFail { byte }
+}
+
+#[test]
+fn a_persist_assertion_names_its_least_open_byte(rt: HostRuntime) -> Result<(), Fail> {
+    let store = Step::Store(0x103c, 8);
+    let out = Step::Exclude(0x1000, 4);
+    let all = Step::Exclude(0x1000, 8);
+    let back = Step::Include(0x1005, 1);
+    for (steps, first, size, want, what) in [
+        (
+            [STORE].as_slice(),
+            0x1000,
+            8,
+            persist_fail(0x1000),
+            "no write-back",
+        ),
+        (
+            [STORE, FLUSH].as_slice(),
+            0x1000,
+            8,
+            persist_fail(0x1000),
+            "no fence",
+        ),
+        (
+            [STORE, FLUSH, FENCE].as_slice(),
+            0x1000,
+            8,
+            Finding::PersistPass,
+            "closed",
+        ),
+        (
+            [STORE].as_slice(),
+            0x2000,
+            8,
+            Finding::PersistEmpty,
+            "unwritten",
+        ),
+        (
+            [store, FLUSH, FENCE].as_slice(),
+            0x103c,
+            8,
+            persist_fail(0x1040),
+            "the second of two lines",
+        ),
+        (
+            [STORE, out].as_slice(),
+            0x1000,
+            8,
+            persist_fail(0x1004),
+            "half is excluded",
+        ),
+        (
+            [STORE, out, all].as_slice(),
+            0x1000,
+            8,
+            Finding::PersistEmpty,
+            "all is excluded",
+        ),
+        (
+            [STORE, out, all, back].as_slice(),
+            0x1000,
+            8,
+            persist_fail(0x1005),
+            "one byte is back",
+        ),
+    ] {
+        let shadow = shadow_after(rt.alloc(), steps)?;
+        assert_eq!(rt;
+            check_persist(&shadow, Span::make(first, size)?),
+            want,
+            "{what}"
+        );
+    }
+    Ok(())
+}
+
+fn ordered_fail(byte: u64, after: u64, crash: u32) -> Finding {
+    Finding::OrderedFail { byte, after, crash }
+}
+
+fn same_line(byte: u64, after: u64) -> Finding {
+    Finding::OrderedSameLine { byte, after }
+}
+
+#[test]
+fn an_order_assertion_is_judged_by_its_profile(rt: HostRuntime) -> Result<(), Fail> {
+    let pass = Finding::OrderedPass;
+    let empty = Finding::OrderedEmpty;
+    let late = ordered_fail(0x1000, 0x2000, 2);
+    let back = ordered_fail(0x1000, 0x1008, 1);
+    let over = ordered_fail(0x103c, 0x1040, 1);
+    let flush = Step::Flush(0x2000, 0x40);
+    let next = Step::Store(0x1008, 8);
+    let wide = Step::Store(0x1000, 16);
+    let two = Step::Store(0x103c, 8);
+    let near = same_line(0x1000, 0x1008);
+    let self_pair = same_line(0x1000, 0x1000);
+    for (steps, a, b, size, one, other, what) in [
+        (
+            [STORE, FLUSH, FENCE, OTHER].as_slice(),
+            0x1000,
+            0x2000,
+            8,
+            pass,
+            pass,
+            "a fence between",
+        ),
+        (
+            [STORE, OTHER, FLUSH, flush, FENCE].as_slice(),
+            0x1000,
+            0x2000,
+            8,
+            late,
+            late,
+            "one fence closes both",
+        ),
+        (
+            [STORE, next].as_slice(),
+            0x1000,
+            0x1008,
+            8,
+            near,
+            pass,
+            "one line, in order",
+        ),
+        (
+            [wide].as_slice(),
+            0x1000,
+            0x1008,
+            8,
+            near,
+            near,
+            "one store",
+        ),
+        (
+            [two].as_slice(),
+            0x103c,
+            0x1040,
+            4,
+            over,
+            over,
+            "one store to two lines",
+        ),
+        (
+            [next, STORE].as_slice(),
+            0x1000,
+            0x1008,
+            8,
+            back,
+            back,
+            "one line, out of order",
+        ),
+        (
+            [STORE].as_slice(),
+            0x1000,
+            0x1000,
+            8,
+            self_pair,
+            self_pair,
+            "a span before itself",
+        ),
+        (
+            [STORE].as_slice(),
+            0x1000,
+            0x2000,
+            8,
+            empty,
+            empty,
+            "an unwritten second span",
+        ),
+        (
+            [OTHER].as_slice(),
+            0x1000,
+            0x2000,
+            8,
+            empty,
+            empty,
+            "an unwritten first span",
+        ),
+    ] {
+        let shadow = shadow_after(rt.alloc(), steps)?;
+        let (a, b) = (Span::make(a, size)?, Span::make(b, size)?);
+        assert_eq!(rt; check_ordered(&shadow, a, b, Profile::One), one, "{what}");
+        assert_eq!(rt; check_ordered(&shadow, a, b, Profile::Two), other, "{what}");
+    }
+    Ok(())
+}
+
+fn doubled(line: u64, lines: u64) -> Option<Finding> {
+    Some(Finding::FlushDoubled { line, lines })
+}
+
+fn needless(line: u64, lines: u64) -> Option<Finding> {
+    Some(Finding::FlushNeedless { line, lines })
+}
+
+#[test]
+fn a_write_back_is_judged_by_what_came_before_it(rt: HostRuntime) -> Result<(), Fail> {
+    let greatest = 1 << 32;
+    for (steps, first, size, twice, none, what) in [
+        (
+            [].as_slice(),
+            0x1000,
+            0x40,
+            None,
+            needless(0x1000, 1),
+            "no event",
+        ),
+        ([STORE].as_slice(), 0x1000, 0x40, None, None, "a store"),
+        (
+            [STORE, FLUSH].as_slice(),
+            0x1000,
+            0x40,
+            doubled(0x1000, 1),
+            None,
+            "a write-back",
+        ),
+        (
+            [STORE, FLUSH, FENCE].as_slice(),
+            0x1000,
+            0x40,
+            None,
+            needless(0x1000, 1),
+            "a fence",
+        ),
+        (
+            [STORE, FLUSH].as_slice(),
+            0x1000,
+            0xc0,
+            doubled(0x1000, 1),
+            needless(0x1040, 2),
+            "three lines, one of them written back",
+        ),
+        (
+            [].as_slice(),
+            0,
+            greatest,
+            None,
+            needless(0, 67_108_864),
+            "the greatest span",
+        ),
+        (
+            [].as_slice(),
+            0x20,
+            greatest,
+            None,
+            needless(0, 67_108_865),
+            "from within a line",
+        ),
+    ] {
+        let shadow = shadow_after(rt.alloc(), steps)?;
+        let found = check_flush(&shadow, Span::make(first, size)?);
+        assert_eq!(rt; found.doubled, twice, "{what}");
+        assert_eq!(rt; found.needless, none, "{what}");
+    }
+    Ok(())
+}

@@ -87,11 +87,8 @@ impl Walk {
             }
             Event::Exclude(span) => self.shadow.exclude(span)?,
             Event::Include(span) => self.shadow.include(span)?,
-            Event::TxBegin
-            | Event::TxAdd(_)
-            | Event::TxEnd
-            | Event::CheckStart
-            | Event::CheckEnd => {}
+            Event::TxBegin | Event::TxAdd(_) | Event::TxEnd | Event::CheckStart | Event::CheckEnd =>
+                {}
         }
         Ok(())
     }

@@ -1,5 +1,5 @@
 use super::*;
-use pmf_event::{Event, Finding, Name, Row, Section, Span, SpanFault};
+use pmf_event::{Event, Finding, Name, Profile, Row, Section, Span, SpanFault};
 use std::alloc::Global;
 use std::sync::Arc;
 use std::test::Fail;
@@ -84,11 +84,18 @@ fn events() -> Result<[Event; 7], SpanFault> {
     ])
 }
 
+fn verdict_of(alloc: Global, events: &[Event], profile: Profile) -> Result<Verdict, Fail> {
+    match check(alloc, section_of(alloc, events)?, profile) {
+        Ok(verdict) => Ok(verdict),
+        Err((fault, _)) => Err(fault.into()),
+    }
+}
+
 #[test]
 fn a_verdict_tells_its_section_and_the_rows_of_its_events(rt: HostRuntime) -> Result<(), Fail> {
     let section = section_of(rt.alloc(), events()?.as_slice())?;
     let kept = Arc::try_clone(&section)?;
-    let verdict = match check(rt.alloc(), section) {
+    let verdict = match check(rt.alloc(), section, Profile::One) {
         Ok(verdict) => verdict,
         Err((fault, _)) => return Err(fault.into()),
     };
@@ -113,12 +120,105 @@ fn a_verdict_tells_its_section_and_the_rows_of_its_events(rt: HostRuntime) -> Re
 }
 
 #[test]
+fn a_verdict_tells_its_profile(rt: HostRuntime) -> Result<(), Fail> {
+    for profile in [Profile::One, Profile::Two] {
+        let verdict = verdict_of(rt.alloc(), events()?.as_slice(), profile)?;
+        assert_eq!(rt; verdict.profile(), profile);
+    }
+    Ok(())
+}
+
+// Two lines, of which the second write-back meets one that is pending and two with nothing to write
+// back.
+#[test]
+fn doubled_stands_before_needless(rt: HostRuntime) -> Result<(), Fail> {
+    let events = [
+        Event::Store(Span::make(0x1000, 8)?),
+        Event::Flush(Span::make(0x1000, 0x40)?),
+        Event::Flush(Span::make(0x1000, 0xc0)?),
+        Event::Fence,
+        Event::Persist(Span::make(0x1000, 8)?),
+    ];
+    let want = [
+        Row {
+            place: 3,
+            finding: Finding::FlushDoubled {
+                line: 0x1000,
+                lines: 1,
+            },
+        },
+        Row {
+            place: 3,
+            finding: Finding::FlushNeedless {
+                line: 0x1040,
+                lines: 2,
+            },
+        },
+        Row {
+            place: 5,
+            finding: Finding::PersistPass,
+        },
+    ];
+    for profile in [Profile::One, Profile::Two] {
+        let verdict = verdict_of(rt.alloc(), events.as_slice(), profile)?;
+        assert!(rt; verdict.rows() == want.as_slice(), "{profile:?}");
+    }
+    Ok(())
+}
+
+// Two stores of one line in order, and then one of another line.
+#[test]
+fn order_assertions_are_judged_by_the_profile(rt: HostRuntime) -> Result<(), Fail> {
+    let (first, next, other) = (
+        Span::make(0x1000, 8)?,
+        Span::make(0x1008, 8)?,
+        Span::make(0x2000, 8)?,
+    );
+    let events = [
+        Event::Store(first),
+        Event::Store(next),
+        Event::Ordered(first, next),
+        Event::Store(other),
+        Event::Ordered(next, other),
+        Event::Ordered(other, Span::make(0x3000, 1)?),
+    ];
+    for (profile, want) in [
+        (
+            Profile::One,
+            Finding::OrderedSameLine {
+                byte: 0x1000,
+                after: 0x1008,
+            },
+        ),
+        (Profile::Two, Finding::OrderedPass),
+    ] {
+        let verdict = verdict_of(rt.alloc(), events.as_slice(), profile)?;
+        let want = [
+            Row {
+                place: 3,
+                finding: want,
+            },
+            Row {
+                place: 5,
+                finding: Finding::OrderedFail {
+                    byte: 0x1008,
+                    after: 0x2000,
+                    crash: 4,
+                },
+            },
+            Row {
+                place: 6,
+                finding: Finding::OrderedEmpty,
+            },
+        ];
+        assert!(rt; verdict.rows() == want.as_slice(), "{profile:?}");
+    }
+    Ok(())
+}
+
+#[test]
 fn the_rows_of_a_verdict_are_written_a_text_line_each(rt: HostRuntime) -> Result<(), Fail> {
-    let section = section_of(rt.alloc(), events()?.as_slice())?;
-    let verdict = match check(rt.alloc(), section) {
-        Ok(verdict) => verdict,
-        Err((fault, _)) => return Err(fault.into()),
-    };
+    let verdict = verdict_of(rt.alloc(), events()?.as_slice(), Profile::One)?;
     let text = write_rows(rt.alloc(), &verdict)?;
     let want = b"5 PERSIST PASS\n6 PERSIST FAIL byte=0x1008 crash=6\n7 PERSIST EMPTY\n";
     assert!(rt; text.as_slice() == want.as_slice());
@@ -127,11 +227,7 @@ fn the_rows_of_a_verdict_are_written_a_text_line_each(rt: HostRuntime) -> Result
 
 #[test]
 fn a_section_without_assertions_has_no_rows(rt: HostRuntime) -> Result<(), Fail> {
-    let section = section_of(rt.alloc(), [Event::Fence].as_slice())?;
-    let verdict = match check(rt.alloc(), section) {
-        Ok(verdict) => verdict,
-        Err((fault, _)) => return Err(fault.into()),
-    };
+    let verdict = verdict_of(rt.alloc(), [Event::Fence].as_slice(), Profile::Two)?;
     assert_eq!(rt; verdict.rows().len(), 0);
     assert_eq!(rt; write_rows(rt.alloc(), &verdict)?.len(), 0);
     Ok(())
