@@ -13,7 +13,9 @@ ghost use Rattle.pmf_event.specs.FlushWarnings.{first_line, line_count, is_clean
 ghost use Rattle.pmf_shadow.specs.Runs.{passing};
 ghost use Rattle.pmf_shadow.specs.Shadow.{StandsFor, closing, lines_by};
 
-use crate::byte::{ByteState, IsChecked, IsIncluded, IsLate, Marked, StoredAt, UNTOUCHED, WrittenBackIn};
+use crate::byte::{
+    ByteState, IsChecked, IsIncluded, IsLate, Marked, StoredAt, UNTOUCHED, WrittenBackIn,
+};
 use crate::line::{Dirtied, IsClean, IsPending, LineState};
 use crate::runs::{RunMap, Test};
 use pmf_event::{Event, Interval, LINE_SIZE, Lines, Span};
@@ -56,11 +58,12 @@ impl Shadow {
     {
         let (first, end) = (span.first(), end_of(&span));
         let (line, line_end) = (line_number(first), line_number(end - 1) + 1);
-        self.bytes.make_room(first, end)?;
-        self.lines.make_room(line, line_end)?;
         let epoch = self.fences;
-        self.bytes.rewrite(first, end, &StoredAt { place, epoch });
-        self.lines.rewrite(line, line_end, &Dirtied);
+        let change = StoredAt { place, epoch };
+        let bytes = self.bytes.make_room(first, end, &change)?;
+        let lines = self.lines.make_room(line, line_end, &Dirtied)?;
+        self.bytes.rewrite(bytes, &change);
+        self.lines.rewrite(lines, &Dirtied);
         Ok(())
     }
 
@@ -72,13 +75,16 @@ impl Shadow {
         ensures unchanged { OnErr result ((es : List Event) (p : ℕ) → StandsFor self.old es p
             → StandsFor self.new es p) }
     {
-        let (line, line_end) = (line_number(span.first()), line_number(end_of(&span) - 1) + 1);
+        let (line, line_end) = (
+            line_number(span.first()),
+            line_number(end_of(&span) - 1) + 1,
+        );
         let (first, end) = (line * LINE_SIZE, line_end * LINE_SIZE);
-        self.bytes.make_room(first, end)?;
-        self.lines.make_room(line, line_end)?;
         let change = WrittenBackIn { epoch: self.fences };
-        self.bytes.rewrite(first, end, &change);
-        self.lines.rewrite(line, line_end, &change);
+        let bytes = self.bytes.make_room(first, end, &change)?;
+        let lines = self.lines.make_room(line, line_end, &change)?;
+        self.bytes.rewrite(bytes, &change);
+        self.lines.rewrite(lines, &change);
         Ok(())
     }
 
@@ -99,7 +105,8 @@ impl Shadow {
         ensures unchanged { OnErr result ((es : List Event) (p : ℕ) → StandsFor self.old es p
             → StandsFor self.new es p) }
     {
-        self.bytes.change(span.first(), end_of(&span), &Marked { excluded: true })?;
+        self.bytes
+            .change(span.first(), end_of(&span), &Marked { excluded: true })?;
         Ok(())
     }
 
@@ -111,7 +118,8 @@ impl Shadow {
         ensures unchanged { OnErr result ((es : List Event) (p : ℕ) → StandsFor self.old es p
             → StandsFor self.new es p) }
     {
-        self.bytes.change(span.first(), end_of(&span), &Marked { excluded: false })?;
+        self.bytes
+            .change(span.first(), end_of(&span), &Marked { excluded: false })?;
         Ok(())
     }
 
@@ -160,7 +168,12 @@ impl Shadow {
         ensures { (es : List Event) (p : ℕ) → StandsFor self.now es p
             → result ≡ lines_where (is_pending es p) span }
     {
-        self.lines_in(&span, &IsPending { fences: self.fences })
+        self.lines_in(
+            &span,
+            &IsPending {
+                fences: self.fences,
+            },
+        )
     }
 
     /// Of the lines that the span meets, those with nothing to write back: the least, and how many.
@@ -168,7 +181,12 @@ impl Shadow {
         ensures { (es : List Event) (p : ℕ) → StandsFor self.now es p
             → result ≡ lines_where (is_clean es p) span }
     {
-        self.lines_in(&span, &IsClean { fences: self.fences })
+        self.lines_in(
+            &span,
+            &IsClean {
+                fences: self.fences,
+            },
+        )
     }
 
     pub(crate) fn first_in<T: Test<ByteState>>(&self, span: &Span, test: &T) -> Option<u64>
