@@ -3,6 +3,7 @@ pub mod RunLemmas
 pub mod ChangeLemmas
 pub mod WalkLemmas
 pub mod KeptLemmas
+pub mod RoomLemmas
 pub mod AskingLemmas
 pub mod StandsLemmas
 pub mod QuestionLemmas

@@ -34,11 +34,11 @@ module _ {S : Type 0} where
   pub state-no_start : (r : RunMap S) (b : ℕ) → get nat_cmp r.starts b ≡ None → state_at r b ≡ state_before r b
   state-no_start r b is = state-is r b ∙ ap (λ o. unwrap_or o (state_before r b)) is
 
-  before-zero : (r : RunMap S) → state_before r 0 ≡ r.gap
+  pub before-zero : (r : RunMap S) → state_before r 0 ≡ r.gap
   unfolding state_before
   before-zero r = refl
 
-  before-suc : (r : RunMap S) (b : ℕ) → state_before r (suc b) ≡ state_at r b
+  pub before-suc : (r : RunMap S) (b : ℕ) → state_before r (suc b) ≡ state_at r b
   unfolding state_before
   before-suc r b = refl
 
@@ -99,7 +99,7 @@ module _ {S : Type 0} where
 
   -- ---- the last of the starts in a range from 0 on, as `next_back` gives it
 
-  none-from_test : (o : Option S) (t : Bool) → t ≡ true → (IsSome o → t ≡ false) → o ≡ None
+  pub none-from_test : (o : Option S) (t : Bool) → t ≡ true → (IsSome o → t ≡ false) → o ≡ None
   none-from_test None t is after = refl
   none-from_test (Some v) t is after = absurd (false≢true (sym (after refl) ∙ is))
 

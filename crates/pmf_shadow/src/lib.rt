@@ -16,7 +16,7 @@ mod shadow;
 
 pub use byte::{ByteState, Stored};
 pub use line::LineState;
-pub use runs::{Change, Key, RunMap, State, Test};
+pub use runs::{Change, Key, Room, RunMap, State, Test};
 pub use shadow::Shadow;
 
 #[cfg(test)]

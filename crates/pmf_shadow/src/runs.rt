@@ -8,10 +8,12 @@ use std::collections::BTreeMap;
 
 mod asking;
 mod changing;
+mod room;
 #[cfg(test)]
 mod tests;
 
 pub(crate) use self::asking::lesser;
+pub use self::room::Room;
 
 /// A small state that a [`RunMap`] may hold. Values that `==` calls equal are the same, which a search
 /// proves where `PartialEq` is derived: `ghost exact = { Prim.search rules };`.
@@ -66,7 +68,7 @@ pub struct RunMap<S> {
 }
 
 impl<S: State> RunMap<S> {
-    ghost use Rattle.pmf_shadow.specs.Runs.{HasStart, SameStates, ChangesBetween, state_at};
+    ghost use Rattle.pmf_shadow.specs.Runs.{SameStates, ChangesBetween, state_at};
     ghost use Rattle.pmf_shadow.specs.RunSteps.{state_before};
 
     /// The map in which each number has the state `gap`. It takes no memory.
@@ -99,33 +101,6 @@ impl<S: State> RunMap<S> {
         }
     }
 
-    /// Makes a start at the number, where there is none. This changes no state.
-    fn cut(&mut self, place: u64) -> Result<(), AllocError>
-        ensures start { OnOk result (HasStart self.new place) }
-        ensures kept { (b : ℕ) → HasStart self.old b → HasStart self.new b }
-        ensures same { SameStates self.old self.new }
-    {
-        let state = match self.starts.range(..=place).next_back() {
-            Some((start, _)) if *start == place => return Ok(()),
-            Some((_, state)) => *state,
-            None => self.gap,
-        };
-        self.starts.insert(place, state)?;
-        Ok(())
-    }
-
-    /// Makes starts at both ends of a range, so that a [`RunMap::rewrite`] of it needs no memory. This
-    /// changes no state, also after an `Err`, which is want of memory. A start that no rewriting
-    /// follows stays, and costs the memory of a run.
-    pub fn make_room(&mut self, first: u64, end: u64) -> Result<(), AllocError>
-        ensures room { OnOk result (HasStart self.new first × HasStart self.new end) }
-        ensures same { SameStates self.old self.new }
-    {
-        self.cut(first)?;
-        self.cut(end)?;
-        Ok(())
-    }
-
     /// Changes the states of the numbers from `first` up to `end`, which is not one of them. After an
     /// `Err`, which is want of memory, each number has the state that it had.
     pub fn change<C: Change<S>>(
@@ -138,8 +113,8 @@ impl<S: State> RunMap<S> {
         ensures ok { OnOk result (ChangesBetween first end (C.changed change.now) self.old self.new) }
         ensures unchanged { OnErr result (SameStates self.old self.new) }
     {
-        self.make_room(first, end)?;
-        self.rewrite(first, end, change);
+        let room = self.make_room(first, end, change)?;
+        self.rewrite(room, change);
         Ok(())
     }
 }

@@ -58,11 +58,12 @@ impl Shadow {
     {
         let (first, end) = (span.first(), end_of(&span));
         let (line, line_end) = (line_number(first), line_number(end - 1) + 1);
-        self.bytes.make_room(first, end)?;
-        self.lines.make_room(line, line_end)?;
         let epoch = self.fences;
-        self.bytes.rewrite(first, end, &StoredAt { place, epoch });
-        self.lines.rewrite(line, line_end, &Dirtied);
+        let change = StoredAt { place, epoch };
+        let bytes = self.bytes.make_room(first, end, &change)?;
+        let lines = self.lines.make_room(line, line_end, &Dirtied)?;
+        self.bytes.rewrite(bytes, &change);
+        self.lines.rewrite(lines, &Dirtied);
         Ok(())
     }
 
@@ -79,11 +80,11 @@ impl Shadow {
             line_number(end_of(&span) - 1) + 1,
         );
         let (first, end) = (line * LINE_SIZE, line_end * LINE_SIZE);
-        self.bytes.make_room(first, end)?;
-        self.lines.make_room(line, line_end)?;
         let change = WrittenBackIn { epoch: self.fences };
-        self.bytes.rewrite(first, end, &change);
-        self.lines.rewrite(line, line_end, &change);
+        let bytes = self.bytes.make_room(first, end, &change)?;
+        let lines = self.lines.make_room(line, line_end, &change)?;
+        self.bytes.rewrite(bytes, &change);
+        self.lines.rewrite(lines, &change);
         Ok(())
     }
 

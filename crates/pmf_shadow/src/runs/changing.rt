@@ -1,49 +1,40 @@
-//! Changing the states of a range whose two ends are starts.
+//! Changing the states of a range in which there is room for it.
 
 ghost use Rattle.std.specs.Prelude.{◌≡◌, ℕ, ◌≤◌, ◌<◌};
 
-use crate::runs::{Change, RunMap, State};
+use crate::runs::{Change, Room, RunMap, State};
 
 /// A run of a map: where it begins, its state, and the state right before it.
-#[derive(Clone, Copy)]
-struct Run<S> {
-    start: u64,
-    state: S,
-    before: S,
+#[derive(Clone, Copy, Debug)]
+pub(crate) struct Run<S> {
+    pub(crate) start: u64,
+    pub(crate) state: S,
+    pub(crate) before: S,
 }
 
 impl<S: State> RunMap<S> {
     ghost use Rattle.pmf_shadow.specs.Runs.{HasStart, ChangesBetween, state_at};
+    ghost use Rattle.pmf_shadow.specs.Room.{HasRoom};
     ghost use Rattle.pmf_shadow.specs.RunSteps.{IsRun, PutsState, IsNextChange};
 
-    /// Changes the states of the numbers from `first` up to `end`, both of which are starts, as after
-    /// [`RunMap::make_room`]. It takes no memory. Neighbours of equal state become one run, at the two
-    /// ends too. Runs that the change leaves as they are cost a step of a walk each.
-    pub fn rewrite<C: Change<S>>(&mut self, first: u64, end: u64, change: &C)
-        requires ordered { first ≤ end }
-        requires starts_at_first { HasStart self.old first }
-        requires starts_at_end { HasStart self.old end }
-        ensures { ChangesBetween first end (C.changed change.now) self.old self.new }
+    /// Changes the states of the range that the room was made for, by the change that it was made for.
+    /// It takes no memory. Neighbours of equal state become one run, at the two ends too. Runs that the
+    /// change leaves as they are cost a step of a walk each.
+    pub fn rewrite<C: Change<S>>(&mut self, room: Option<Room<S>>, change: &C)
+        requires { (first : ℕ) × (end : ℕ) × HasRoom self.old (C.changed change.now) first end room }
+        ensures { (first end : ℕ) → HasRoom self.old (C.changed change.now) first end room
+            → ChangesBetween first end (C.changed change.now) self.old self.new }
     {
-        let mut run = self.run_at(first);
-        while run.start < end {
+        let Some(room) = room else {
+            return;
+        };
+        let mut run = room.run;
+        while run.start < room.end {
             let changed = change.changed(run.state);
             self.put(run, changed);
-            run = self.next_to_change(run.start, end, changed, change);
+            run = self.next_to_change(run.start, room.end, changed, change);
         }
         self.put(run, run.state);
-    }
-
-    fn run_at(&self, start: u64) -> Run<S>
-        requires { HasStart self.now start }
-        ensures run { IsRun self.now result }
-        ensures start { result.start ≡ start }
-    {
-        Run {
-            start,
-            state: self.at(start),
-            before: self.before(start),
-        }
     }
 
     /// Gives a run its new state. It is joined to the run before it where that has the same.

@@ -301,11 +301,11 @@ fn questions_are_about_their_range_alone(rt: HostRuntime) -> Result<(), Fail> {
 #[test]
 fn room_changes_no_state_and_a_rewriting_needs_no_more(rt: HostRuntime) -> Result<(), Fail> {
     let mut map = painted(rt.alloc())?;
-    map.make_room(15, 25)?;
-    assert_eq!(rt; map.starts.len(), 7);
+    let room = map.make_room(15, 25, &To(Colour::Blue))?;
+    assert_eq!(rt; map.starts.len(), 6);
     assert_eq!(rt; map.count_where(0, 64, &Is(Colour::Green)), 20);
     assert_eq!(rt; map.count_where(0, 64, &Is(Colour::Blue)), 10);
-    map.rewrite(15, 25, &To(Colour::Blue));
+    map.rewrite(room, &To(Colour::Blue));
     assert_eq!(rt; map.starts.len(), 5);
     assert_eq!(rt; map.count_where(0, 64, &Is(Colour::Green)), 15);
     assert_eq!(rt; map.count_where(0, 64, &Is(Colour::Blue)), 15);
