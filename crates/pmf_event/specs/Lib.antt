@@ -11,4 +11,5 @@ pub mod Exclusion
 pub mod Persist
 pub mod Order
 pub mod FlushWarnings
+pub mod Transactions
 pub mod Laws

@@ -1,6 +1,6 @@
 -- Searches over the places of a list. Places count from 1, a test says yes or no of each, and 0 is no
 -- place. Defined here.
-use Rattle.std.specs.Prelude.{ℕ, zero, suc, ◌-◌, Bool, nat_lt, if◌then◌else◌}
+use Rattle.std.specs.Prelude.{ℕ, zero, suc, ◌-◌, max, Bool, nat_lt, if◌then◌else◌}
 
 -- the greatest place from 1 to n that passes the test, or 0
 unfoldable pub greatest : (ℕ → Bool) → ℕ → ℕ
@@ -20,3 +20,8 @@ count test (suc n) = if test (suc n) then suc (count test n) else count test n
 -- whether a place after i and before j passes the test
 unfoldable pub some_between : (ℕ → Bool) → ℕ → ℕ → Bool
 some_between test i j = nat_lt i (greatest test (j - 1))
+
+-- the highest value that a place from 0 to n has
+unfoldable pub highest : (ℕ → ℕ) → ℕ → ℕ
+highest value zero = value 0
+highest value (suc n) = max (value (suc n)) (highest value n)

@@ -1,6 +1,7 @@
-ghost use Rattle.std.specs.Prelude.{◌≡◌, ◌+◌, ◌<◌, ◌≤◌, ◌^◌, ◌↔◌, IsTrue};
+ghost use Rattle.std.specs.Prelude.{◌≡◌, ◌+◌, ◌-◌, ◌<◌, ◌≤◌, ◌^◌, ◌↔◌, min, IsTrue};
 ghost use Rattle.pmf_event.specs.Line.{line_of_byte, meets_span};
 ghost use Rattle.pmf_event.specs.Span.{Extent, IsValidExtent, covers_byte, extent_of};
+ghost use Rattle.pmf_event.specs.declared.span.TheConstants.{ADDRESS_LIMIT, SPAN_LIMIT};
 
 use std::error::Error;
 use std::fmt;
@@ -75,6 +76,19 @@ impl Span {
             return Err(SpanFault::PastEnd);
         }
         Ok(Span { first, size })
+    }
+
+    /// The span of the bytes from `first` up to `end`, which is not one of them, or of the first
+    /// [`SPAN_LIMIT`] of these.
+    pub fn between(first: u64, end: u64) -> Span
+        requires some { first < end }
+        requires ends { end ≤ ADDRESS_LIMIT }
+        ensures { result ≡ record { first = first; size = min (end - first) SPAN_LIMIT } }
+    {
+        Span {
+            first,
+            size: (end - first).min(SPAN_LIMIT),
+        }
     }
 
     /// The address of the first byte.

@@ -1,0 +1,3 @@
+pub use Rattle.pmf_event.specs.Transactions
+pub use Rattle.pmf_shadow.specs.Shadow
+pub mod Tracking

@@ -1,0 +1,41 @@
+//! Sets of bytes, as maps from bytes to whether they are members.
+
+ghost use Rattle.std.specs.Prelude.{true, not};
+
+use pmf_shadow::{Change, Test};
+
+/// Puts the bytes in.
+#[derive(Clone, Copy, Debug, Drop)]
+pub(crate) struct PutIn;
+
+impl Change<bool> for PutIn {
+    ghost changed = { λ put member. true };
+
+    fn changed(&self, _member: bool) -> bool {
+        true
+    }
+}
+
+/// Whether the byte is a member.
+#[derive(Clone, Copy, Debug, Drop)]
+pub(crate) struct IsIn;
+
+impl Test<bool> for IsIn {
+    ghost passes = { λ is member. member };
+
+    fn passes(&self, member: bool) -> bool {
+        member
+    }
+}
+
+/// Whether the byte is no member.
+#[derive(Clone, Copy, Debug, Drop)]
+pub(crate) struct IsOut;
+
+impl Test<bool> for IsOut {
+    ghost passes = { λ is member. not member };
+
+    fn passes(&self, member: bool) -> bool {
+        !member
+    }
+}
