@@ -1,6 +1,7 @@
 -- The rows so far, and where a row comes from.
 use Rattle.std.proofs.Common.{◌≡◌, ℕ, zero, suc, ◌-◌, List, [], ◌∷◌, ◌++◌, map, refl, sym, ◌∙◌, ap, subst, arith, inl, inr}
 use Rattle.std.specs.Prelude.{Option, Some, Contains}
+use Rattle.std.proofs.lemmas.List.{append-nil, append_assoc, map-append}
 use Rattle.std.proofs.lemmas.List.Elements.{Contains-append_cases}
 use Rattle.pmf_event.specs.declared.event.Event.{Event}
 use Rattle.pmf_event.specs.declared.event.Event.TheVariants.{Flush}
@@ -17,10 +18,6 @@ rows_upto-more : (profile : Profile) (es : List Event) (p : ℕ) →
 unfolding rows_upto
 rows_upto-more profile es p = refl
 
-append-none : {A : Type 0} (xs : List A) → xs ++ [] ≡ xs
-append-none [] = refl
-append-none (x ∷ xs) = ap (λ ys. x ∷ ys) (append-none xs)
-
 pub rows_upto-none : (profile : Profile) (es : List Event) → rows_upto profile es 0 ≡ []
 unfolding rows_upto
 rows_upto-none profile es = refl
@@ -35,15 +32,7 @@ rows_upto-next profile es p e fs here found =
 
 pub rows_upto-silent : (profile : Profile) (es : List Event) (p : ℕ) (e : Event) → event_at es (suc p) ≡ Some e → findings_of profile es (suc p) (Some e) ≡ [] →
     rows_upto profile es (suc p) ≡ rows_upto profile es p
-rows_upto-silent profile es p e here none = rows_upto-next profile es p e [] here none ∙ append-none (rows_upto profile es p)
-
-map-append : {A B : Type 0} (f : A → B) (xs ys : List A) → map f (xs ++ ys) ≡ map f xs ++ map f ys
-map-append f [] ys = refl
-map-append f (x ∷ xs) ys = ap (λ zs. f x ∷ zs) (map-append f xs ys)
-
-append-assoc : {A : Type 0} (xs ys zs : List A) → (xs ++ ys) ++ zs ≡ xs ++ (ys ++ zs)
-append-assoc [] ys zs = refl
-append-assoc (x ∷ xs) ys zs = ap (λ ws. x ∷ ws) (append-assoc xs ys zs)
+rows_upto-silent profile es p e here none = rows_upto-next profile es p e [] here none ∙ append-nil (rows_upto profile es p)
 
 -- the rows of a write-back, one finding after the other
 pub rows_upto-flush : (profile : Profile) (es : List Event) (p : ℕ) (s : Extent) (one other : Option Finding) → event_at es (suc p) ≡ Some (Flush s) →
@@ -54,13 +43,13 @@ rows_upto-flush profile es p s one other here found =
     let before : suc p - 1 ≡ p = omega arith in
     rows_upto-next profile es p (Flush s) (if_any one ++ if_any other) here (ap (λ q. flush_findings es q s) before ∙ found)
     ∙ ap (λ rows. rows_upto profile es p ++ rows) (map-append (row_at (suc p)) (if_any one) (if_any other))
-    ∙ sym (append-assoc (rows_upto profile es p) (map (row_at (suc p)) (if_any one)) (map (row_at (suc p)) (if_any other)))
+    ∙ sym (append_assoc (rows_upto profile es p) (map (row_at (suc p)) (if_any one)) (map (row_at (suc p)) (if_any other)))
 
 not_in_empty : {A : Type 0} (x : A) → Contains [] x → ⊥
 not_in_empty x found = let bad = found.1 in omega arith
 
 -- a row among those of one place is of that place, and says one of its findings
-place-of_row : (q p : ℕ) (f : Finding) (fs : List Finding) → Contains (map (row_at q) fs) (row_at p f) → (q ≡ p) × Contains fs f
+pub place-of_row : (q p : ℕ) (f : Finding) (fs : List Finding) → Contains (map (row_at q) fs) (row_at p f) → (q ≡ p) × Contains fs f
 place-of_row q p f [] found = absurd (not_in_empty (row_at p f) found)
 place-of_row q p f (x ∷ fs) (zero, within, is) = (ap (λ (r : Row). r.place) is, (0, omega arith, ap (λ (r : Row). r.finding) is))
 place-of_row q p f (x ∷ fs) (suc k, within, is) =

@@ -1,80 +1,81 @@
--- One more event of a walk: the shadow stands for it, and the rows are those of its findings.
-use Rattle.std.proofs.Common.{◌≡◌, ℕ, suc, Bool, true, false, List, [], ◌∷◌, ◌++◌, refl, sym, ◌∙◌, ap, inl, inr}
-use Rattle.std.specs.Prelude.{◌⊎◌, Some}
+-- One more event of a walk: the shadow and the transactions stand for it, and the rows are those of its
+-- findings.
+use Rattle.std.proofs.Common.{◌≡◌, ℕ, suc, ◌-◌, true, List, [], ◌∷◌, ◌++◌, map, refl, sym, ◌∙◌, ap, arith, subst}
+use Rattle.std.specs.Prelude.{Option, Some}
+use Rattle.std.proofs.lemmas.List.{append-nil}
 use Rattle.pmf_event.specs.declared.event.Event.{Event}
-use Rattle.pmf_event.specs.declared.event.Event.TheVariants.{TxBegin, TxAdd, TxEnd, CheckStart, CheckEnd}
+use Rattle.pmf_event.specs.declared.event.Event.TheVariants.{Store, TxAdd, TxEnd, CheckStart, CheckEnd}
 use Rattle.pmf_event.specs.declared.finding.Finding.{Finding}
 use Rattle.pmf_event.specs.declared.profile.Profile.{Profile}
 use Rattle.pmf_event.specs.Span.{Extent}
 use Rattle.pmf_event.specs.Store.{event_at}
+use Rattle.pmf_event.specs.FlushWarnings.{if_any}
+use Rattle.pmf_event.specs.Transactions.{store_finding, add_finding, end_finding, start_finding, check_finding}
+use Rattle.pmf_shadow.specs.declared.shadow.Shadow.{Shadow}
 use Rattle.pmf_shadow.specs.Shadow.{StandsFor}
 use Rattle.pmf_shadow.specs.Laws.{is_unseen}
+use Rattle.pmf_shadow.proofs.StandsLemmas.{stands-unseen}
+use Rattle.pmf_txcheck.specs.declared.state.TxState.{TxState}
+use Rattle.pmf_txcheck.specs.Tracking.{Tracks, is_untracked}
+use Rattle.pmf_txcheck.proofs.TrackLemmas.{tracks-untracked}
 use Rattle.pmf_verdict.specs.declared.checking.Walk.{Walk}
 use Rattle.pmf_verdict.specs.Rows.{findings_of, row_at, rows_upto}
 use Rattle.pmf_verdict.specs.Walks.{Walks}
-use Rattle.pmf_verdict.proofs.RowsLemmas.{rows_upto-next, rows_upto-silent}
-
--- events that neither the shadow nor the rows know
-pub is_marker : Event → Bool
-is_marker TxBegin = true
-is_marker (TxAdd s) = true
-is_marker TxEnd = true
-is_marker CheckStart = true
-is_marker CheckEnd = true
-is_marker _ = false
+use Rattle.pmf_verdict.proofs.RowsLemmas.{rows_upto-next}
 
 module _ (old new : Walk) (es : List Event) (p : ℕ) (e : Event) (here : event_at es (suc p) ≡ Some e) (walks : Walks old es p) where
-  -- an event without findings
-  pub walks-silent : StandsFor new.shadow es (suc p) → new.rows ≡ old.rows → new.profile ≡ old.profile → findings_of old.profile es (suc p) (Some e) ≡ [] → Walks new es (suc p)
-  walks-silent stands rows profile none = record {
+  -- the shadow and the transactions followed the event, and its findings were said
+  pub walks-said : (shadow : Shadow) (transactions : TxState) (place : ℕ) (fs : List Finding) →
+      new ≡ record { shadow = shadow; transactions = transactions; rows = old.rows ++ map (row_at place) fs; profile = old.profile } →
+      StandsFor shadow es (suc p) → Tracks transactions es (suc p) → place ≡ suc p →
+      findings_of old.profile es (suc p) (Some e) ≡ fs → Walks new es (suc p)
+  walks-said shadow transactions place fs is stands tracks at_place found = subst (λ walk. Walks walk es (suc p)) (sym is) (record {
     stands = stands;
-    rows_are = rows ∙ walks.rows_are ∙ sym (rows_upto-silent old.profile es p e here none) ∙ ap (λ q. rows_upto q es (suc p)) (sym profile);
-  }
+    tracks = tracks;
+    rows_are = ap (λ rs. rs ++ map (row_at place) fs) walks.rows_are
+        ∙ ap (λ q. rows_upto old.profile es p ++ map (row_at q) fs) at_place
+        ∙ sym (rows_upto-next old.profile es p e fs here found);
+  })
 
-  -- an event with one finding
-  pub walks-said : (place : ℕ) (f : Finding) → StandsFor new.shadow es (suc p) → new.rows ≡ old.rows ++ row_at place f ∷ [] → new.profile ≡ old.profile → place ≡ suc p →
-      findings_of old.profile es (suc p) (Some e) ≡ f ∷ [] → Walks new es (suc p)
-  walks-said place f stands rows profile at_place found = record {
-    stands = stands;
-    rows_are = rows
-        ∙ ap (λ rs. rs ++ row_at place f ∷ []) walks.rows_are
-        ∙ ap (λ q. rows_upto old.profile es p ++ row_at q f ∷ []) at_place
-        ∙ sym (rows_upto-next old.profile es p e (f ∷ []) here found)
-        ∙ ap (λ q. rows_upto q es (suc p)) (sym profile);
-  }
+  -- the same of an event without findings
+  pub walks-silent : (shadow : Shadow) (transactions : TxState) →
+      new ≡ record { shadow = shadow; transactions = transactions; rows = old.rows; profile = old.profile } →
+      StandsFor shadow es (suc p) → Tracks transactions es (suc p) → findings_of old.profile es (suc p) (Some e) ≡ [] → Walks new es (suc p)
+  walks-silent shadow transactions is stands tracks none =
+      walks-said shadow transactions (suc p) []
+      (is ∙ ap (λ rs. record { shadow = shadow; transactions = transactions; rows = rs; profile = old.profile }) (sym (append-nil old.rows)))
+      stands tracks refl none
 
--- what the walk has no arm for is unseen by the shadow too
-pub unseen-marker : (e : Event) → is_marker e ≡ true → is_unseen e ≡ true
-unfolding is_marker is_unseen
-unseen-marker TxBegin marker = refl
-unseen-marker (TxAdd s) marker = refl
-unseen-marker TxEnd marker = refl
-unseen-marker CheckStart marker = refl
-unseen-marker CheckEnd marker = refl
-unseen-marker _ marker = let bad : false ≡ true = marker in cc
+  -- an event that the shadow need not be told of
+  pub stands-still : is_unseen e ≡ true → StandsFor old.shadow es (suc p)
+  stands-still unseen = stands-unseen old.shadow es p e here unseen walks.stands
 
-pub silent-marker : (profile : Profile) (es : List Event) (p : ℕ) (e : Event) → is_marker e ≡ true → findings_of profile es p (Some e) ≡ []
-unfolding findings_of is_marker
-silent-marker profile es p TxBegin marker = refl
-silent-marker profile es p (TxAdd s) marker = refl
-silent-marker profile es p TxEnd marker = refl
-silent-marker profile es p CheckStart marker = refl
-silent-marker profile es p CheckEnd marker = refl
-silent-marker profile es p _ marker = let bad : false ≡ true = marker in cc
+  -- an event that the transactions need not be told of
+  pub tracks-still : is_untracked e ≡ true → Tracks old.transactions es (suc p)
+  tracks-still untracked = tracks-untracked old.transactions es p e here untracked walks.tracks
 
--- one of the markers
-pub marker-one : (e : Event) → (e ≡ TxBegin) ⊎ (((s : Extent) × (e ≡ TxAdd s)) ⊎ ((e ≡ TxEnd) ⊎ ((e ≡ CheckStart) ⊎ (e ≡ CheckEnd)))) → is_marker e ≡ true
-unfolding is_marker
-marker-one e one = elim one [
-  | inl begin ↦ ap is_marker begin
-  | inr rest ↦ elim rest [
-    | inl add ↦ ap is_marker add.1
-    | inr more ↦ elim more [
-      | inl end ↦ ap is_marker end
-      | inr last ↦ elim last [
-        | inl start ↦ ap is_marker start
-        | inr close ↦ ap is_marker close
-      ]
-    ]
-  ]
-]
+-- ---- what is found of an event by what the transactions say
+
+module _ (profile : Profile) (es : List Event) (p : ℕ) where
+  before : suc p - 1 ≡ p
+  before = omega arith
+
+  pub found-store : (s : Extent) (f : Option Finding) → f ≡ store_finding es p s → findings_of profile es (suc p) (Some (Store s)) ≡ if_any f
+  unfolding findings_of
+  found-store s f is = ap (λ q. if_any (store_finding es q s)) before ∙ ap if_any (sym is)
+
+  pub found-add : (s : Extent) (f : Option Finding) → f ≡ add_finding es p s → findings_of profile es (suc p) (Some (TxAdd s)) ≡ if_any f
+  unfolding findings_of
+  found-add s f is = ap (λ q. if_any (add_finding es q s)) before ∙ ap if_any (sym is)
+
+  pub found-end : (f : Option Finding) → f ≡ end_finding es p → findings_of profile es (suc p) (Some TxEnd) ≡ if_any f
+  unfolding findings_of
+  found-end f is = ap (λ q. if_any (end_finding es q)) before ∙ ap if_any (sym is)
+
+  pub found-start : (f : Option Finding) → f ≡ start_finding es p → findings_of profile es (suc p) (Some CheckStart) ≡ if_any f
+  unfolding findings_of
+  found-start f is = ap (λ q. if_any (start_finding es q)) before ∙ ap if_any (sym is)
+
+  pub found-check : (f : Finding) → f ≡ check_finding es p → findings_of profile es (suc p) (Some CheckEnd) ≡ f ∷ []
+  unfolding findings_of
+  found-check f is = ap (λ q. check_finding es q ∷ []) before ∙ ap (λ g. g ∷ []) (sym is)

@@ -4,6 +4,7 @@ pub use Rattle.pmf_event.specs.Store
 pub use Rattle.pmf_event.specs.Persist
 pub use Rattle.pmf_event.specs.Order
 pub use Rattle.pmf_event.specs.FlushWarnings
+pub use Rattle.pmf_event.specs.Transactions
 pub use Rattle.pmf_image.specs.Holds
 pub mod Rows
 pub mod Checked

@@ -1,8 +1,7 @@
 ghost use Rattle.std.specs.Prelude.{◌≡◌, ℕ, suc, ◌≤◌, ◌<◌, [], ◌∷◌, ◌++◌, List, Some, length, map, OnOk, IfOk, IfErr};
 ghost use Rattle.pmf_event.specs.declared.event.Event.{Event};
 ghost use Rattle.pmf_event.specs.FlushWarnings.{if_any};
-ghost use Rattle.pmf_event.specs.Store.{event_at};
-ghost use Rattle.pmf_verdict.specs.Walks.{Walks};
+ghost use Rattle.pmf_verdict.specs.Walks.{Walks, Follows};
 ghost use Rattle.pmf_verdict.specs.Checked.{rows_in};
 ghost use Rattle.pmf_verdict.specs.Rows.{row_at, rows_of};
 ghost use Rattle.pmf_verdict.specs.Sound.{PassesHold};
@@ -11,6 +10,7 @@ use crate::verdict::Verdict;
 use pmf_asserts::{check_flush, check_ordered, check_persist};
 use pmf_event::{EVENT_LIMIT, Event, Finding, Profile, Row, Rows, Section, Span};
 use pmf_shadow::Shadow;
+use pmf_txcheck::TxState;
 use std::alloc::{AllocError, Global};
 use std::sync::Arc;
 use thiserror::Error;
@@ -23,15 +23,28 @@ pub enum CheckFault {
     OutOfMemory,
 }
 
-// The rows of a section as far as it has been walked.
+// A section as far as it has been walked.
 #[derive(Drop)]
 struct Walk {
     shadow: Shadow,
+    transactions: TxState,
     rows: Rows,
     profile: Profile,
 }
 
 impl Walk {
+    fn new(alloc: Global, profile: Profile) -> Walk
+        ensures walks { (es : List Event) → Walks result es 0 }
+        ensures profile { result.profile ≡ profile }
+    {
+        Walk {
+            shadow: Shadow::new(alloc),
+            transactions: TxState::new(alloc),
+            rows: Rows::new(alloc),
+            profile,
+        }
+    }
+
     fn say(&mut self, place: u32, finding: Finding) -> Result<(), AllocError>
         ensures { OnOk result (self.new ≡ record self.old
             { rows = self.old.rows ++ row_at place finding ∷ [] }) }
@@ -50,11 +63,20 @@ impl Walk {
         Ok(())
     }
 
+    // The transactions look at the store after the shadow has followed it.
+    fn store(&mut self, place: u32, span: Span) -> Result<(), AllocError>
+        ensures walks { OnOk result (Follows self.old self.new place (Event.Store span)) }
+        ensures profile { OnOk result (self.new.profile ≡ self.old.profile) }
+    {
+        self.shadow.store(place, span)?;
+        let found = self.transactions.store(&self.shadow, span)?;
+        self.say_if_any(place, found)?;
+        Ok(())
+    }
+
     // A write-back is judged before it takes effect.
     fn write_back(&mut self, place: u32, span: Span) -> Result<(), AllocError>
-        ensures walks { OnOk result ((es : List Event) (p : ℕ) → Walks self.old es p
-            → event_at es (suc p) ≡ Some (Event.Flush span) → place ≡ suc p
-            → Walks self.new es (suc p)) }
+        ensures walks { OnOk result (Follows self.old self.new place (Event.Flush span)) }
         ensures profile { OnOk result (self.new.profile ≡ self.old.profile) }
     {
         let found = check_flush(&self.shadow, span);
@@ -64,17 +86,24 @@ impl Walk {
         Ok(())
     }
 
+    fn back_up(&mut self, place: u32, span: Span) -> Result<(), AllocError>
+        ensures walks { OnOk result (Follows self.old self.new place (Event.TxAdd span)) }
+        ensures profile { OnOk result (self.new.profile ≡ self.old.profile) }
+    {
+        let found = self.transactions.add(span)?;
+        self.say_if_any(place, found)?;
+        Ok(())
+    }
+
     // Walks over the event at this place.
     fn follow(&mut self, place: u32, event: Event) -> Result<(), AllocError>
         requires { (es : List Event) × (p : ℕ) × Walks self.old es p
             × (p < EVENT_LIMIT) }
-        ensures walks { OnOk result ((es : List Event) (p : ℕ) → Walks self.old es p
-            → event_at es (suc p) ≡ Some event → place ≡ suc p
-            → Walks self.new es (suc p)) }
+        ensures walks { OnOk result (Follows self.old self.new place event) }
         ensures profile { OnOk result (self.new.profile ≡ self.old.profile) }
     {
         match event {
-            Event::Store(span) => self.shadow.store(place, span)?,
+            Event::Store(span) => self.store(place, span)?,
             Event::Flush(span) => self.write_back(place, span)?,
             Event::Fence => self.shadow.fence(),
             Event::Persist(span) => {
@@ -87,8 +116,20 @@ impl Walk {
             }
             Event::Exclude(span) => self.shadow.exclude(span)?,
             Event::Include(span) => self.shadow.include(span)?,
-            Event::TxBegin | Event::TxAdd(_) | Event::TxEnd | Event::CheckStart | Event::CheckEnd =>
-                {}
+            Event::TxBegin => self.transactions.begin(),
+            Event::TxAdd(span) => self.back_up(place, span)?,
+            Event::TxEnd => {
+                let found = self.transactions.end();
+                self.say_if_any(place, found)?
+            }
+            Event::CheckStart => {
+                let found = self.transactions.check_start(place);
+                self.say_if_any(place, found)?
+            }
+            Event::CheckEnd => {
+                let finding = self.transactions.check_end(&self.shadow);
+                self.say(place, finding)?
+            }
         }
         Ok(())
     }
@@ -98,20 +139,18 @@ fn rows_for(alloc: Global, events: &[Event], profile: Profile) -> Result<Rows, A
     requires { length events.now ≤ EVENT_LIMIT }
     ensures { IfOk result (λ rows. rows ≡ rows_of profile events.now) }
 {
-    let mut walk = Walk {
-        shadow: Shadow::new(alloc),
-        rows: Rows::new(alloc),
-        profile,
-    };
+    let mut walk = Walk::new(alloc, profile);
     for (index, event) in events.iter().enumerate() {
         walk.follow(index as u32 + 1, *event)?;
     }
+    let found = walk.transactions.close_section();
+    walk.say_if_any(events.len() as u32 + 1, found)?;
     Ok(walk.rows)
 }
 
 /// Checks the section by the profile. The only refusal is [`CheckFault::OutOfMemory`], and the section
 /// comes back with it. Takes memory for a run of each distinct state of neighbouring bytes and lines,
-/// and for the rows.
+/// for the runs of bytes that a transaction and a scope keep, and for the rows.
 pub fn check(
     alloc: Global,
     section: Arc<Section>,

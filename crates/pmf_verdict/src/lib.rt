@@ -7,8 +7,7 @@
 //!
 //! Not promised here: that the section holds all of its thread's stores, write-backs and fences on
 //! its lines, that no other thread writes those lines meanwhile, that the hardware keeps the rules
-//! of `pmf_image`, or that a failed assertion is a fault of the program that was logged. For now the
-//! markers of transactions give no rows.
+//! of `pmf_image`, or that a failed assertion is a fault of the program that was logged.
 #![tactic(auto)]
 
 mod checking;

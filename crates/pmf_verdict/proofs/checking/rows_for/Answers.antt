@@ -1,13 +1,18 @@
-use Rattle.std.proofs.Common.{◌≡◌, suc, length, refl, sym, ◌∙◌, ap, arith, add-one}
+use Rattle.std.proofs.Common.{◌≡◌, suc, ◌+◌, length, ◌++◌, map, refl, sym, ◌∙◌, ap, arith, add-one}
 use Rattle.std.specs.Prelude.{Some}
 use Rattle.std.proofs.lemmas.Option.{slice_get_read}
+use Rattle.pmf_event.specs.FlushWarnings.{if_any}
 use Rattle.pmf_event.specs.Store.{event_at}
-use Rattle.pmf_verdict.specs.Rows.{rows_upto, rows_of}
-use Rattle.pmf_verdict.proofs.RowsLemmas.{rows_upto-none}
+use Rattle.pmf_event.specs.Transactions.{close_finding}
+use Rattle.pmf_verdict.specs.declared.checking.Walk.{Walk}
+use Rattle.pmf_verdict.specs.Rows.{row_at, rows_upto, rows_at_end, rows_of}
 use Rattle.pmf_verdict.proofs.checking.rows_for.Goals as goal
 
 pub loop-index-init : goal.loop-index-init
-loop-index-init c = (record { stands = c.new.ensures c.args.events.now; rows_are = c.new-2.ensures ∙ sym (rows_upto-none c.args.profile c.args.events.now) }, refl)
+loop-index-init c = (c.new-walk.ensures.walks c.args.events.now, c.new-walk.ensures.profile)
+
+pub follow-requires : goal.follow-requires
+follow-requires c = (c.args.events.now, c.loop-index.index, c.loop-index.invariant.0, omega arith)
 
 pub loop-index-preserved : goal.loop-index-preserved
 unfolding event_at
@@ -18,8 +23,17 @@ loop-index-preserved c =
     rw add-one (c.in_ok-follow.ensures.walks es i c.loop-index.invariant.0 here (add-one i), c.in_ok-follow.ensures.profile ∙ c.loop-index.invariant.1)
 
 pub returns : goal.returns
-unfolding rows_of
+unfolding rows_of rows_at_end
 returns c =
     let es = c.args.events.now in
-    let all : c.loop-index.index ≡ length es = omega arith in
-    c.loop-index.invariant.0.rows_are ∙ ap (λ q. rows_upto q es c.loop-index.index) c.loop-index.invariant.1 ∙ ap (rows_upto c.args.profile es) all
+    let i = c.loop-index.index in
+    let profile = c.args.profile in
+    let walks = c.loop-index.invariant.0 in
+    let found = c.close_section-found.result in
+    let all : i ≡ length es = omega arith in
+    ap (λ (w : Walk). w.rows) c.in_ok-say_if_any.ensures
+    ∙ ap (λ rs. rs ++ map (row_at (length es + 1)) (if_any found))
+    (walks.rows_are ∙ ap (λ q. rows_upto q es i) c.loop-index.invariant.1 ∙ ap (rows_upto profile es) all)
+    ∙ ap (λ q. rows_upto profile es (length es) ++ map (row_at q) (if_any found)) (add-one (length es))
+    ∙ ap (λ f. rows_upto profile es (length es) ++ map (row_at (suc (length es))) (if_any f))
+    (c.close_section-found.ensures es i walks.tracks ∙ ap (close_finding es) all)

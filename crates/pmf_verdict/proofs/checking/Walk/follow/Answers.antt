@@ -1,61 +1,98 @@
-use Rattle.std.proofs.Common.{suc, [], ◌∷◌, refl, sym, ◌∙◌, ap, subst}
+use Rattle.std.proofs.Common.{ℕ, suc, ◌<◌, [], ◌∷◌, refl, sym, ◌∙◌, ap, arith}
 use Rattle.std.specs.Prelude.{Some}
-use Rattle.pmf_shadow.specs.Shadow.{StandsFor}
-use Rattle.pmf_verdict.specs.declared.checking.Walk.{Walk}
-use Rattle.pmf_verdict.specs.Rows.{findings_of}
+use Rattle.pmf_event.specs.FlushWarnings.{if_any}
+use Rattle.pmf_event.proofs.TransactionLemmas.{depth-bound}
 use Rattle.pmf_shadow.specs.Laws.{is_unseen}
-use Rattle.pmf_shadow.proofs.StandsLemmas.{stands-unseen}
-use Rattle.pmf_verdict.proofs.WalkLemmas.{walks-silent, walks-said, unseen-marker, silent-marker, marker-one}
+use Rattle.pmf_txcheck.specs.Tracking.{is_untracked}
+use Rattle.pmf_txcheck.proofs.TrackLemmas.{tracks-depth}
+use Rattle.pmf_verdict.specs.Rows.{findings_of}
+use Rattle.pmf_verdict.proofs.WalkLemmas.{walks-said, walks-silent, stands-still, tracks-still, found-end, found-start, found-check}
 use Rattle.pmf_verdict.proofs.checking.Walk.follow.Goals as goal
 
-pub returns-in_ok-store-in-Store-clause-walks : goal.returns-in_ok-store-in-Store-clause-walks
-unfolding findings_of
-returns-in_ok-store-in-Store-clause-walks c = λ es p walks here place.
-    let own = here ∙ ap (λ e. Some e) c.in-Store.is in
-    walks-silent c.args.self.now _ es p _ own walks (c.in_ok-store-in-Store.ensures.follows es p walks.stands own place) refl refl refl
+pub begin-requires : goal.begin-requires
+begin-requires c =
+    let tracks = c.requires.2.tracks in
+    let depth = tracks-depth c.args.self.now.transactions c.requires.0 c.requires.1 tracks in
+    let bound = depth-bound c.requires.0 c.requires.1 in
+    let below = c.requires.3 in
+    omega arith
 
 pub returns-in-Fence-clause-walks : goal.returns-in-Fence-clause-walks
-unfolding findings_of
+unfolding findings_of is_untracked
 returns-in-Fence-clause-walks c = λ es p walks here place.
     let own = here ∙ ap (λ e. Some e) c.in-Fence.is in
-    walks-silent c.args.self.now _ es p _ own walks (c.fence.ensures es p walks.stands own) refl refl refl
+    let old = c.args.self.now in
+    walks-silent old _ es p _ own walks c.fence.new.self old.transactions refl (c.fence.ensures es p walks.stands own)
+    (tracks-still old old es p _ own walks refl) refl
 
 pub returns-in_ok-say-in-Persist-clause-walks : goal.returns-in_ok-say-in-Persist-clause-walks
-unfolding findings_of is_unseen
+unfolding findings_of is_unseen is_untracked
 returns-in_ok-say-in-Persist-clause-walks c = λ es p walks here place.
     let own = here ∙ ap (λ e. Some e) c.in-Persist.is in
-    let said = c.in_ok-say-in-Persist.ensures in
-    let stands = stands-unseen c.args.self.now.shadow es p _ own refl walks.stands in
-    walks-said c.args.self.now c.say.new.self es p _ own walks c.args.place c.check_persist-finding.result
-    (subst (λ s. StandsFor s es (suc p)) (sym (ap (λ (w : Walk). w.shadow) said)) stands)
-    (ap (λ (w : Walk). w.rows) said) (ap (λ (w : Walk). w.profile) said) place
+    let old = c.args.self.now in
+    let stands = stands-still old old es p _ own walks refl in
+    walks-said old c.say.new.self es p _ own walks old.shadow old.transactions c.args.place (c.check_persist-finding.result ∷ [])
+    c.in_ok-say-in-Persist.ensures stands (tracks-still old old es p _ own walks refl) place
     (ap (λ f. f ∷ []) (sym (c.check_persist-finding.ensures es (suc p) stands)))
 
 pub returns-in_ok-say-in-Ordered-clause-walks : goal.returns-in_ok-say-in-Ordered-clause-walks
-unfolding findings_of is_unseen
+unfolding findings_of is_unseen is_untracked
 returns-in_ok-say-in-Ordered-clause-walks c = λ es p walks here place.
     let own = here ∙ ap (λ e. Some e) c.in-Ordered.is in
-    let said = c.in_ok-say-in-Ordered.ensures in
-    let stands = stands-unseen c.args.self.now.shadow es p _ own refl walks.stands in
-    walks-said c.args.self.now c.say-in-Ordered.new.self es p _ own walks c.args.place c.check_ordered-finding.result
-    (subst (λ s. StandsFor s es (suc p)) (sym (ap (λ (w : Walk). w.shadow) said)) stands)
-    (ap (λ (w : Walk). w.rows) said) (ap (λ (w : Walk). w.profile) said) place
+    let old = c.args.self.now in
+    let stands = stands-still old old es p _ own walks refl in
+    walks-said old c.say-in-Ordered.new.self es p _ own walks old.shadow old.transactions c.args.place (c.check_ordered-finding.result ∷ [])
+    c.in_ok-say-in-Ordered.ensures stands (tracks-still old old es p _ own walks refl) place
     (ap (λ f. f ∷ []) (sym (c.check_ordered-finding.ensures es (suc p) stands)))
 
 pub returns-in_ok-exclude-in-Exclude-clause-walks : goal.returns-in_ok-exclude-in-Exclude-clause-walks
-unfolding findings_of
+unfolding findings_of is_untracked
 returns-in_ok-exclude-in-Exclude-clause-walks c = λ es p walks here place.
     let own = here ∙ ap (λ e. Some e) c.in-Exclude.is in
-    walks-silent c.args.self.now _ es p _ own walks (c.in_ok-exclude-in-Exclude.ensures.follows es p walks.stands own) refl refl refl
+    let old = c.args.self.now in
+    walks-silent old _ es p _ own walks c.exclude.new.self old.transactions refl (c.in_ok-exclude-in-Exclude.ensures.follows es p walks.stands own)
+    (tracks-still old old es p _ own walks refl) refl
 
 pub returns-in_ok-include-in-Include-clause-walks : goal.returns-in_ok-include-in-Include-clause-walks
-unfolding findings_of
+unfolding findings_of is_untracked
 returns-in_ok-include-in-Include-clause-walks c = λ es p walks here place.
     let own = here ∙ ap (λ e. Some e) c.in-Include.is in
-    walks-silent c.args.self.now _ es p _ own walks (c.in_ok-include-in-Include.ensures.follows es p walks.stands own) refl refl refl
+    let old = c.args.self.now in
+    walks-silent old _ es p _ own walks c.include.new.self old.transactions refl (c.in_ok-include-in-Include.ensures.follows es p walks.stands own)
+    (tracks-still old old es p _ own walks refl) refl
 
 pub returns-in-TxBegin-clause-walks : goal.returns-in-TxBegin-clause-walks
+unfolding findings_of is_unseen
 returns-in-TxBegin-clause-walks c = λ es p walks here place.
-    let marker = marker-one c.args.event c.in-TxBegin.is in
-    walks-silent c.args.self.now c.args.self.now es p c.args.event here walks (stands-unseen c.args.self.now.shadow es p c.args.event here (unseen-marker c.args.event marker) walks.stands) refl refl
-    (silent-marker c.args.self.now.profile es (suc p) c.args.event marker)
+    let own = here ∙ ap (λ e. Some e) c.in-TxBegin.is in
+    let old = c.args.self.now in
+    walks-silent old _ es p _ own walks old.shadow c.begin.new.self refl (stands-still old old es p _ own walks refl)
+    (c.begin.ensures es p walks.tracks own) refl
+
+pub returns-in_ok-say_if_any-in-TxEnd-clause-walks : goal.returns-in_ok-say_if_any-in-TxEnd-clause-walks
+unfolding is_unseen
+returns-in_ok-say_if_any-in-TxEnd-clause-walks c = λ es p walks here place.
+    let own = here ∙ ap (λ e. Some e) c.in-TxEnd.is in
+    let old = c.args.self.now in
+    walks-said old c.say_if_any.new.self es p _ own walks old.shadow c.end-found.new.self c.args.place (if_any c.end-found.result)
+    c.in_ok-say_if_any-in-TxEnd.ensures (stands-still old old es p _ own walks refl) (c.end-found.ensures.tracks es p walks.tracks own) place
+    (found-end old.profile es p c.end-found.result (c.end-found.ensures.finds es p walks.tracks))
+
+pub returns-in_ok-say_if_any-in-CheckStart-clause-walks : goal.returns-in_ok-say_if_any-in-CheckStart-clause-walks
+unfolding is_unseen
+returns-in_ok-say_if_any-in-CheckStart-clause-walks c = λ es p walks here place.
+    let own = here ∙ ap (λ e. Some e) c.in-CheckStart.is in
+    let old = c.args.self.now in
+    walks-said old c.say_if_any-in-CheckStart.new.self es p _ own walks old.shadow c.check_start-found.new.self c.args.place (if_any c.check_start-found.result)
+    c.in_ok-say_if_any-in-CheckStart.ensures (stands-still old old es p _ own walks refl) (c.check_start-found.ensures.tracks es p walks.tracks own place) place
+    (found-start old.profile es p c.check_start-found.result (c.check_start-found.ensures.finds es p walks.tracks))
+
+pub returns-in_ok-say-in-CheckEnd-clause-walks : goal.returns-in_ok-say-in-CheckEnd-clause-walks
+unfolding is_unseen
+returns-in_ok-say-in-CheckEnd-clause-walks c = λ es p walks here place.
+    let own = here ∙ ap (λ e. Some e) c.in-CheckEnd.is in
+    let old = c.args.self.now in
+    let stands = stands-still old old es p _ own walks refl in
+    walks-said old c.say-in-CheckEnd.new.self es p _ own walks old.shadow c.check_end-finding.new.self c.args.place (c.check_end-finding.result ∷ [])
+    c.in_ok-say-in-CheckEnd.ensures stands (c.check_end-finding.ensures.tracks es p walks.tracks own) place
+    (found-check old.profile es p c.check_end-finding.result (c.check_end-finding.ensures.finds es p walks.tracks stands own))

@@ -1,15 +1,17 @@
-use Rattle.std.proofs.Common.{◌≡◌, suc, ◌++◌, map, sym, ◌∙◌, ap, subst}
+use Rattle.std.proofs.Common.{◌≡◌, suc, ◌++◌, map, sym, ◌∙◌, ap, subst, refl}
 use Rattle.std.specs.Prelude.{Option}
 use Rattle.pmf_event.specs.declared.finding.Finding.{Finding}
 use Rattle.pmf_event.specs.FlushWarnings.{is_pending, lines_where, doubled_finding, if_any, flush_findings}
 use Rattle.pmf_shadow.specs.Shadow.{StandsFor}
+use Rattle.pmf_txcheck.specs.Tracking.{Tracks, is_untracked}
 use Rattle.pmf_verdict.specs.declared.checking.Walk.{Walk}
 use Rattle.pmf_verdict.specs.Rows.{row_at, rows_upto}
 use Rattle.pmf_verdict.proofs.RowsLemmas.{rows_upto-flush}
+use Rattle.pmf_verdict.proofs.WalkLemmas.{tracks-still}
 use Rattle.pmf_verdict.proofs.checking.Walk.write_back.Goals as goal
 
 pub returns-clause-walks : goal.returns-clause-walks
-unfolding flush_findings
+unfolding flush_findings is_untracked
 returns-clause-walks c = λ es p walks here place.
     let old = c.args.self.now in
     let one = c.check_flush-found.result.doubled in
@@ -17,12 +19,14 @@ returns-clause-walks c = λ es p walks here place.
     let first = c.in_ok-say_if_any.ensures in
     let second = c.in_ok-say_if_any-2.ensures in
     let shadow = ap (λ (w : Walk). w.shadow) second ∙ ap (λ (w : Walk). w.shadow) first in
+    let transactions = ap (λ (w : Walk). w.transactions) second ∙ ap (λ (w : Walk). w.transactions) first in
     let stands = subst (λ s. StandsFor s es p) (sym shadow) walks.stands in
     let found : flush_findings es p c.args.span ≡ if_any one ++ if_any other =
     sym (ap (λ (o : Option Finding). if_any o ++ if_any other) (c.check_flush-found.ensures.doubled es p walks.stands)
     ∙ ap (λ (o : Option Finding). if_any (doubled_finding (lines_where (is_pending es p) c.args.span)) ++ if_any o) (c.check_flush-found.ensures.needless es p walks.stands)) in
     record {
       stands = c.in_ok-flush.ensures.follows es p stands here;
+      tracks = subst (λ t. Tracks t es (suc p)) (sym transactions) (tracks-still old old es p _ here walks refl);
       rows_are = ap (λ (w : Walk). w.rows) second
           ∙ ap (λ rs. rs ++ map (row_at c.args.place) (if_any other)) (ap (λ (w : Walk). w.rows) first)
           ∙ ap (λ rs. (rs ++ map (row_at c.args.place) (if_any one)) ++ map (row_at c.args.place) (if_any other)) walks.rows_are

@@ -1,0 +1,13 @@
+use Rattle.pmf_event.specs.FlushWarnings.{if_any}
+use Rattle.pmf_shadow.specs.Laws.{is_unseen}
+use Rattle.std.proofs.Common.{refl}
+use Rattle.pmf_verdict.proofs.WalkLemmas.{walks-said, stands-still, found-add}
+use Rattle.pmf_verdict.proofs.checking.Walk.back_up.Goals as goal
+
+pub returns-clause-walks : goal.returns-clause-walks
+unfolding is_unseen
+returns-clause-walks c = λ es p walks here place.
+    let old = c.args.self.now in
+    walks-said old c.say_if_any.new.self es p _ here walks old.shadow c.add.new.self c.args.place (if_any c.in_ok-found.found)
+    c.in_ok-say_if_any.ensures (stands-still old c.say_if_any.new.self es p _ here walks refl) (c.in_ok-found.ensures.tracks es p walks.tracks here) place
+    (found-add old.profile es p c.args.span c.in_ok-found.found (c.in_ok-found.ensures.finds es p walks.tracks))
