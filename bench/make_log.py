@@ -16,7 +16,9 @@ stores, a write-back of each line, fences, a PERSIST and an ORDERED now and then
 `sparse` stores one byte at random places of 1 GB, then writes all of it back in large spans, fences,
 asks and writes it back again; `wide` the same, with a fifteenth as many questions and write-backs
 over spans of 4 GB. `segments` stores, writes back and asks after 4,096 spans of 64 KB, over and over.
-`orders` has wide ORDERED assertions over a great many stores.
+`orders` has wide ORDERED assertions over a great many stores. `transactions` has checked scopes with
+nested transactions, each of which backs ranges up and stores into them, now and then beside them;
+`ranges` is one transaction that backs up a great many separate ranges and stores into each.
 """
 
 import argparse
@@ -259,6 +261,57 @@ def orders(random_, events):
             yield f"PMT.ORDERED;{b:#x};{size:#x};{a:#x};{size:#x}"
 
 
+def transaction(random_, base, space):
+    """A checked scope: transactions in one another, write-backs and a fence, and the ends."""
+    depth = random_.randrange(1, 9)
+    lines = set()
+    yield "PMT.CHECKSTART"
+    for _ in range(depth):
+        yield "PMT.TXBEGIN"
+        for _ in range(random_.randrange(2, 16)):
+            first = base + 8 * random_.randrange(space // 8)
+            size = random_.choice((8, 16, 24, 64, 256))
+            yield f"PMT.TXADD;{first:#x};{size:#x}"
+            for _ in range(random_.randrange(1, 4)):
+                at = first + random_.randrange(0, size, 8)
+                if random_.random() < 0.02:
+                    at += 512
+                yield store(random_, at, 8)
+                lines.add(at - at % LINE)
+    for line in sorted(lines):
+        if random_.random() < 0.999:
+            yield flush(line)
+    yield "FENCE"
+    for _ in range(depth):
+        yield "PMT.TXEND"
+    yield "PMT.CHECKEND"
+
+
+def transactions(random_, events):
+    """Checked scopes all over 16 MB, one after another."""
+    made = 0
+    while made < events - 2000:
+        for record in transaction(random_, BASE, SPACE // 4):
+            made += 1
+            yield record
+
+
+def ranges(random_, events):
+    """One transaction over many separate ranges, each backed up, stored to and written back."""
+    places = random_.sample(range(GIGABYTE // 256), events // 3)
+    yield "PMT.CHECKSTART"
+    yield "PMT.TXBEGIN"
+    for place in places:
+        yield f"PMT.TXADD;{256 * place:#x};0x10"
+    for place in places:
+        yield store(random_, 256 * place + 4, 8)
+    for place in sorted(places):
+        yield flush(256 * place)
+    yield "FENCE"
+    yield "PMT.TXEND"
+    yield "PMT.CHECKEND"
+
+
 KINDS = {
     "fences": fences,
     "stores": stores,
@@ -271,6 +324,8 @@ KINDS = {
     "wide": wide,
     "segments": segments,
     "orders": orders,
+    "transactions": transactions,
+    "ranges": ranges,
 }
 
 

@@ -4,6 +4,9 @@ use std::alloc::Global;
 use std::sync::Arc;
 use std::test::Fail;
 
+mod plain;
+mod random;
+
 const NAME: Name = Name { run: 7, number: 3 };
 
 // How a row with each finding counts.
