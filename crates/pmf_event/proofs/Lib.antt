@@ -4,4 +4,5 @@ pub mod LineLemmas
 pub mod RangeLemmas
 pub mod IntervalLemmas
 pub mod WriteBackLemmas
+pub mod TransactionLemmas
 pub mod WorkedRows

@@ -2,7 +2,7 @@
 
 ghost use Rattle.std.specs.Prelude.{◌≡◌, ℕ, suc, ◌+◌, ◌-◌, ◌<◌, ◌≤◌, ◌^◌, List, Some, true, OnOk, OnErr, IfOk};
 ghost use Rattle.pmf_event.specs.declared.event.Event.{Event};
-ghost use Rattle.pmf_event.specs.declared.span.TheConstants.{ADDRESS_LIMIT};
+ghost use Rattle.pmf_event.specs.declared.span.TheConstants.{ADDRESS_LIMIT, SPAN_LIMIT};
 ghost use Rattle.pmf_event.specs.Ranges.{first_from, first_byte};
 ghost use Rattle.pmf_event.specs.Store.{event_at};
 ghost use Rattle.pmf_event.specs.Transactions.{depth_at, in_transaction, in_scope, is_left_open, lacks_backup, add_finding, check_finding, close_finding, end_finding, start_finding, store_finding};
@@ -152,17 +152,9 @@ impl TxState {
             → StandsFor shadow.now es (suc p) → event_at es (suc p) ≡ Some Event.CheckEnd
             → result ≡ check_finding es p }
     {
-        if self.scope.is_none() {
-            return Finding::Unopened;
-        }
+        let finding = self.found_at_end(shadow);
         self.scope = None;
-        if self.depth > 0 {
-            return Finding::TxStillOpen { depth: self.depth };
-        }
-        match self.least_left_open(shadow) {
-            None => Finding::CheckPass,
-            Some(byte) => Finding::CheckFail { byte },
-        }
+        finding
     }
 
     /// What is found where the section ends here: UNCLOSED in a scope, with the place that opened it.
@@ -178,38 +170,51 @@ impl TxState {
     // The least byte from `first` up to `end` that the shadow includes and that is not backed up.
     fn least_bare(&self, shadow: &Shadow, first: u64, end: u64) -> Option<u64>
         requires ends { end ≤ ADDRESS_LIMIT }
+        requires small { end ≤ first + SPAN_LIMIT }
         ensures { (es : List Event) (p : ℕ) → Tracks self.now es p → in_transaction es p ≡ true
             → StandsFor shadow.now es (suc p)
             → result ≡ first_from (lacks_backup es p) first (end - first) }
     {
         let mut at = first;
-        while at < end {
-            let Some(byte) = shadow.least_included(Span::between(at, end)) else {
-                return None;
-            };
-            let Some(bare) = self.backup.first_where(byte, end, &IsOut) else {
-                return None;
-            };
-            if bare == byte {
+        while let Some(bare) = self.backup.first_where(at, end, &IsOut) {
+            let until = self.backup.first_where(bare, end, &IsIn).unwrap_or(end);
+            if let Some(byte) = shadow.least_included(Span::between(bare, until)) {
                 return Some(byte);
             }
-            at = bare;
+            at = until;
         }
         None
+    }
+
+    // What a CHECKEND finds here.
+    fn found_at_end(&self, shadow: &Shadow) -> Finding
+        ensures { (es : List Event) (p : ℕ) → Tracks self.now es p
+            → StandsFor shadow.now es (suc p) → result ≡ check_finding es p }
+    {
+        if self.scope.is_none() {
+            return Finding::Unopened;
+        }
+        if self.depth > 0 {
+            return Finding::TxStillOpen { depth: self.depth };
+        }
+        match self.least_left_open(shadow) {
+            None => Finding::CheckPass,
+            Some(byte) => Finding::CheckFail { byte },
+        }
     }
 
     // The least byte of the scope that the shadow includes and whose persist interval is open.
     fn least_left_open(&self, shadow: &Shadow) -> Option<u64>
         ensures { (es : List Event) (p : ℕ) → Tracks self.now es p → in_scope es p ≡ true
-            → StandsFor shadow.now es (suc p) → event_at es (suc p) ≡ Some Event.CheckEnd
+            → StandsFor shadow.now es (suc p)
             → result ≡ first_from (is_left_open es p) 0 ADDRESS_LIMIT }
     {
         let mut at = 0;
         while let Some(first) = self.stored.first_where(at, ADDRESS_LIMIT, &IsIn) {
-            let end = match self.stored.first_where(first, ADDRESS_LIMIT, &IsOut) {
-                None => ADDRESS_LIMIT,
-                Some(end) => end,
-            };
+            let end = self
+                .stored
+                .first_where(first, ADDRESS_LIMIT, &IsOut)
+                .unwrap_or(ADDRESS_LIMIT);
             let span = Span::between(first, end);
             if let Some(byte) = shadow.least_open(span) {
                 return Some(byte);
@@ -225,6 +230,7 @@ fn ends_of(span: &Span) -> (u64, u64)
     ensures end { result.1 ≡ span.now.first + span.now.size }
     ensures ordered { result.0 < result.1 }
     ensures limit { result.1 ≤ ADDRESS_LIMIT }
+    ensures small { result.1 ≤ result.0 + SPAN_LIMIT }
 {
     (span.first(), span.first() + span.size())
 }

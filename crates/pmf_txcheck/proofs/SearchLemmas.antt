@@ -1,0 +1,164 @@
+-- The two walks of the transaction checker: none so far, and the first from here.
+use Rattle.std.proofs.Common.{◌≡◌, ℕ, suc, ◌+◌, ◌-◌, ◌<◌, ◌≤◌, Bool, true, false, not, List, sym, ◌∙◌, ap, arith, inl, inr}
+use Rattle.std.specs.Prelude.{Option, Some, None, unwrap_or}
+use Rattle.std.proofs.lemmas.Bool.{cases_lt, cases_eq, both_ways, not-true, not-false}
+use Rattle.pmf_event.specs.declared.event.Event.{Event}
+use Rattle.pmf_event.specs.declared.span.TheConstants.{ADDRESS_LIMIT}
+use Rattle.pmf_event.specs.Ranges.{first_from}
+use Rattle.pmf_event.specs.Exclusion.{is_included}
+use Rattle.pmf_event.specs.Persist.{is_exposed}
+use Rattle.pmf_event.specs.Transactions.{in_transaction, in_scope, lacks_backup, is_left_open}
+use Rattle.pmf_event.proofs.RangeLemmas.{IsFirst, first_from-none, first_from-some, none-passes, first-passes}
+use Rattle.pmf_event.proofs.TransactionLemmas.{left_open-exposed, left_open-none, bare-excluded, bare-backed, bare-from}
+use Rattle.pmf_shadow.specs.declared.runs.RunMap.{RunMap}
+use Rattle.pmf_shadow.specs.declared.shadow.Shadow.{Shadow}
+use Rattle.pmf_shadow.specs.Runs.{state_at, passing}
+use Rattle.pmf_shadow.specs.Shadow.{StandsFor}
+use Rattle.pmf_txcheck.specs.declared.state.TxState.{TxState}
+use Rattle.pmf_txcheck.specs.Tracking.{Tracks}
+
+-- none of the numbers from first up to this one passes
+abbrev pub NoneUpTo : (ℕ → Bool) → ℕ → ℕ → Type 0
+NoneUpTo test first at = (k : ℕ) → first ≤ k → k < at → test k ≡ false
+
+module _ (test : ℕ → Bool) where
+  pub none-from_none_up_to : (first end at : ℕ) → NoneUpTo test first at → end ≤ at → None ≡ first_from test first (end - first)
+  none-from_none_up_to first end at none past = sym (first_from-none test first (end - first) (λ k low high. none k low (omega arith)))
+
+  pub first-from_none_up_to : (first end at : ℕ) → NoneUpTo test first at → first ≤ at → at < end → test at ≡ true → Some at ≡ first_from test first (end - first)
+  first-from_none_up_to first end at none from within is =
+      sym (first_from-some test first (end - first) at (record { from = from; within = omega arith; passes = is; before = none }))
+
+-- ---- a run of members of a set, or of numbers that are no members
+
+-- from here up to the first number that passes, or up to the end
+record Passing (test : ℕ → Bool) (at end found : ℕ) : Type 0 where
+  some : at < found
+  within : found ≤ end
+  before : (j : ℕ) → at ≤ j → j < found → test j ≡ false
+
+passing-end : (test : ℕ → Bool) (at end until : ℕ) (found : Option ℕ) → at < end → test at ≡ false →
+    found ≡ first_from test at (end - at) → until ≡ unwrap_or found end → Passing test at end until
+passing-end test at end until None below fails is at_end = record {
+  some = omega arith;
+  within = omega arith;
+  before = λ j low high. none-passes test at (end - at) (sym is) j low (omega arith);
+}
+passing-end test at end until (Some k) below fails is at_end =
+    let found = first-passes test at (end - at) k (sym is) in
+    let from = found.from in
+    let within = found.within in
+    let same : until ≡ k = at_end in record {
+      some = elim (cases_eq at k) [
+        | inl here ↦ absurd (both_ways (test k) (ap test (sym here) ∙ fails) found.passes)
+        | inr other ↦ omega arith
+      ];
+      within = omega arith;
+      before = λ j low high. found.before j low (omega arith);
+    }
+
+-- from first up to here all numbers are alike, and those before, from where the search began, are not
+pub record IsRun (set : RunMap Bool) (alike : Bool) (at end first until : ℕ) : Type 0 where
+  pub from : at ≤ first
+  pub some : first < until
+  pub within : until ≤ end
+  pub before : (j : ℕ) → at ≤ j → j < first → state_at set j ≡ not alike
+  pub all : (j : ℕ) → first ≤ j → j < until → state_at set j ≡ alike
+
+module _ (set : RunMap Bool) (at end first until : ℕ) (found_first found_end : Option ℕ) where
+  pub run-of_members : found_first ≡ first_from (passing (λ member. member) set) at (end - at) → found_first ≡ Some first →
+      found_end ≡ first_from (passing (λ member. not member) set) first (end - first) → until ≡ unwrap_or found_end end → IsRun set true at end first until
+  unfolding passing
+  run-of_members is some is_end at_until =
+      let start = first-passes _ at (end - at) first (sym is ∙ some) in
+      let from = start.from in
+      let within = start.within in
+      let run = passing-end _ first end until found_end (omega arith) (ap not start.passes) is_end at_until in record {
+        from = from;
+        some = run.some;
+        within = run.within;
+        before = start.before;
+        all = λ j low high. not-false (state_at set j) (run.before j low high);
+      }
+
+  pub run-of_others : found_first ≡ first_from (passing (λ member. not member) set) at (end - at) → found_first ≡ Some first →
+      found_end ≡ first_from (passing (λ member. member) set) first (end - first) → until ≡ unwrap_or found_end end → IsRun set false at end first until
+  unfolding passing
+  run-of_others is some is_end at_until =
+      let start = first-passes _ at (end - at) first (sym is ∙ some) in
+      let from = start.from in
+      let within = start.within in
+      let run = passing-end _ first end until found_end (omega arith) (not-true (state_at set first) start.passes) is_end at_until in record {
+        from = from;
+        some = run.some;
+        within = run.within;
+        before = λ j low high. not-false (state_at set j) (start.before j low high);
+        all = run.before;
+      }
+
+module _ (set : RunMap Bool) (at end : ℕ) (found : Option ℕ) where
+  -- no run of members, or of others, is left
+  pub no-members : found ≡ first_from (passing (λ member. member) set) at (end - at) → found ≡ None → (j : ℕ) → at ≤ j → j < end → state_at set j ≡ false
+  unfolding passing
+  no-members is none j low high = none-passes _ at (end - at) (sym is ∙ none) j low (omega arith)
+
+  pub no-others : found ≡ first_from (passing (λ member. not member) set) at (end - at) → found ≡ None → (j : ℕ) → at ≤ j → j < end → state_at set j ≡ true
+  unfolding passing
+  no-others is none j low high = not-false (state_at set j) (none-passes _ at (end - at) (sym is ∙ none) j low (omega arith))
+
+-- ---- the walk over bytes that are not backed up
+
+-- none from first up to here lacks a backup
+pub record NoneBare (state : TxState) (shadow : Shadow) (first at : ℕ) : Type 0 where
+  pub from : first ≤ at
+  pub none : (es : List Event) (p : ℕ) → Tracks state es p → in_transaction es p ≡ true → StandsFor shadow es (suc p) → NoneUpTo (lacks_backup es p) first at
+
+module _ (state : TxState) (es : List Event) (p : ℕ) (tracks : Tracks state es p) (inside : in_transaction es p ≡ true) where
+  -- over bytes that are excluded
+  pub bare-over_excluded : (first at m byte : ℕ) → NoneUpTo (lacks_backup es p) first at → IsFirst (is_included es (suc p)) at m byte → NoneUpTo (lacks_backup es p) first byte
+  bare-over_excluded first at m byte none included k low high = elim (cases_lt k at) [
+    | inl before ↦ none k low before
+    | inr after ↦ bare-excluded es p k (included.before k after high)
+  ]
+
+  pub bare-all_excluded : (first at m : ℕ) → NoneUpTo (lacks_backup es p) first at → first_from (is_included es (suc p)) at m ≡ None → NoneUpTo (lacks_backup es p) first (at + m)
+  bare-all_excluded first at m none excluded k low high = elim (cases_lt k at) [
+    | inl before ↦ none k low before
+    | inr after ↦ bare-excluded es p k (none-passes (is_included es (suc p)) at m excluded k after high)
+  ]
+
+  -- over bytes that are backed up
+  pub bare-over_backed : (first at bare : ℕ) → NoneUpTo (lacks_backup es p) first at → ((j : ℕ) → at ≤ j → j < bare → state_at state.backup j ≡ true) → NoneUpTo (lacks_backup es p) first bare
+  bare-over_backed first at bare none backed k low high = elim (cases_lt k at) [
+    | inl before ↦ none k low before
+    | inr after ↦ bare-backed es p k (sym (tracks.backup inside k) ∙ backed k after high)
+  ]
+
+  pub bare-here : (b : ℕ) → is_included es (suc p) b ≡ true → state_at state.backup b ≡ false → lacks_backup es p b ≡ true
+  bare-here b included out = bare-from es p b included (sym (tracks.backup inside b) ∙ out)
+
+-- ---- the walk over the scope's bytes
+
+-- none of the scope's bytes before here is left open
+pub record NoneOpen (state : TxState) (shadow : Shadow) (at : ℕ) : Type 0 where
+  pub within : at ≤ ADDRESS_LIMIT
+  pub none : (es : List Event) (p : ℕ) → Tracks state es p → in_scope es p ≡ true → StandsFor shadow es (suc p) → NoneUpTo (is_left_open es p) 0 at
+
+module _ (state : TxState) (es : List Event) (p : ℕ) (tracks : Tracks state es p) (some : in_scope es p ≡ true) where
+  -- over bytes that are none of the scope's
+  pub open-over_others : (at first : ℕ) → NoneUpTo (is_left_open es p) 0 at → NoneUpTo (state_at state.stored) at first → NoneUpTo (is_left_open es p) 0 first
+  open-over_others at first none others k low high = elim (cases_lt k at) [
+    | inl before ↦ none k low before
+    | inr after ↦ left_open-none es p k (sym (tracks.stored some k) ∙ others k after high)
+  ]
+
+  -- over bytes of the scope that are not exposed
+  pub open-over_closed : (at end : ℕ) → NoneUpTo (is_left_open es p) 0 at → ((j : ℕ) → at ≤ j → j < end → state_at state.stored j ≡ true) →
+      ((j : ℕ) → at ≤ j → j < end → is_exposed es (suc p) j ≡ false) → NoneUpTo (is_left_open es p) 0 end
+  open-over_closed at end none members closed k low high = elim (cases_lt k at) [
+    | inl before ↦ none k low before
+    | inr after ↦ left_open-exposed es p k (sym (tracks.stored some k) ∙ members k after high) ∙ closed k after high
+  ]
+
+  pub open-here : (b : ℕ) → state_at state.stored b ≡ true → is_exposed es (suc p) b ≡ true → is_left_open es p b ≡ true
+  open-here b member exposed = left_open-exposed es p b (sym (tracks.stored some b) ∙ member) ∙ exposed

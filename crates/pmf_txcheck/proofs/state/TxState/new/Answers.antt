@@ -1,0 +1,6 @@
+use Rattle.std.proofs.Common.{refl}
+use Rattle.pmf_txcheck.proofs.TrackLemmas.{tracks-empty}
+use Rattle.pmf_txcheck.proofs.state.TxState.new.Goals as goal
+
+pub returns : goal.returns
+returns c = λ es. tracks-empty _ es refl refl
