@@ -4,15 +4,13 @@ use Rattle.pmf_event.specs.FlushWarnings.{if_any}
 use Rattle.pmf_event.proofs.TransactionLemmas.{depth-bound}
 use Rattle.pmf_shadow.specs.Laws.{is_unseen}
 use Rattle.pmf_txcheck.specs.Tracking.{is_untracked}
-use Rattle.pmf_txcheck.proofs.TrackLemmas.{tracks-depth}
 use Rattle.pmf_verdict.specs.Rows.{findings_of}
 use Rattle.pmf_verdict.proofs.WalkLemmas.{walks-said, walks-silent, stands-still, tracks-still, found-end, found-start, found-check}
 use Rattle.pmf_verdict.proofs.checking.Walk.follow.Goals as goal
 
 pub begin-requires : goal.begin-requires
 begin-requires c =
-    let tracks = c.requires.2.tracks in
-    let depth = tracks-depth c.args.self.now.transactions c.requires.0 c.requires.1 tracks in
+    let depth = c.requires.2.tracks.depth in
     let bound = depth-bound c.requires.0 c.requires.1 in
     let below = c.requires.3 in
     omega arith
