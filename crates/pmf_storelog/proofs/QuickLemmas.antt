@@ -13,7 +13,7 @@ use Rattle.pmf_storelog.specs.Numbers.{number_of}
 use Rattle.pmf_event.specs.Span.{Extent, extent_of}
 use Rattle.pmf_event.specs.declared.event.Event.TheVariants.{Store, Flush, Fence}
 use Rattle.pmf_storelog.specs.declared.record.Saying.TheVariants.{Happens, Skipped}
-use Rattle.pmf_storelog.specs.Records.{is_field_end, fields_of, record_of, saying_of, saying_of_fields, other_name, event_over, span_of_fields, span_of_texts, stored_span}
+use Rattle.pmf_storelog.specs.Records.{is_field_end, fields_of, record_of, saying_of, transaction_of, saying_of_fields, other_name, event_over, span_of_fields, span_of_texts, stored_span}
 use Rattle.pmf_storelog.specs.Quick.{BeginsWithDigits, BeginsWithNumber}
 use Rattle.pmf_storelog.proofs.CanonicalLemmas.{numeral_of-digits, NoFieldEnd, digits-NoFieldEnd, fields_of-more, fields_of-last}
 
@@ -156,10 +156,10 @@ module _ (text name rest : List ℕ) (whole : text ≡ name ++ rest) (front : Li
 saying_of-other : (text name rest : List ℕ) (others : List (List ℕ)) → text ≡ name ++ rest →
     starts_with nat_eq text (codes "STORE") ≡ false → starts_with nat_eq text (codes "FLUSH") ≡ false → starts_with nat_eq text (codes "FENCE") ≡ false → starts_with nat_eq text (codes "PMT.") ≡ false →
     saying_of name others ≡ Ok Skipped
-unfolding saying_of other_name
+unfolding saying_of transaction_of other_name
 saying_of-other text name rest others whole store flush fence marker =
     let marked = not_named text name rest whole (codes "PMT.") marker in
-    rw (not_named text name rest whole (codes "STORE") store [], not_named text name rest whole (codes "FLUSH") flush [], not_named text name rest whole (codes "FENCE") fence [], marked (codes "PERSIST"), marked (codes "ORDERED"), marked (codes "EXCLUDE"), marked (codes "INCLUDE"), marked (codes "SECTION"), not_begun text name rest whole (codes "PMT.") marker) refl
+    rw (not_named text name rest whole (codes "STORE") store [], not_named text name rest whole (codes "FLUSH") flush [], not_named text name rest whole (codes "FENCE") fence [], marked (codes "PERSIST"), marked (codes "ORDERED"), marked (codes "EXCLUDE"), marked (codes "INCLUDE"), marked (codes "SECTION"), marked (codes "TXBEGIN"), marked (codes "TXADD"), marked (codes "TXEND"), marked (codes "CHECKSTART"), marked (codes "CHECKEND"), not_begun text name rest whole (codes "PMT.") marker) refl
 
 -- a record that begins as none of the names does is skipped
 pub record_of-other : (text : List ℕ) →

@@ -18,7 +18,7 @@ use Rattle.pmf_storelog.specs.Records.{record_of}
 use Rattle.pmf_storelog.specs.Sections.{with_event}
 use Rattle.pmf_storelog.specs.LogText.{current_of, current_at, numbers_of, numbers_among, events_in, numbered_events, numbered_among, skipped_of, first_fault, first_fault_among, refusal_after, or_else, number_after, numbers_with, with_number, section_named, sections_of, value_of, value_unless, fault_of, log_of}
 use Rattle.pmf_storelog.specs.Canonical.{canonical_text, line_of_event, line_of_marker}
-use Rattle.pmf_storelog.specs.Spelling.{AllValid, IsRead}
+use Rattle.pmf_storelog.specs.Spelling.{AllValid}
 use Rattle.pmf_storelog.proofs.LogLemmas.{current_of-push, numbers_of-push, events_in-event, events_in-enter, skipped_of-event, skipped_of-enter, first_fault-push, fault_within-short}
 use Rattle.pmf_storelog.proofs.PlainLemmas.{text_of_event, text_of_marker}
 use Rattle.pmf_storelog.proofs.RoundTripLemmas.{EachFits, canonical_records, records_of-canonical, canonical-length}
@@ -76,45 +76,45 @@ module _ (n : ℕ) (events : List Event) (records : List (List ℕ)) (has : Says
     no_fault = first_fault-push records text ∙ ap (λ fault. or_else fault (refusal_after records (record_of text))) has.no_fault ∙ no_refusal few;
   }
 
--- each event is spelled, and read
-abbrev pub EachSpelled : List Event → Type 0
-EachSpelled [] = ⊤
-EachSpelled (event ∷ events) = (AllValid event × IsRead event) × EachSpelled events
+-- the spans of each event keep the limits
+abbrev pub EachValid : List Event → Type 0
+EachValid [] = ⊤
+EachValid (event ∷ events) = AllValid event × EachValid events
 
-each_fits : (events : List Event) → EachSpelled events → EachFits events
-each_fits [] spelled = tt
-each_fits (event ∷ events) spelled = (all_fit event spelled.0.0, each_fits events spelled.1)
+each_fits : (events : List Event) → EachValid events → EachFits events
+each_fits [] valid = tt
+each_fits (event ∷ events) valid = (all_fit event valid.0, each_fits events valid.1)
 
-says-events : (n : ℕ) (done left : List Event) (records : List (List ℕ)) → Says n done records → EachSpelled left → length done + length left ≤ EVENT_LIMIT →
+says-events : (n : ℕ) (done left : List Event) (records : List (List ℕ)) → Says n done records → EachValid left → length done + length left ≤ EVENT_LIMIT →
     Says n (done ++ left) (records ++ map text_of_event left)
-says-events n done [] records has spelled few =
+says-events n done [] records has valid few =
     rw (append-nil done, append-nil records) has
-says-events n done (event ∷ left) records has spelled few =
-    let next = says-event n done records has event (text_of_event event) (record_of-event event spelled.0.0 spelled.0.1) (omega arith) in
-    let all = says-events n (done ++ event ∷ []) left (records ++ text_of_event event ∷ []) next spelled.1 (omega (arith, length_push done event)) in
+says-events n done (event ∷ left) records has valid few =
+    let next = says-event n done records has event (text_of_event event) (record_of-event event valid.0) (omega arith) in
+    let all = says-events n (done ++ event ∷ []) left (records ++ text_of_event event ∷ []) next valid.1 (omega (arith, length_push done event)) in
     rw (← append_assoc done (event ∷ []) left, ← append_assoc records (text_of_event event ∷ []) (map text_of_event left)) all
 
-says-section : (section : Trace) → section.name.number < 2 ^ 64 → EachSpelled section.events → length section.events ≤ EVENT_LIMIT →
+says-section : (section : Trace) → section.name.number < 2 ^ 64 → EachValid section.events → length section.events ≤ EVENT_LIMIT →
     Says section.name.number section.events (canonical_records section)
-says-section section small spelled few =
+says-section section small valid few =
     says-events section.name.number [] section.events (text_of_marker section.name.number ∷ [])
-    (says-marker section.name.number (text_of_marker section.name.number) (record_of-marker section.name.number small)) spelled (omega (arith, few))
+    (says-marker section.name.number (text_of_marker section.name.number) (record_of-marker section.name.number small)) valid (omega (arith, few))
 
-module _ (section : Trace) (small : section.name.number < 2 ^ 64) (spelled : EachSpelled section.events) (few : length section.events ≤ EVENT_LIMIT) where
+module _ (section : Trace) (small : section.name.number < 2 ^ 64) (valid : EachValid section.events) (few : length section.events ≤ EVENT_LIMIT) where
   records_are : records_of (canonical_text section) ≡ canonical_records section
-  records_are = records_of-canonical section small (each_fits section.events spelled)
+  records_are = records_of-canonical section small (each_fits section.events valid)
 
   no_fault_in_text : fault_of (canonical_text section) ≡ None
   unfolding fault_of
   no_fault_in_text =
-      fault_within-short LOG_LIMIT (canonical_text section) (omega (arith, canonical-length section small (each_fits section.events spelled) (omega (arith, few))))
+      fault_within-short LOG_LIMIT (canonical_text section) (omega (arith, canonical-length section small (each_fits section.events valid) (omega (arith, few))))
       ∙ ap first_fault records_are
-      ∙ (says-section section small spelled few).no_fault
+      ∙ (says-section section small valid few).no_fault
 
   sections_are : sections_of section.name.run (canonical_records section) ≡ section ∷ []
   unfolding sections_of
   sections_are =
-      let has = says-section section small spelled few in
+      let has = says-section section small valid few in
       ap (map (λ number. section_named section.name.run number (events_in (canonical_records section) number))) has.numbers
       ∙ ap (λ events. section_named section.name.run section.name.number events ∷ []) has.events_are
 
@@ -123,7 +123,7 @@ module _ (section : Trace) (small : section.name.number < 2 ^ 64) (spelled : Eac
   value_is =
       ap (λ records. log_value (sections_of section.name.run records) (skipped_of records)) records_are
       ∙ ap (λ sections. log_value sections (skipped_of (canonical_records section))) sections_are
-      ∙ ap (λ skipped. log_value (section ∷ []) skipped) (says-section section small spelled few).none_skipped
+      ∙ ap (λ skipped. log_value (section ∷ []) skipped) (says-section section small valid few).none_skipped
 
   -- the log with the text of a section says the section, and nothing else
   pub log_of-canonical : log_of section.name.run (canonical_text section) ≡ Ok (record { sections = section ∷ []; skipped = 0 })
@@ -131,17 +131,14 @@ module _ (section : Trace) (small : section.name.number < 2 ^ 64) (spelled : Eac
   log_of-canonical = ap (λ fault. value_unless fault (value_of section.name.run (canonical_text section))) no_fault_in_text ∙ ap (λ value. Ok value) value_is
 
 -- the same, by places
-each_spelled : (events : List Event) → All AllValid events → All IsRead events → EachSpelled events
-each_spelled [] valid read = tt
-each_spelled (event ∷ events) valid read = (
-  (valid 0 event (omega arith), read 0 event (omega arith)),
-  each_spelled events (λ k d l. valid (suc k) d (omega arith)) (λ k d l. read (suc k) d (omega arith)),
-)
+each_valid : (events : List Event) → All AllValid events → EachValid events
+each_valid [] valid = tt
+each_valid (event ∷ events) valid = (valid 0 event (omega arith), each_valid events (λ k d l. valid (suc k) d (omega arith)))
 
-pub reads_back : (section : Trace) (text : List ℕ) → text ≡ canonical_text section → section.name.number < 2 ^ 64 → length section.events ≤ EVENT_LIMIT → All AllValid section.events → All IsRead section.events →
+pub reads_back : (section : Trace) (text : List ℕ) → text ≡ canonical_text section → section.name.number < 2 ^ 64 → length section.events ≤ EVENT_LIMIT → All AllValid section.events →
     log_of section.name.run text ≡ Ok (record { sections = section ∷ []; skipped = 0 })
-reads_back section text is small few valid read =
-    ap (log_of section.name.run) is ∙ log_of-canonical section small (each_spelled section.events valid read) few
+reads_back section text is small few valid =
+    ap (log_of section.name.run) is ∙ log_of-canonical section small (each_valid section.events valid) few
 
 -- one more line is written
 pub next_line : (events : List Event) (i : ℕ) (event : Event) (marker before after : List ℕ) → i < length events → event ≡ get_or events i event →
@@ -163,9 +160,9 @@ next_line events i event marker before after below is written valid one more = (
 -- all lines are written
 pub read_back : (section : Trace) (items : List Event) (i : ℕ) (text : List ℕ) → items ≡ section.events → length items ≤ i →
     text ≡ line_of_marker section.name.number ++ flat_map line_of_event (take i items) → All AllValid (take i items) →
-    section.name.number < 2 ^ 64 → length section.events ≤ EVENT_LIMIT → All IsRead section.events →
+    section.name.number < 2 ^ 64 → length section.events ≤ EVENT_LIMIT →
     log_of section.name.run text ≡ Ok (record { sections = section ∷ []; skipped = 0 })
-read_back section items i text same end written valid small few read =
+read_back section items i text same end written valid small few =
     let all : take i items ≡ section.events = take_all i items end ∙ same in
     reads_back section text (written ∙ ap (λ events. line_of_marker section.name.number ++ flat_map line_of_event events) all) small few
-    (subst (All AllValid) all valid) read
+    (subst (All AllValid) all valid)

@@ -8,12 +8,12 @@ use Rattle.pmf_event.specs.declared.span.TheConstants.{SPAN_LIMIT, ADDRESS_LIMIT
 use Rattle.pmf_event.specs.declared.event.Event.{Event}
 use Rattle.pmf_event.specs.declared.event.Event.TheVariants.{Store, Flush, Fence, Persist, Ordered, Exclude, Include, TxBegin, TxAdd, TxEnd, CheckStart, CheckEnd}
 use Rattle.pmf_storelog.specs.declared.record.Saying.TheVariants.{Happens, Enters}
-use Rattle.pmf_storelog.specs.Records.{record_of, saying_of, saying_of_fields, section_of_fields, section_of_number, event_over, span_of_fields, stored_span, order_of_fields, order_of_texts, fields_of}
+use Rattle.pmf_storelog.specs.Records.{record_of, saying_of, transaction_of, saying_of_fields, section_of_fields, section_of_number, event_over, span_of_fields, stored_span, order_of_fields, order_of_texts, fields_of}
 use Rattle.pmf_event.specs.Address.{address}
 use Rattle.pmf_storelog.specs.Canonical.{field_of, fields_of_span, fields_of_event, name_of}
 use Rattle.pmf_storelog.proofs.CanonicalLemmas.{Fits, address-NoFieldEnd, fields_of-more, fields_of-last, fields_of-span, span_of_texts-address, number_of-address}
 use Rattle.pmf_storelog.proofs.PlainLemmas.{AllFit, text_of_event, text_of_marker}
-use Rattle.pmf_storelog.specs.Spelling.{AllValid, IsRead}
+use Rattle.pmf_storelog.specs.Spelling.{AllValid}
 
 -- a span keeps its limits
 pub fits_of : (s : Extent) → IsValidExtent s.first s.size → Fits s
@@ -63,6 +63,10 @@ module _ (s : Extent) (valid : IsValidExtent s.first s.size) where
   unfolding record_of saying_of
   record_of-include = ap saying_of_fields (fields_of-span (codes "PMT.INCLUDE") s (search rules) (fits_of s valid)) ∙ event_over-span Include s valid
 
+  record_of-tx_add : record_of (codes "PMT.TXADD" ++ fields_of_span s) ≡ Ok (Happens (TxAdd s))
+  unfolding record_of saying_of transaction_of
+  record_of-tx_add = ap saying_of_fields (fields_of-span (codes "PMT.TXADD") s (search rules) (fits_of s valid)) ∙ event_over-span TxAdd s valid
+
   record_of-store : record_of (codes "STORE" ++ (field_of s.first ++ codes ";0x0" ++ field_of s.size)) ≡ Ok (Happens (Store s))
   unfolding record_of saying_of stored_span field_of
   record_of-store =
@@ -105,21 +109,37 @@ record_of-fence : record_of (codes "FENCE" ++ []) ≡ Ok (Happens Fence)
 unfolding record_of saying_of
 record_of-fence = ap saying_of_fields (fields_of-last (codes "FENCE") (search rules))
 
--- the text of an event whose record the reader knows reads as the event
-pub record_of-event : (event : Event) → AllValid event → IsRead event → record_of (text_of_event event) ≡ Ok (Happens event)
+record_of-tx_begin : record_of (codes "PMT.TXBEGIN" ++ []) ≡ Ok (Happens TxBegin)
+unfolding record_of saying_of transaction_of
+record_of-tx_begin = ap saying_of_fields (fields_of-last (codes "PMT.TXBEGIN") (search rules))
+
+record_of-tx_end : record_of (codes "PMT.TXEND" ++ []) ≡ Ok (Happens TxEnd)
+unfolding record_of saying_of transaction_of
+record_of-tx_end = ap saying_of_fields (fields_of-last (codes "PMT.TXEND") (search rules))
+
+record_of-check_start : record_of (codes "PMT.CHECKSTART" ++ []) ≡ Ok (Happens CheckStart)
+unfolding record_of saying_of transaction_of
+record_of-check_start = ap saying_of_fields (fields_of-last (codes "PMT.CHECKSTART") (search rules))
+
+record_of-check_end : record_of (codes "PMT.CHECKEND" ++ []) ≡ Ok (Happens CheckEnd)
+unfolding record_of saying_of transaction_of
+record_of-check_end = ap saying_of_fields (fields_of-last (codes "PMT.CHECKEND") (search rules))
+
+-- the text of an event reads as the event
+pub record_of-event : (event : Event) → AllValid event → record_of (text_of_event event) ≡ Ok (Happens event)
 unfolding name_of fields_of_event
-record_of-event (Store s) valid read = record_of-store s valid
-record_of-event (Flush s) valid read = record_of-flush s valid
-record_of-event Fence valid read = record_of-fence
-record_of-event (Persist s) valid read = record_of-persist s valid
-record_of-event (Ordered a b) valid read = record_of-ordered a b valid.0 valid.1
-record_of-event (Exclude s) valid read = record_of-exclude s valid
-record_of-event (Include s) valid read = record_of-include s valid
-record_of-event TxBegin valid read = absurd read
-record_of-event (TxAdd s) valid read = absurd read
-record_of-event TxEnd valid read = absurd read
-record_of-event CheckStart valid read = absurd read
-record_of-event CheckEnd valid read = absurd read
+record_of-event (Store s) valid = record_of-store s valid
+record_of-event (Flush s) valid = record_of-flush s valid
+record_of-event Fence valid = record_of-fence
+record_of-event (Persist s) valid = record_of-persist s valid
+record_of-event (Ordered a b) valid = record_of-ordered a b valid.0 valid.1
+record_of-event (Exclude s) valid = record_of-exclude s valid
+record_of-event (Include s) valid = record_of-include s valid
+record_of-event TxBegin valid = record_of-tx_begin
+record_of-event (TxAdd s) valid = record_of-tx_add s valid
+record_of-event TxEnd valid = record_of-tx_end
+record_of-event CheckStart valid = record_of-check_start
+record_of-event CheckEnd valid = record_of-check_end
 
 -- the text of a marker reads as its number
 pub record_of-marker : (n : ℕ) → n < 2 ^ 64 → record_of (text_of_marker n) ≡ Ok (Enters n)

@@ -5,7 +5,7 @@ use Rattle.std.specs.Str.{bytes_eq}
 use Rattle.pmf_event.specs.Span.{Extent, extent_of}
 use Rattle.pmf_event.specs.declared.span.SpanFault.{SpanFault}
 use Rattle.pmf_event.specs.declared.event.Event.{Event}
-use Rattle.pmf_event.specs.declared.event.Event.TheVariants.{Store, Flush, Fence, Persist, Ordered, Exclude, Include}
+use Rattle.pmf_event.specs.declared.event.Event.TheVariants.{Store, Flush, Fence, Persist, Ordered, Exclude, Include, TxBegin, TxAdd, TxEnd, CheckStart, CheckEnd}
 use Rattle.pmf_storelog.specs.declared.record.Saying.{Saying}
 use Rattle.pmf_storelog.specs.declared.record.Saying.TheVariants.{Happens, Enters, Skipped}
 use Rattle.pmf_storelog.specs.declared.fault.Cause.{Cause}
@@ -91,9 +91,19 @@ unfoldable pub section_of_fields : List (List ℕ) → Result Saying Cause
 section_of_fields [] = Err TooFewFields
 section_of_fields (number ∷ more) = section_of_number (number_of number)
 
--- what a name that is none of those of saying_of says: a marker is refused, any other is skipped
+-- what a name that is none of the table's says: a marker is refused, any other is skipped
 unfoldable pub other_name : List ℕ → Result Saying Cause
 other_name name = if starts_with nat_eq name (codes "PMT.") then Err UnknownMarker else Ok Skipped
+
+-- what a marker of a transaction, or of the scope of its checks, says with these further fields
+unfoldable pub transaction_of : List ℕ → List (List ℕ) → Result Saying Cause
+transaction_of name fields =
+    if bytes_eq name (codes "PMT.TXBEGIN") then Ok (Happens TxBegin)
+    else if bytes_eq name (codes "PMT.TXADD") then event_over TxAdd (span_of_fields fields)
+    else if bytes_eq name (codes "PMT.TXEND") then Ok (Happens TxEnd)
+    else if bytes_eq name (codes "PMT.CHECKSTART") then Ok (Happens CheckStart)
+    else if bytes_eq name (codes "PMT.CHECKEND") then Ok (Happens CheckEnd)
+    else other_name name
 
 -- what a record with this name and these further fields says
 unfoldable pub saying_of : List ℕ → List (List ℕ) → Result Saying Cause
@@ -106,7 +116,7 @@ saying_of name fields =
     else if bytes_eq name (codes "PMT.EXCLUDE") then event_over Exclude (span_of_fields fields)
     else if bytes_eq name (codes "PMT.INCLUDE") then event_over Include (span_of_fields fields)
     else if bytes_eq name (codes "PMT.SECTION") then section_of_fields fields
-    else other_name name
+    else transaction_of name fields
 
 -- the same of the list of all fields
 abbrev pub saying_of_fields : List (List ℕ) → Result Saying Cause

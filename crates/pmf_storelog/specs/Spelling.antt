@@ -1,4 +1,4 @@
--- Which events a log can spell, for this reader. Defined here.
+-- Which events a log can spell: those whose spans keep the limits. Defined here.
 use Rattle.std.specs.Prelude.{⊤}
 use Rattle.pmf_event.specs.Span.{Extent, IsValidExtent}
 use Rattle.pmf_event.specs.declared.event.Event.{Event}
@@ -22,18 +22,3 @@ AllValid (TxAdd s) = IsValid s
 AllValid TxEnd = ⊤
 AllValid CheckStart = ⊤
 AllValid CheckEnd = ⊤
-
--- the reader knows the record of the event
-abbrev pub IsRead : Event → Type 0
-IsRead (Store s) = ⊤
-IsRead (Flush s) = ⊤
-IsRead Fence = ⊤
-IsRead (Persist s) = ⊤
-IsRead (Ordered a b) = ⊤
-IsRead (Exclude s) = ⊤
-IsRead (Include s) = ⊤
-IsRead TxBegin = ⊥
-IsRead (TxAdd s) = ⊥
-IsRead TxEnd = ⊥
-IsRead CheckStart = ⊥
-IsRead CheckEnd = ⊥

@@ -10,8 +10,8 @@
 //! `Numbers` and `Records`; what a reader in mid-log stands for, in `Reader`; that want of memory is
 //! left out of each promise, in `Answers`.
 //!
-//! [`write_section`] writes a section as such a text (`Canonical`), and the text reads as the section
-//! where the reader knows the records of its events (`Spelling`).
+//! [`write_section`] writes a section as such a text (`Canonical`), and the text reads as that section
+//! and nothing else.
 //!
 //! Not promised here: that memory suffices, or that a log is what the program did.
 #![tactic(auto)]

@@ -69,6 +69,8 @@ fn any_other_spelling_is_left_to_the_plain_reading(rt: HostRuntime) {
         "FENCE;",
         "FENCED",
         "PMT.PERSIST;0x1000;0x8",
+        "PMT.TXADD;0x1000;0x8",
+        "PMT.TXBEGIN",
         "PMT.X",
     ] {
         let quick = read_quickly(text.as_bytes());

@@ -1,5 +1,5 @@
 ghost use Rattle.std.specs.Prelude.{◌≡◌};
-ghost use Rattle.pmf_storelog.specs.Records.{record_of, order_of_fields, order_of_texts, other_name, saying_of, section_of_fields, span_of_fields, span_of_texts, span_or_cause, stored_span};
+ghost use Rattle.pmf_storelog.specs.Records.{record_of, order_of_fields, order_of_texts, other_name, saying_of, section_of_fields, span_of_fields, span_of_texts, span_or_cause, stored_span, transaction_of};
 ghost use Rattle.pmf_event.specs.Span.{extent_of};
 
 use crate::fault::Cause;
@@ -69,6 +69,29 @@ fn read_fields(name: &[u8], fields: &mut Fields) -> Result<Saying, Cause>
     }
     if name == b"PMT.SECTION".as_slice() {
         return read_section(fields);
+    }
+    read_transaction(name, fields)
+}
+
+// A marker of a transaction, or of the scope of its checks.
+#[tactic(auto, unfolding(crate::specs::Records::transaction_of))]
+fn read_transaction(name: &[u8], fields: &mut Fields) -> Result<Saying, Cause>
+    ensures { result ≡ transaction_of name.now fields.old }
+{
+    if name == b"PMT.TXBEGIN".as_slice() {
+        return Ok(Saying::Happens(Event::TxBegin));
+    }
+    if name == b"PMT.TXADD".as_slice() {
+        return Ok(Saying::Happens(Event::TxAdd(read_span(fields)?)));
+    }
+    if name == b"PMT.TXEND".as_slice() {
+        return Ok(Saying::Happens(Event::TxEnd));
+    }
+    if name == b"PMT.CHECKSTART".as_slice() {
+        return Ok(Saying::Happens(Event::CheckStart));
+    }
+    if name == b"PMT.CHECKEND".as_slice() {
+        return Ok(Saying::Happens(Event::CheckEnd));
     }
     read_other(name)
 }

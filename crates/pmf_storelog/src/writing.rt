@@ -1,11 +1,10 @@
 //! The canonical text of a section.
 
 ghost use Rattle.std.specs.Prelude.{◌≡◌, ◌++◌, ◌∷◌, [], ◌<◌, ◌^◌, Ok, OnOk, IfOk};
-ghost use Rattle.std.specs.List.{All};
 ghost use Rattle.std.specs.String.{string_bytes};
 ghost use Rattle.pmf_storelog.specs.Canonical.{canonical_text, field_of, fields_of_span, fields_of_event, line_of_event, line_of_marker, name_of};
 ghost use Rattle.pmf_storelog.specs.LogText.{log_of};
-ghost use Rattle.pmf_storelog.specs.Spelling.{AllValid, IsRead, IsValid};
+ghost use Rattle.pmf_storelog.specs.Spelling.{AllValid, IsValid};
 
 use pmf_event::{Event, Section, Span};
 use std::alloc::{AllocError, Global};
@@ -98,13 +97,12 @@ fn push_marker(text: &mut String, number: u64) -> Result<(), AllocError>
     Ok(())
 }
 
-/// The canonical text of the section: its marker, and one text line for each event. Where the reader
-/// knows the record of each event, the text is a log that says this section and nothing else. Takes
-/// memory for the text alone.
+/// The canonical text of the section: its marker, and one text line for each event. The text is a log
+/// that says this section and nothing else. Takes memory for the text alone.
 pub fn write_section(alloc: Global, section: &Section) -> Result<Vec<u8>, AllocError>
     ensures text { IfOk result (λ text. text.items ≡ canonical_text section.now) }
-    ensures reads_back { IfOk result (λ text. All IsRead section.now.events
-        → log_of section.now.name.run text.items ≡ Ok (record { sections = section.now ∷ []; skipped = 0 })) }
+    ensures reads_back { IfOk result (λ text. log_of section.now.name.run text.items
+        ≡ Ok (record { sections = section.now ∷ []; skipped = 0 })) }
 {
     let mut text = String::new(alloc);
     push_marker(&mut text, section.name().number)?;

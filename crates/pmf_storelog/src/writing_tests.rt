@@ -14,28 +14,30 @@ fn section_of(alloc: Global, events: &[Event]) -> Result<Section, Fail> {
     Ok(section)
 }
 
-#[test]
-fn each_event_has_its_line(rt: HostRuntime) -> Result<(), Fail> {
+// A section with an event of each kind, and its text.
+fn each_kind(alloc: Global) -> Result<Section, Fail> {
     let bytes = Span::make(0x1000, 8)?;
     let line = Span::make(0xabcdef40, 64)?;
-    let events = [
-        Event::Store(bytes),
-        Event::Flush(line),
-        Event::Fence,
-        Event::Persist(bytes),
-        Event::Ordered(bytes, line),
-        Event::Exclude(line),
-        Event::Include(line),
-        Event::TxBegin,
-        Event::TxAdd(bytes),
-        Event::TxEnd,
-        Event::CheckStart,
-        Event::CheckEnd,
-    ];
-    let text = write_section(rt.alloc(), &section_of(rt.alloc(), &events)?)?;
-    assert!(rt;
-        text.as_slice()
-            == b"\
+    section_of(
+        alloc,
+        &[
+            Event::Store(bytes),
+            Event::Flush(line),
+            Event::Fence,
+            Event::Persist(bytes),
+            Event::Ordered(bytes, line),
+            Event::Exclude(line),
+            Event::Include(line),
+            Event::TxBegin,
+            Event::TxAdd(bytes),
+            Event::TxEnd,
+            Event::CheckStart,
+            Event::CheckEnd,
+        ],
+    )
+}
+
+const EACH_KIND: &[u8] = b"\
 PMT.SECTION;0x1a
 STORE;0x1000;0x0;0x8
 FLUSH;0xabcdef40;0x40
@@ -49,9 +51,21 @@ PMT.TXADD;0x1000;0x8
 PMT.TXEND
 PMT.CHECKSTART
 PMT.CHECKEND
-"
-                .as_slice()
-    );
+";
+
+#[test]
+fn each_event_has_its_line(rt: HostRuntime) -> Result<(), Fail> {
+    let text = write_section(rt.alloc(), &each_kind(rt.alloc())?)?;
+    assert!(rt; text.as_slice() == EACH_KIND);
+    Ok(())
+}
+
+#[test]
+fn each_line_has_its_event(rt: HostRuntime) -> Result<(), Fail> {
+    let log = read_log(rt.alloc(), EACH_KIND, NAME.run)?;
+    assert_eq!(rt; log.skipped(), 0);
+    assert_eq!(rt; log.sections().len(), 1);
+    assert!(rt; log.sections()[0].same_as(&each_kind(rt.alloc())?));
     Ok(())
 }
 
@@ -92,6 +106,12 @@ fn what_is_written_reads_as_the_section_alone(rt: HostRuntime) -> Result<(), Fai
             Event::Persist(last),
             Event::Ordered(last, most),
             Event::Ordered(most, last),
+            Event::CheckStart,
+            Event::TxBegin,
+            Event::TxAdd(last),
+            Event::TxAdd(most),
+            Event::TxEnd,
+            Event::CheckEnd,
         ],
     )?;
     let text = write_section(rt.alloc(), &section)?;

@@ -202,15 +202,37 @@ fn bad_numbers(rt: HostRuntime) {
 }
 
 #[test]
-fn markers_that_are_not_checked_yet_are_refused(rt: HostRuntime) {
+fn markers_of_transactions_are_read(rt: HostRuntime) {
+    let report = "\
+section 0.0 events=3 pass=0 fail=0 warn=0 empty=0
+total sections=1 pass=0 fail=0 warn=0 empty=0
+";
+    let log = "PMT.TXBEGIN|PMT.TXADD;0x1000;8|PMT.TXEND";
+    reports(&rt, rt.alloc(), log, report, 0);
     for log in [
         "PMT.TXBEGIN",
         "PMT.TXADD;0x1000;8",
-        "PMT.TXEND",
+        "PMT.TXEND;more",
         "PMT.CHECKSTART",
-        "PMT.CHECKEND",
+        "PMT.CHECKEND;;",
     ] {
-        refuses(&rt, rt.alloc(), log, 1, Cause::UnknownMarker);
+        let (_, answer) = checked(rt.alloc(), log);
+        assert_eq!(rt; answer.map(|done| done.skipped), Ok(0), "at {log}");
+    }
+}
+
+#[test]
+fn misspelt_markers_of_transactions_are_refused(rt: HostRuntime) {
+    for (log, at, cause) in [
+        ("PMT.TXBEGI", 1, Cause::UnknownMarker),
+        ("FENCE|PMT.TXBEGINX", 2, Cause::UnknownMarker),
+        ("PMT.txadd;0x1000;8", 1, Cause::UnknownMarker),
+        ("PMT.CHECK", 1, Cause::UnknownMarker),
+        ("PMT.TXBEGIN|PMT.TXADD", 2, Cause::TooFewFields),
+        ("PMT.TXADD;x;0", 1, Cause::BadNumber),
+        ("PMT.TXADD;0;0", 1, Cause::BadSpan(SpanFault::ZeroSize)),
+    ] {
+        refuses(&rt, rt.alloc(), log, at, cause);
     }
 }
 
