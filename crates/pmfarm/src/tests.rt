@@ -4,4 +4,5 @@ mod limits;
 mod orders;
 mod rows;
 mod streams;
+mod transactions;
 mod words;

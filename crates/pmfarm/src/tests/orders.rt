@@ -7,7 +7,7 @@ use std::alloc::Global;
 use std::process::Abort;
 
 // Under the profile the log is one section with these counts and rows.
-fn reports(
+pub(super) fn reports(
     rt: &impl Abort,
     alloc: Global,
     log: &str,
