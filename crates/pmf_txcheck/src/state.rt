@@ -25,9 +25,9 @@ use std::alloc::{AllocError, Global};
 pub struct TxState {
     alloc: Global,
     depth: u32,
-    backup: RunMap<bool>,
+    pub(crate) backup: RunMap<bool>,
     scope: Option<u32>,
-    stored: RunMap<bool>,
+    pub(crate) stored: RunMap<bool>,
 }
 
 impl TxState {
