@@ -12,5 +12,7 @@
 pub mod laws;
 mod sets;
 mod state;
+#[cfg(test)]
+mod tests;
 
 pub use state::TxState;

@@ -25,9 +25,9 @@ use std::alloc::{AllocError, Global};
 pub struct TxState {
     alloc: Global,
     depth: u32,
-    backup: RunMap<bool>,
+    pub(crate) backup: RunMap<bool>,
     scope: Option<u32>,
-    stored: RunMap<bool>,
+    pub(crate) stored: RunMap<bool>,
 }
 
 impl TxState {
@@ -167,7 +167,8 @@ impl TxState {
         }
     }
 
-    // The least byte from `first` up to `end` that the shadow includes and that is not backed up.
+    // The least byte from `first` up to `end` that the shadow includes and that is not backed up: the
+    // shadow is asked about each run of bytes that are not.
     fn least_bare(&self, shadow: &Shadow, first: u64, end: u64) -> Option<u64>
         requires ends { end ≤ ADDRESS_LIMIT }
         requires small { end ≤ first + SPAN_LIMIT }
@@ -203,7 +204,8 @@ impl TxState {
         }
     }
 
-    // The least byte of the scope that the shadow includes and whose persist interval is open.
+    // The least byte of the scope that the shadow includes and whose persist interval is open. A run
+    // of the scope's bytes that is longer than a span is asked about span by span.
     fn least_left_open(&self, shadow: &Shadow) -> Option<u64>
         ensures { (es : List Event) (p : ℕ) → Tracks self.now es p → in_scope es p ≡ true
             → StandsFor shadow.now es (suc p)

@@ -1,0 +1,22 @@
+use Rattle.std.proofs.Common.{◌≡◌, suc, length, refl, add-one, arith}
+use Rattle.std.specs.Prelude.{Some}
+use Rattle.std.proofs.lemmas.Option.{slice_get_read}
+use Rattle.pmf_event.specs.Store.{event_at}
+use Rattle.pmf_txcheck.proofs.tests.found_of.Goals as goal
+
+pub loop-index-init : goal.loop-index-init
+loop-index-init g c = record {
+  stands = c.new-shadow.ensures c.args.events.now;
+  tracks = c.new-state.ensures c.args.events.now;
+}
+
+pub loop-index-preserved : goal.loop-index-preserved
+unfolding event_at
+loop-index-preserved g c =
+    let es = c.args.events.now in
+    let i = c.loop-index.index in
+    let here : event_at es (suc i) ≡ Some c.index-events-index.result = slice_get_read es (length es) i c.index-events-index.result refl (omega arith) c.index-events-index.is in
+    record {
+      stands = rw add-one (c.in_ok-follow_bytes.ensures es i c.loop-index.invariant.stands here (add-one i));
+      tracks = rw add-one (c.in-Ok.ensures es i c.loop-index.invariant.tracks here (add-one i));
+    }

@@ -1,0 +1,340 @@
+ghost use Rattle.std.specs.Prelude.{◌≡◌, ℕ, suc, ◌<◌, List, Some, OnOk};
+ghost use Rattle.pmf_event.specs.declared.event.Event.{Event};
+ghost use Rattle.pmf_event.specs.declared.section.TheConstants.{EVENT_LIMIT};
+ghost use Rattle.pmf_event.specs.Store.{event_at};
+ghost use Rattle.pmf_shadow.specs.Shadow.{StandsFor};
+ghost use Rattle.pmf_txcheck.specs.Tracking.{Tracks};
+
+use crate::state::TxState;
+use pmf_event::{EVENT_LIMIT, Event, Finding, Span, SpanFault};
+use pmf_shadow::Shadow;
+use std::alloc::{AllocError, Global};
+use std::process::Abort;
+use std::test::Fail;
+
+mod memory;
+mod plain;
+
+use plain::{BASE, BYTES, Plain};
+
+/// An event by its numbers.
+#[derive(Clone, Copy, Debug, PartialEq, Eq)]
+enum Step {
+    Store(u64, u64),
+    Flush(u64, u64),
+    Fence,
+    Exclude(u64, u64),
+    Include(u64, u64),
+    TxBegin,
+    TxAdd(u64, u64),
+    TxEnd,
+    CheckStart,
+    CheckEnd,
+}
+
+use Step::{CheckEnd, CheckStart, Exclude, Fence, Flush, Include, Store, TxAdd, TxBegin, TxEnd};
+
+impl Step {
+    fn event(self) -> Result<Event, SpanFault> {
+        match self {
+            Store(first, size) => Ok(Event::Store(Span::make(first, size)?)),
+            Flush(first, size) => Ok(Event::Flush(Span::make(first, size)?)),
+            Fence => Ok(Event::Fence),
+            Exclude(first, size) => Ok(Event::Exclude(Span::make(first, size)?)),
+            Include(first, size) => Ok(Event::Include(Span::make(first, size)?)),
+            TxBegin => Ok(Event::TxBegin),
+            TxAdd(first, size) => Ok(Event::TxAdd(Span::make(first, size)?)),
+            TxEnd => Ok(Event::TxEnd),
+            CheckStart => Ok(Event::CheckStart),
+            CheckEnd => Ok(Event::CheckEnd),
+        }
+    }
+}
+
+/// What is found of some events, each with its place, and where the section ends.
+#[derive(Debug, Drop)]
+struct Found {
+    rows: Vec<(u32, Finding)>,
+    close: Option<Finding>,
+    depth: u32,
+}
+
+/// What is found of the events. Where one of them is refused, the state is what it was before.
+fn found_of(rt: &impl Abort, alloc: Global, events: &[Event]) -> Result<Found, AllocError> {
+    if events.len() > EVENT_LIMIT {
+        return Err(AllocError);
+    }
+    let mut shadow = Shadow::new(alloc);
+    let mut state = TxState::new(alloc);
+    let mut rows = Vec::new(alloc);
+    for (index, event) in events.iter().enumerate() {
+        let place = index as u32 + 1;
+        follow_bytes(&mut shadow, place, *event)?;
+        let finding = match follow_transactions(&mut state, &shadow, place, *event) {
+            Ok(finding) => finding,
+            Err(AllocError) => {
+                assert_kept(rt, &state, &Plain::of(&events[..index]));
+                return Err(AllocError);
+            }
+        };
+        if let Some(finding) = finding {
+            rows.push((place, finding))?;
+        }
+    }
+    Ok(Found {
+        rows,
+        close: state.close_section(),
+        depth: state.depth(),
+    })
+}
+
+/// Follows one event by the shadow, which is to be the first.
+fn follow_bytes(shadow: &mut Shadow, place: u32, event: Event) -> Result<(), AllocError>
+    requires { (es : List Event) × (p : ℕ) × StandsFor shadow.old es p × (p < EVENT_LIMIT) }
+    ensures { OnOk result ((es : List Event) (p : ℕ) → StandsFor shadow.old es p
+        → event_at es (suc p) ≡ Some event → place ≡ suc p → StandsFor shadow.new es (suc p)) }
+{
+    match event {
+        Event::Store(span) => shadow.store(place, span)?,
+        Event::Flush(span) => shadow.flush(span)?,
+        Event::Fence => shadow.fence(),
+        Event::Exclude(span) => shadow.exclude(span)?,
+        Event::Include(span) => shadow.include(span)?,
+        _ => {}
+    }
+    Ok(())
+}
+
+/// Follows one event by the state.
+fn follow_transactions(
+    state: &mut TxState,
+    shadow: &Shadow,
+    place: u32,
+    event: Event,
+) -> Result<Option<Finding>, AllocError>
+    requires { (es : List Event) × (p : ℕ) × Tracks state.old es p × (p < EVENT_LIMIT) }
+    ensures { OnOk result ((es : List Event) (p : ℕ) → Tracks state.old es p
+        → event_at es (suc p) ≡ Some event → place ≡ suc p → Tracks state.new es (suc p)) }
+{
+    let finding = match event {
+        Event::Store(span) => state.store(shadow, span)?,
+        Event::TxBegin => {
+            state.begin();
+            None
+        }
+        Event::TxAdd(span) => state.add(span)?,
+        Event::TxEnd => state.end(),
+        Event::CheckStart => state.check_start(place),
+        Event::CheckEnd => Some(state.check_end(shadow)),
+        _ => None,
+    };
+    Ok(finding)
+}
+
+/// The state keeps what the definitions say.
+fn assert_kept(rt: &impl Abort, state: &TxState, plain: &Plain) {
+    assert_eq!(rt; state.depth(), plain.depth);
+    assert_eq!(rt; state.close_section(), plain.close_section());
+    for byte in BASE..BASE + BYTES {
+        if plain.depth > 0 {
+            assert_eq!(rt;
+                state.backup.at(byte),
+                plain.is_backed(byte),
+                "backup at {byte}"
+            );
+        }
+        if plain.scope.is_some() {
+            assert_eq!(rt;
+                state.stored.at(byte),
+                plain.is_scoped(byte),
+                "scope at {byte}"
+            );
+        }
+    }
+}
+
+fn found_after(rt: &impl Abort, alloc: Global, steps: &[Step]) -> Result<Found, Fail> {
+    let mut events = Vec::new(alloc);
+    for step in steps {
+        events.push(step.event()?)?;
+    }
+    Ok(found_of(rt, alloc, events.as_slice())?)
+}
+
+fn no_backup(byte: u64) -> Finding {
+    Finding::NoBackup { byte }
+}
+
+fn dup_log(byte: u64) -> Finding {
+    Finding::DupLog { byte }
+}
+
+fn check_fail(byte: u64) -> Finding {
+    Finding::CheckFail { byte }
+}
+
+const GREATEST: u64 = 1 << 32;
+
+#[test]
+fn findings_are_those_of_worked_rows(rt: HostRuntime) -> Result<(), Fail> {
+    let pass = Finding::CheckPass;
+    let half = TxAdd(0x1000, 8);
+    let wide = TxAdd(0x1000, 16);
+    let store = Store(0x1000, 8);
+    let both = Store(0x1000, 16);
+    let flush = Flush(0x1000, 0x40);
+    for (steps, want, what) in [
+        ([].as_slice(), [].as_slice(), "no event"),
+        (
+            [CheckStart, CheckEnd].as_slice(),
+            [(2, pass)].as_slice(),
+            "an empty scope",
+        ),
+        (
+            [CheckStart, TxBegin, half, both, TxEnd, CheckEnd].as_slice(),
+            [(4, no_backup(0x1008)), (6, check_fail(0x1000))].as_slice(),
+            "half of a store is backed up",
+        ),
+        (
+            [CheckStart, TxBegin, half, both, CheckEnd].as_slice(),
+            [
+                (4, no_backup(0x1008)),
+                (5, Finding::TxStillOpen { depth: 1 }),
+            ]
+            .as_slice(),
+            "the scope ends inside a transaction",
+        ),
+        (
+            [TxEnd, TxAdd(0, 1), CheckEnd, CheckStart, CheckStart].as_slice(),
+            [
+                (1, Finding::Unmatched),
+                (2, Finding::Outside),
+                (3, Finding::Unopened),
+                (5, Finding::Nested),
+            ]
+            .as_slice(),
+            "markers out of place",
+        ),
+        (
+            [
+                CheckStart,
+                TxBegin,
+                wide,
+                TxAdd(0x1008, 8),
+                store,
+                flush,
+                Fence,
+                TxEnd,
+                CheckEnd,
+            ]
+            .as_slice(),
+            [(4, dup_log(0x1008)), (9, pass)].as_slice(),
+            "backed up twice",
+        ),
+        (
+            [
+                CheckStart, TxBegin, TxBegin, half, TxEnd, store, TxEnd, TxBegin, store, flush,
+                Fence, TxEnd, CheckEnd,
+            ]
+            .as_slice(),
+            [(9, no_backup(0x1000)), (13, pass)].as_slice(),
+            "a backup lasts as long as the outermost transaction",
+        ),
+        (
+            [
+                CheckStart,
+                TxBegin,
+                TxAdd(0, GREATEST),
+                Store(1, GREATEST),
+                TxEnd,
+                CheckEnd,
+            ]
+            .as_slice(),
+            [(4, no_backup(GREATEST)), (6, check_fail(1))].as_slice(),
+            "the greatest spans",
+        ),
+        (
+            [
+                Exclude(0x1008, 8),
+                CheckStart,
+                TxBegin,
+                half,
+                both,
+                TxEnd,
+                CheckEnd,
+            ]
+            .as_slice(),
+            [(7, check_fail(0x1000))].as_slice(),
+            "an excluded byte needs no backup",
+        ),
+        (
+            [
+                Exclude(0x1000, 16),
+                CheckStart,
+                TxBegin,
+                half,
+                wide,
+                both,
+                TxEnd,
+                CheckEnd,
+            ]
+            .as_slice(),
+            [(5, dup_log(0x1000)), (8, pass)].as_slice(),
+            "a backup of excluded bytes is told twice all the same",
+        ),
+        (
+            [
+                Exclude(0x1000, 16),
+                CheckStart,
+                TxBegin,
+                wide,
+                both,
+                Include(0x1004, 1),
+                TxEnd,
+                CheckEnd,
+            ]
+            .as_slice(),
+            [(8, check_fail(0x1004))].as_slice(),
+            "a byte is back at the scope's end",
+        ),
+        (
+            [store, CheckStart, store, TxBegin, half, TxEnd, CheckEnd].as_slice(),
+            [(7, pass)].as_slice(),
+            "stores outside of transactions are no bytes of the scope",
+        ),
+    ] {
+        let found = found_after(&rt, rt.alloc(), steps)?;
+        assert_eq!(rt; found.rows.as_slice(), want, "{what}");
+    }
+    Ok(())
+}
+
+#[test]
+fn a_section_ends_in_the_scope_that_is_open(rt: HostRuntime) -> Result<(), Fail> {
+    for (steps, want, depth, what) in [
+        ([].as_slice(), None, 0, "no event"),
+        (
+            [TxEnd, TxAdd(0, 1), CheckEnd, CheckStart, CheckStart].as_slice(),
+            Some(Finding::Unclosed { start: 4 }),
+            0,
+            "the first of two starts",
+        ),
+        (
+            [CheckStart, TxBegin, TxBegin, CheckEnd].as_slice(),
+            None,
+            2,
+            "closed inside a transaction",
+        ),
+        (
+            [CheckStart, CheckEnd, TxEnd, TxBegin, CheckStart].as_slice(),
+            Some(Finding::Unclosed { start: 5 }),
+            1,
+            "a second scope",
+        ),
+    ] {
+        let found = found_after(&rt, rt.alloc(), steps)?;
+        assert_eq!(rt; found.close, want, "{what}");
+        assert_eq!(rt; found.depth, depth, "{what}");
+    }
+    Ok(())
+}
