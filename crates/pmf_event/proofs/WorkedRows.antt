@@ -1,14 +1,16 @@
 -- The worked examples, computed by the definitions alone.
-use Rattle.std.proofs.Common.{◌≡◌, ℕ, List, [], ◌∷◌, refl}
+use Rattle.std.proofs.Common.{◌≡◌, ℕ, Bool, true, false, List, [], ◌∷◌, refl}
+use Rattle.std.specs.Prelude.{Some, None}
 use Rattle.pmf_event.specs.Span.{Extent}
 use Rattle.pmf_event.specs.declared.event.Event.{Event}
-use Rattle.pmf_event.specs.declared.event.Event.TheVariants.{Store, Flush, Fence, Persist, Exclude, Include}
-use Rattle.pmf_event.specs.declared.finding.Finding.TheVariants.{PersistPass, PersistFail, PersistEmpty, OrderedPass, OrderedFail, OrderedSameLine, OrderedEmpty, FlushDoubled, FlushNeedless}
+use Rattle.pmf_event.specs.declared.event.Event.TheVariants.{Store, Flush, Fence, Persist, Exclude, Include, TxBegin, TxAdd, TxEnd, CheckStart, CheckEnd}
+use Rattle.pmf_event.specs.declared.finding.Finding.TheVariants.{PersistPass, PersistFail, PersistEmpty, OrderedPass, OrderedFail, OrderedSameLine, OrderedEmpty, FlushDoubled, FlushNeedless, NoBackup, DupLog, TxStillOpen, Unmatched, Outside, Nested, Unopened, Unclosed}
 use Rattle.pmf_event.specs.declared.profile.Profile.TheVariants.{One, Two}
-use Rattle.pmf_event.specs.Places.{greatest, least, count, some_between}
+use Rattle.pmf_event.specs.Places.{greatest, least, count, some_between, highest}
 use Rattle.pmf_event.specs.Store.{event_at, at, stores, stores_line, flushes, is_fence, last, epoch_of}
 use Rattle.pmf_event.specs.Interval.{writes_back, first_write_back, closes, closing_fence}
-use Rattle.pmf_event.specs.Exclusion.{excludes, marks, is_excluded}
+use Rattle.pmf_event.specs.Exclusion.{excludes, marks, is_excluded, is_included}
+use Rattle.pmf_event.specs.Transactions.{begins, ends, rise, depth_at, in_transaction, is_outside, adds, is_backed, opens_scope, closes_scope, opens_after, scope_at, in_scope, stores_inside, is_scoped, end_finding, add_finding, lacks_backup, store_finding, start_finding, is_left_open, check_finding, close_finding}
 use Rattle.pmf_event.specs.Ranges.{first_from, count_from}
 use Rattle.pmf_event.specs.Persist.{is_checked, is_exposed, persist_finding}
 use Rattle.pmf_event.specs.Order.{is_stored_before, is_ordered, is_unordered, is_certified, has_partner, least_pair, ordered_finding}
@@ -126,3 +128,68 @@ doubled_and_needless = refl
 not_yet_written_back : flush_findings (Store (span 0x1000 8) ∷ []) 1 (span 0x1000 0x40) ≡ []
 unfolding flush_findings lines_where numbered is_pending is_clean first_from count_from closing_fence first_write_back closes writes_back epoch_of last is_fence flushes stores_line at event_at greatest least count some_between
 not_yet_written_back = refl
+
+-- ---- transactions
+
+abbrev half_backed : List Event
+half_backed = CheckStart ∷ TxBegin ∷ TxAdd (span 0x1000 8) ∷ Store (span 0x1000 16) ∷ TxEnd ∷ CheckEnd ∷ []
+
+a_range_without_backup : store_finding half_backed 3 (span 0x1000 16) ≡ Some (NoBackup 0x1008)
+unfolding store_finding lacks_backup begins ends rise depth_at in_transaction is_outside adds is_backed opens_scope closes_scope opens_after scope_at in_scope stores_inside is_scoped is_included is_excluded excludes marks first_from last stores at event_at greatest least count highest
+a_range_without_backup = refl
+
+its_store_is_left_open : is_left_open half_backed 5 0x1000 ≡ true
+unfolding is_left_open closing_fence closes epoch_of is_fence flushes some_between begins ends rise depth_at in_transaction is_outside adds is_backed opens_scope closes_scope opens_after scope_at in_scope stores_inside is_scoped is_included is_excluded excludes marks first_from last stores at event_at greatest least count highest
+its_store_is_left_open = refl
+
+no_byte_before_it_is : is_left_open half_backed 5 0xfff ≡ false
+unfolding is_left_open closing_fence closes epoch_of is_fence flushes some_between begins ends rise depth_at in_transaction is_outside adds is_backed opens_scope closes_scope opens_after scope_at in_scope stores_inside is_scoped is_included is_excluded excludes marks first_from last stores at event_at greatest least count highest
+no_byte_before_it_is = refl
+
+abbrev never_ended : List Event
+never_ended = CheckStart ∷ TxBegin ∷ TxAdd (span 0x1000 8) ∷ Store (span 0x1000 16) ∷ CheckEnd ∷ []
+
+a_scope_that_ends_in_a_transaction : check_finding never_ended 4 ≡ TxStillOpen 1
+unfolding check_finding begins ends rise depth_at in_transaction is_outside adds is_backed opens_scope closes_scope opens_after scope_at in_scope stores_inside is_scoped is_included is_excluded excludes marks first_from last stores at event_at greatest least count highest
+a_scope_that_ends_in_a_transaction = refl
+
+abbrev out_of_place : List Event
+out_of_place = TxEnd ∷ TxAdd (span 0 1) ∷ CheckEnd ∷ CheckStart ∷ CheckStart ∷ []
+
+an_end_of_nothing : end_finding out_of_place 0 ≡ Some Unmatched
+unfolding end_finding begins ends rise depth_at in_transaction is_outside adds is_backed opens_scope closes_scope opens_after scope_at in_scope stores_inside is_scoped is_included is_excluded excludes marks first_from last stores at event_at greatest least count highest
+an_end_of_nothing = refl
+
+a_backup_outside : add_finding out_of_place 1 (span 0 1) ≡ Some Outside
+unfolding add_finding begins ends rise depth_at in_transaction is_outside adds is_backed opens_scope closes_scope opens_after scope_at in_scope stores_inside is_scoped is_included is_excluded excludes marks first_from last stores at event_at greatest least count highest
+a_backup_outside = refl
+
+a_scope_that_was_not_opened : check_finding out_of_place 2 ≡ Unopened
+unfolding check_finding begins ends rise depth_at in_transaction is_outside adds is_backed opens_scope closes_scope opens_after scope_at in_scope stores_inside is_scoped is_included is_excluded excludes marks first_from last stores at event_at greatest least count highest
+a_scope_that_was_not_opened = refl
+
+a_scope_in_a_scope : start_finding out_of_place 4 ≡ Some Nested
+unfolding start_finding begins ends rise depth_at in_transaction is_outside adds is_backed opens_scope closes_scope opens_after scope_at in_scope stores_inside is_scoped is_included is_excluded excludes marks first_from last stores at event_at greatest least count highest
+a_scope_in_a_scope = refl
+
+a_scope_that_is_not_closed : close_finding out_of_place 5 ≡ Some (Unclosed 4)
+unfolding close_finding begins ends rise depth_at in_transaction is_outside adds is_backed opens_scope closes_scope opens_after scope_at in_scope stores_inside is_scoped is_included is_excluded excludes marks first_from last stores at event_at greatest least count highest
+a_scope_that_is_not_closed = refl
+
+abbrev added_twice_over : List Event
+added_twice_over = CheckStart ∷ TxBegin ∷ TxAdd (span 0x1000 16) ∷ TxAdd (span 0x1008 8) ∷ []
+
+added_twice : add_finding added_twice_over 3 (span 0x1008 8) ≡ Some (DupLog 0x1008)
+unfolding add_finding begins ends rise depth_at in_transaction is_outside adds is_backed opens_scope closes_scope opens_after scope_at in_scope stores_inside is_scoped is_included is_excluded excludes marks first_from last stores at event_at greatest least count highest
+added_twice = refl
+
+abbrev one_after_another : List Event
+one_after_another = CheckStart ∷ TxBegin ∷ TxBegin ∷ TxAdd (span 0x1000 8) ∷ TxEnd ∷ Store (span 0x1000 8) ∷ TxEnd ∷ TxBegin ∷ Store (span 0x1000 8) ∷ []
+
+backed_up_in_a_nested_transaction : store_finding one_after_another 5 (span 0x1000 8) ≡ None
+unfolding store_finding lacks_backup begins ends rise depth_at in_transaction is_outside adds is_backed opens_scope closes_scope opens_after scope_at in_scope stores_inside is_scoped is_included is_excluded excludes marks first_from last stores at event_at greatest least count highest
+backed_up_in_a_nested_transaction = refl
+
+backed_up_in_an_earlier_transaction : store_finding one_after_another 8 (span 0x1000 8) ≡ Some (NoBackup 0x1000)
+unfolding store_finding lacks_backup begins ends rise depth_at in_transaction is_outside adds is_backed opens_scope closes_scope opens_after scope_at in_scope stores_inside is_scoped is_included is_excluded excludes marks first_from last stores at event_at greatest least count highest
+backed_up_in_an_earlier_transaction = refl

@@ -148,6 +148,20 @@ fn spans_meet_where_they_share_a_byte_and_neighbours_do_not(rt: HostRuntime) -> 
 }
 
 #[test]
+fn a_span_between_two_addresses_holds_at_most_2_to_the_32_bytes(rt: HostRuntime) {
+    for (first, end, size) in [
+        (0x1000, 0x1001, 1),
+        (0x1000, 0x1040, 0x40),
+        (0, 1 << 32, 1 << 32),
+        (1, 1 << 63, 1 << 32),
+        ((1 << 63) - 1, 1 << 63, 1),
+    ] {
+        let span = Span::between(first, end);
+        assert_eq!(rt; (span.first(), span.size()), (first, size), "{first:x} to {end:x}");
+    }
+}
+
+#[test]
 fn a_line_is_named_by_its_first_byte(rt: HostRuntime) {
     for (byte, want) in [
         (0, 0),
