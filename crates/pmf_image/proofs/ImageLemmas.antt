@@ -22,7 +22,7 @@ use Rattle.pmf_image.specs.Laws.{EachCutIsAllowed, EachByteMayBeTorn, ClosedInte
 -- ---- soundness
 
 -- a store before a fenced write-back of its line is below the floor
-below_the_floor : (es : List Event) (line k p n : ℕ) → p ≤ n → Closing es line k p → count_of es k line ≤ floor_of es n line
+pub below_the_floor : (es : List Event) (line k p n : ℕ) → p ≤ n → Closing es line k p → count_of es k line ≤ floor_of es n line
 unfolding floor_of count_of is_fenced
 below_the_floor es line k p n later c =
     let fenced = both-true (at (flushes line) es c.flush) (some_between (at is_fence es) c.flush (n + 1)) c.is_flush
@@ -30,26 +30,26 @@ below_the_floor es line k p n later c =
     let above = greatest-above (is_fenced es n line) n c.flush (omega (arith, c.after)) (omega (arith, c.before, c.within)) fenced in
     count-mono (at (stores_line line) es) k (greatest (is_fenced es n line) n - 1) (omega (arith, c.after))
 
-cut-reaches : (es : List Event) (n b : ℕ) (image : Image) → cut_of es n image (line_of_byte b) ≤ reach_of es n image b
+pub cut-reaches : (es : List Event) (n b : ℕ) (image : Image) → cut_of es n image (line_of_byte b) ≤ reach_of es n image b
 unfolding reach_of
 cut-reaches es n b image = omega arith
 
 -- a store that reaches its byte is shown, or a later one is
-reached-shown : (es : List Event) (n b k : ℕ) (image : Image) → 0 < k → k ≤ n → at (stores b) es k ≡ true →
+pub reached-shown : (es : List Event) (n b k : ℕ) (image : Image) → 0 < k → k ≤ n → at (stores b) es k ≡ true →
     count_of es k (line_of_byte b) ≤ reach_of es n image b → k ≤ shows es n image b
 unfolding shows reaches
 reached-shown es n b k image some within is reached =
     greatest-above (reaches es n image b) n k some within (both-true _ _ is (le-leb (count_of es k (line_of_byte b)) (reach_of es n image b) reached))
 
-written-from_checked : (es : List Event) (p b : ℕ) → is_checked es p b ≡ true → 0 < last_store es p b
+pub written-from_checked : (es : List Event) (p b : ℕ) → is_checked es p b ≡ true → 0 < last_store es p b
 unfolding is_checked
 written-from_checked es p b checked = ltb-true 0 (last_store es p b) (and-true _ _ checked).0
 
-last_store-stores : (es : List Event) (p b : ℕ) → 0 < last_store es p b → at (stores b) es (last_store es p b) ≡ true
+pub last_store-stores : (es : List Event) (p b : ℕ) → 0 < last_store es p b → at (stores b) es (last_store es p b) ≡ true
 unfolding last
 last_store-stores es p b some = greatest-passes (at (stores b) es) p some
 
-last_store-bound : (es : List Event) (p b : ℕ) → last_store es p b ≤ p
+pub last_store-bound : (es : List Event) (p b : ℕ) → last_store es p b ≤ p
 unfolding last
 last_store-bound es p b = greatest-bound (at (stores b) es) p
 
@@ -267,15 +267,15 @@ Closing-from_fenced es line k n later =
       is_fence = found.passes;
     }
 
-count_of-here : (es : List Event) (b k : ℕ) → 0 < k → at (stores b) es k ≡ true → count_of es k (line_of_byte b) ≡ suc (count_of es (k - 1) (line_of_byte b))
+pub count_of-here : (es : List Event) (b k : ℕ) → 0 < k → at (stores b) es k ≡ true → count_of es k (line_of_byte b) ≡ suc (count_of es (k - 1) (line_of_byte b))
 unfolding count_of
 count_of-here es b k some is = count-here (at (stores_line (line_of_byte b)) es) k some (stores-line es b k is)
 
-count_of-mono : (es : List Event) (m n line : ℕ) → m ≤ n → count_of es m line ≤ count_of es n line
+pub count_of-mono : (es : List Event) (m n line : ℕ) → m ≤ n → count_of es m line ≤ count_of es n line
 unfolding count_of
 count_of-mono es m n line within = count-mono (at (stores_line line) es) m n within
 
-shown-reaches : (es : List Event) (n b : ℕ) (image : Image) → 0 < shows es n image b →
+pub shown-reaches : (es : List Event) (n b : ℕ) (image : Image) → 0 < shows es n image b →
     (at (stores b) es (shows es n image b) ≡ true) × (count_of es (shows es n image b) (line_of_byte b) ≤ reach_of es n image b) × (shows es n image b ≤ n)
 unfolding shows reaches
 shown-reaches es n b image some =
@@ -287,7 +287,7 @@ reach-untorn : (es : List Event) (n b : ℕ) (image : Image) → image.torn ≡ 
 unfolding reach_of is_in
 reach-untorn es n b image untorn = rw untorn (omega arith)
 
-last_store-above : (es : List Event) (p b k : ℕ) → 0 < k → k ≤ p → at (stores b) es k ≡ true → k ≤ last_store es p b
+pub last_store-above : (es : List Event) (p b k : ℕ) → 0 < k → k ≤ p → at (stores b) es k ≡ true → k ≤ last_store es p b
 unfolding last
 last_store-above es p b k some within is = greatest-above (at (stores b) es) p k some within is
 

@@ -1,11 +1,14 @@
 -- When an assertion holds: in every crash image that the rules allow, at every crash that it speaks of.
 -- The premises: the events are all of one thread's stores, write-backs and fences on its lines, from
 -- durable memory on, no other thread writes those lines meanwhile, and the hardware keeps the rules.
-use Rattle.std.specs.Prelude.{◌≡◌, ℕ, ◌≤◌, true, List, length}
+use Rattle.std.specs.Prelude.{◌≡◌, ℕ, ◌-◌, ◌<◌, ◌≤◌, true, List, length}
 use Rattle.pmf_event.specs.declared.event.Event.{Event}
 use Rattle.pmf_event.specs.Span.{Extent, covers_byte}
 use Rattle.pmf_event.specs.Store.{last_store}
 use Rattle.pmf_event.specs.Persist.{is_checked}
+use Rattle.pmf_event.specs.declared.span.TheConstants.{ADDRESS_LIMIT}
+use Rattle.pmf_event.specs.Exclusion.{is_included}
+use Rattle.pmf_event.specs.Transactions.{is_scoped}
 use Rattle.pmf_image.specs.Image.{Image, IsAllowed, shows}
 
 -- a persist assertion over the span holds at p: wherever a crash comes from p on, whatever image is
@@ -14,3 +17,19 @@ abbrev pub PersistHolds : List Event → ℕ → Extent → Type 0
 PersistHolds es p s =
     (n : ℕ) → p ≤ n → n ≤ length es → (image : Image) → IsAllowed es n image →
     (b : ℕ) → covers_byte s b ≡ true → is_checked es p b ≡ true → last_store es p b ≤ shows es n image b
+
+-- an order assertion over the two spans holds at p: wherever a crash comes up to p, whatever image is
+-- allowed there, where a checked byte of the second span shows its last store at p, so does each checked
+-- byte of the first
+abbrev pub OrderedHolds : List Event → ℕ → Extent → Extent → Type 0
+OrderedHolds es p a b =
+    (n : ℕ) → n ≤ p → (image : Image) → IsAllowed es n image →
+    (x y : ℕ) → covers_byte a x ≡ true → covers_byte b y ≡ true → is_checked es p x ≡ true → is_checked es p y ≡ true →
+    shows es n image y ≡ last_store es p y → shows es n image x ≡ last_store es p x
+
+-- a CHECKEND at p holds: as a persist assertion over the included bytes of the scope that it closes. No
+-- span, and so no byte of a scope, lies at or above the limit of addresses
+abbrev pub ScopeHolds : List Event → ℕ → Type 0
+ScopeHolds es p =
+    (n : ℕ) → p ≤ n → n ≤ length es → (image : Image) → IsAllowed es n image →
+    (b : ℕ) → b < ADDRESS_LIMIT → is_scoped es (p - 1) b ≡ true → is_included es p b ≡ true → last_store es p b ≤ shows es n image b

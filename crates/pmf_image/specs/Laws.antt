@@ -6,13 +6,21 @@ use Rattle.pmf_event.specs.Line.{line_of_byte}
 use Rattle.pmf_event.specs.Interval.{interval_at, is_open}
 use Rattle.pmf_event.specs.Persist.{is_checked, is_exposed}
 use Rattle.pmf_image.specs.Image.{Image, IsAllowed, count_of, floor_of, cut_of, is_in}
-use Rattle.pmf_image.specs.Holds.{PersistHolds}
+use Rattle.pmf_event.specs.declared.profile.Profile.{Profile}
+use Rattle.pmf_event.specs.Order.{is_ordered}
+use Rattle.pmf_image.specs.Holds.{PersistHolds, OrderedHolds}
 
 -- where the interval of each checked byte of the span is closed, the assertion holds
 abbrev pub ClosedIntervalsHold : Type 0
 ClosedIntervalsHold = (es : List Event) (p : ℕ) (s : Extent) →
     ((b : ℕ) → covers_byte s b ≡ true → is_checked es p b ≡ true → is_open (interval_at es p b) ≡ false) →
     PersistHolds es p s
+
+-- where each pair of checked bytes of the two spans is ordered by the profile, the order assertion holds
+abbrev pub OrderedPairsHold : Type 0
+OrderedPairsHold = (profile : Profile) (es : List Event) (p : ℕ) (a b : Extent) →
+    ((x y : ℕ) → covers_byte a x ≡ true → covers_byte b y ≡ true → is_checked es p x ≡ true → is_checked es p y ≡ true →
+    is_ordered profile es p x y ≡ true) → OrderedHolds es p a b
 
 -- an untorn image that is allowed at n, with these cuts
 pub record AllowsCuts (es : List Event) (n : ℕ) (cut : ℕ → ℕ) : Type 0 where

@@ -4,6 +4,8 @@ pub use Rattle.pmf_event.specs.Places
 pub use Rattle.pmf_event.specs.Store
 pub use Rattle.pmf_event.specs.Interval
 pub use Rattle.pmf_event.specs.Persist
+pub use Rattle.pmf_event.specs.Order
+pub use Rattle.pmf_event.specs.Transactions
 pub mod Image
 pub mod Holds
 pub mod Laws

@@ -1,11 +1,17 @@
 //! Laws of the definitions, each the clause of an empty function.
 
-ghost use Rattle.pmf_image.specs.Laws.{ClosedIntervalsHold, EachByteMayBeTorn, EachCutIsAllowed, EveryPlaceHasImages, OpenIntervalsDoNotHold};
+ghost use Rattle.pmf_image.specs.Laws.{ClosedIntervalsHold, EachByteMayBeTorn, EachCutIsAllowed, EveryPlaceHasImages, OpenIntervalsDoNotHold, OrderedPairsHold};
 
 /// A persist assertion whose checked bytes all have closed intervals holds at every crash from its
 /// place on, in every allowed image, torn stores included.
 pub fn closed_intervals_hold()
     ensures { ClosedIntervalsHold }
+{}
+
+/// An order assertion whose pairs of checked bytes are all ordered, by either profile, holds at every
+/// crash up to its place, in every allowed image, torn stores included.
+pub fn ordered_pairs_hold()
+    ensures { OrderedPairsHold }
 {}
 
 /// At every place the image with every cut at its floor and the image with every cut at its count,

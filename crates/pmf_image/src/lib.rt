@@ -1,7 +1,7 @@
 //! Crash images: what memory may hold after a crash, and when an assertion holds in all of them.
 //!
 //! The definitions stand in `specs/Image` (count, floor, cut, torn bytes, allowed image, what an
-//! image shows) and `specs/Holds` (when a persist assertion holds); [`laws`] has what is proved of
+//! image shows) and `specs/Holds` (when a persist assertion, an order assertion and the end of a scope hold); [`laws`] has what is proved of
 //! them. They stand on the definitions of `pmf_event` alone, and know neither epochs nor intervals.
 //!
 //! Not promised here: that the hardware keeps these rules. Not modelled: values of bytes.
