@@ -1,3 +1,4 @@
+pub mod PlainLemmas
 pub mod RowsLemmas
 pub mod SoundLemmas
 pub mod WalkLemmas

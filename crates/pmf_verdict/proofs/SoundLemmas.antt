@@ -1,5 +1,5 @@
 -- What a PASS row says of its checked bytes, and that the assertion holds.
-use Rattle.std.proofs.Common.{◌≡◌, ℕ, zero, suc, ◌-◌, Bool, true, false, not, ◌&&◌, if◌then◌else◌, List, ◌++◌, map, length, refl, sym, ◌∙◌, ap, arith, inl, inr}
+use Rattle.std.proofs.Common.{◌≡◌, ℕ, zero, suc, ◌-◌, Bool, true, false, not, ◌&&◌, if◌then◌else◌, List, map, length, refl, sym, ◌∙◌, ap, arith, inl, inr}
 use Rattle.std.specs.Prelude.{Option, Some, None, Contains, is_none}
 use Rattle.pmf_event.specs.declared.event.Event.{Event}
 use Rattle.pmf_event.specs.declared.event.Event.TheVariants.{Store, Flush, Persist, Ordered, TxAdd, TxEnd, CheckStart, CheckEnd}
@@ -169,7 +169,7 @@ pass-from_rows profile es p found =
     elim (Contains-append_cases (rows_upto profile es (length es)) (map (row_at (suc (length es))) (if_any (close_finding es (length es)))) (row_at p PersistPass) found) [
       | inl within ↦ finding-from_rows profile es (length es) p PersistPass within
       | inr end ↦ absurd (no_pass-within (close_finding es (length es)) (no_pass-close es (length es))
-      (place-of_row (suc (length es)) p PersistPass (if_any (close_finding es (length es))) end).1)
+          (place-of_row (suc (length es)) p PersistPass (if_any (close_finding es (length es))) end).1)
     ]
 
 pub passes_hold : (profile : Profile) (es : List Event) → PassesHold es (rows_of profile es)

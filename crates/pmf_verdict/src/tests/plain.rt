@@ -25,6 +25,7 @@ use transactions::{
 };
 
 /// What is found at the place: nothing, one finding, or the two of a write-back.
+#[tactic(auto, unfolding(crate::specs::Rows::findings_of))]
 fn findings_of(profile: Profile, events: &[Event], place: u32) -> (Option<Finding>, Option<Finding>)
     ensures { if_any result.0 ++ if_any result.1
         ≡ findings_of profile events.now place (event_at events.now place) }

@@ -2,13 +2,16 @@
 
 ghost use Rattle.std.specs.Prelude.{◌≡◌, ◌+◌, ◌≤◌, ◌<◌, ◌^◌, ℕ, Bool, List, Option};
 ghost use Rattle.pmf_event.specs.declared.event.Event.{Event};
+ghost use Rattle.pmf_event.specs.declared.span.TheConstants.{ADDRESS_LIMIT};
 ghost use Rattle.pmf_event.specs.Exclusion.{is_excluded, is_included};
 ghost use Rattle.pmf_event.specs.Interval.{closing_fence, epoch_after, first_write_back, interval_at, is_open};
 ghost use Rattle.pmf_event.specs.Persist.{is_checked, is_exposed, persist_finding};
 ghost use Rattle.pmf_event.specs.Ranges.{count_from, first_byte, first_from};
 ghost use Rattle.pmf_event.specs.Store.{last_store};
 
-use super::places::{At, Closes, EventTest, Excludes, Marks, PlaceTest, Stores, WritesBack, epoch_of, last, least};
+use super::places::{
+    At, Closes, EventTest, Excludes, Marks, PlaceTest, Stores, WritesBack, epoch_of, last, least,
+};
 use pmf_event::{Event, Finding, Interval, Span, line_of};
 
 /// What is asked of a number: of a byte, or of a cache line by its number.
@@ -24,8 +27,15 @@ pub(crate) trait NumberTest {
 }
 
 /// The least of the `n` numbers from `first` on that passes.
-pub(crate) fn first_from<T: NumberTest>(events: &[Event], test: &T, first: u64, n: u64) -> Option<u64>
-    requires { first + n ≤ T.limit }
+#[tactic(auto, unfolding(pmf_event::specs::Ranges::first_from))]
+pub(crate) fn first_from<T: NumberTest>(
+    events: &[Event],
+    test: &T,
+    first: u64,
+    n: u64,
+) -> Option<u64>
+    requires within { first + n ≤ T.limit }
+    requires ends { first + n ≤ ADDRESS_LIMIT }
     ensures { result ≡ first_from (T.holds test.now events.now) first n }
 {
     if n == 0 {
@@ -38,8 +48,10 @@ pub(crate) fn first_from<T: NumberTest>(events: &[Event], test: &T, first: u64, 
 }
 
 /// How many of the `n` numbers from `first` on pass.
+#[tactic(auto, unfolding(pmf_event::specs::Ranges::count_from))]
 pub(crate) fn count_from<T: NumberTest>(events: &[Event], test: &T, first: u64, n: u64) -> u64
-    requires { first + n ≤ T.limit }
+    requires within { first + n ≤ T.limit }
+    requires ends { first + n ≤ ADDRESS_LIMIT }
     ensures { result ≡ count_from (T.holds test.now events.now) first n }
 {
     if n == 0 {
@@ -66,6 +78,7 @@ pub(crate) fn last_store(events: &[Event], p: u32, byte: u64) -> u32
     last(events, Stores(byte), p)
 }
 
+#[tactic(auto, unfolding(pmf_event::specs::Interval::closing_fence))]
 pub(crate) fn closing_fence<T: EventTest>(events: &[Event], stored: T, line: u64, p: u32) -> u32
     ensures { result ≡ closing_fence (T.passes stored) line events.now p }
 {
@@ -73,6 +86,7 @@ pub(crate) fn closing_fence<T: EventTest>(events: &[Event], stored: T, line: u64
     least(events, &Closes { line, after }, p)
 }
 
+#[tactic(auto, unfolding(pmf_event::specs::Interval::first_write_back))]
 pub(crate) fn first_write_back<T: EventTest>(events: &[Event], stored: T, line: u64, p: u32) -> u32
     ensures { result ≡ first_write_back (T.passes stored) line events.now p }
 {
@@ -100,7 +114,10 @@ pub(crate) fn interval_at(events: &[Event], p: u32, byte: u64) -> Option<Interva
         Some(Interval {
             last,
             opens: epoch_of(events, last),
-            closes: epoch_after(events, closing_fence(events, Stores(byte), line_of(byte), p)),
+            closes: epoch_after(
+                events,
+                closing_fence(events, Stores(byte), line_of(byte), p),
+            ),
         })
     }
 }
@@ -114,12 +131,14 @@ pub(crate) fn is_open(interval: Option<Interval>) -> bool
     }
 }
 
+#[tactic(auto, unfolding(pmf_event::specs::Exclusion::is_excluded))]
 fn is_excluded(events: &[Event], p: u32, byte: u64) -> bool
     ensures { result ≡ is_excluded events.now p byte }
 {
     At(Excludes(byte)).passes_at(events, last(events, Marks(byte), p))
 }
 
+#[tactic(auto, unfolding(pmf_event::specs::Exclusion::is_included))]
 pub(crate) fn is_included(events: &[Event], p: u32, byte: u64) -> bool
     ensures { result ≡ is_included events.now p byte }
 {
@@ -137,6 +156,7 @@ impl NumberTest for IsChecked {
 
     ghost limit = { 2 ^ 64 };
 
+    #[tactic(auto, unfolding(pmf_event::specs::Persist::is_checked))]
     fn holds(&self, events: &[Event], byte: u64) -> bool {
         last_store(events, self.p, byte) > 0 && !is_excluded(events, self.p, byte)
     }
@@ -153,11 +173,13 @@ impl NumberTest for IsExposed {
 
     ghost limit = { 2 ^ 64 };
 
+    #[tactic(auto, unfolding(pmf_event::specs::Persist::is_exposed))]
     fn holds(&self, events: &[Event], byte: u64) -> bool {
         IsChecked { p: self.p }.holds(events, byte) && is_open(interval_at(events, self.p, byte))
     }
 }
 
+#[tactic(auto, unfolding(pmf_event::specs::Persist::persist_finding))]
 pub(crate) fn persist_finding(events: &[Event], p: u32, span: Span) -> Finding
     ensures { result ≡ persist_finding events.now p span }
 {

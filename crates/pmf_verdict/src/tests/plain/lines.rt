@@ -9,13 +9,14 @@ use super::bytes::{NumberTest, closing_fence, count_from, first_from, first_writ
 use super::places::{StoresLine, last};
 use pmf_event::{Event, Finding, LINE_SIZE, Lines, Span};
 
+#[tactic(auto, unfolding(pmf_event::specs::FlushWarnings::is_clean))]
 fn is_clean(events: &[Event], p: u32, line: u64) -> bool
     ensures { result ≡ is_clean events.now p line }
 {
-    last(events, StoresLine(line), p) == 0
-        || closing_fence(events, StoresLine(line), line, p) > 0
+    last(events, StoresLine(line), p) == 0 || closing_fence(events, StoresLine(line), line, p) > 0
 }
 
+#[tactic(auto, unfolding(pmf_event::specs::FlushWarnings::is_pending))]
 fn is_pending(events: &[Event], p: u32, line: u64) -> bool
     ensures { result ≡ is_pending events.now p line }
 {
@@ -33,6 +34,7 @@ impl NumberTest for IsClean {
 
     ghost limit = { 2 ^ 58 };
 
+    #[tactic(auto, unfolding(pmf_event::specs::FlushWarnings::numbered))]
     fn holds(&self, events: &[Event], number: u64) -> bool {
         is_clean(events, self.p, number * LINE_SIZE)
     }
@@ -49,6 +51,7 @@ impl NumberTest for IsPending {
 
     ghost limit = { 2 ^ 58 };
 
+    #[tactic(auto, unfolding(pmf_event::specs::FlushWarnings::numbered))]
     fn holds(&self, events: &[Event], number: u64) -> bool {
         is_pending(events, self.p, number * LINE_SIZE)
     }
@@ -95,7 +98,12 @@ fn needless(lines: Option<Lines>) -> Option<Finding>
 }
 
 /// What is found of a write-back over the span that follows place p: DOUBLED, and NEEDLESS.
-pub(crate) fn flush_findings(events: &[Event], p: u32, span: Span) -> (Option<Finding>, Option<Finding>)
+#[tactic(auto, unfolding(pmf_event::specs::FlushWarnings::flush_findings, pmf_event::specs::FlushWarnings::lines_where))]
+pub(crate) fn flush_findings(
+    events: &[Event],
+    p: u32,
+    span: Span,
+) -> (Option<Finding>, Option<Finding>)
     ensures { if_any result.0 ++ if_any result.1 ≡ flush_findings events.now p span }
 {
     (

@@ -31,12 +31,14 @@ fn share_line(x: u64, y: u64) -> bool
     line_of(x) == line_of(y)
 }
 
+#[tactic(auto, unfolding(pmf_event::specs::Order::is_stored_before))]
 fn is_stored_before(events: &[Event], p: u32, x: u64, y: u64) -> bool
     ensures { result ≡ is_stored_before events.now p x y }
 {
     last_store(events, p, x) < last_store(events, p, y)
 }
 
+#[tactic(auto, unfolding(pmf_event::specs::Order::is_ordered))]
 fn is_ordered(profile: Profile, events: &[Event], p: u32, x: u64, y: u64) -> bool
     ensures { result ≡ is_ordered profile events.now p x y }
 {
@@ -65,6 +67,7 @@ struct IsUnordered {
 impl PairTest for IsUnordered {
     ghost holds = { λ t es x y. is_unordered t.profile es t.p x y };
 
+    #[tactic(auto, unfolding(pmf_event::specs::Order::is_unordered))]
     fn holds(&self, events: &[Event], x: u64, y: u64) -> bool {
         let checked = IsChecked { p: self.p };
         checked.holds(events, x)
@@ -83,6 +86,7 @@ struct IsCertified {
 impl PairTest for IsCertified {
     ghost holds = { λ t es x y. is_certified t.profile es t.p x y };
 
+    #[tactic(auto, unfolding(pmf_event::specs::Order::is_certified))]
     fn holds(&self, events: &[Event], x: u64, y: u64) -> bool {
         let unordered = IsUnordered {
             profile: self.profile,
@@ -122,12 +126,14 @@ impl<T: PairTest> NumberTest for HasPartner<T> {
 
     ghost limit = { 2 ^ 64 };
 
+    #[tactic(auto, unfolding(pmf_event::specs::Order::has_partner))]
     fn holds(&self, events: &[Event], x: u64) -> bool {
         let with = With { test: self.test, x };
         first_byte(events, &with, self.span).is_some()
     }
 }
 
+#[tactic(auto, unfolding(pmf_event::specs::Order::least_pair))]
 fn least_pair<T: PairTest>(events: &[Event], test: T, a: Span, b: Span) -> Option<(u64, u64)>
     ensures { result ≡ least_pair (T.holds test events.now) a b }
 {
@@ -161,7 +167,14 @@ fn finding_of_pairs(
     }
 }
 
-pub(crate) fn ordered_finding(profile: Profile, events: &[Event], p: u32, a: Span, b: Span) -> Finding
+#[tactic(auto, unfolding(pmf_event::specs::Order::ordered_finding))]
+pub(crate) fn ordered_finding(
+    profile: Profile,
+    events: &[Event],
+    p: u32,
+    a: Span,
+    b: Span,
+) -> Finding
     ensures { result ≡ ordered_finding profile events.now p a b }
 {
     if first_byte(events, &IsChecked { p }, a).is_none() {

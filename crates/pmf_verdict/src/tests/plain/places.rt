@@ -33,6 +33,7 @@ pub(crate) struct Stores(pub(crate) u64);
 impl EventTest for Stores {
     ghost passes = { λ t e. stores t.0 e };
 
+    #[tactic(auto, unfolding(pmf_event::specs::Store::stores))]
     fn passes(&self, event: Event) -> bool {
         match event {
             Event::Store(span) => span.covers(self.0),
@@ -48,6 +49,7 @@ pub(crate) struct StoresLine(pub(crate) u64);
 impl EventTest for StoresLine {
     ghost passes = { λ t e. stores_line t.0 e };
 
+    #[tactic(auto, unfolding(pmf_event::specs::Store::stores_line))]
     fn passes(&self, event: Event) -> bool {
         match event {
             Event::Store(span) => meets_line(span, self.0),
@@ -62,6 +64,7 @@ pub(crate) struct Flushes(pub(crate) u64);
 impl EventTest for Flushes {
     ghost passes = { λ t e. flushes t.0 e };
 
+    #[tactic(auto, unfolding(pmf_event::specs::Store::flushes))]
     fn passes(&self, event: Event) -> bool {
         match event {
             Event::Flush(span) => meets_line(span, self.0),
@@ -76,6 +79,7 @@ pub(crate) struct IsFence;
 impl EventTest for IsFence {
     ghost passes = { λ t e. is_fence e };
 
+    #[tactic(auto, unfolding(pmf_event::specs::Store::is_fence))]
     fn passes(&self, event: Event) -> bool {
         event == Event::Fence
     }
@@ -87,6 +91,7 @@ pub(crate) struct Excludes(pub(crate) u64);
 impl EventTest for Excludes {
     ghost passes = { λ t e. excludes t.0 e };
 
+    #[tactic(auto, unfolding(pmf_event::specs::Exclusion::excludes))]
     fn passes(&self, event: Event) -> bool {
         match event {
             Event::Exclude(span) => span.covers(self.0),
@@ -102,6 +107,7 @@ pub(crate) struct Marks(pub(crate) u64);
 impl EventTest for Marks {
     ghost passes = { λ t e. marks t.0 e };
 
+    #[tactic(auto, unfolding(pmf_event::specs::Exclusion::marks))]
     fn passes(&self, event: Event) -> bool {
         match event {
             Event::Exclude(span) => span.covers(self.0),
@@ -117,6 +123,7 @@ pub(crate) struct Begins;
 impl EventTest for Begins {
     ghost passes = { λ t e. begins e };
 
+    #[tactic(auto, unfolding(pmf_event::specs::Transactions::begins))]
     fn passes(&self, event: Event) -> bool {
         match event {
             Event::TxBegin => true,
@@ -131,6 +138,7 @@ pub(crate) struct Ends;
 impl EventTest for Ends {
     ghost passes = { λ t e. ends e };
 
+    #[tactic(auto, unfolding(pmf_event::specs::Transactions::ends))]
     fn passes(&self, event: Event) -> bool {
         match event {
             Event::TxEnd => true,
@@ -145,6 +153,7 @@ pub(crate) struct Adds(pub(crate) u64);
 impl EventTest for Adds {
     ghost passes = { λ t e. adds t.0 e };
 
+    #[tactic(auto, unfolding(pmf_event::specs::Transactions::adds))]
     fn passes(&self, event: Event) -> bool {
         match event {
             Event::TxAdd(span) => span.covers(self.0),
@@ -159,6 +168,7 @@ pub(crate) struct OpensScope;
 impl EventTest for OpensScope {
     ghost passes = { λ t e. opens_scope e };
 
+    #[tactic(auto, unfolding(pmf_event::specs::Transactions::opens_scope))]
     fn passes(&self, event: Event) -> bool {
         match event {
             Event::CheckStart => true,
@@ -173,6 +183,7 @@ pub(crate) struct ClosesScope;
 impl EventTest for ClosesScope {
     ghost passes = { λ t e. closes_scope e };
 
+    #[tactic(auto, unfolding(pmf_event::specs::Transactions::closes_scope))]
     fn passes(&self, event: Event) -> bool {
         match event {
             Event::CheckEnd => true,
@@ -188,6 +199,7 @@ pub(crate) struct At<T>(pub(crate) T);
 impl<T: EventTest> PlaceTest for At<T> {
     ghost passes_at = { λ t es k. at (T.passes t.0) es k };
 
+    #[tactic(auto, unfolding(pmf_event::specs::Store::at))]
     fn passes_at(&self, events: &[Event], place: u32) -> bool {
         match event_at(events, place) {
             None => false,
@@ -206,6 +218,7 @@ pub(crate) struct WritesBack {
 impl PlaceTest for WritesBack {
     ghost passes_at = { λ t es k. writes_back es t.line t.after k };
 
+    #[tactic(auto, unfolding(pmf_event::specs::Interval::writes_back))]
     fn passes_at(&self, events: &[Event], place: u32) -> bool {
         self.after < place && At(Flushes(self.line)).passes_at(events, place)
     }
@@ -221,12 +234,14 @@ pub(crate) struct Closes {
 impl PlaceTest for Closes {
     ghost passes_at = { λ t es k. closes es t.line t.after k };
 
+    #[tactic(auto, unfolding(pmf_event::specs::Interval::closes, pmf_event::specs::Places::some_between))]
     fn passes_at(&self, events: &[Event], place: u32) -> bool {
         At(IsFence).passes_at(events, place)
             && self.after < greatest(events, &At(Flushes(self.line)), place.saturating_sub(1))
     }
 }
 
+#[tactic(auto, unfolding(pmf_event::specs::Store::event_at))]
 pub(crate) fn event_at(events: &[Event], place: u32) -> Option<Event>
     ensures { result ≡ event_at events.now place }
 {
@@ -244,6 +259,7 @@ pub(crate) fn meets_line(span: Span, line: u64) -> bool
         && line < span.first() + span.size()
 }
 
+#[tactic(auto, unfolding(pmf_event::specs::Places::greatest))]
 pub(crate) fn greatest<T: PlaceTest>(events: &[Event], test: &T, n: u32) -> u32
     ensures { result ≡ greatest (T.passes_at test.now events.now) n }
 {
@@ -256,6 +272,7 @@ pub(crate) fn greatest<T: PlaceTest>(events: &[Event], test: &T, n: u32) -> u32
     }
 }
 
+#[tactic(auto, unfolding(pmf_event::specs::Places::least))]
 pub(crate) fn least<T: PlaceTest>(events: &[Event], test: &T, n: u32) -> u32
     ensures { result ≡ least (T.passes_at test.now events.now) n }
 {
@@ -272,6 +289,7 @@ pub(crate) fn least<T: PlaceTest>(events: &[Event], test: &T, n: u32) -> u32
     }
 }
 
+#[tactic(auto, unfolding(pmf_event::specs::Places::count))]
 pub(crate) fn count<T: PlaceTest>(events: &[Event], test: &T, n: u32) -> u32
     ensures { result ≡ count (T.passes_at test.now events.now) n }
 {
@@ -286,12 +304,14 @@ pub(crate) fn count<T: PlaceTest>(events: &[Event], test: &T, n: u32) -> u32
     }
 }
 
+#[tactic(auto, unfolding(pmf_event::specs::Store::last))]
 pub(crate) fn last<T: EventTest>(events: &[Event], test: T, p: u32) -> u32
     ensures { result ≡ last (T.passes test) events.now p }
 {
     greatest(events, &At(test), p)
 }
 
+#[tactic(auto, unfolding(pmf_event::specs::Store::epoch_of))]
 pub(crate) fn epoch_of(events: &[Event], place: u32) -> u32
     ensures { result ≡ epoch_of events.now place }
 {

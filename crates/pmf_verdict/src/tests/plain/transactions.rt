@@ -15,6 +15,7 @@ use super::places::{
 };
 use pmf_event::{Event, Finding, Span};
 
+#[tactic(auto, unfolding(pmf_event::specs::Transactions::rise))]
 fn rise(events: &[Event], p: u32, q: u32) -> u32
     ensures { result ≡ rise events.now p q }
 {
@@ -24,6 +25,7 @@ fn rise(events: &[Event], p: u32, q: u32) -> u32
 }
 
 /// The highest rise from a place from 0 to n.
+#[tactic(auto, unfolding(pmf_event::specs::Places::highest))]
 fn highest(events: &[Event], p: u32, n: u32) -> u32
     ensures { result ≡ highest (rise events.now p) n }
 {
@@ -34,12 +36,14 @@ fn highest(events: &[Event], p: u32, n: u32) -> u32
     }
 }
 
+#[tactic(auto, unfolding(pmf_event::specs::Transactions::depth_at))]
 fn depth_at(events: &[Event], p: u32) -> u32
     ensures { result ≡ depth_at events.now p }
 {
     highest(events, p, p)
 }
 
+#[tactic(auto, unfolding(pmf_event::specs::Transactions::in_transaction))]
 fn in_transaction(events: &[Event], p: u32) -> bool
     ensures { result ≡ in_transaction events.now p }
 {
@@ -53,6 +57,7 @@ struct IsOutside;
 impl PlaceTest for IsOutside {
     ghost passes_at = { λ t es k. is_outside es k };
 
+    #[tactic(auto, unfolding(pmf_event::specs::Transactions::is_outside))]
     fn passes_at(&self, events: &[Event], place: u32) -> bool {
         !in_transaction(events, place)
     }
@@ -65,6 +70,7 @@ struct OpensAfter(u32);
 impl PlaceTest for OpensAfter {
     ghost passes_at = { λ t es k. opens_after es t.0 k };
 
+    #[tactic(auto, unfolding(pmf_event::specs::Transactions::opens_after))]
     fn passes_at(&self, events: &[Event], place: u32) -> bool {
         self.0 < place && At(OpensScope).passes_at(events, place)
     }
@@ -77,17 +83,20 @@ struct StoresInside(u64);
 impl PlaceTest for StoresInside {
     ghost passes_at = { λ t es k. stores_inside es t.0 k };
 
+    #[tactic(auto, unfolding(pmf_event::specs::Transactions::stores_inside))]
     fn passes_at(&self, events: &[Event], place: u32) -> bool {
         At(Stores(self.0)).passes_at(events, place) && in_transaction(events, place)
     }
 }
 
+#[tactic(auto, unfolding(pmf_event::specs::Transactions::scope_at))]
 fn scope_at(events: &[Event], p: u32) -> u32
     ensures { result ≡ scope_at events.now p }
 {
     least(events, &OpensAfter(last(events, ClosesScope, p)), p)
 }
 
+#[tactic(auto, unfolding(pmf_event::specs::Transactions::in_scope))]
 fn in_scope(events: &[Event], p: u32) -> bool
     ensures { result ≡ in_scope events.now p }
 {
@@ -105,6 +114,7 @@ impl NumberTest for IsBacked {
 
     ghost limit = { 2 ^ 64 };
 
+    #[tactic(auto, unfolding(pmf_event::specs::Transactions::is_backed))]
     fn holds(&self, events: &[Event], byte: u64) -> bool {
         greatest(events, &IsOutside, self.p) < last(events, Adds(byte), self.p).saturating_sub(1)
     }
@@ -121,6 +131,7 @@ impl NumberTest for LacksBackup {
 
     ghost limit = { 2 ^ 64 };
 
+    #[tactic(auto, unfolding(pmf_event::specs::Transactions::lacks_backup))]
     fn holds(&self, events: &[Event], byte: u64) -> bool {
         let before = IsBacked {
             p: self.place.saturating_sub(1),
@@ -129,6 +140,7 @@ impl NumberTest for LacksBackup {
     }
 }
 
+#[tactic(auto, unfolding(pmf_event::specs::Transactions::is_scoped))]
 fn is_scoped(events: &[Event], p: u32, byte: u64) -> bool
     ensures { result ≡ is_scoped events.now p byte }
 {
@@ -146,11 +158,23 @@ impl NumberTest for IsLeftOpen {
 
     ghost limit = { 2 ^ 64 };
 
+    #[tactic(auto, unfolding(pmf_event::specs::Transactions::is_left_open))]
     fn holds(&self, events: &[Event], byte: u64) -> bool {
         let place = self.place.max(1);
         is_scoped(events, self.place.saturating_sub(1), byte)
             && is_included(events, place, byte)
             && is_open(interval_at(events, place, byte))
+    }
+}
+
+/// The end of a store's span; 0 for another event.
+fn end_of_store(event: Event) -> u64
+    ensures bound { result ≤ ADDRESS_LIMIT }
+    ensures ends { (s : Extent) → event ≡ Event.Store s → result ≡ s.first + s.size }
+{
+    match event {
+        Event::Store(span) => span.first() + span.size(),
+        _ => 0,
     }
 }
 
@@ -165,11 +189,12 @@ fn end_of_stores(events: &[Event], place: u32) -> u64
     }
     let before = end_of_stores(events, place - 1);
     match event_at(events, place) {
-        Some(Event::Store(span)) => before.max(span.first() + span.size()),
-        _ => before,
+        None => before,
+        Some(event) => before.max(end_of_store(event)),
     }
 }
 
+#[tactic(auto, unfolding(pmf_event::specs::Transactions::store_finding))]
 pub(crate) fn store_finding(events: &[Event], place: u32, span: Span) -> Option<Finding>
     ensures { result ≡ store_finding events.now (place - 1) span }
 {
@@ -184,6 +209,7 @@ pub(crate) fn store_finding(events: &[Event], place: u32, span: Span) -> Option<
     }
 }
 
+#[tactic(auto, unfolding(pmf_event::specs::Transactions::add_finding, pmf_event::specs::Transactions::is_outside))]
 pub(crate) fn add_finding(events: &[Event], p: u32, span: Span) -> Option<Finding>
     ensures { result ≡ add_finding events.now p span }
 {
@@ -199,6 +225,7 @@ pub(crate) fn add_finding(events: &[Event], p: u32, span: Span) -> Option<Findin
     }
 }
 
+#[tactic(auto, unfolding(pmf_event::specs::Transactions::end_finding))]
 pub(crate) fn end_finding(events: &[Event], p: u32) -> Option<Finding>
     ensures { result ≡ end_finding events.now p }
 {
@@ -209,6 +236,7 @@ pub(crate) fn end_finding(events: &[Event], p: u32) -> Option<Finding>
     }
 }
 
+#[tactic(auto, unfolding(pmf_event::specs::Transactions::start_finding))]
 pub(crate) fn start_finding(events: &[Event], p: u32) -> Option<Finding>
     ensures { result ≡ start_finding events.now p }
 {
@@ -220,6 +248,7 @@ pub(crate) fn start_finding(events: &[Event], p: u32) -> Option<Finding>
 }
 
 /// No byte above the end of all stores is one of the scope's.
+#[tactic(auto, unfolding(pmf_event::specs::Transactions::check_finding))]
 pub(crate) fn check_finding(events: &[Event], place: u32) -> Finding
     ensures { result ≡ check_finding events.now (place - 1) }
 {
@@ -239,6 +268,7 @@ pub(crate) fn check_finding(events: &[Event], place: u32) -> Finding
     }
 }
 
+#[tactic(auto, unfolding(pmf_event::specs::Transactions::close_finding))]
 pub(crate) fn close_finding(events: &[Event], p: u32) -> Option<Finding>
     ensures { result ≡ close_finding events.now p }
 {
