@@ -1,4 +1,5 @@
 pub mod PlainLemmas
 pub mod RowsLemmas
+pub mod PassLemmas
 pub mod SoundLemmas
 pub mod WalkLemmas

@@ -4,7 +4,7 @@ ghost use Rattle.pmf_event.specs.FlushWarnings.{if_any};
 ghost use Rattle.pmf_verdict.specs.Walks.{Walks, Follows};
 ghost use Rattle.pmf_verdict.specs.Checked.{rows_in};
 ghost use Rattle.pmf_verdict.specs.Rows.{row_at, rows_of};
-ghost use Rattle.pmf_verdict.specs.Sound.{PassesHold};
+ghost use Rattle.pmf_verdict.specs.Sound.{PassesHold, OrdersHold, ScopesHold};
 
 use crate::verdict::Verdict;
 use pmf_asserts::{check_flush, check_ordered, check_persist};
@@ -162,6 +162,10 @@ pub fn check(
     // them.
     ensures sound { IfOk result
         (λ verdict. PassesHold verdict.section.events (rows_in verdict)) }
+    ensures sound_orders { IfOk result
+        (λ verdict. OrdersHold verdict.section.events (rows_in verdict)) }
+    ensures sound_scopes { IfOk result
+        (λ verdict. ScopesHold verdict.section.events (rows_in verdict)) }
     ensures returned { IfErr result (λ refused. refused.1.value ≡ section.value) }
 {
     match rows_for(alloc, section.events(), profile) {

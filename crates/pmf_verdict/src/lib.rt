@@ -1,8 +1,9 @@
 //! The verdict of one section: the rows that the checker gives its events.
 //!
 //! A [`Verdict`] holds a section, and its type keeps that its rows are those of that section's own
-//! events, by `specs/Rows`. What a row shows as `PERSIST PASS` holds in every crash image that the
-//! rules allow, torn stores included, by `specs/Sound`. The text of a row is `specs/Text`, and the
+//! events, by `specs/Rows`. What a row shows as `PERSIST PASS`, `ORDERED PASS` or
+//! `CHECKEND PASS` holds in every crash image that the rules allow, torn stores included, by
+//! `specs/Sound`. The text of a row is `specs/Text`, and the
 //! text of a report, which upper crates write, `specs/Report`.
 //!
 //! Not promised here: that the section holds all of its thread's stores, write-backs and fences on

@@ -1,7 +1,7 @@
 ghost use Rattle.std.specs.Prelude.{◌≡◌};
 ghost use Rattle.pmf_verdict.specs.Checked.{Checked, rows_in};
 ghost use Rattle.pmf_verdict.specs.Rows.{rows_of};
-ghost use Rattle.pmf_verdict.specs.Sound.{PassesHold};
+ghost use Rattle.pmf_verdict.specs.Sound.{PassesHold, OrdersHold, ScopesHold};
 
 use pmf_event::{Name, Profile, Row, Rows, Section};
 use std::marker::Model;
@@ -57,11 +57,13 @@ impl Verdict {
         self.profile
     }
 
-    /// The rows of the section, in the order of its events.
+    /// The rows of the section, in the order of its events, and then that of its end.
     pub fn rows(&self) -> &[Row]
         ensures value { result.now ≡ rows_in self.now }
         // What is shown as passed holds in every crash image that the rules allow.
         ensures sound { PassesHold self.now.section.events result.now }
+        ensures sound_orders { OrdersHold self.now.section.events result.now }
+        ensures sound_scopes { ScopesHold self.now.section.events result.now }
     {
         self.rows.as_slice()
     }

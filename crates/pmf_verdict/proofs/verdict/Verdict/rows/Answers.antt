@@ -1,7 +1,7 @@
 use Rattle.std.proofs.Common.{sym, ◌∙◌, ap, subst}
 use Rattle.pmf_verdict.specs.Checked.{Checked, rows_in}
-use Rattle.pmf_verdict.specs.Sound.{PassesHold}
-use Rattle.pmf_verdict.proofs.SoundLemmas.{passes_hold}
+use Rattle.pmf_verdict.specs.Sound.{PassesHold, OrdersHold, ScopesHold}
+use Rattle.pmf_verdict.proofs.SoundLemmas.{passes_hold, orders_hold, scopes_hold}
 use Rattle.pmf_verdict.proofs.verdict.Verdict.rows.Goals as goal
 
 pub returns-clause-sound : goal.returns-clause-sound
@@ -9,3 +9,15 @@ returns-clause-sound c =
     subst (λ rows. PassesHold c.args.self.now.section.events rows)
     (sym (c.as_slice.ensures ∙ c.self.invariant ∙ ap (λ (v : Checked). rows_in v) c.self.view_is))
     (passes_hold c.args.self.now.profile c.args.self.now.section.events)
+
+pub returns-clause-sound_orders : goal.returns-clause-sound_orders
+returns-clause-sound_orders c =
+    subst (λ rows. OrdersHold c.args.self.now.section.events rows)
+    (sym (c.as_slice.ensures ∙ c.self.invariant ∙ ap (λ (v : Checked). rows_in v) c.self.view_is))
+    (orders_hold c.args.self.now.profile c.args.self.now.section.events)
+
+pub returns-clause-sound_scopes : goal.returns-clause-sound_scopes
+returns-clause-sound_scopes c =
+    subst (λ rows. ScopesHold c.args.self.now.section.events rows)
+    (sym (c.as_slice.ensures ∙ c.self.invariant ∙ ap (λ (v : Checked). rows_in v) c.self.view_is))
+    (scopes_hold c.args.self.now.profile c.args.self.now.section.events)
