@@ -8,4 +8,5 @@ pub use Rattle.pmf_event.specs.Order
 pub use Rattle.pmf_event.specs.Transactions
 pub mod Image
 pub mod Holds
+pub mod Certificate
 pub mod Laws

@@ -4,7 +4,13 @@
 //! image shows) and `specs/Holds` (when a persist assertion, an order assertion and the end of a scope hold); [`laws`] has what is proved of
 //! them. They stand on the definitions of `pmf_event` alone, and know neither epochs nor intervals.
 //!
+//! A [`Certificate`] names one image, by `specs/Certificate`; [`cut`], [`shows`] and [`last_store`] answer
+//! about it.
+//!
 //! Not promised here: that the hardware keeps these rules. Not modelled: values of bytes.
 #![tactic(auto)]
 
+mod certificate;
 pub mod laws;
+
+pub use certificate::{Certificate, cut, last_store, shows};
