@@ -65,7 +65,7 @@ holds-where_closed es p s each n later within image allowed b covered checked =
 
 -- ---- the two images
 
-floor-below_count : (es : List Event) (n line : ℕ) → floor_of es n line ≤ count_of es n line
+pub floor-below_count : (es : List Event) (n line : ℕ) → floor_of es n line ≤ count_of es n line
 unfolding floor_of count_of
 floor-below_count es n line =
     let bound = greatest-bound (is_fenced es n line) n in
@@ -78,7 +78,7 @@ no_cuts-cut_of : (es : List Event) (n line : ℕ) → cut_of es n no_cuts line �
 unfolding no_cuts cut_of value_of
 no_cuts-cut_of es n line = refl
 
-is_in-empty : (b : ℕ) → is_in [] b ≡ true → ⊥
+pub is_in-empty : (b : ℕ) → is_in [] b ≡ true → ⊥
 unfolding is_in
 is_in-empty b some = let bad : false ≡ true = some in cc
 
@@ -251,7 +251,7 @@ allows_each_torn es n b room = record {
 -- ---- an open interval
 
 -- a fenced write-back of the line after a place is a closing of it
-Closing-from_fenced : (es : List Event) (line k n : ℕ) → k < greatest (is_fenced es n line) n → Closing es line k n
+pub Closing-from_fenced : (es : List Event) (line k n : ℕ) → k < greatest (is_fenced es n line) n → Closing es line k n
 unfolding is_fenced
 Closing-from_fenced es line k n later =
     let flush = greatest (is_fenced es n line) n in
@@ -283,7 +283,7 @@ shown-reaches es n b image some =
     let is = and-true _ _ (greatest-passes (reaches es n image b) n some) in
     (is.0, leb-true (count_of es k (line_of_byte b)) (reach_of es n image b) is.1, greatest-bound (reaches es n image b) n)
 
-reach-untorn : (es : List Event) (n b : ℕ) (image : Image) → image.torn ≡ [] → reach_of es n image b ≡ cut_of es n image (line_of_byte b)
+pub reach-untorn : (es : List Event) (n b : ℕ) (image : Image) → image.torn ≡ [] → reach_of es n image b ≡ cut_of es n image (line_of_byte b)
 unfolding reach_of is_in
 reach-untorn es n b image untorn = rw untorn (omega arith)
 

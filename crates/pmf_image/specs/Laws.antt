@@ -1,5 +1,5 @@
 -- Laws of this crate's definitions, which its empty public functions prove.
-use Rattle.std.specs.Prelude.{◌≡◌, ◌≢◌, ℕ, ◌<◌, ◌≤◌, ◌↔◌, true, false, List, [], length}
+use Rattle.std.specs.Prelude.{◌≡◌, ◌≢◌, ℕ, ◌<◌, ◌≤◌, ◌↔◌, true, false, List, [], length, None, Some}
 use Rattle.pmf_event.specs.declared.event.Event.{Event}
 use Rattle.pmf_event.specs.Span.{Extent, covers_byte}
 use Rattle.pmf_event.specs.Line.{line_of_byte}
@@ -7,7 +7,10 @@ use Rattle.pmf_event.specs.Interval.{interval_at, is_open}
 use Rattle.pmf_event.specs.Persist.{is_checked, is_exposed}
 use Rattle.pmf_image.specs.Image.{Image, IsAllowed, count_of, floor_of, cut_of, is_in}
 use Rattle.pmf_event.specs.declared.profile.Profile.{Profile}
-use Rattle.pmf_event.specs.Order.{is_ordered}
+use Rattle.pmf_event.specs.Order.{is_ordered, is_certified}
+use Rattle.pmf_event.specs.Store.{last_store}
+use Rattle.pmf_image.specs.declared.certificate.Certificate.{Certificate}
+use Rattle.pmf_image.specs.Certificate.{image_of, shows_in}
 use Rattle.pmf_image.specs.Holds.{PersistHolds, OrderedHolds}
 
 -- where the interval of each checked byte of the span is closed, the assertion holds
@@ -60,3 +63,25 @@ pub record AllowsTorn (es : List Event) (n b : ℕ) : Type 0 where
 -- a byte alone may be torn wherever its line has a store above the floor
 abbrev pub EachByteMayBeTorn : Type 0
 EachByteMayBeTorn = (es : List Event) (n b : ℕ) → floor_of es n (line_of_byte b) < count_of es n (line_of_byte b) → AllowsTorn es n b
+
+-- the image of each certificate is allowed at its crash place
+abbrev pub CertificatesAreAllowed : Type 0
+CertificatesAreAllowed = (es : List Event) (c : Certificate) → IsAllowed es c.crash (image_of es c)
+
+-- the certificate of a place, with no full line
+abbrev pub at_place : ℕ → Certificate
+at_place p = record { crash = p; full_line = None }
+
+-- where a checked byte's interval is open at p, the certificate of p shows less than its last store
+abbrev pub OpenIntervalsAreShown : Type 0
+OpenIntervalsAreShown = (es : List Event) (p b : ℕ) → is_exposed es p b ≡ true → shows_in es (at_place p) b < last_store es p b
+
+-- the certificate of the last store of byte y, with y's line in full
+abbrev pub at_store : List Event → ℕ → ℕ → Certificate
+at_store es p y = record { crash = last_store es p y; full_line = Some (line_of_byte y) }
+
+-- of a certified pair, by either profile, the certificate of y's last store shows that store, and not the
+-- last store of x
+abbrev pub CertifiedPairsAreShown : Type 0
+CertifiedPairsAreShown = (profile : Profile) (es : List Event) (p x y : ℕ) → is_certified profile es p x y ≡ true →
+    (shows_in es (at_store es p y) y ≡ last_store es p y) × (shows_in es (at_store es p y) x ≢ last_store es p x)

@@ -1,6 +1,6 @@
 //! Laws of the definitions, each the clause of an empty function.
 
-ghost use Rattle.pmf_image.specs.Laws.{ClosedIntervalsHold, EachByteMayBeTorn, EachCutIsAllowed, EveryPlaceHasImages, OpenIntervalsDoNotHold, OrderedPairsHold};
+ghost use Rattle.pmf_image.specs.Laws.{CertificatesAreAllowed, CertifiedPairsAreShown, ClosedIntervalsHold, EachByteMayBeTorn, EachCutIsAllowed, EveryPlaceHasImages, OpenIntervalsAreShown, OpenIntervalsDoNotHold, OrderedPairsHold};
 
 /// A persist assertion whose checked bytes all have closed intervals holds at every crash from its
 /// place on, in every allowed image, torn stores included.
@@ -34,4 +34,21 @@ pub fn each_cut_is_allowed()
 /// A byte alone may be torn wherever its line has a store above the floor.
 pub fn each_byte_may_be_torn()
     ensures { EachByteMayBeTorn }
+{}
+
+/// The image of each certificate is allowed at its crash place.
+pub fn certificates_are_allowed()
+    ensures { CertificatesAreAllowed }
+{}
+
+/// Where a checked byte's interval is open, the certificate of the place, with no full line, shows less
+/// than the byte's last store.
+pub fn open_intervals_are_shown()
+    ensures { OpenIntervalsAreShown }
+{}
+
+/// Of a certified pair, by either profile, the certificate of the second byte's last store, with that
+/// byte's line in full, shows that store, and not the last store of the first byte.
+pub fn certified_pairs_are_shown()
+    ensures { CertifiedPairsAreShown }
 {}

@@ -1,0 +1,212 @@
+-- Failures are real: the image of a certificate that shows one.
+use Rattle.std.proofs.Common.{◌≡◌, ℕ, zero, suc, ◌+◌, ◌-◌, ◌<◌, ◌≤◌, Bool, true, false, not, ◌&&◌, ◌||◌, ◌==◌, nat_lt, if◌then◌else◌, List, [], ◌∷◌, length, refl, sym, ◌∙◌, ap, arith, inl, inr, subst}
+use Rattle.std.specs.Prelude.{Option, Some, None, unwrap_or}
+use Rattle.std.proofs.lemmas.Bool.{cases_lt, cases_eq, le-leb, leb-true, or_cases}
+use Rattle.std.proofs.lemmas.Bool.Decides.{Decides-eqb}
+use borrow.Author.Tests.{ltb-true}
+use Rattle.pmf_event.specs.declared.event.Event.{Event}
+use Rattle.pmf_event.specs.declared.event.Event.TheVariants.{Fence}
+use Rattle.pmf_event.specs.declared.interval.Interval.{Interval}
+use Rattle.pmf_event.specs.declared.profile.Profile.{Profile}
+use Rattle.pmf_event.specs.declared.profile.Profile.TheVariants.{One, Two}
+use Rattle.pmf_event.specs.Line.{line_of_byte}
+use Rattle.pmf_event.specs.Places.{greatest, least, count, some_between}
+use Rattle.pmf_event.specs.Store.{event_at, passes, at, stores, flushes, is_fence, last, last_store, epoch_of}
+use Rattle.pmf_event.specs.Interval.{closes, closing_fence, epoch_after, interval_at, is_open}
+use Rattle.pmf_event.specs.Order.{is_closed_by, precedes, share_line, is_stored_before, is_ordered, is_unordered, is_certified}
+use Rattle.pmf_event.specs.Persist.{is_checked, is_exposed}
+use Rattle.pmf_event.proofs.PlacesLemmas.{greatest-bound, greatest-passes, greatest-above, least-below, least-passes, count-mono, count-here, some_between-here, some_between-found}
+use Rattle.pmf_event.proofs.EventLemmas.{and-true, both-true}
+use Rattle.pmf_event.proofs.IntervalLemmas.{Closing, Closing-closes, no_Closing-from_open}
+use Rattle.pmf_image.specs.declared.certificate.Certificate.{Certificate}
+use Rattle.pmf_image.specs.Image.{Image, IsAllowed, count_of, is_fenced, floor_of, value_of, is_in, cut_of, reach_of, reaches, shows}
+use Rattle.pmf_image.specs.Certificate.{image_of}
+use Rattle.pmf_image.specs.Laws.{CertificatesAreAllowed, OpenIntervalsAreShown, CertifiedPairsAreShown}
+use Rattle.pmf_image.proofs.ImageLemmas.{written-from_checked, last_store-stores, last_store-bound, shown-reaches, last_store-above, count_of-here, count_of-mono, reached-shown, reach-untorn, Closing-from_fenced, floor-below_count, is_in-empty}
+
+not_zero-eqb : (n : ℕ) → 0 < n → (n == 0) ≡ false
+not_zero-eqb n some = elim (n == 0) as (λ v. (n == 0) ≡ v → v ≡ false) [ true ↦ λ is. let none : n ≡ 0 = (Decides-eqb n 0).0 is in absurd (omega arith) | false ↦ λ is. refl ] refl
+
+-- ---- the image of a certificate
+
+-- off its full line the cut is the floor
+no_line-cut : (es : List Event) (n line : ℕ) → cut_of es n (image_of es (record { crash = n; full_line = None })) line ≡ floor_of es n line
+unfolding cut_of value_of
+no_line-cut es n line = refl
+
+full-cut : (es : List Event) (n line : ℕ) → cut_of es n (image_of es (record { crash = n; full_line = Some line })) line ≡ count_of es n line
+unfolding cut_of value_of
+full-cut es n line = ap (λ v. unwrap_or (if v then Some (count_of es n line) else None) (floor_of es n line)) ((Decides-eqb line line).1 refl)
+
+other-cut : (es : List Event) (n line other : ℕ) → (line == other) ≡ false → cut_of es n (image_of es (record { crash = n; full_line = Some line })) other ≡ floor_of es n other
+unfolding cut_of value_of
+other-cut es n line other apart = ap (λ v. unwrap_or (if v then Some (count_of es n line) else None) (floor_of es n other)) apart
+
+-- an untorn image whose cuts lie from floor to count is allowed
+untorn-allowed : (es : List Event) (n : ℕ) (image : Image) → image.torn ≡ [] →
+    ((line : ℕ) → (floor_of es n line ≤ cut_of es n image line) × (cut_of es n image line ≤ count_of es n line)) → IsAllowed es n image
+untorn-allowed es n image untorn within = record {
+  low = λ line. (within line).0;
+  high = λ line. (within line).1;
+  torn = λ b some. absurd (is_in-empty b (ap (λ t. is_in t b) (sym untorn) ∙ some));
+}
+
+no_line-allowed : (es : List Event) (n : ℕ) → IsAllowed es n (image_of es (record { crash = n; full_line = None }))
+no_line-allowed es n = untorn-allowed es n (image_of es (record { crash = n; full_line = None })) refl
+    (λ line. let here = no_line-cut es n line in let below = floor-below_count es n line in (omega arith, omega arith))
+
+full-allowed : (es : List Event) (n line : ℕ) → IsAllowed es n (image_of es (record { crash = n; full_line = Some line }))
+full-allowed es n line = untorn-allowed es n (image_of es (record { crash = n; full_line = Some line })) refl
+    (λ other. let below = floor-below_count es n other in
+    elim (line == other) as (λ v. (line == other) ≡ v →
+    (floor_of es n other ≤ cut_of es n (image_of es (record { crash = n; full_line = Some line })) other) × (cut_of es n (image_of es (record { crash = n; full_line = Some line })) other ≤ count_of es n other)) [
+      | true ↦ λ is. let here = subst (λ k. cut_of es n (image_of es (record { crash = n; full_line = Some line })) k ≡ count_of es n k) ((Decides-eqb line other).0 is) (full-cut es n line) in (omega arith, omega arith)
+      | false ↦ λ is. let here = other-cut es n line other is in (omega arith, omega arith)
+    ] refl)
+
+allowed-by : (es : List Event) (n : ℕ) (o : Option ℕ) → IsAllowed es n (image_of es (record { crash = n; full_line = o }))
+allowed-by es n None = no_line-allowed es n
+allowed-by es n (Some line) = full-allowed es n line
+
+pub certificates-allowed : CertificatesAreAllowed
+certificates-allowed es c = allowed-by es c.crash c.full_line
+
+-- ---- what a byte shows at its line's floor
+
+-- where a line is at its floor, a store that is shown, or a later one, was written back and fenced
+shown-closed : (es : List Event) (n b k : ℕ) (image : Image) → image.torn ≡ [] → cut_of es n image (line_of_byte b) ≡ floor_of es n (line_of_byte b) →
+    0 < k → at (stores b) es k ≡ true → k ≤ shows es n image b → Closing es (line_of_byte b) k n
+unfolding floor_of
+shown-closed es n b k image untorn floor some is shown =
+    let line = line_of_byte b in
+    let here = shown-reaches es n b image (omega arith) in
+    let reach = reach-untorn es n b image untorn in
+    let flush = greatest (is_fenced es n line) n in
+    let rank = count_of-mono es k (shows es n image b) line shown in
+    let rise = count_of-here es b k some is in
+    elim (cases_lt k flush) [
+      | inl later ↦ Closing-from_fenced es line k n later
+      | inr before ↦ let fewer = count_of-mono es (flush - 1) (k - 1) line (omega arith) in absurd (omega (arith, here.1))
+    ]
+
+pub shown-where_open : OpenIntervalsAreShown
+unfolding is_exposed
+shown-where_open es p b exposed =
+    let is = and-true (is_checked es p b) (is_open (interval_at es p b)) exposed in
+    let written = written-from_checked es p b is.0 in
+    let image = image_of es (record { crash = p; full_line = None }) in
+    elim (cases_lt (shows es p image b) (last_store es p b)) [
+      | inl less ↦ less
+      | inr more ↦ absurd (no_Closing-from_open es p b is.1 (shown-closed es p b (last_store es p b) image refl (no_line-cut es p (line_of_byte b)) written (last_store-stores es p b written) more))
+    ]
+
+-- ---- certified pairs
+
+fence_or_store : (b : ℕ) (e : Event) → is_fence e ≡ true → stores b e ≡ true → ⊥
+unfolding is_fence stores
+fence_or_store b Fence fence store = let bad : false ≡ true = store in cc
+fence_or_store b _ fence store = let bad : false ≡ true = fence in cc
+
+fence_or_store-passes : (b : ℕ) (o : Option Event) → passes is_fence o ≡ true → passes (stores b) o ≡ true → ⊥
+fence_or_store-passes b None fence store = let bad : false ≡ true = fence in cc
+fence_or_store-passes b (Some e) fence store = fence_or_store b e fence store
+
+not_fence_and_store : (es : List Event) (b k : ℕ) → at is_fence es k ≡ true → at (stores b) es k ≡ true → ⊥
+unfolding at
+not_fence_and_store es b k fence store = fence_or_store-passes b (event_at es k) fence store
+
+-- a byte whose store was written back and fenced before y's last store is durable before y
+closed_by-closing : (es : List Event) (p x k : ℕ) → k ≤ p → (c : Closing es (line_of_byte x) (last_store es p x) k) → c.fence < k →
+    is_closed_by (epoch_after es (closing_fence (stores x) (line_of_byte x) es p)) (epoch_of es k) ≡ true
+unfolding closing_fence closes epoch_of
+closed_by-closing es p x k within c before =
+    let line = line_of_byte x in
+    let last = last_store es p x in
+    let between = some_between-here (at (flushes line) es) last c.fence c.flush c.after c.before c.is_flush in
+    let first = least-below (closes es line last) p c.fence (omega (arith, c.before)) (omega (arith, c.within)) (both-true (at is_fence es c.fence) (some_between (at (flushes line) es) last c.fence) c.is_fence between) in
+    let fence = least (closes es line last) p in
+    let is = and-true (at is_fence es fence) (some_between (at (flushes line) es) last fence) (least-passes (closes es line last) p first.0) in
+    let rise = count-here (at is_fence es) fence first.0 is.0 in
+    let more = count-mono (at is_fence es) fence (k - 1) (omega (arith, first.1)) in
+    ap (λ v. is_closed_by (if v then None else Some (count (at is_fence es) (fence - 1) + 1)) (count (at is_fence es) (k - 1))) (not_zero-eqb fence first.0)
+    ∙ le-leb (count (at is_fence es) (fence - 1) + 1) (count (at is_fence es) (k - 1)) (omega arith)
+
+precedes-from : (u v : Bool) (x y : Interval) → u ≡ false → v ≡ false → is_closed_by x.closes y.opens ≡ true →
+    precedes (if u then None else Some x) (if v then None else Some y) ≡ true
+precedes-from false false x y one other is = is
+precedes-from false true x y one other is = let bad : true ≡ false = other in cc
+precedes-from true v x y one other is = let bad : true ≡ false = one in cc
+
+ordered-from_precedes : (profile : Profile) (es : List Event) (p x y : ℕ) → precedes (interval_at es p x) (interval_at es p y) ≡ true → is_ordered profile es p x y ≡ true
+unfolding is_ordered
+ordered-from_precedes One es p x y is = is
+ordered-from_precedes Two es p x y is = ap (λ v. v || (share_line x y && is_stored_before es p x y)) is
+
+unordered-parts : (u v w : Bool) → (u && v && not w) ≡ true → (u ≡ true) × (v ≡ true) × (w ≡ false)
+unordered-parts true true false is = (refl, refl, refl)
+unordered-parts true true true is = let bad : false ≡ true = is in cc
+unordered-parts true false w is = let bad : false ≡ true = is in cc
+unordered-parts false v w is = let bad : false ≡ true = is in cc
+
+shows-bound : (es : List Event) (n b : ℕ) (image : Image) → shows es n image b ≤ n
+unfolding shows
+shows-bound es n b image = greatest-bound (reaches es n image b) n
+
+module _ (es : List Event) (p x y : ℕ) (x_written : 0 < last_store es p x) (y_written : 0 < last_store es p y) where
+  at_y : Image
+  at_y = image_of es (record { crash = last_store es p y; full_line = Some (line_of_byte y) })
+
+  y-shown : shows es (last_store es p y) at_y y ≡ last_store es p y
+  unfolding at_y
+  y-shown =
+      let n = last_store es p y in
+      let image = image_of es (record { crash = n; full_line = Some (line_of_byte y) }) in
+      let reach = reach-untorn es n y image refl in
+      let cut = full-cut es n (line_of_byte y) in
+      let low = reached-shown es n y n image y_written (omega arith) (last_store-stores es p y y_written) (omega arith) in
+      let high : shows es n image y ≤ n = shows-bound es n y image in
+      omega arith
+
+  -- x's last store isn't shown on another line, unless it was durable before y's
+  x-shown : (line_of_byte y == line_of_byte x) ≡ false → shows es (last_store es p y) at_y x ≡ last_store es p x →
+      precedes (interval_at es p x) (interval_at es p y) ≡ true
+  unfolding at_y
+  x-shown apart shown =
+      let n = last_store es p y in
+      let image = image_of es (record { crash = n; full_line = Some (line_of_byte y) }) in
+      let closing = shown-closed es n x (last_store es p x) image refl (other-cut es n (line_of_byte y) (line_of_byte x) apart) x_written (last_store-stores es p x x_written) (omega arith) in
+      let before : closing.fence < n = elim (cases_lt closing.fence n) [
+        | inl less ↦ less
+        | inr more ↦
+            let same : closing.fence ≡ n = omega (arith, closing.within) in
+            absurd (not_fence_and_store es y n (subst (λ k. at is_fence es k ≡ true) same closing.is_fence) (last_store-stores es p y y_written))
+      ] in
+      precedes-from (last_store es p x == 0) (last_store es p y == 0) _ _ (not_zero-eqb (last_store es p x) x_written) (not_zero-eqb (last_store es p y) y_written)
+      (closed_by-closing es p x n (last_store-bound es p y) closing before)
+
+apart-other : (x y : ℕ) → not (share_line x y) ≡ true → (line_of_byte y == line_of_byte x) ≡ false
+apart-other x y apart = elim (line_of_byte y == line_of_byte x) as (λ v. (line_of_byte y == line_of_byte x) ≡ v → v ≡ false) [
+  | true ↦ λ is.
+      let same : line_of_byte x ≡ line_of_byte y = sym ((Decides-eqb (line_of_byte y) (line_of_byte x)).0 is) in
+      let bad : true ≡ false = sym apart ∙ ap not ((Decides-eqb (line_of_byte x) (line_of_byte y)).1 same) in cc
+  | false ↦ λ is. refl
+] refl
+
+pub pair-shown : CertifiedPairsAreShown
+unfolding is_certified is_unordered at_y is_stored_before
+pair-shown profile es p x y certified =
+    let is = and-true (is_unordered profile es p x y) (not (share_line x y) || nat_lt (last_store es p y) (last_store es p x)) certified in
+    let parts = unordered-parts (is_checked es p x) (is_checked es p y) (is_ordered profile es p x y) is.0 in
+    let x_written = written-from_checked es p x parts.0 in
+    let y_written = written-from_checked es p y parts.1 in
+    let n = last_store es p y in
+    let image = image_of es (record { crash = n; full_line = Some (line_of_byte y) }) in
+    (y-shown es p x y x_written y_written,
+    λ shown. elim (or_cases (not (share_line x y)) (nat_lt n (last_store es p x)) is.1) [
+      | inl apart ↦
+          let ordered = ordered-from_precedes profile es p x y (x-shown es p x y x_written y_written (apart-other x y apart) shown) in
+          let bad : true ≡ false = sym ordered ∙ parts.2 in cc
+      | inr later ↦
+          let after = ltb-true n (last_store es p x) later in
+          let bound = shows-bound es n x image in absurd (omega arith)
+    ])
