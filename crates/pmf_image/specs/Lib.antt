@@ -9,4 +9,5 @@ pub use Rattle.pmf_event.specs.Transactions
 pub mod Image
 pub mod Holds
 pub mod Certificate
+pub mod Contradiction
 pub mod Laws

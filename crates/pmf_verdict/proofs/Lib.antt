@@ -1,5 +1,6 @@
 pub mod PlainLemmas
 pub mod RowsLemmas
-pub mod PassLemmas
+pub mod KindLemmas
 pub mod SoundLemmas
 pub mod WalkLemmas
+pub mod ExplainLemmas

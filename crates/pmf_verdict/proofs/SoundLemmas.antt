@@ -24,7 +24,7 @@ use Rattle.pmf_image.proofs.ImageLemmas.{holds-where_closed}
 use Rattle.pmf_image.proofs.OrderedLemmas.{holds-where_ordered}
 use Rattle.pmf_verdict.specs.Rows.{rows_of}
 use Rattle.pmf_verdict.specs.Sound.{PassesHold, OrdersHold, ScopesHold}
-use Rattle.pmf_verdict.proofs.PassLemmas.{passed-from_rows}
+use Rattle.pmf_verdict.proofs.KindLemmas.{persist-from_rows, ordered-from_rows, check-from_rows}
 
 -- ---- persist assertions
 
@@ -47,13 +47,9 @@ pass-closed es p s passed b covered checked =
     closed-from_exposed es p b (none-passes (is_exposed es p) s.first s.size none b bounds.0 bounds.1) checked
 
 pub passes_hold : (profile : Profile) (es : List Event) → PassesHold es (rows_of profile es)
-passes_hold profile es p found = elim (passed-from_rows profile es p PersistPass refl found) [
-  | inl own ↦ (own.0, own.1, holds-where_closed es p own.0 (pass-closed es p own.0 own.2))
-  | inr rest ↦ elim rest [
-    | inl order ↦ let bad : PersistPass ≡ OrderedPass = order.4 in cc
-    | inr check ↦ let bad : PersistPass ≡ CheckPass = check.2 in cc
-  ]
-]
+passes_hold profile es p found =
+    let own = persist-from_rows profile es p PersistPass found refl in
+    (own.0, own.1, holds-where_closed es p own.0 (pass-closed es p own.0 (sym own.2)))
 
 -- ---- order assertions
 
@@ -115,13 +111,9 @@ pass-ordered profile es p a b passed x y in_a in_b x_checked y_checked =
     (unpaired (is_unordered profile es p) a b none x y in_a in_b)
 
 pub orders_hold : (profile : Profile) (es : List Event) → OrdersHold es (rows_of profile es)
-orders_hold profile es p found = elim (passed-from_rows profile es p OrderedPass refl found) [
-  | inl persist ↦ let bad : OrderedPass ≡ PersistPass = persist.3 in cc
-  | inr rest ↦ elim rest [
-    | inl own ↦ (own.0, own.1, own.2, holds-where_ordered profile es p own.0 own.1 (pass-ordered profile es p own.0 own.1 own.3))
-    | inr check ↦ let bad : OrderedPass ≡ CheckPass = check.2 in cc
-  ]
-]
+orders_hold profile es p found =
+    let own = ordered-from_rows profile es p OrderedPass found refl in
+    (own.0, own.1, own.2, holds-where_ordered profile es p own.0 own.1 (pass-ordered profile es p own.0 own.1 (sym own.3)))
 
 -- ---- scopes
 
@@ -171,10 +163,6 @@ scope-holds es zero here passed = let bad : None ≡ Some CheckEnd = here in cc
 scope-holds es (suc p) here passed = scope_holds-after es p (subst (λ q. check_finding es q ≡ CheckPass) (let before : suc p - 1 ≡ p = omega arith in before) passed)
 
 pub scopes_hold : (profile : Profile) (es : List Event) → ScopesHold es (rows_of profile es)
-scopes_hold profile es p found = elim (passed-from_rows profile es p CheckPass refl found) [
-  | inl persist ↦ let bad : CheckPass ≡ PersistPass = persist.3 in cc
-  | inr rest ↦ elim rest [
-    | inl order ↦ let bad : CheckPass ≡ OrderedPass = order.4 in cc
-    | inr own ↦ (own.0, scope-holds es p own.0 own.1)
-  ]
-]
+scopes_hold profile es p found =
+    let own = check-from_rows profile es p CheckPass found refl in
+    (own.0, scope-holds es p own.0 (sym own.1))

@@ -3,7 +3,8 @@
 //! A [`Verdict`] holds a section, and its type keeps that its rows are those of that section's own
 //! events, by `specs/Rows`. What a row shows as `PERSIST PASS`, `ORDERED PASS` or
 //! `CHECKEND PASS` holds in every crash image that the rules allow, torn stores included, by
-//! `specs/Sound`. The text of a row is `specs/Text`, and the
+//! `specs/Sound`, and of what it shows as a FAIL of these [`explain`] gives an image that contradicts the
+//! assertion, by `specs/Explained`. The text of a row is `specs/Text`, and the
 //! text of a report, which upper crates write, `specs/Report`.
 //!
 //! Not promised here: that the section holds all of its thread's stores, write-backs and fences on
@@ -12,11 +13,13 @@
 #![tactic(auto)]
 
 mod checking;
+mod explaining;
 mod outcome;
 mod text;
 mod verdict;
 
 pub use checking::{CheckFault, check};
+pub use explaining::explain;
 pub use outcome::{Outcome, outcome_of};
 pub use text::write_rows;
 pub use verdict::Verdict;

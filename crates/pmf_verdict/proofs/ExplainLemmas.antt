@@ -1,0 +1,225 @@
+-- Where a certificate comes from, and that its image is allowed and contradicts the assertion.
+use Rattle.std.proofs.Common.{◌≡◌, ℕ, zero, suc, ◌+◌, ◌-◌, ◌<◌, ◌≤◌, Bool, true, false, not, ◌&&◌, ◌||◌, ◌==◌, if◌then◌else◌, List, [], ◌∷◌, drop, get_or, length, refl, sym, ◌∙◌, ap, arith, inl, inr, subst}
+use Rattle.std.specs.Prelude.{Option, Some, None, is_some, is_none, Contains}
+use Rattle.std.proofs.lemmas.Bool.{and_parts}
+use Rattle.std.proofs.lemmas.Bool.Decides.{Decides-eqb}
+use Rattle.std.proofs.lemmas.List.{at_drop_more}
+use Rattle.pmf_event.specs.declared.event.Event.{Event}
+use Rattle.pmf_event.specs.declared.event.Event.TheVariants.{Persist, Ordered, CheckEnd}
+use Rattle.pmf_event.specs.declared.finding.Finding.{Finding}
+use Rattle.pmf_event.specs.declared.finding.Finding.TheVariants.{PersistPass, PersistFail, PersistEmpty, OrderedPass, OrderedFail, OrderedSameLine, OrderedEmpty, CheckPass, CheckFail, TxStillOpen, Unopened}
+use Rattle.pmf_event.specs.declared.profile.Profile.{Profile}
+use Rattle.pmf_event.specs.declared.row.Row.{Row}
+use Rattle.pmf_event.specs.declared.span.TheConstants.{ADDRESS_LIMIT}
+use Rattle.pmf_event.specs.Span.{Extent, covers_byte}
+use Rattle.pmf_event.specs.Line.{line_of_byte}
+use Rattle.pmf_event.specs.Store.{event_at, last_store}
+use Rattle.pmf_event.specs.Interval.{interval_at, is_open}
+use Rattle.pmf_event.specs.Exclusion.{is_included}
+use Rattle.pmf_event.specs.Ranges.{first_from, first_byte}
+use Rattle.pmf_event.specs.Persist.{is_checked, is_exposed, pass_unless, persist_finding}
+use Rattle.pmf_event.specs.Order.{share_line, is_stored_before, is_ordered, is_unordered, is_certified, has_partner, paired, with_partner, least_pair, finding_of_pairs, ordered_finding}
+use Rattle.pmf_event.specs.Transactions.{in_transaction, depth_at, in_scope, is_scoped, is_left_open, scope_passes_unless, check_finding}
+use Rattle.pmf_event.proofs.RangeLemmas.{IsFirst, first-passes}
+use Rattle.pmf_event.proofs.LineLemmas.{bounds-cover}
+use Rattle.pmf_event.proofs.TransactionLemmas.{left_open-exposed}
+use Rattle.pmf_image.specs.declared.certificate.Certificate.{Certificate}
+use Rattle.pmf_image.specs.Image.{IsAllowed}
+use Rattle.pmf_image.specs.Certificate.{image_of}
+use Rattle.pmf_image.specs.Contradiction.{PersistContradicted, OrderedContradicted, ScopeContradicted, ContradictsEvent, Contradicts}
+use Rattle.pmf_image.proofs.ImageLemmas.{last_store-bound}
+use Rattle.pmf_image.proofs.FailureLemmas.{certificates-allowed, shown-where_open, pair-shown}
+use Rattle.pmf_verdict.specs.Rows.{row_at, rows_of}
+use Rattle.pmf_verdict.specs.Explained.{certificate_of, first_of, certificate_at, explained, FailuresAreReal}
+use Rattle.pmf_verdict.proofs.KindLemmas.{persist-from_rows, ordered-from_rows, check-from_rows}
+
+-- ---- the first certificate
+
+first-some : (o other : Option Certificate) → is_some o ≡ true → o ≡ first_of o other
+first-some None other is = let bad : false ≡ true = is in cc
+first-some (Some c) other is = refl
+
+first-other : (o other : Option Certificate) → is_some o ≡ false → first_of o other ≡ other
+first-other None other is = refl
+first-other (Some c) other is = let bad : true ≡ false = is in cc
+
+pub explained-none : (p : ℕ) → explained [] p ≡ None
+unfolding explained
+explained-none p = refl
+
+module _ (rows : List Row) (p i : ℕ) (d : Row) (within : i < length rows) where
+  step : explained (drop i rows) p ≡ first_of (certificate_at p (get_or rows i d)) (explained (drop (i + 1) rows) p)
+  unfolding explained
+  step = at_drop_more (λ rs. explained rs p) rows i d within
+
+  pub explained-here : is_some (certificate_at p (get_or rows i d)) ≡ true → certificate_at p (get_or rows i d) ≡ explained (drop i rows) p
+  explained-here some = first-some (certificate_at p (get_or rows i d)) (explained (drop (i + 1) rows) p) some ∙ sym step
+
+  pub explained-later : is_some (certificate_at p (get_or rows i d)) ≡ false → explained (drop i rows) p ≡ explained (drop (i + 1) rows) p
+  explained-later none = step ∙ first-other (certificate_at p (get_or rows i d)) (explained (drop (i + 1) rows) p) none
+
+-- ---- the row of a certificate
+
+-- a finding of a row at p, with this certificate
+pub record Source (rows : List Row) (p : ℕ) (c : Certificate) : Type 0 where
+  pub finding : Finding
+  pub found : Contains rows (row_at p finding)
+  pub gives : certificate_of p finding ≡ Some c
+
+source-at : (p : ℕ) (row : Row) (c : Certificate) → certificate_at p row ≡ Some c → (row.place ≡ p) × (certificate_of p row.finding ≡ Some c)
+source-at p row c is = elim (row.place == p) as (λ v. (row.place == p) ≡ v → (if v then certificate_of p row.finding else None) ≡ Some c → (row.place ≡ p) × (certificate_of p row.finding ≡ Some c)) [
+  | true ↦ λ here gives. ((Decides-eqb row.place p).0 here, gives)
+  | false ↦ λ apart none. let bad : None ≡ Some c = none in cc
+] refl is
+
+source-from : (rows : List Row) (p : ℕ) (c : Certificate) → explained rows p ≡ Some c → Source rows p c
+unfolding explained
+source-from [] p c is = let bad : None ≡ Some c = is in cc
+source-from (row ∷ rows) p c is = elim (certificate_at p row) as (λ o. certificate_at p row ≡ o → first_of o (explained rows p) ≡ Some c → Source (row ∷ rows) p c) [
+  | None ↦ λ none later.
+      let s = source-from rows p c later in
+      record { finding = s.finding; found = (suc s.found.0, (let bound = s.found.1 in omega arith), s.found.2); gives = s.gives }
+  | Some k ↦ λ some same.
+      let here = source-at p row c (some ∙ same) in
+      record { finding = row.finding; found = (0, omega arith, ap (λ q. row_at q row.finding) here.0); gives = here.1 }
+] refl is
+
+all_parts : (u v w : Bool) → (u && v && w) ≡ true → (u ≡ true) × (v ≡ true) × (w ≡ true)
+all_parts true true true is = (refl, refl, refl)
+all_parts true true false is = let bad : false ≡ true = is in cc
+all_parts true false w is = let bad : false ≡ true = is in cc
+all_parts false v w is = let bad : false ≡ true = is in cc
+
+-- ---- a failure of a persist assertion
+
+fails-persist : (v : Bool) (o : Option ℕ) (b : ℕ) → PersistFail b ≡ (if v then PersistEmpty else pass_unless o) → o ≡ Some b
+fails-persist true o b is = let bad : PersistFail b ≡ PersistEmpty = is in cc
+fails-persist false None b is = let bad : PersistFail b ≡ PersistPass = is in cc
+fails-persist false (Some k) b is = let same : PersistFail b ≡ PersistFail k = is in cc
+
+exposed-checked : (es : List Event) (p b : ℕ) → is_exposed es p b ≡ true → is_checked es p b ≡ true
+unfolding is_exposed
+exposed-checked es p b exposed = (and_parts (is_checked es p b) (is_open (interval_at es p b)) exposed).0
+
+persist-contradicted : (es : List Event) (p : ℕ) (s : Extent) (b : ℕ) → PersistFail b ≡ persist_finding es p s →
+    PersistContradicted es p s (record { crash = p; full_line = None })
+unfolding persist_finding
+persist-contradicted es p s b is =
+    let found = fails-persist (is_none (first_byte (is_checked es p) s)) (first_byte (is_exposed es p) s) b is in
+    let first = first-passes (is_exposed es p) s.first s.size b found in
+    (omega arith, b, bounds-cover s b first.from first.within, exposed-checked es p b first.passes, shown-where_open es p b first.passes)
+
+-- ---- a failure of an order assertion
+
+fails-pairs : (es : List Event) (p : ℕ) (c u : Option (ℕ × ℕ)) (x y n : ℕ) → OrderedFail x y n ≡ finding_of_pairs es p c u → (c ≡ Some (x, y)) × (n ≡ last_store es p y)
+fails-pairs es p (Some (k, l)) u x y n is =
+    let same : OrderedFail x y n ≡ OrderedFail k l (last_store es p l) = is in
+    let one : k ≡ x = cc in let other : l ≡ y = cc in let crash : n ≡ last_store es p l = cc in
+    (ap (λ z. Some (z, l)) one ∙ ap (λ z. Some (x, z)) other, crash ∙ ap (last_store es p) other)
+fails-pairs es p None (Some (k, l)) x y n is = let bad : OrderedFail x y n ≡ OrderedSameLine k l = is in cc
+fails-pairs es p None None x y n is = let bad : OrderedFail x y n ≡ OrderedPass = is in cc
+
+fails-ordered : (es : List Event) (p : ℕ) (v w : Bool) (c u : Option (ℕ × ℕ)) (x y n : ℕ) →
+    OrderedFail x y n ≡ (if v then OrderedEmpty else if w then OrderedEmpty else finding_of_pairs es p c u) → (c ≡ Some (x, y)) × (n ≡ last_store es p y)
+fails-ordered es p true w c u x y n is = let bad : OrderedFail x y n ≡ OrderedEmpty = is in cc
+fails-ordered es p false true c u x y n is = let bad : OrderedFail x y n ≡ OrderedEmpty = is in cc
+fails-ordered es p false false c u x y n is = fails-pairs es p c u x y n is
+
+-- the pair that is found passes, and its bytes are of the spans
+pub record Pair (test : ℕ → ℕ → Bool) (a b : Extent) (x y : ℕ) : Type 0 where
+  pub one : covers_byte a x ≡ true
+  pub other : covers_byte b y ≡ true
+  pub passes : test x y ≡ true
+
+paired-parts : (z : ℕ) (o : Option ℕ) (x y : ℕ) → paired z o ≡ Some (x, y) → (z ≡ x) × (o ≡ Some y)
+paired-parts z None x y is = let bad : None ≡ Some (x, y) = is in cc
+paired-parts z (Some k) x y is =
+    let pair : ◌≡◌ {A = ℕ × ℕ} (z, k) (x, y) = cc in (ap (λ q. q.0) pair, ap (λ q. Some q.1) pair)
+
+pair-by : (test : ℕ → ℕ → Bool) (a b : Extent) (x y : ℕ) (o : Option ℕ) → first_byte (has_partner test b) a ≡ o → with_partner test b o ≡ Some (x, y) → Pair test a b x y
+pair-by test a b x y None none is = let bad : None ≡ Some (x, y) = is in cc
+pair-by test a b x y (Some z) found is =
+    let parts = paired-parts z (first_byte (test z) b) x y is in
+    let first = first-passes (has_partner test b) a.first a.size z found in
+    let second = first-passes (test z) b.first b.size y parts.1 in
+    record {
+      one = subst (λ k. covers_byte a k ≡ true) parts.0 (bounds-cover a z first.from first.within);
+      other = bounds-cover b y second.from second.within;
+      passes = subst (λ k. test k y ≡ true) parts.0 second.passes;
+    }
+
+pair-from : (test : ℕ → ℕ → Bool) (a b : Extent) (x y : ℕ) → least_pair test a b ≡ Some (x, y) → Pair test a b x y
+unfolding least_pair
+pair-from test a b x y is = pair-by test a b x y (first_byte (has_partner test b) a) refl is
+
+certified-checked : (profile : Profile) (es : List Event) (p x y : ℕ) → is_certified profile es p x y ≡ true → (is_checked es p x ≡ true) × (is_checked es p y ≡ true)
+unfolding is_certified is_unordered
+certified-checked profile es p x y is =
+    let unordered = (and_parts (is_unordered profile es p x y) (not (share_line x y) || is_stored_before es p y x) is).0 in
+    let parts = all_parts (is_checked es p x) (is_checked es p y) (not (is_ordered profile es p x y)) unordered in (parts.0, parts.1)
+
+ordered-contradicted : (profile : Profile) (es : List Event) (p : ℕ) (a b : Extent) (x y n : ℕ) → OrderedFail x y n ≡ ordered_finding profile es p a b →
+    OrderedContradicted es p a b (record { crash = n; full_line = Some (line_of_byte y) })
+unfolding ordered_finding
+ordered-contradicted profile es p a b x y n is =
+    let certified = least_pair (is_certified profile es p) a b in
+    let unordered = least_pair (is_unordered profile es p) a b in
+    let fails = fails-ordered es p (is_none (first_byte (is_checked es p) a)) (is_none (first_byte (is_checked es p) b)) certified unordered x y n is in
+    let pair = pair-from (is_certified profile es p) a b x y fails.0 in
+    let checked = certified-checked profile es p x y pair.passes in
+    let shown = pair-shown profile es p x y pair.passes in
+    subst (λ k. OrderedContradicted es p a b (record { crash = k; full_line = Some (line_of_byte y) })) (sym fails.1)
+    (last_store-bound es p y, x, y, pair.one, pair.other, checked.0, checked.1, shown.0, shown.1)
+
+-- ---- a failure of a scope
+
+fails-check : (u v : Bool) (d : ℕ) (o : Option ℕ) (b : ℕ) → CheckFail b ≡ (if not u then Unopened else if v then TxStillOpen d else scope_passes_unless o) →
+    (u ≡ true) × (v ≡ false) × (o ≡ Some b)
+fails-check false v d o b is = let bad : CheckFail b ≡ Unopened = is in cc
+fails-check true true d o b is = let bad : CheckFail b ≡ TxStillOpen d = is in cc
+fails-check true false d None b is = let bad : CheckFail b ≡ CheckPass = is in cc
+fails-check true false d (Some k) b is = let same : CheckFail b ≡ CheckFail k = is in (refl, refl, cc)
+
+left_open-parts : (es : List Event) (p b : ℕ) → is_left_open es p b ≡ true → (is_scoped es p b ≡ true) × (is_included es (suc p) b ≡ true)
+unfolding is_left_open
+left_open-parts es p b is =
+    let parts = all_parts (is_scoped es p b) (is_included es (suc p) b) (is_open (interval_at es (suc p) b)) is in (parts.0, parts.1)
+
+scope_contradicted-after : (es : List Event) (p b : ℕ) → CheckFail b ≡ check_finding es p → ScopeContradicted es (suc p) (record { crash = suc p; full_line = None })
+unfolding check_finding
+scope_contradicted-after es p b is =
+    let fails = fails-check (in_scope es p) (in_transaction es p) (depth_at es p) (first_from (is_left_open es p) 0 ADDRESS_LIMIT) b is in
+    let first = first-passes (is_left_open es p) 0 ADDRESS_LIMIT b fails.2 in
+    let parts = left_open-parts es p b first.passes in
+    let exposed = sym (left_open-exposed es p b parts.0) ∙ first.passes in
+    let before : suc p - 1 ≡ p = omega arith in
+    let below = first.within in
+    (ap (in_scope es) before ∙ fails.0, ap (in_transaction es) before ∙ fails.1, omega arith, b, omega arith,
+    ap (λ q. is_scoped es q b) before ∙ parts.0, parts.1, shown-where_open es (suc p) b exposed)
+
+scope-contradicted : (es : List Event) (p b : ℕ) → event_at es p ≡ Some CheckEnd → CheckFail b ≡ check_finding es (p - 1) → ScopeContradicted es p (record { crash = p; full_line = None })
+unfolding event_at
+scope-contradicted es zero b here is = let bad : None ≡ Some CheckEnd = here in cc
+scope-contradicted es (suc p) b here is = scope_contradicted-after es p b (is ∙ ap (check_finding es) (let before : suc p - 1 ≡ p = omega arith in before))
+
+-- ---- failures are real
+
+contradicted-by : (profile : Profile) (es : List Event) (p : ℕ) (c : Certificate) (f : Finding) → Contains (rows_of profile es) (row_at p f) → certificate_of p f ≡ Some c → Contradicts es p c
+contradicted-by profile es p c (PersistFail b) found is =
+    let own = persist-from_rows profile es p (PersistFail b) found refl in
+    let same : record { crash = p; full_line = None } ≡ c = cc in
+    subst (λ k. Contradicts es p k) same (subst (ContradictsEvent es p (record { crash = p; full_line = None })) (sym own.1) (persist-contradicted es p own.0 b own.2))
+contradicted-by profile es p c (OrderedFail x y n) found is =
+    let own = ordered-from_rows profile es p (OrderedFail x y n) found refl in
+    let same : record { crash = n; full_line = Some (line_of_byte y) } ≡ c = cc in
+    subst (λ k. Contradicts es p k) same (subst (ContradictsEvent es p (record { crash = n; full_line = Some (line_of_byte y) })) (sym own.2) (ordered-contradicted profile es p own.0 own.1 x y n own.3))
+contradicted-by profile es p c (CheckFail b) found is =
+    let own = check-from_rows profile es p (CheckFail b) found refl in
+    let same : record { crash = p; full_line = None } ≡ c = cc in
+    subst (λ k. Contradicts es p k) same (subst (ContradictsEvent es p (record { crash = p; full_line = None })) (sym own.0) (scope-contradicted es p b own.0 own.1))
+contradicted-by profile es p c _ found is = let bad : None ≡ Some c = is in cc
+
+pub failures_real : (profile : Profile) (es : List Event) → FailuresAreReal es (rows_of profile es)
+failures_real profile es p c is =
+    let source = source-from (rows_of profile es) p c is in
+    (certificates-allowed es c, contradicted-by profile es p c source.finding source.found source.gives)

@@ -1,0 +1,56 @@
+ghost use Rattle.std.specs.Prelude.{◌≡◌, ℕ, Some};
+ghost use Rattle.pmf_image.specs.Image.{IsAllowed};
+ghost use Rattle.pmf_image.specs.Certificate.{image_of};
+ghost use Rattle.pmf_image.specs.Contradiction.{Contradicts};
+ghost use Rattle.pmf_image.specs.declared.certificate.Certificate.{Certificate};
+ghost use Rattle.pmf_verdict.specs.Checked.{rows_in};
+ghost use Rattle.pmf_verdict.specs.Explained.{certificate_at, explained};
+
+use crate::verdict::Verdict;
+use pmf_event::{Finding, Row, line_of};
+use pmf_image::Certificate;
+
+/// The certificate of the failure at this place: `Some` exactly where the row there is a FAIL of PERSIST,
+/// ORDERED or CHECKEND. Its crash is that of the row; of ORDERED its full line is that of the byte `after`.
+/// It looks through the rows once.
+pub fn explain(verdict: &Verdict, place: u32) -> Option<Certificate>
+    ensures value { result ≡ explained (rows_in verdict.now) place }
+    // The image is allowed, nothing in it is torn, and the assertion doesn't hold in it.
+    ensures allowed { (c : Certificate) → result ≡ Some c
+        → IsAllowed verdict.now.section.events c.crash (image_of verdict.now.section.events c) }
+    ensures real { (c : Certificate) → result ≡ Some c
+        → Contradicts verdict.now.section.events place c }
+{
+    first_certificate(verdict.rows(), place)
+}
+
+fn first_certificate(rows: &[Row], place: u32) -> Option<Certificate>
+    ensures { result ≡ explained rows.now place }
+{
+    for row in rows {
+        let certificate = certificate_at(*row, place);
+        if certificate.is_some() {
+            return certificate;
+        }
+    }
+    None
+}
+
+fn certificate_at(row: Row, place: u32) -> Option<Certificate>
+    ensures { result ≡ certificate_at place row }
+{
+    if row.place != place {
+        return None;
+    }
+    match row.finding {
+        Finding::PersistFail { .. } | Finding::CheckFail { .. } => Some(Certificate {
+            crash: place,
+            full_line: None,
+        }),
+        Finding::OrderedFail { after, crash, .. } => Some(Certificate {
+            crash,
+            full_line: Some(line_of(after)),
+        }),
+        _ => None,
+    }
+}
