@@ -283,7 +283,7 @@ shown-reaches es n b image some =
     let is = and-true _ _ (greatest-passes (reaches es n image b) n some) in
     (is.0, leb-true (count_of es k (line_of_byte b)) (reach_of es n image b) is.1, greatest-bound (reaches es n image b) n)
 
-reach-untorn : (es : List Event) (n b : ℕ) (image : Image) → image.torn ≡ [] → reach_of es n image b ≡ cut_of es n image (line_of_byte b)
+pub reach-untorn : (es : List Event) (n b : ℕ) (image : Image) → image.torn ≡ [] → reach_of es n image b ≡ cut_of es n image (line_of_byte b)
 unfolding reach_of is_in
 reach-untorn es n b image untorn = rw untorn (omega arith)
 
