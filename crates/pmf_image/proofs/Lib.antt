@@ -1,3 +1,4 @@
 pub mod ImageLemmas
 pub mod OrderedLemmas
 pub mod FailureLemmas
+pub mod CertificateLemmas

@@ -1,6 +1,6 @@
 -- Soundness of ordered pairs: what is durable before a store is shown wherever that store is.
-use Rattle.std.proofs.Common.{◌≡◌, ℕ, ◌+◌, ◌-◌, ◌<◌, ◌≤◌, Bool, true, false, ◌&&◌, ◌||◌, ◌==◌, if◌then◌else◌, List, refl, sym, ◌∙◌, ap, arith, inl, inr, subst}
-use Rattle.std.specs.Prelude.{Option, Some, None}
+use Rattle.std.proofs.Common.{◌≡◌, ℕ, ◌+◌, ◌-◌, ◌<◌, ◌≤◌, Bool, true, false, ◌&&◌, ◌==◌, if◌then◌else◌, List, refl, sym, ◌∙◌, arith, inl, inr, subst}
+use Rattle.std.specs.Prelude.{Some, None}
 use Rattle.std.proofs.lemmas.Bool.{cases_lt, cases_eq, leb-true, or_cases}
 use Rattle.std.proofs.lemmas.Bool.Decides.{Decides-eqb}
 use borrow.Author.Tests.{ltb-true}
@@ -9,11 +9,10 @@ use Rattle.pmf_event.specs.declared.interval.Interval.{Interval}
 use Rattle.pmf_event.specs.declared.profile.Profile.{Profile}
 use Rattle.pmf_event.specs.declared.profile.Profile.TheVariants.{One, Two}
 use Rattle.pmf_event.specs.Line.{line_of_byte}
-use Rattle.pmf_event.specs.Places.{count, some_between}
+use Rattle.pmf_event.specs.Places.{some_between}
 use Rattle.pmf_event.specs.Store.{at, stores, flushes, is_fence, last_store, epoch_of}
 use Rattle.pmf_event.specs.Interval.{closes, closing_fence, epoch_after, interval_at}
 use Rattle.pmf_event.specs.Order.{is_closed_by, precedes, share_line, is_stored_before, is_ordered}
-use Rattle.pmf_event.specs.Persist.{is_checked}
 use Rattle.pmf_event.proofs.PlacesLemmas.{least-passes, count-mono, some_between-found}
 use Rattle.pmf_event.proofs.EventLemmas.{and-true}
 use Rattle.pmf_event.proofs.IntervalLemmas.{Closing}

@@ -29,17 +29,24 @@ pub fn cut(events: &[Event], certificate: Certificate, line: u64) -> u32
     let mut floor = 0;
     for event in &events[..certificate.crash as usize] {
         match event {
-            Event::Store(span) if meets_line(*span, line) => count += 1,
-            Event::Flush(span) if meets_line(*span, line) => flushed = count,
+            Event::Store(span) => {
+                if meets_line(*span, line) {
+                    count += 1;
+                }
+            }
+            Event::Flush(span) => {
+                if meets_line(*span, line) {
+                    flushed = count;
+                }
+            }
             Event::Fence => floor = flushed,
             _ => {}
         }
     }
     if certificate.full_line == Some(line) {
-        count
-    } else {
-        floor
+        return count;
     }
+    floor
 }
 
 /// The place of the store that the byte shows in the certificate's image, or 0 where it shows none. Two
