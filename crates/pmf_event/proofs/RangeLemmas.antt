@@ -1,8 +1,24 @@
 -- Laws of the searches over a range of numbers.
 use Rattle.std.proofs.Common.{◌≡◌, ℕ, zero, suc, ◌+◌, ◌<◌, ◌≤◌, min, Bool, true, false, nat_le, if◌then◌else◌, refl, sym, ◌∙◌, ap, arith, inl, inr}
-use Rattle.std.specs.Prelude.{Option, Some, None}
+use Rattle.std.specs.Prelude.{Option, Some, None, is_some, ◌⊎◌}
 use Rattle.std.proofs.lemmas.Bool.{cases_eq, leb-true, leb-false}
 use Rattle.pmf_event.specs.Ranges.{first_from, count_from, lesser, least_from}
+
+-- ---- what a search found, or that it found none
+
+pub some-or-none : (o : Option ℕ) → ((k : ℕ) × (o ≡ Some k)) ⊎ (o ≡ None)
+some-or-none None = inr refl
+some-or-none (Some k) = inl (k, refl)
+
+pub some-from : (o : Option ℕ) → is_some o ≡ true → (k : ℕ) × (o ≡ Some k)
+some-from None is = let bad : false ≡ true = is in cc
+some-from (Some k) is = (k, refl)
+
+pub none-from : (o : Option ℕ) → is_some o ≡ false → o ≡ None
+none-from None is = refl
+none-from (Some k) is = let bad : true ≡ false = is in cc
+
+-- ---- the first of a range
 
 -- none of the n numbers from b on passes
 abbrev pub NonePass : (ℕ → Bool) → ℕ → ℕ → Type 0
