@@ -1,5 +1,5 @@
 -- Laws of the searches over a range of numbers.
-use Rattle.std.proofs.Common.{◌≡◌, ℕ, zero, suc, ◌+◌, ◌<◌, ◌≤◌, min, Bool, true, false, nat_le, if◌then◌else◌, refl, sym, ◌∙◌, ap, arith, inl, inr}
+use Rattle.std.proofs.Common.{◌≡◌, ℕ, zero, suc, ◌+◌, ◌-◌, ◌<◌, ◌≤◌, min, Bool, true, false, nat_le, if◌then◌else◌, refl, sym, ◌∙◌, ap, arith, inl, inr}
 use Rattle.std.specs.Prelude.{Option, Some, None, is_some, ◌⊎◌}
 use Rattle.std.proofs.lemmas.Bool.{cases_eq, leb-true, leb-false}
 use Rattle.pmf_event.specs.Ranges.{first_from, count_from, lesser, least_from}
@@ -144,6 +144,13 @@ module _ (test : ℕ → Bool) where
   count_from-none b (suc n) none =
       ap (λ v. count_if v (count_from test (b + 1) n)) (none b (omega arith) (omega arith))
       ∙ count_from-none (b + 1) n (λ k low high. none k (omega arith) (omega arith))
+
+  -- a count may begin at the first that passes
+  pub count_from-first : (b n k : ℕ) → IsFirst test b n k → count_from test b n ≡ count_from test k (b + n - k)
+  count_from-first b n k first =
+      let low = first.from in let high = first.within in
+      let none = count_from-none b (k - b) (λ j from until. first.before j from (omega arith)) in
+      let split = count_from-split b (k - b) (b + n - k) n k (omega arith) (omega arith) in omega arith
 
 -- ---- the lesser of values that may be missing
 

@@ -16,7 +16,7 @@ use Rattle.pmf_event.specs.Interval.{first_write_back, closing_fence, epoch_afte
 use Rattle.pmf_event.specs.Exclusion.{is_excluded, is_included}
 use Rattle.pmf_event.specs.Persist.{is_checked, is_exposed}
 use Rattle.pmf_event.specs.FlushWarnings.{is_clean, is_pending, numbered, first_line, line_count, lines_from, lines_where}
-use Rattle.pmf_event.proofs.RangeLemmas.{first-passes, first_from-same, count_from-same}
+use Rattle.pmf_event.proofs.RangeLemmas.{first-passes, first_from-same, count_from-same, count_from-first}
 use Rattle.pmf_event.proofs.WriteBackLemmas.{epoch_unless-none, epoch_unless-some, epoch_after-none, epoch_after-some, closing-from_epoch, closing-none, closing-late}
 use Rattle.pmf_shadow.specs.declared.byte.ByteState.{ByteState}
 use Rattle.pmf_shadow.specs.declared.byte.Stored.{Stored}
@@ -222,24 +222,27 @@ module _ (es : List Event) (p l : ℕ) where
 
 -- ---- the lines of a span, found by their numbers
 
-lines-found : (test : ℕ → Bool) (s : Extent) (line end : ℕ) → line ≡ s.first / 64 → end ≡ (s.first + s.size - 1) / 64 + 1 →
+lines_in-is : (test : ℕ → Bool) (s : Extent) (line end : ℕ) → line ≡ s.first / 64 → end ≡ (s.first + s.size - 1) / 64 + 1 →
     lines_by test s ≡ lines_from (first_from test line (end - line)) (count_from test line (end - line))
 unfolding lines_by
-lines-found test s line end at_first at_end =
+lines_in-is test s line end at_first at_end =
     sym (ap (λ e. lines_from (first_from test line (e - line)) (count_from test line (e - line))) at_end
     ∙ ap (λ k. lines_from (first_from test k ((s.first + s.size - 1) / 64 + 1 - k)) (count_from test k ((s.first + s.size - 1) / 64 + 1 - k))) at_first)
 
-pub lines-none : (test : ℕ → Bool) (s : Extent) (line end : ℕ) (found : Option ℕ) → line ≡ s.first / 64 → end ≡ (s.first + s.size - 1) / 64 + 1 →
+pub lines_in-none : (test : ℕ → Bool) (s : Extent) (line end : ℕ) (found : Option ℕ) → line ≡ s.first / 64 → end ≡ (s.first + s.size - 1) / 64 + 1 →
     found ≡ first_from test line (end - line) → found ≡ None → None ≡ lines_by test s
-lines-none test s line end found at_first at_end is none =
-    sym (lines-found test s line end at_first at_end ∙ ap (λ o. lines_from o (count_from test line (end - line))) (sym is ∙ none))
+lines_in-none test s line end found at_first at_end is none =
+    sym (lines_in-is test s line end at_first at_end ∙ ap (λ o. lines_from o (count_from test line (end - line))) (sym is ∙ none))
 
-pub lines-some : (test : ℕ → Bool) (s : Extent) (line end n count : ℕ) (found : Option ℕ) → line ≡ s.first / 64 → end ≡ (s.first + s.size - 1) / 64 + 1 →
-    found ≡ first_from test line (end - line) → found ≡ Some n → count ≡ count_from test line (end - line) →
+pub lines_in-some : (test : ℕ → Bool) (s : Extent) (line end n count : ℕ) (found : Option ℕ) → line ≡ s.first / 64 → end ≡ (s.first + s.size - 1) / 64 + 1 →
+    found ≡ first_from test line (end - line) → found ≡ Some n → count ≡ count_from test n (end - n) →
     Some (record { least = n * 64; count = count }) ≡ lines_by test s
-lines-some test s line end n count found at_first at_end is some counted =
-    sym (lines-found test s line end at_first at_end ∙ ap (λ o. lines_from o (count_from test line (end - line))) (sym is ∙ some)
-    ∙ ap (λ c. Some (record { least = n * 64; count = c })) (sym counted))
+lines_in-some test s line end n count found at_first at_end is some counted =
+    let first = first-passes test line (end - line) n (sym is ∙ some) in
+    let within = first.within in
+    let rest : line + (end - line) - n ≡ end - n = omega arith in
+    sym (lines_in-is test s line end at_first at_end ∙ ap (λ o. lines_from o (count_from test line (end - line))) (sym is ∙ some)
+    ∙ ap (λ c. Some (record { least = n * 64; count = c })) (count_from-first test line (end - line) n first ∙ ap (count_from test n) rest ∙ sym counted))
 
 pub number-fits : (test : ℕ → Bool) (s : Extent) (line end n : ℕ) (found : Option ℕ) → line ≡ s.first / 64 → end ≡ (s.first + s.size - 1) / 64 + 1 →
     found ≡ first_from test line (end - line) → found ≡ Some n → IsValidExtent s.first s.size → n * 64 < 2 ^ 63
