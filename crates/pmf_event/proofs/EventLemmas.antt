@@ -1,5 +1,5 @@
 -- Laws of tests at a place of a list of events.
-use Rattle.std.proofs.Common.{◌≡◌, ℕ, suc, Bool, true, false, ◌&&◌, List, if◌then◌else◌, refl, ◌∙◌, ap}
+use Rattle.std.proofs.Common.{◌≡◌, ℕ, suc, Bool, true, false, List, if◌then◌else◌, refl, ◌∙◌, ap}
 use Rattle.std.specs.Prelude.{Option, Some, None}
 use Rattle.std.proofs.Math.Numerals.{sub-one}
 use Rattle.pmf_event.specs.declared.event.Event.{Event}
@@ -7,14 +7,6 @@ use Rattle.pmf_event.specs.declared.event.Event.TheVariants.{Store, Fence}
 use Rattle.pmf_event.specs.Places.{greatest, count}
 use Rattle.pmf_event.specs.Store.{event_at, passes, at, stores, flushes, is_fence, last, epoch_of}
 use Rattle.pmf_event.proofs.PlacesLemmas.{greatest-step, greatest-zero, count-step}
-
-pub and-true : (x y : Bool) → (x && y) ≡ true → (x ≡ true) × (y ≡ true)
-and-true true true e = (refl, refl)
-and-true true false e = (refl, e)
-and-true false y e = absurd (let bad : false ≡ true = e in cc)
-
-pub both-true : (x y : Bool) → x ≡ true → y ≡ true → (x && y) ≡ true
-both-true x y e h = rw (e, h) refl
 
 -- what a test says at a place whose event is known
 pub at-is : (test : Event → Bool) (es : List Event) (k : ℕ) (o : Option Event) → event_at es k ≡ o → at test es k ≡ passes test o

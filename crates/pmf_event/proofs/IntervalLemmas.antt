@@ -1,16 +1,15 @@
 -- An interval is closed exactly where its first write-back lies in an epoch that a fence has ended.
 use Rattle.std.proofs.Common.{◌≡◌, ℕ, ◌-◌, ◌<◌, ◌≤◌, Bool, true, false, not, ◌&&◌, ◌==◌, nat_lt, if◌then◌else◌, List, refl, sym, ◌∙◌, ap, arith, inl, inr}
 use Rattle.std.specs.Prelude.{Some, None}
-use Rattle.std.proofs.lemmas.Bool.{cases_eq}
+use Rattle.std.proofs.lemmas.Bool.{cases_eq, lt-ltb, and_parts, and_from, ltb-true}
 use Rattle.std.proofs.lemmas.Bool.Decides.{Decides-eqb}
-use borrow.Author.Tests.{ltb-true}
 use Rattle.pmf_event.specs.declared.event.Event.{Event}
 use Rattle.pmf_event.specs.Line.{line_of_byte}
 use Rattle.pmf_event.specs.Places.{least, count, some_between}
 use Rattle.pmf_event.specs.Store.{at, stores, flushes, is_fence, last_store, epoch_of}
 use Rattle.pmf_event.specs.Interval.{writes_back, closes, closing_fence, interval_at, is_open}
-use Rattle.pmf_event.proofs.PlacesLemmas.{lt-ltb, least-bound, least-passes, least-below, count-mono, count-here, count-found, some_between-here, some_between-found}
-use Rattle.pmf_event.proofs.EventLemmas.{and-true, both-true, not_fence_and_flush}
+use Rattle.pmf_event.proofs.PlacesLemmas.{least-bound, least-passes, least-below, count-mono, count-here, count-found, some_between-here, some_between-found}
+use Rattle.pmf_event.proofs.EventLemmas.{not_fence_and_flush}
 
 pub not_zero : (n : ℕ) → 0 < n → not (n == 0) ≡ true
 not_zero n some = elim (n == 0) as (λ v. (n == 0) ≡ v → not v ≡ true) [ true ↦ λ is. let zero_is : n ≡ 0 = (Decides-eqb n 0).0 is in absurd (omega arith) | false ↦ λ is. refl ] refl
@@ -30,7 +29,7 @@ module _ (es : List Event) (line k p : ℕ) where
   unfolding closes
   Closing-found some =
       let fence = least (closes es line k) p in
-      let is = and-true (at is_fence es fence) (some_between (at (flushes line) es) k fence) (least-passes (closes es line k) p some) in
+      let is = and_parts (at is_fence es fence) (some_between (at (flushes line) es) k fence) (least-passes (closes es line k) p some) in
       let found = some_between-found (at (flushes line) es) k fence is.1 in
       let bound = least-bound (closes es line k) p in
       record {
@@ -47,14 +46,14 @@ module _ (es : List Event) (line k p : ℕ) where
   unfolding closes
   Closing-closes c =
       let between = some_between-here (at (flushes line) es) k c.fence c.flush c.after c.before c.is_flush in
-      (least-below (closes es line k) p c.fence (omega (arith, c.before)) c.within (both-true _ _ c.is_fence between)).0
+      (least-below (closes es line k) p c.fence (omega (arith, c.before)) c.within (and_from _ _ c.is_fence between)).0
 
   -- the first write-back, and that a fence ended its epoch
   pub write_back-from_Closing : Closing es line k p →
       (0 < least (writes_back es line k) p) × (epoch_of es (least (writes_back es line k) p) < count (at is_fence es) p)
   unfolding writes_back epoch_of
   write_back-from_Closing c =
-      let first = least-below (writes_back es line k) p c.flush (omega (arith, c.after)) (omega (arith, c.before, c.within)) (both-true _ _ (lt-ltb k c.flush c.after) c.is_flush) in
+      let first = least-below (writes_back es line k) p c.flush (omega (arith, c.after)) (omega (arith, c.before, c.within)) (and_from _ _ (lt-ltb k c.flush c.after) c.is_flush) in
       let w = least (writes_back es line k) p in
       let early = count-mono (at is_fence es) (w - 1) (c.fence - 1) (omega (arith, first.1, c.before)) in
       let rise = count-here (at is_fence es) c.fence (omega (arith, c.before)) c.is_fence in
@@ -66,7 +65,7 @@ module _ (es : List Event) (line k p : ℕ) where
   unfolding writes_back epoch_of
   Closing-from_write_back some ended =
       let w = least (writes_back es line k) p in
-      let is = and-true (nat_lt k w) (at (flushes line) es w) (least-passes (writes_back es line k) p some) in
+      let is = and_parts (nat_lt k w) (at (flushes line) es w) (least-passes (writes_back es line k) p some) in
       let found = count-found (at is_fence es) (w - 1) p ended in
       elim (cases_eq found.place w) [
         | inl same ↦ absurd (not_fence_and_flush es line w (ap (at is_fence es) (sym same) ∙ found.passes) is.1)
@@ -100,7 +99,7 @@ Closing-from_closed es p b written shut =
     let fence = closing_fence (stores b) (line_of_byte b) es p in
     elim (cases_eq fence 0) [
       | inl none ↦
-          let found = both-true (not (last_store es p b == 0)) (fence == 0) (not_zero (last_store es p b) written) ((Decides-eqb fence 0).1 none) in
+          let found = and_from (not (last_store es p b == 0)) (fence == 0) (not_zero (last_store es p b) written) ((Decides-eqb fence 0).1 none) in
           let bad : false ≡ true = sym shut ∙ is_open-interval_at es p b ∙ found in cc
       | inr some ↦ Closing-found es (line_of_byte b) (last_store es p b) p (omega arith)
     ]
@@ -110,6 +109,6 @@ pub no_Closing-from_open : (es : List Event) (p b : ℕ) → is_open (interval_a
 unfolding closing_fence
 no_Closing-from_open es p b gap found =
     let fence = closing_fence (stores b) (line_of_byte b) es p in
-    let is = and-true (not (last_store es p b == 0)) (fence == 0) (sym (is_open-interval_at es p b) ∙ gap) in
+    let is = and_parts (not (last_store es p b == 0)) (fence == 0) (sym (is_open-interval_at es p b) ∙ gap) in
     let none : fence ≡ 0 = (Decides-eqb fence 0).0 is.1 in
     let some : 0 < fence = Closing-closes es (line_of_byte b) (last_store es p b) p found in omega arith

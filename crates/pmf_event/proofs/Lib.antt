@@ -2,6 +2,7 @@ pub mod PlacesLemmas
 pub mod EventLemmas
 pub mod LineLemmas
 pub mod RangeLemmas
+pub mod LeastPairLemmas
 pub mod IntervalLemmas
 pub mod WriteBackLemmas
 pub mod TransactionLemmas

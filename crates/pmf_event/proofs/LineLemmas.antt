@@ -1,26 +1,23 @@
 -- The line of a byte, and the lines that a span meets.
 use Rattle.std.proofs.Common.{◌≡◌, ℕ, ◌+◌, ◌-◌, ◌*◌, ◌/◌, ◌%◌, ◌<◌, ◌≤◌, true, false, ◌&&◌, ◌==◌, nat_lt, nat_le, List, sym, ◌∙◌, ap, arith, inl, inr}
 use Rattle.std.specs.Prelude.{Option, Some, None}
-use Rattle.std.proofs.lemmas.Bool.{cases_lt, leb-true, le-leb}
+use Rattle.std.proofs.lemmas.Bool.{cases_lt, leb-true, le-leb, lt-ltb, and_parts, and_from, ltb-true}
 use Rattle.std.proofs.lemmas.Bool.Decides.{Decides-eqb}
-use borrow.Author.Tests.{ltb-true}
 use Rattle.pmf_event.specs.declared.event.Event.{Event}
 use Rattle.pmf_event.specs.declared.event.Event.TheVariants.{Store}
 use Rattle.pmf_event.specs.Span.{Extent, covers_byte}
 use Rattle.pmf_event.specs.Line.{line_of_byte, meets_line}
 use Rattle.pmf_event.specs.Store.{event_at, passes, at, stores, stores_line}
 use Rattle.pmf_event.specs.Laws.{MeetsTheLinesOfItsBytes, MeetsTheLinesOfItsNumbers, MeetsWhereAByteIsShared}
-use Rattle.pmf_event.proofs.PlacesLemmas.{lt-ltb}
-use Rattle.pmf_event.proofs.EventLemmas.{and-true, both-true}
 
 -- what a span covers, as bounds
 pub covers-bounds : (s : Extent) (b : ℕ) → covers_byte s b ≡ true → (s.first ≤ b) × (b < s.first + s.size)
 covers-bounds s b is =
-    let both = and-true (nat_le s.first b) (nat_lt b (s.first + s.size)) is in
+    let both = and_parts (nat_le s.first b) (nat_lt b (s.first + s.size)) is in
     (leb-true s.first b both.0, ltb-true b (s.first + s.size) both.1)
 
 pub bounds-cover : (s : Extent) (b : ℕ) → s.first ≤ b → b < s.first + s.size → covers_byte s b ≡ true
-bounds-cover s b low high = both-true _ _ (le-leb s.first b low) (lt-ltb b (s.first + s.size) high)
+bounds-cover s b low high = and_from _ _ (le-leb s.first b low) (lt-ltb b (s.first + s.size) high)
 
 pub line-bounds : (b : ℕ) → (line_of_byte b ≤ b) × (b < line_of_byte b + 64) × (line_of_byte b % 64 ≡ 0)
 line-bounds b = (omega arith, omega arith, omega arith)
@@ -31,13 +28,13 @@ line-unique b l aligned low high = omega arith
 -- what meeting a line is, as bounds
 pub meets-bounds : (s : Extent) (l : ℕ) → meets_line s l ≡ true → (l % 64 ≡ 0) × (s.first < l + 64) × (l < s.first + s.size)
 meets-bounds s l is =
-    let aligned = and-true (l % 64 == 0) (nat_lt s.first (l + 64) && nat_lt l (s.first + s.size)) is in
-    let bounds = and-true (nat_lt s.first (l + 64)) (nat_lt l (s.first + s.size)) aligned.1 in
+    let aligned = and_parts (l % 64 == 0) (nat_lt s.first (l + 64) && nat_lt l (s.first + s.size)) is in
+    let bounds = and_parts (nat_lt s.first (l + 64)) (nat_lt l (s.first + s.size)) aligned.1 in
     ((Decides-eqb (l % 64) 0).0 aligned.0, ltb-true s.first (l + 64) bounds.0, ltb-true l (s.first + s.size) bounds.1)
 
 pub bounds-meet : (s : Extent) (l : ℕ) → l % 64 ≡ 0 → s.first < l + 64 → l < s.first + s.size → meets_line s l ≡ true
 bounds-meet s l aligned low high =
-    both-true _ _ ((Decides-eqb (l % 64) 0).1 aligned) (both-true _ _ (lt-ltb s.first (l + 64) low) (lt-ltb l (s.first + s.size) high))
+    and_from _ _ ((Decides-eqb (l % 64) 0).1 aligned) (and_from _ _ (lt-ltb s.first (l + 64) low) (lt-ltb l (s.first + s.size) high))
 
 -- a span meets the line of each byte that it covers
 pub line-meets : (s : Extent) (b : ℕ) → covers_byte s b ≡ true → meets_line s (line_of_byte b) ≡ true
@@ -59,7 +56,7 @@ meets_the_lines_of_its_bytes s l some = (
 pub meets_where_a_byte_is_shared : MeetsWhereAByteIsShared
 meets_where_a_byte_is_shared s t some other = (
   λ meets.
-      let bounds = and-true (nat_lt s.first (t.first + t.size)) (nat_lt t.first (s.first + s.size)) meets in
+      let bounds = and_parts (nat_lt s.first (t.first + t.size)) (nat_lt t.first (s.first + s.size)) meets in
       let low = ltb-true s.first (t.first + t.size) bounds.0 in
       let high = ltb-true t.first (s.first + s.size) bounds.1 in
       elim (cases_lt s.first t.first) [
@@ -69,7 +66,7 @@ meets_where_a_byte_is_shared s t some other = (
   λ here.
       let one = covers-bounds s here.0 here.1 in
       let another = covers-bounds t here.0 here.2 in
-      both-true _ _ (lt-ltb s.first (t.first + t.size) (omega (arith, one.0, another.1))) (lt-ltb t.first (s.first + s.size) (omega (arith, another.0, one.1))),
+      and_from _ _ (lt-ltb s.first (t.first + t.size) (omega (arith, one.0, another.1))) (lt-ltb t.first (s.first + s.size) (omega (arith, another.0, one.1))),
 )
 
 passes-line : (b : ℕ) (o : Option Event) → passes (stores b) o ≡ true → passes (stores_line (line_of_byte b)) o ≡ true

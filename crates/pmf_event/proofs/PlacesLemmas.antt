@@ -1,7 +1,6 @@
 -- Laws of the searches over places.
 use Rattle.std.proofs.Common.{◌≡◌, ℕ, zero, suc, ◌-◌, ◌<◌, ◌≤◌, Bool, true, false, if◌then◌else◌, nat_lt, refl, ◌∙◌, inl, inr, arith}
-use Rattle.std.proofs.lemmas.Bool.{cases_lt, ltb-false}
-use borrow.Author.Tests.{ltb-true}
+use Rattle.std.proofs.lemmas.Bool.{cases_lt, ltb-false, lt-ltb, ltb-true}
 use Rattle.std.proofs.Math.Numerals.{sub-one}
 use Rattle.pmf_event.specs.Places.{greatest, least, count, some_between}
 
@@ -19,9 +18,6 @@ pub record Found (test : ℕ → Bool) (i j : ℕ) : Type 0 where
   pub after : i < place
   pub within : place ≤ j
   pub passes : test place ≡ true
-
-pub lt-ltb : (a b : ℕ) → a < b → nat_lt a b ≡ true
-lt-ltb a b h = elim (nat_lt a b) as (λ v. nat_lt a b ≡ v → v ≡ true) [ true ↦ λ e. refl | false ↦ λ e. let bad : b ≤ a = ltb-false a b e in absurd (omega arith) ] refl
 
 module _ (test : ℕ → Bool) where
   pub greatest-step : (n : ℕ) → greatest test (suc n) ≡ (if test (suc n) then suc n else greatest test n)

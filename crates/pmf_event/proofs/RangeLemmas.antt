@@ -1,8 +1,24 @@
 -- Laws of the searches over a range of numbers.
-use Rattle.std.proofs.Common.{◌≡◌, ℕ, zero, suc, ◌+◌, ◌<◌, ◌≤◌, min, Bool, true, false, nat_le, if◌then◌else◌, refl, sym, ◌∙◌, ap, arith, inl, inr}
-use Rattle.std.specs.Prelude.{Option, Some, None}
+use Rattle.std.proofs.Common.{◌≡◌, ℕ, zero, suc, ◌+◌, ◌-◌, ◌<◌, ◌≤◌, min, Bool, true, false, nat_le, if◌then◌else◌, refl, sym, ◌∙◌, ap, arith, inl, inr}
+use Rattle.std.specs.Prelude.{Option, Some, None, is_some, ◌⊎◌}
 use Rattle.std.proofs.lemmas.Bool.{cases_eq, leb-true, leb-false}
 use Rattle.pmf_event.specs.Ranges.{first_from, count_from, lesser, least_from}
+
+-- ---- what a search found, or that it found none
+
+pub some-or-none : (o : Option ℕ) → ((k : ℕ) × (o ≡ Some k)) ⊎ (o ≡ None)
+some-or-none None = inr refl
+some-or-none (Some k) = inl (k, refl)
+
+pub some-from : (o : Option ℕ) → is_some o ≡ true → (k : ℕ) × (o ≡ Some k)
+some-from None is = let bad : false ≡ true = is in cc
+some-from (Some k) is = (k, refl)
+
+pub none-from : (o : Option ℕ) → is_some o ≡ false → o ≡ None
+none-from None is = refl
+none-from (Some k) is = let bad : true ≡ false = is in cc
+
+-- ---- the first of a range
 
 -- none of the n numbers from b on passes
 abbrev pub NonePass : (ℕ → Bool) → ℕ → ℕ → Type 0
@@ -128,6 +144,13 @@ module _ (test : ℕ → Bool) where
   count_from-none b (suc n) none =
       ap (λ v. count_if v (count_from test (b + 1) n)) (none b (omega arith) (omega arith))
       ∙ count_from-none (b + 1) n (λ k low high. none k (omega arith) (omega arith))
+
+  -- a count may begin at the first that passes
+  pub count_from-first : (b n k : ℕ) → IsFirst test b n k → count_from test b n ≡ count_from test k (b + n - k)
+  count_from-first b n k first =
+      let low = first.from in let high = first.within in
+      let none = count_from-none b (k - b) (λ j from until. first.before j from (omega arith)) in
+      let split = count_from-split b (k - b) (b + n - k) n k (omega arith) (omega arith) in omega arith
 
 -- ---- the lesser of values that may be missing
 

@@ -2,8 +2,8 @@
 -- place that opened the scope, and its bytes.
 use Rattle.std.proofs.Common.{◌≡◌, ℕ, zero, suc, ◌-◌, ◌<◌, ◌≤◌, Bool, true, false, not, ◌&&◌, nat_lt, if◌then◌else◌, List, refl, sym, ◌∙◌, ap, arith, inl, inr}
 use Rattle.std.specs.Prelude.{Some}
-use Rattle.std.proofs.lemmas.Bool.{cases_lt, cases_eq, lt-ltb, le-ltb, ltb-false, and_parts, and_from}
-use borrow.Author.Tests.{ltb-true}
+use Rattle.std.proofs.lemmas.Bool.{cases_lt, cases_eq, le-ltb, ltb-false, lt-ltb, and_parts, and_from, ltb-true}
+use Rattle.std.proofs.Math.Bool.{and-false}
 use Rattle.pmf_event.specs.declared.event.Event.{Event}
 use Rattle.pmf_event.specs.Places.{greatest, least, count, highest}
 use Rattle.pmf_event.specs.Store.{event_at, at, stores, last, last_store}
@@ -288,10 +288,6 @@ unfolding is_scoped
 scoped-opened es p b now =
     let bound = greatest-bound (stores_inside es b) p in
     ap (λ v. in_scope es p && v) (le-ltb (scope_at es p) (greatest (stores_inside es b) p) (omega arith)) ∙ and-false (in_scope es p)
-  where
-    and-false : (x : Bool) → (x && false) ≡ false
-    and-false true = refl
-    and-false false = refl
 
 module _ (es : List Event) (p : ℕ) (e : Event) (here : event_at es (suc p) ≡ Some e) (b : ℕ) where
   stores_inside-next : stores_inside es b (suc p) ≡ (stores b e && in_transaction es (suc p))

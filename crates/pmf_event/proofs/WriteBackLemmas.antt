@@ -1,17 +1,16 @@
 -- The first write-back after the last of some stores, event by event, and the epoch in which it lies.
 -- The stores are those of a byte or those of a line: no such store is a write-back of the line.
-use Rattle.std.proofs.Common.{◌≡◌, ℕ, suc, ◌+◌, ◌-◌, ◌<◌, ◌≤◌, Bool, true, false, ◌&&◌, ◌==◌, nat_lt, if◌then◌else◌, List, refl, sym, ◌∙◌, ap, arith, inl, inr}
+use Rattle.std.proofs.Common.{◌≡◌, ℕ, suc, ◌+◌, ◌-◌, ◌<◌, ◌≤◌, Bool, true, false, ◌&&◌, nat_lt, if◌then◌else◌, List, refl, sym, ◌∙◌, ap, arith, inl, inr}
 use Rattle.std.specs.Prelude.{Option, Some, None, is_none}
-use Rattle.std.proofs.lemmas.Bool.{cases_lt, cases_eq, le-ltb, ltb-false}
+use Rattle.std.proofs.lemmas.Bool.{cases_lt, cases_eq, le-ltb, ltb-false, lt-ltb, and_parts, and_from, ne_eqb, ltb-true}
 use Rattle.std.proofs.lemmas.Bool.Decides.{Decides-eqb}
-use borrow.Author.Tests.{ltb-true}
 use Rattle.pmf_event.specs.declared.event.Event.{Event}
 use Rattle.pmf_event.specs.Places.{least, count, some_between}
 use Rattle.pmf_event.specs.Store.{event_at, at, flushes, is_fence, last, epoch_of}
 use Rattle.pmf_event.specs.Interval.{writes_back, first_write_back, closes, closing_fence, epoch_after}
 use Rattle.pmf_event.specs.WriteBack.{epoch_unless, write_back_epoch}
-use Rattle.pmf_event.proofs.PlacesLemmas.{lt-ltb, greatest-bound, least-step, least-bound, least-passes, least-below, count-mono, count-found, some_between-here, some_between-found}
-use Rattle.pmf_event.proofs.EventLemmas.{and-true, both-true, at-is, last-other, last-here, epoch_of-next, not_fence_and_flush}
+use Rattle.pmf_event.proofs.PlacesLemmas.{greatest-bound, least-step, least-bound, least-passes, least-below, count-mono, count-found, some_between-here, some_between-found}
+use Rattle.pmf_event.proofs.EventLemmas.{at-is, last-other, last-here, epoch_of-next, not_fence_and_flush}
 use Rattle.pmf_event.proofs.IntervalLemmas.{Closing-found, Closing-closes, write_back-from_Closing, Closing-from_write_back}
 
 or-zero : (n : ℕ) → (if nat_lt 0 n then n else 0) ≡ n
@@ -20,14 +19,11 @@ or-zero n = elim (nat_lt 0 n) as (λ v. nat_lt 0 n ≡ v → (if v then n else 0
   | false ↦ λ is. let small = ltb-false 0 n is in omega arith
 ] refl
 
-pub not_eqb : (a b : ℕ) → (a ≡ b → ⊥) → (a == b) ≡ false
-not_eqb a b other = elim (a == b) as (λ v. (a == b) ≡ v → v ≡ false) [ true ↦ λ is. absurd (other ((Decides-eqb a b).0 is)) | false ↦ λ is. refl ] refl
-
 pub epoch_unless-none : (es : List Event) (w : ℕ) → w ≡ 0 → epoch_unless es w ≡ None
 epoch_unless-none es w zero_is = ap (λ v. if v then None else Some (epoch_of es w)) ((Decides-eqb w 0).1 zero_is)
 
 pub epoch_unless-some : (es : List Event) (w : ℕ) → 0 < w → epoch_unless es w ≡ Some (epoch_of es w)
-epoch_unless-some es w some = ap (λ v. if v then None else Some (epoch_of es w)) (not_eqb w 0 (λ zero_is. omega arith))
+epoch_unless-some es w some = ap (λ v. if v then None else Some (epoch_of es w)) (ne_eqb w 0 (λ zero_is. omega arith))
 
 keeps-some : (o : Option ℕ) (x c : ℕ) → o ≡ Some x → (if is_none o then Some c else o) ≡ o
 keeps-some o x c is = ap (λ (v : Option ℕ). if is_none v then Some c else v) is ∙ sym is
@@ -36,7 +32,7 @@ pub last-bound : (test : Event → Bool) (es : List Event) (p : ℕ) → last te
 unfolding last
 last-bound test es p = greatest-bound (at test es) p
 
-epoch_unless-place : (es : List Event) (k w : ℕ) → epoch_unless es k ≡ Some w → (0 < k) × (epoch_of es k ≡ w)
+pub epoch_unless-place : (es : List Event) (k w : ℕ) → epoch_unless es k ≡ Some w → (0 < k) × (epoch_of es k ≡ w)
 epoch_unless-place es k w is = elim (cases_eq k 0) [
   | inl zero_is ↦ let bad : None ≡ Some w = sym (epoch_unless-none es k zero_is) ∙ is in cc
   | inr other ↦ let same : Some (epoch_of es k) ≡ Some w = sym (epoch_unless-some es k (omega arith)) ∙ is in (omega arith, cc)
@@ -46,7 +42,7 @@ pub epoch_after-none : (es : List Event) (f : ℕ) → f ≡ 0 → epoch_after e
 epoch_after-none es f zero_is = ap (λ v. if v then None else Some (epoch_of es f + 1)) ((Decides-eqb f 0).1 zero_is)
 
 pub epoch_after-some : (es : List Event) (f : ℕ) → 0 < f → epoch_after es f ≡ Some (epoch_of es f + 1)
-epoch_after-some es f some = ap (λ v. if v then None else Some (epoch_of es f + 1)) (not_eqb f 0 (λ zero_is. omega arith))
+epoch_after-some es f some = ap (λ v. if v then None else Some (epoch_of es f + 1)) (ne_eqb f 0 (λ zero_is. omega arith))
 
 -- the first fence that closes ends the epoch of the first write-back: no fence lies between them
 same_epoch : (es : List Event) (line k p : ℕ) → 0 < least (closes es line k) p → epoch_of es (least (closes es line k) p) ≡ epoch_of es (least (writes_back es line k) p)
@@ -54,12 +50,12 @@ unfolding epoch_of closes writes_back
 same_epoch es line k p some =
     let f = least (closes es line k) p in
     let w = least (writes_back es line k) p in
-    let closing = and-true (at is_fence es f) (some_between (at (flushes line) es) k f) (least-passes (closes es line k) p some) in
+    let closing = and_parts (at is_fence es f) (some_between (at (flushes line) es) k f) (least-passes (closes es line k) p some) in
     let flush = some_between-found (at (flushes line) es) k f closing.1 in
     let bound = least-bound (closes es line k) p in
     let first = least-below (writes_back es line k) p flush.place (let after = flush.after in omega arith) (let within = flush.within in omega arith)
-    (both-true _ _ (lt-ltb k flush.place flush.after) flush.passes) in
-    let is = and-true (nat_lt k w) (at (flushes line) es w) (least-passes (writes_back es line k) p first.0) in
+    (and_from _ _ (lt-ltb k flush.place flush.after) flush.passes) in
+    let is = and_parts (nat_lt k w) (at (flushes line) es w) (least-passes (writes_back es line k) p first.0) in
     let before : w < f = let within = flush.within in let low = first.1 in omega arith in
     let up = count-mono (at is_fence es) (w - 1) (f - 1) (omega arith) in
     elim (cases_lt (count (at is_fence es) (w - 1)) (count (at is_fence es) (f - 1))) [
@@ -71,7 +67,7 @@ same_epoch es line k p some =
                 let after = fence.after in
                 let within = fence.within in
                 let earlier = least-below (closes es line k) p fence.place (omega arith) (omega arith)
-                (both-true _ _ fence.passes (some_between-here (at (flushes line) es) k fence.place w (ltb-true k w is.0) (omega arith) is.1)) in
+                (and_from _ _ fence.passes (some_between-here (at (flushes line) es) k fence.place w (ltb-true k w is.0) (omega arith) is.1)) in
                 let low = earlier.1 in absurd (omega arith)
           ]
       | inr level ↦ omega arith
@@ -108,7 +104,7 @@ module _ (stored : Event → Bool) (line : ℕ) (es : List Event) (p : ℕ) wher
         let none : least test (suc p) ≡ 0 = elim (cases_eq (least test (suc p)) 0) [
           | inl zero_is ↦ zero_is
           | inr some ↦
-              let passed = and-true _ _ (least-passes test (suc p) (omega arith)) in
+              let passed = and_parts _ _ (least-passes test (suc p) (omega arith)) in
               let after = ltb-true (suc p) (least test (suc p)) passed.0 in
               let bound = least-bound test (suc p) in absurd (omega arith)
         ] in

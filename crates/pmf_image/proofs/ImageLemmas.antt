@@ -2,9 +2,8 @@
 use Rattle.std.specs.Prelude.{◌||◌}
 use Rattle.std.proofs.Common.{subst, ◌≡◌, ℕ, zero, suc, ◌+◌, ◌-◌, ◌<◌, ◌≤◌, true, false, ◌==◌, List, [], ◌∷◌, if◌then◌else◌, refl, sym, ◌∙◌, ap, arith, inl, inr}
 use Rattle.std.specs.Prelude.{Some, None, unwrap_or, slice_get}
-use Rattle.std.proofs.lemmas.Bool.{cases_lt, cases_eq, leb-true, le-leb}
+use Rattle.std.proofs.lemmas.Bool.{cases_lt, cases_eq, leb-true, le-leb, and_parts, and_from, ltb-true}
 use Rattle.std.proofs.lemmas.Bool.Decides.{Decides-eqb}
-use borrow.Author.Tests.{ltb-true}
 use Rattle.pmf_event.specs.declared.event.Event.{Event}
 use Rattle.pmf_event.specs.declared.event.Event.TheVariants.{Store}
 use Rattle.pmf_event.specs.Line.{line_of_byte}
@@ -13,7 +12,6 @@ use Rattle.pmf_event.specs.Store.{event_at, passes, at, stores, stores_line, flu
 use Rattle.pmf_event.specs.Interval.{interval_at, is_open}
 use Rattle.pmf_event.specs.Persist.{is_checked, is_exposed}
 use Rattle.pmf_event.proofs.PlacesLemmas.{greatest-bound, greatest-passes, greatest-above, count-zero, count-mono, count-here, count-found, some_between-here, some_between-found}
-use Rattle.pmf_event.proofs.EventLemmas.{and-true, both-true}
 use Rattle.pmf_event.proofs.LineLemmas.{stores-line, meets-bounds}
 use Rattle.pmf_event.proofs.IntervalLemmas.{Closing, Closing-from_closed, no_Closing-from_open}
 use Rattle.pmf_image.specs.Image.{count_of, is_fenced, floor_of, Image, value_of, is_in, cut_of, reach_of, reaches, shows}
@@ -25,7 +23,7 @@ use Rattle.pmf_image.specs.Laws.{EachCutIsAllowed, EachByteMayBeTorn, ClosedInte
 pub below_the_floor : (es : List Event) (line k p n : ℕ) → p ≤ n → Closing es line k p → count_of es k line ≤ floor_of es n line
 unfolding floor_of count_of is_fenced
 below_the_floor es line k p n later c =
-    let fenced = both-true (at (flushes line) es c.flush) (some_between (at is_fence es) c.flush (n + 1)) c.is_flush
+    let fenced = and_from (at (flushes line) es c.flush) (some_between (at is_fence es) c.flush (n + 1)) c.is_flush
     (some_between-here (at is_fence es) c.flush (n + 1) c.fence c.before (omega (arith, c.within)) c.is_fence) in
     let above = greatest-above (is_fenced es n line) n c.flush (omega (arith, c.after)) (omega (arith, c.before, c.within)) fenced in
     count-mono (at (stores_line line) es) k (greatest (is_fenced es n line) n - 1) (omega (arith, c.after))
@@ -39,11 +37,11 @@ pub reached-shown : (es : List Event) (n b k : ℕ) (image : Image) → 0 < k �
     count_of es k (line_of_byte b) ≤ reach_of es n image b → k ≤ shows es n image b
 unfolding shows reaches
 reached-shown es n b k image some within is reached =
-    greatest-above (reaches es n image b) n k some within (both-true _ _ is (le-leb (count_of es k (line_of_byte b)) (reach_of es n image b) reached))
+    greatest-above (reaches es n image b) n k some within (and_from _ _ is (le-leb (count_of es k (line_of_byte b)) (reach_of es n image b) reached))
 
 pub written-from_checked : (es : List Event) (p b : ℕ) → is_checked es p b ≡ true → 0 < last_store es p b
 unfolding is_checked
-written-from_checked es p b checked = ltb-true 0 (last_store es p b) (and-true _ _ checked).0
+written-from_checked es p b checked = ltb-true 0 (last_store es p b) (and_parts _ _ checked).0
 
 pub last_store-stores : (es : List Event) (p b : ℕ) → 0 < last_store es p b → at (stores b) es (last_store es p b) ≡ true
 unfolding last
@@ -255,7 +253,7 @@ pub Closing-from_fenced : (es : List Event) (line k n : ℕ) → k < greatest (i
 unfolding is_fenced
 Closing-from_fenced es line k n later =
     let flush = greatest (is_fenced es n line) n in
-    let is = and-true (at (flushes line) es flush) (some_between (at is_fence es) flush (n + 1)) (greatest-passes (is_fenced es n line) n (omega arith)) in
+    let is = and_parts (at (flushes line) es flush) (some_between (at is_fence es) flush (n + 1)) (greatest-passes (is_fenced es n line) n (omega arith)) in
     let found = some_between-found (at is_fence es) flush (n + 1) is.1 in
     record {
       flush = flush;
@@ -280,7 +278,7 @@ pub shown-reaches : (es : List Event) (n b : ℕ) (image : Image) → 0 < shows 
 unfolding shows reaches
 shown-reaches es n b image some =
     let k = greatest (reaches es n image b) n in
-    let is = and-true _ _ (greatest-passes (reaches es n image b) n some) in
+    let is = and_parts _ _ (greatest-passes (reaches es n image b) n some) in
     (is.0, leb-true (count_of es k (line_of_byte b)) (reach_of es n image b) is.1, greatest-bound (reaches es n image b) n)
 
 pub reach-untorn : (es : List Event) (n b : ℕ) (image : Image) → image.torn ≡ [] → reach_of es n image b ≡ cut_of es n image (line_of_byte b)
@@ -294,7 +292,7 @@ last_store-above es p b k some within is = greatest-above (at (stores b) es) p k
 pub not_holds-where_open : OpenIntervalsDoNotHold
 unfolding is_exposed floor_of
 not_holds-where_open es p s b within covered exposed holds =
-    let is = and-true (is_checked es p b) (is_open (interval_at es p b)) exposed in
+    let is = and_parts (is_checked es p b) (is_open (interval_at es p b)) exposed in
     let written = written-from_checked es p b is.0 in
     let floors = allows_floors es p in
     let line = line_of_byte b in

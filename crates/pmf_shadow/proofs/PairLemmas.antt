@@ -1,78 +1,18 @@
 -- The least pair without trying pairs: which bytes of the one span have a partner in the other, said by
 -- three numbers of the other, and which byte is the partner.
 use Rattle.std.proofs.Common.{◌≡◌, ℕ, ◌+◌, ◌<◌, ◌≤◌, Bool, true, false, ◌&&◌, ◌==◌, nat_lt, if◌then◌else◌, refl, sym, ◌∙◌, ap, arith, inl, inr}
-use Rattle.std.specs.Prelude.{◌||◌, ◌⊎◌, Option, Some, None, is_some}
-use Rattle.std.proofs.lemmas.Bool.{cases_lt, cases_eq, leb-true, le-leb}
+use Rattle.std.specs.Prelude.{◌||◌, Option, Some, None}
+use Rattle.std.proofs.lemmas.Bool.{cases_lt, cases_eq, leb-true, le-leb, lt-ltb, ltb-true, or_cases, or_left, or_right, eq-eqb, ne_eqb}
 use Rattle.std.proofs.lemmas.Bool.Decides.{Decides-eqb}
-use borrow.Author.Tests.{ltb-true}
+use Rattle.std.proofs.Math.Bool.{or-true}
+use Rattle.std.specs.Cmp.{both_ways}
+use Rattle.pmf_event.proofs.LeastPairLemmas.{HasOne, partner-from_one, one-from_partner}
 use Rattle.pmf_event.specs.Span.{Extent}
 use Rattle.pmf_event.specs.Line.{line_of_byte}
-use Rattle.pmf_event.specs.Ranges.{first_from, first_byte}
-use Rattle.pmf_event.specs.Order.{has_partner, paired, with_partner, least_pair}
-use Rattle.pmf_event.proofs.PlacesLemmas.{lt-ltb}
-use Rattle.pmf_event.proofs.RangeLemmas.{first_from-none, none-passes, first-passes, first_from-same}
+use Rattle.pmf_event.specs.Order.{has_partner}
 use Rattle.pmf_shadow.specs.declared.byte.Stored.{Stored}
 use Rattle.pmf_shadow.specs.States.{holds_of, is_late, late_for, late_for_any, is_before, stored_by, comes_after, has_one_by, place_of, opening_of}
 use Rattle.pmf_shadow.specs.Pairs.{both_hold, by_epoch, by_place, by_epochs, by_lines, by_line, on_line, off_line, IsLeastValue}
-
--- ---- pairs in general
-
--- the n numbers from b on have one that passes
-pub record HasOne (test : ℕ → Bool) (b n : ℕ) : Type 0 where
-  pub place : ℕ
-  pub from : b ≤ place
-  pub within : place < b + n
-  pub passes : test place ≡ true
-
-pub first-from-one : (test : ℕ → Bool) (b n : ℕ) → HasOne test b n → is_some (first_from test b n) ≡ true
-first-from-one test b n one = elim (first_from test b n) as (λ o. first_from test b n ≡ o → is_some o ≡ true) [
-  | None ↦ λ none. let bad : false ≡ true = sym (none-passes test b n none one.place one.from one.within) ∙ one.passes in cc
-  | Some k ↦ λ is. refl
-] refl
-
-pub one-from-first : (test : ℕ → Bool) (b n : ℕ) → is_some (first_from test b n) ≡ true → HasOne test b n
-one-from-first test b n some = elim (first_from test b n) as (λ o. first_from test b n ≡ o → is_some o ≡ true → HasOne test b n) [
-  | None ↦ λ none bad. let wrong : false ≡ true = bad in cc
-  | Some k ↦ λ is more. let first = first-passes test b n k is in record { place = k; from = first.from; within = first.within; passes = first.passes }
-] refl some
-
-same-tests : (x y : Bool) → (x ≡ true → y ≡ true) → (y ≡ true → x ≡ true) → x ≡ y
-same-tests true y to from = sym (to refl)
-same-tests false true to from = let bad : false ≡ true = from refl in cc
-same-tests false false to from = refl
-
-module _ (test : ℕ → ℕ → Bool) (a b : Extent) where
-  -- the least pair, from a test that tells which bytes have a partner
-  pub least_pair-by : (has : ℕ → Bool) → ((x : ℕ) → has_partner test b x ≡ has x) →
-      least_pair test a b ≡ with_partner test b (first_byte has a)
-  unfolding least_pair
-  least_pair-by has same = ap (with_partner test b) (first_from-same (has_partner test b) has a.first a.size (λ k low high. same k))
-
-  pub least_pair-none : ((x : ℕ) → has_partner test b x ≡ false) → least_pair test a b ≡ None
-  unfolding least_pair
-  least_pair-none none = ap (with_partner test b) (first_from-none (has_partner test b) a.first a.size (λ k low high. none k))
-
--- pairs that pass alike
-pub least_pair-same : (s t : ℕ → ℕ → Bool) (a b : Extent) → ((x y : ℕ) → s x y ≡ t x y) → least_pair s a b ≡ least_pair t a b
-unfolding least_pair has_partner
-least_pair-same s t a b same =
-    least_pair-step (first_from-same _ _ a.first a.size (λ x low high. ap (λ (o : Option ℕ). is_some o) (first_from-same (s x) (t x) b.first b.size (λ y low high. same x y))))
-    ∙ partner-same (first_byte (has_partner t b) a)
-  where
-    least_pair-step : first_byte (has_partner s b) a ≡ first_byte (has_partner t b) a → with_partner s b (first_byte (has_partner s b) a) ≡ with_partner s b (first_byte (has_partner t b) a)
-    least_pair-step is = ap (with_partner s b) is
-
-    partner-same : (o : Option ℕ) → with_partner s b o ≡ with_partner t b o
-    partner-same None = refl
-    partner-same (Some x) = ap (paired x) (first_from-same (s x) (t x) b.first b.size (λ y low high. same x y))
-
-partner-from_one : (test : ℕ → ℕ → Bool) (b : Extent) (x : ℕ) → HasOne (test x) b.first b.size → has_partner test b x ≡ true
-unfolding has_partner
-partner-from_one test b x one = first-from-one (test x) b.first b.size one
-
-one-from_partner : (test : ℕ → ℕ → Bool) (b : Extent) (x : ℕ) → has_partner test b x ≡ true → HasOne (test x) b.first b.size
-unfolding has_partner
-one-from_partner test b x some = one-from-first (test x) b.first b.size some
 
 -- ---- what is kept of two bytes
 
@@ -125,21 +65,6 @@ before-monotone ties low i j below before = elim (cases_lt low j) [
     ] more
   ] refl before
 ]
-  where
-    or-true : (v : Bool) → (v || true) ≡ true
-    or-true true = refl
-    or-true false = refl
-
-or-cases : (x y : Bool) → (x || y) ≡ true → (x ≡ true) ⊎ (y ≡ true)
-or-cases true y is = inl refl
-or-cases false y is = inr is
-
-or-first : (x y : Bool) → x ≡ true → (x || y) ≡ true
-or-first x y is = ap (λ v. v || y) is
-
-or-second : (x y : Bool) → y ≡ true → (x || y) ≡ true
-or-second true y is = refl
-or-second false y is = is
 
 -- what has an opening or a place is kept
 kept-from_opening : (kept : ℕ → Option Stored) (x v : ℕ) (o : Option Stored) → kept x ≡ o → opening_of o ≡ Some v → (k : Stored) × (kept x ≡ Some k) × (k.opens ≡ v)
@@ -169,7 +94,7 @@ module _ (kept : ℕ → Option Stored) (b : Extent) where
   -- where b has no checked byte there is no pair
   pub no_pairs-by_epochs : IsLeastValue (opening_at kept) b.first b.size None → (x : ℕ) → has_partner (by_epochs kept) b x ≡ false
   unfolding by_epochs
-  no_pairs-by_epochs least x = same-tests _ _
+  no_pairs-by_epochs least x = both_ways _ _
       (λ some.
       let one = one-from_partner (by_epochs kept) b x some in
       let both = both-from_holds kept by_epoch x one.place (kept x) (kept one.place) refl refl one.passes in
@@ -178,7 +103,7 @@ module _ (kept : ℕ → Option Stored) (b : Extent) where
 
   pub has_partner-by_epochs : (m : ℕ) → IsLeastValue (opening_at kept) b.first b.size (Some m) → (x : ℕ) → has_partner (by_epochs kept) b x ≡ holds_of (late_for m) (kept x)
   unfolding by_epochs
-  has_partner-by_epochs m least x = same-tests _ _
+  has_partner-by_epochs m least x = both_ways _ _
       (λ some.
       let one = one-from_partner (by_epochs kept) b x some in
       let both = both-from_holds kept by_epoch x one.place (kept x) (kept one.place) refl refl one.passes in
@@ -204,61 +129,55 @@ module _ (kept : ℕ → Option Stored) (b : Extent) where
 -- ---- by lines
 
 eqb-sym : (x y : ℕ) → (x == y) ≡ (y == x)
-eqb-sym x y = same-tests (x == y) (y == x) (λ is. (Decides-eqb y x).1 (sym ((Decides-eqb x y).0 is))) (λ is. (Decides-eqb x y).1 (sym ((Decides-eqb y x).0 is)))
-
-eqb-true : (x y : ℕ) → x ≡ y → (x == y) ≡ true
-eqb-true x y same = (Decides-eqb x y).1 same
-
-eqb-false : (x y : ℕ) → (x ≡ y → ⊥) → (x == y) ≡ false
-eqb-false x y other = elim (x == y) as (λ v. (x == y) ≡ v → v ≡ false) [ true ↦ λ is. absurd (other ((Decides-eqb x y).0 is)) | false ↦ λ is. refl ] refl
+eqb-sym x y = both_ways (x == y) (y == x) (λ is. (Decides-eqb y x).1 (sym ((Decides-eqb x y).0 is))) (λ is. (Decides-eqb x y).1 (sym ((Decides-eqb y x).0 is)))
 
 module _ (line : ℕ) where
   pub by_line-on : (on off : ℕ → Bool) (x : ℕ) → line_of_byte x ≡ line → by_line line on off x ≡ on x
   unfolding by_line
-  by_line-on on off x same = ap (λ v. if v then on x else off x) (eqb-true (line_of_byte x) line same)
+  by_line-on on off x same = ap (λ v. if v then on x else off x) (eq-eqb (line_of_byte x) line same)
 
   pub by_line-off : (on off : ℕ → Bool) (x : ℕ) → (line_of_byte x ≡ line → ⊥) → by_line line on off x ≡ off x
   unfolding by_line
-  by_line-off on off x other = ap (λ v. if v then on x else off x) (eqb-false (line_of_byte x) line other)
+  by_line-off on off x other = ap (λ v. if v then on x else off x) (ne_eqb (line_of_byte x) line other)
 
   pub on_line-on : (value : ℕ → Option ℕ) (x : ℕ) → line_of_byte x ≡ line → on_line line value x ≡ value x
   unfolding on_line
-  on_line-on value x same = ap (λ v. if v then value x else None) (eqb-true (line_of_byte x) line same)
+  on_line-on value x same = ap (λ v. if v then value x else None) (eq-eqb (line_of_byte x) line same)
 
   pub off_line-off : (value : ℕ → Option ℕ) (x : ℕ) → (line_of_byte x ≡ line → ⊥) → off_line line value x ≡ value x
   unfolding off_line
-  off_line-off value x other = ap (λ v. if v then None else value x) (eqb-false (line_of_byte x) line other)
+  off_line-off value x other = ap (λ v. if v then None else value x) (ne_eqb (line_of_byte x) line other)
 
   pub on_line-off : (value : ℕ → Option ℕ) (x : ℕ) → (line_of_byte x ≡ line → ⊥) → on_line line value x ≡ None
   unfolding on_line
-  on_line-off value x other = ap (λ v. if v then value x else None) (eqb-false (line_of_byte x) line other)
+  on_line-off value x other = ap (λ v. if v then value x else None) (ne_eqb (line_of_byte x) line other)
 
   pub off_line-on : (value : ℕ → Option ℕ) (x : ℕ) → line_of_byte x ≡ line → off_line line value x ≡ None
   unfolding off_line
-  off_line-on value x same = ap (λ v. if v then None else value x) (eqb-true (line_of_byte x) line same)
+  off_line-on value x same = ap (λ v. if v then None else value x) (eq-eqb (line_of_byte x) line same)
 
   line-from_on : (value : ℕ → Option ℕ) (x v : ℕ) → on_line line value x ≡ Some v → (line_of_byte x ≡ line) × (value x ≡ Some v)
   unfolding on_line
   line-from_on value x v is = elim (cases_eq (line_of_byte x) line) [
-    | inl same ↦ (same, sym (ap (λ t. if t then value x else None) (eqb-true (line_of_byte x) line same)) ∙ is)
-    | inr other ↦ let bad : None ≡ Some v = sym (ap (λ t. if t then value x else None) (eqb-false (line_of_byte x) line other)) ∙ is in cc
+    | inl same ↦ (same, sym (ap (λ t. if t then value x else None) (eq-eqb (line_of_byte x) line same)) ∙ is)
+    | inr other ↦ let bad : None ≡ Some v = sym (ap (λ t. if t then value x else None) (ne_eqb (line_of_byte x) line other)) ∙ is in cc
   ]
 
   line-from_off : (value : ℕ → Option ℕ) (x v : ℕ) → off_line line value x ≡ Some v → (line_of_byte x ≡ line → ⊥) × (value x ≡ Some v)
   unfolding off_line
   line-from_off value x v is = elim (cases_eq (line_of_byte x) line) [
-    | inl same ↦ let bad : None ≡ Some v = sym (ap (λ t. if t then None else value x) (eqb-true (line_of_byte x) line same)) ∙ is in cc
-    | inr other ↦ (other, sym (ap (λ t. if t then None else value x) (eqb-false (line_of_byte x) line other)) ∙ is)
+    | inl same ↦ let bad : None ≡ Some v = sym (ap (λ t. if t then None else value x) (eq-eqb (line_of_byte x) line same)) ∙ is in cc
+    | inr other ↦ (other, sym (ap (λ t. if t then None else value x) (ne_eqb (line_of_byte x) line other)) ∙ is)
   ]
 
 module _ (ties : Bool) (kept : ℕ → Option Stored) where
   pub by_lines-on : (x y : ℕ) → line_of_byte x ≡ line_of_byte y → by_lines ties kept x y ≡ both_hold (by_place ties) (kept x) (kept y)
   unfolding by_lines
-  by_lines-on x y same = ap (λ v. if v then both_hold (by_place ties) (kept x) (kept y) else both_hold by_epoch (kept x) (kept y)) (eqb-true (line_of_byte x) (line_of_byte y) same)
+  by_lines-on x y same = ap (λ v. if v then both_hold (by_place ties) (kept x) (kept y) else both_hold by_epoch (kept x) (kept y)) (eq-eqb (line_of_byte x) (line_of_byte y) same)
 
   pub by_lines-off : (x y : ℕ) → (line_of_byte x ≡ line_of_byte y → ⊥) → by_lines ties kept x y ≡ both_hold by_epoch (kept x) (kept y)
   unfolding by_lines
-  by_lines-off x y other = ap (λ v. if v then both_hold (by_place ties) (kept x) (kept y) else both_hold by_epoch (kept x) (kept y)) (eqb-false (line_of_byte x) (line_of_byte y) other)
+  by_lines-off x y other = ap (λ v. if v then both_hold (by_place ties) (kept x) (kept y) else both_hold by_epoch (kept x) (kept y)) (ne_eqb (line_of_byte x) (line_of_byte y) other)
 
   both-on : (x y : ℕ) → line_of_byte x ≡ line_of_byte y → by_lines ties kept x y ≡ true → Both kept (by_place ties) x y
   both-on x y same is = both-from_holds kept (by_place ties) x y (kept x) (kept y) refl refl (sym (by_lines-on x y same) ∙ is)
@@ -274,7 +193,7 @@ module _ (ties : Bool) (kept : ℕ → Option Stored) where
 
   module _ (b : Extent) where
     pub no_pairs-by_lines : IsLeastValue (opening_at kept) b.first b.size None → (x : ℕ) → has_partner (by_lines ties kept) b x ≡ false
-    no_pairs-by_lines least x = same-tests _ _
+    no_pairs-by_lines least x = both_ways _ _
         (λ some.
         let one = one-from_partner (by_lines ties kept) b x some in
         let own = kept-from_pair x one.place one.passes in
@@ -287,7 +206,7 @@ module _ (ties : Bool) (kept : ℕ → Option Stored) where
         (early : ℕ) (from : b.first ≤ early) (within : early < b.first + b.size) (opens : opening_of (kept early) ≡ Some m) where
       -- off the line of the earliest epoch, that epoch decides
       off-has_partner : (x : ℕ) → (line_of_byte x ≡ line_of_byte early → ⊥) → has_partner (by_lines ties kept) b x ≡ holds_of (late_for m) (kept x)
-      off-has_partner x other = same-tests _ _
+      off-has_partner x other = both_ways _ _
           (λ some.
           let one = one-from_partner (by_lines ties kept) b x some in
           elim (cases_eq (line_of_byte x) (line_of_byte one.place)) [
@@ -341,7 +260,7 @@ module _ (ties : Bool) (kept : ℕ → Option Stored) where
             }
 
         on-has_partner : (x : ℕ) → line_of_byte x ≡ line_of_byte early → has_partner (by_lines ties kept) b x ≡ holds_of (has_one_by ties first elsewhere) (kept x)
-        on-has_partner x same = same-tests _ _
+        on-has_partner x same = both_ways _ _
             (λ some.
             let one = one-from_partner (by_lines ties kept) b x some in
             elim (cases_eq (line_of_byte x) (line_of_byte one.place)) [
@@ -350,16 +269,16 @@ module _ (ties : Bool) (kept : ℕ → Option Stored) where
                   let low = least_on.bound first refl one.place both.second.last one.from one.within
                   (on_line-on (line_of_byte early) (place_at kept) one.place (sym shared ∙ same) ∙ place-is kept one.place both.second both.is_second) in
                   holds_of-is kept (has_one_by ties first elsewhere) x both.first both.is_first
-                  ∙ or-first (is_before ties first both.first.last) (late_for_any elsewhere both.first) (before-monotone ties first both.second.last both.first.last low both.holds)
+                  ∙ or_left (is_before ties first both.first.last) (late_for_any elsewhere both.first) (before-monotone ties first both.second.last both.first.last low both.holds)
               | inr apart ↦
                   let both = both-off x one.place apart one.passes in
                   holds_of-is kept (has_one_by ties first elsewhere) x both.first both.is_first
-                  ∙ or-second (is_before ties first both.first.last) (late_for_any elsewhere both.first)
+                  ∙ or_right (is_before ties first both.first.last) (late_for_any elsewhere both.first)
                   (late-elsewhere elsewhere refl one.place both.first both.second one.from one.within (λ there. apart (same ∙ sym there)) both.is_second both.holds)
             ])
             (λ holds.
             let own = kept-from_holds kept (has_one_by ties first elsewhere) x (kept x) refl holds in
-            let either = or-cases (is_before ties first own.stored.last) (late_for_any elsewhere own.stored) (sym (holds_of-is kept (has_one_by ties first elsewhere) x own.stored own.is) ∙ holds) in
+            let either = or_cases (is_before ties first own.stored.last) (late_for_any elsewhere own.stored) (sym (holds_of-is kept (has_one_by ties first elsewhere) x own.stored own.is) ∙ holds) in
             partner-from_one (by_lines ties kept) b x (elim either [
               | inl before ↦
                   let has = least_on.has first refl in

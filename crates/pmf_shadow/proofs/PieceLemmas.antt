@@ -7,21 +7,9 @@ use Rattle.pmf_event.specs.Span.{Extent}
 use Rattle.pmf_event.specs.Line.{line_of_byte}
 use Rattle.pmf_event.specs.Ranges.{first_from, lesser, least_from}
 use Rattle.pmf_event.proofs.LineLemmas.{line-bounds, line-unique}
-use Rattle.pmf_event.proofs.RangeLemmas.{first_from-none, first_from-some, none-passes, first-passes}
+use Rattle.pmf_event.proofs.RangeLemmas.{first_from-none, first_from-some, none-passes, first-passes, some-or-none, some-from, none-from}
 use Rattle.pmf_shadow.specs.Pairs.{by_line, on_line, off_line, HasValue, IsLeastValue}
 use Rattle.pmf_shadow.proofs.PairLemmas.{by_line-on, by_line-off, on_line-on, on_line-off, off_line-on, off_line-off}
-
-some-or-none : (o : Option ℕ) → ((k : ℕ) × (o ≡ Some k)) ⊎ (o ≡ None)
-some-or-none None = inr refl
-some-or-none (Some k) = inl (k, refl)
-
-some-is : (o : Option ℕ) → is_some o ≡ true → (k : ℕ) × (o ≡ Some k)
-some-is None is = let bad : false ≡ true = is in cc
-some-is (Some k) is = (k, refl)
-
-none-is : (o : Option ℕ) → is_some o ≡ false → o ≡ None
-none-is None is = refl
-none-is (Some k) is = let bad : true ≡ false = is in cc
 
 module _ (line : ℕ) (aligned : line % 64 ≡ 0) where
   below : (k : ℕ) → k < line → line_of_byte k ≡ line → ⊥
@@ -36,7 +24,7 @@ module _ (line : ℕ) (aligned : line % 64 ≡ 0) where
   module _ (on off : ℕ → Bool) (first size end : ℕ) (at_end : end ≡ first + size) where
     pub piece-before : (o : Option ℕ) → o ≡ first_from off first (min end line - first) → is_some o ≡ true → o ≡ first_from (by_line line on off) first size
     piece-before o is some =
-        let found = some-is o some in
+        let found = some-from o some in
         let k = found.0 in
         let own = first-passes off first (min end line - first) k (sym is ∙ found.1) in
         let from = own.from in
@@ -51,9 +39,9 @@ module _ (line : ℕ) (aligned : line % 64 ≡ 0) where
     pub piece-within : (o : Option ℕ) → is_some (first_from off first (min end line - first)) ≡ false →
         o ≡ first_from on (max first line) (min end (line + 64) - max first line) → is_some o ≡ true → o ≡ first_from (by_line line on off) first size
     piece-within o none is some =
-        let found = some-is o some in
+        let found = some-from o some in
         let k = found.0 in
-        let none_before = none-passes off first (min end line - first) (none-is (first_from off first (min end line - first)) none) in
+        let none_before = none-passes off first (min end line - first) (none-from (first_from off first (min end line - first)) none) in
         let own = first-passes on (max first line) (min end (line + 64) - max first line) k (sym is ∙ found.1) in
         let from = own.from in
         let within = own.within in
@@ -72,8 +60,8 @@ module _ (line : ℕ) (aligned : line % 64 ≡ 0) where
         o ≡ first_from off (max first (line + 64)) (end - max first (line + 64)) → o ≡ first_from (by_line line on off) first size
     piece-after o none none_on is =
         let z = max first (line + 64) in
-        let none_before = none-passes off first (min end line - first) (none-is (first_from off first (min end line - first)) none) in
-        let none_within = none-passes on (max first line) (min end (line + 64) - max first line) (none-is (first_from on (max first line) (min end (line + 64) - max first line)) none_on) in
+        let none_before = none-passes off first (min end line - first) (none-from (first_from off first (min end line - first)) none) in
+        let none_within = none-passes on (max first line) (min end (line + 64) - max first line) (none-from (first_from on (max first line) (min end (line + 64) - max first line)) none_on) in
         let early : (j : ℕ) → first ≤ j → j < end → j < z → by_line line on off j ≡ false = λ j low high under. elim (cases_lt j line) [
           | inl before ↦ by_line-off line on off j (below j before) ∙ none_before j low (omega arith)
           | inr over ↦ by_line-on line on off j (inside j over (omega arith)) ∙ none_within j (omega arith) (omega arith)

@@ -1,8 +1,9 @@
 -- What is kept answers the questions as the definitions do.
-use Rattle.std.proofs.Common.{◌≡◌, ℕ, ◌+◌, ◌-◌, ◌*◌, ◌/◌, ◌^◌, ◌<◌, ◌≤◌, Bool, true, false, not, ◌&&◌, ◌==◌, nat_lt, nat_le, if◌then◌else◌, List, refl, sym, ◌∙◌, ap, arith, inl, inr}
+use Rattle.std.proofs.Common.{◌≡◌, ℕ, ◌+◌, ◌-◌, ◌*◌, ◌/◌, ◌^◌, ◌<◌, ◌≤◌, Bool, true, false, not, ◌&&◌, ◌==◌, nat_lt, if◌then◌else◌, List, refl, sym, ◌∙◌, ap, arith, inl, inr}
 use Rattle.std.specs.Prelude.{◌||◌, Option, Some, None, is_none}
-use Rattle.std.proofs.lemmas.Bool.{cases_lt, cases_eq, leb-true, le-leb, le-ltb}
+use Rattle.std.proofs.lemmas.Bool.{cases_lt, cases_eq, le-leb, le-ltb, lt-ltb, ne_eqb, lt-leb}
 use Rattle.std.proofs.lemmas.Bool.Decides.{Decides-eqb}
+use Rattle.std.proofs.Math.Bool.{and-false}
 use Rattle.pmf_event.specs.declared.event.Event.{Event}
 use Rattle.pmf_event.specs.declared.interval.Interval.{Interval}
 use Rattle.pmf_event.specs.Span.{Extent, IsValidExtent}
@@ -15,9 +16,8 @@ use Rattle.pmf_event.specs.Interval.{first_write_back, closing_fence, epoch_afte
 use Rattle.pmf_event.specs.Exclusion.{is_excluded, is_included}
 use Rattle.pmf_event.specs.Persist.{is_checked, is_exposed}
 use Rattle.pmf_event.specs.FlushWarnings.{is_clean, is_pending, numbered, first_line, line_count, lines_from, lines_where}
-use Rattle.pmf_event.proofs.PlacesLemmas.{lt-ltb}
-use Rattle.pmf_event.proofs.RangeLemmas.{first-passes, first_from-same, count_from-same}
-use Rattle.pmf_event.proofs.WriteBackLemmas.{not_eqb, epoch_unless-none, epoch_unless-some, epoch_after-none, epoch_after-some, closing-from_epoch, closing-none, closing-late}
+use Rattle.pmf_event.proofs.RangeLemmas.{first-passes, first_from-same, count_from-same, count_from-first}
+use Rattle.pmf_event.proofs.WriteBackLemmas.{epoch_unless-none, epoch_unless-some, epoch_after-none, epoch_after-some, closing-from_epoch, closing-none, closing-late}
 use Rattle.pmf_shadow.specs.declared.byte.ByteState.{ByteState}
 use Rattle.pmf_shadow.specs.declared.byte.Stored.{Stored}
 use Rattle.pmf_shadow.specs.declared.line.LineState.{LineState}
@@ -29,10 +29,10 @@ use Rattle.pmf_shadow.proofs.StandsLemmas.{store_of-none, store_of-some, stored_
 
 -- ---- where an interval closes
 
-closing-some : (fences w : ℕ) → w < fences → closing fences (Some w) ≡ Some (w + 1)
+pub closing-some : (fences w : ℕ) → w < fences → closing fences (Some w) ≡ Some (w + 1)
 closing-some fences w ended = ap (λ v. if v then Some (w + 1) else None) (lt-ltb w fences ended)
 
-closing-open : (fences w : ℕ) → fences ≤ w → closing fences (Some w) ≡ None
+pub closing-open : (fences w : ℕ) → fences ≤ w → closing fences (Some w) ≡ None
 closing-open fences w late = ap (λ v. if v then Some (w + 1) else None) (le-ltb w fences late)
 
 -- the epoch after the closing fence's, by the epoch of the first write-back
@@ -47,12 +47,9 @@ closes-is stored line es p (Some w) is = elim (cases_lt w (count (at is_fence es
 late-is_open : (fences : ℕ) (o : Option ℕ) → is_late fences o ≡ is_none (closing fences o)
 late-is_open fences None = refl
 late-is_open fences (Some w) = elim (cases_lt w fences) [
-  | inl ended ↦ not_leb fences w ended ∙ sym (ap (λ (c : Option ℕ). is_none c) (closing-some fences w ended))
+  | inl ended ↦ lt-leb fences w ended ∙ sym (ap (λ (c : Option ℕ). is_none c) (closing-some fences w ended))
   | inr late ↦ le-leb fences w late ∙ sym (ap (λ (c : Option ℕ). is_none c) (closing-open fences w late))
 ]
-  where
-    not_leb : (a b : ℕ) → b < a → nat_le a b ≡ false
-    not_leb a b below = elim (nat_le a b) as (λ v. nat_le a b ≡ v → v ≡ false) [ true ↦ λ is. let bad = leb-true a b is in absurd (omega arith) | false ↦ λ is. refl ] refl
 
 -- ---- one byte
 
@@ -65,7 +62,7 @@ interval_of-none es l c zero_is = ap (λ v. if v then None else Some (record { l
 
 interval_of-some : (es : List Event) (l : ℕ) (c : Option ℕ) → 0 < l → interval_of es l c ≡ Some (record { last = l; opens = epoch_of es l; closes = c })
 unfolding interval_of
-interval_of-some es l c some = ap (λ v. if v then None else Some (record { last = l; opens = epoch_of es l; closes = c })) (not_eqb l 0 (λ zero_is. omega arith))
+interval_of-some es l c some = ap (λ v. if v then None else Some (record { last = l; opens = epoch_of es l; closes = c })) (ne_eqb l 0 (λ zero_is. omega arith))
 
 interval_at-is : (es : List Event) (p b : ℕ) → interval_at es p b ≡ interval_of es (last_store es p b) (epoch_after es (closing_fence (stores b) (line_of_byte b) es p))
 unfolding interval_of
@@ -121,10 +118,6 @@ interval-written es p b k is =
 
 pub interval-unwritten : (es : List Event) (p b : ℕ) → stored_at es p b ≡ None → interval_at es p b ≡ None
 interval-unwritten es p b is = interval_at-is es p b ∙ interval_of-none es (last_store es p b) (epoch_after es (closing_fence (stores b) (line_of_byte b) es p)) (unwritten-from_none es p b is)
-
-and-false : (x : Bool) → (x && false) ≡ false
-and-false true = refl
-and-false false = refl
 
 -- whether it is checked, by what is kept
 checked-by : (es : List Event) (p b : ℕ) (out : Bool) (o : Option Stored) → is_excluded es p b ≡ out → stored_at es p b ≡ o →
@@ -198,19 +191,16 @@ module _ (es : List Event) (p l : ℕ) where
       elim (cases_eq k 0) [
         | inl zero_is ↦ ap (λ v. v || nat_lt 0 (closing_fence (stores_line l) l es p)) ((Decides-eqb k 0).1 zero_is) ∙ sym (ap (line_clean fences) (line_at-is es p l ∙ line_is-none k w zero_is))
         | inr some ↦
-            ap (λ v. v || nat_lt 0 (closing_fence (stores_line l) l es p)) (not_eqb k 0 some) ∙ clean-by w refl
+            ap (λ v. v || nat_lt 0 (closing_fence (stores_line l) l es p)) (ne_eqb k 0 some) ∙ clean-by w refl
             ∙ sym (ap (line_clean fences) (line_at-is es p l ∙ line_is-some k w (omega arith)))
       ]
 
   pending-cases : (fences : ℕ) (o : Option ℕ) → (not (line_clean fences (dirty_unless o)) && not (is_none o)) ≡ line_pending fences (dirty_unless o)
   pending-cases fences None = refl
   pending-cases fences (Some w) = elim (cases_lt w fences) [
-    | inl ended ↦ ap (λ v. not v && true) (lt-ltb w fences ended) ∙ sym (not_leb fences w ended)
+    | inl ended ↦ ap (λ v. not v && true) (lt-ltb w fences ended) ∙ sym (lt-leb fences w ended)
     | inr late ↦ ap (λ v. not v && true) (le-ltb w fences late) ∙ sym (le-leb fences w late)
   ]
-    where
-      not_leb : (a b : ℕ) → b < a → nat_le a b ≡ false
-      not_leb a b below = elim (nat_le a b) as (λ v. nat_le a b ≡ v → v ≡ false) [ true ↦ λ is. let bad = leb-true a b is in absurd (omega arith) | false ↦ λ is. refl ] refl
 
   pub pending-is : is_pending es p l ≡ line_pending (count (at is_fence es) p) (line_at es p l)
   unfolding is_pending
@@ -232,24 +222,27 @@ module _ (es : List Event) (p l : ℕ) where
 
 -- ---- the lines of a span, found by their numbers
 
-lines-found : (test : ℕ → Bool) (s : Extent) (line end : ℕ) → line ≡ s.first / 64 → end ≡ (s.first + s.size - 1) / 64 + 1 →
+lines_in-is : (test : ℕ → Bool) (s : Extent) (line end : ℕ) → line ≡ s.first / 64 → end ≡ (s.first + s.size - 1) / 64 + 1 →
     lines_by test s ≡ lines_from (first_from test line (end - line)) (count_from test line (end - line))
 unfolding lines_by
-lines-found test s line end at_first at_end =
+lines_in-is test s line end at_first at_end =
     sym (ap (λ e. lines_from (first_from test line (e - line)) (count_from test line (e - line))) at_end
     ∙ ap (λ k. lines_from (first_from test k ((s.first + s.size - 1) / 64 + 1 - k)) (count_from test k ((s.first + s.size - 1) / 64 + 1 - k))) at_first)
 
-pub lines-none : (test : ℕ → Bool) (s : Extent) (line end : ℕ) (found : Option ℕ) → line ≡ s.first / 64 → end ≡ (s.first + s.size - 1) / 64 + 1 →
+pub lines_in-none : (test : ℕ → Bool) (s : Extent) (line end : ℕ) (found : Option ℕ) → line ≡ s.first / 64 → end ≡ (s.first + s.size - 1) / 64 + 1 →
     found ≡ first_from test line (end - line) → found ≡ None → None ≡ lines_by test s
-lines-none test s line end found at_first at_end is none =
-    sym (lines-found test s line end at_first at_end ∙ ap (λ o. lines_from o (count_from test line (end - line))) (sym is ∙ none))
+lines_in-none test s line end found at_first at_end is none =
+    sym (lines_in-is test s line end at_first at_end ∙ ap (λ o. lines_from o (count_from test line (end - line))) (sym is ∙ none))
 
-pub lines-some : (test : ℕ → Bool) (s : Extent) (line end n count : ℕ) (found : Option ℕ) → line ≡ s.first / 64 → end ≡ (s.first + s.size - 1) / 64 + 1 →
-    found ≡ first_from test line (end - line) → found ≡ Some n → count ≡ count_from test line (end - line) →
+pub lines_in-some : (test : ℕ → Bool) (s : Extent) (line end n count : ℕ) (found : Option ℕ) → line ≡ s.first / 64 → end ≡ (s.first + s.size - 1) / 64 + 1 →
+    found ≡ first_from test line (end - line) → found ≡ Some n → count ≡ count_from test n (end - n) →
     Some (record { least = n * 64; count = count }) ≡ lines_by test s
-lines-some test s line end n count found at_first at_end is some counted =
-    sym (lines-found test s line end at_first at_end ∙ ap (λ o. lines_from o (count_from test line (end - line))) (sym is ∙ some)
-    ∙ ap (λ c. Some (record { least = n * 64; count = c })) (sym counted))
+lines_in-some test s line end n count found at_first at_end is some counted =
+    let first = first-passes test line (end - line) n (sym is ∙ some) in
+    let within = first.within in
+    let rest : line + (end - line) - n ≡ end - n = omega arith in
+    sym (lines_in-is test s line end at_first at_end ∙ ap (λ o. lines_from o (count_from test line (end - line))) (sym is ∙ some)
+    ∙ ap (λ c. Some (record { least = n * 64; count = c })) (count_from-first test line (end - line) n first ∙ ap (count_from test n) rest ∙ sym counted))
 
 pub number-fits : (test : ℕ → Bool) (s : Extent) (line end n : ℕ) (found : Option ℕ) → line ≡ s.first / 64 → end ≡ (s.first + s.size - 1) / 64 + 1 →
     found ≡ first_from test line (end - line) → found ≡ Some n → IsValidExtent s.first s.size → n * 64 < 2 ^ 63

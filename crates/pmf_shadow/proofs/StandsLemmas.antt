@@ -2,9 +2,9 @@
 -- that the changed runs say the same.
 use Rattle.std.proofs.Common.{◌≡◌, ℕ, suc, ◌+◌, ◌-◌, ◌*◌, ◌/◌, ◌<◌, ◌≤◌, Bool, true, false, ◌==◌, if◌then◌else◌, List, refl, sym, ◌∙◌, ap, arith, inl, inr}
 use Rattle.std.specs.Prelude.{Option, Some, None, is_none}
-use Rattle.std.proofs.lemmas.Bool.{cases_eq, leb-true, le-leb}
+use Rattle.std.proofs.lemmas.Bool.{cases_eq, leb-true, le-leb, lt-ltb, and_parts, and_from, ne_eqb, ltb-true}
 use Rattle.std.proofs.lemmas.Bool.Decides.{Decides-eqb}
-use borrow.Author.Tests.{ltb-true}
+use Rattle.std.specs.Cmp.{both_ways}
 use Rattle.pmf_event.specs.declared.event.Event.{Event}
 use Rattle.pmf_event.specs.declared.event.Event.TheVariants.{Store, Flush, Fence, Persist, Ordered, Exclude, Include, TxBegin, TxAdd, TxEnd, CheckStart, CheckEnd}
 use Rattle.pmf_event.specs.Span.{Extent}
@@ -13,10 +13,10 @@ use Rattle.pmf_event.specs.Places.{count}
 use Rattle.pmf_event.specs.Store.{event_at, at, stores, stores_line, flushes, is_fence, last, last_store, epoch_of}
 use Rattle.pmf_event.specs.WriteBack.{write_back_epoch}
 use Rattle.pmf_event.specs.Exclusion.{excludes, marks, is_excluded}
-use Rattle.pmf_event.proofs.PlacesLemmas.{lt-ltb, count-le, count-zero}
-use Rattle.pmf_event.proofs.EventLemmas.{and-true, both-true, at-is, last-none, last-other, last-here, epoch_of-next, fences-step}
+use Rattle.pmf_event.proofs.PlacesLemmas.{count-le, count-zero}
+use Rattle.pmf_event.proofs.EventLemmas.{at-is, last-none, last-other, last-here, epoch_of-next, fences-step}
 use Rattle.pmf_event.proofs.LineLemmas.{line-bounds, meets-bounds, bounds-meet, number-meets, meets-number}
-use Rattle.pmf_event.proofs.WriteBackLemmas.{not_eqb, write_back-kept, write_back-stored, write_back-flushed}
+use Rattle.pmf_event.proofs.WriteBackLemmas.{write_back-kept, write_back-stored, write_back-flushed}
 use Rattle.pmf_shadow.specs.declared.byte.ByteState.{ByteState}
 use Rattle.pmf_shadow.specs.declared.byte.Stored.{Stored}
 use Rattle.pmf_shadow.specs.declared.line.LineState.{LineState}
@@ -39,7 +39,7 @@ store_of-none es l w zero_is = ap (λ v. if v then None else Some (record { last
 
 pub store_of-some : (es : List Event) (l : ℕ) (w : Option ℕ) → 0 < l → store_of es l w ≡ Some (record { last = l; opens = epoch_of es l; written_back = w })
 unfolding store_of
-store_of-some es l w some = ap (λ v. if v then None else Some (record { last = l; opens = epoch_of es l; written_back = w })) (not_eqb l 0 (λ zero_is. omega arith))
+store_of-some es l w some = ap (λ v. if v then None else Some (record { last = l; opens = epoch_of es l; written_back = w })) (ne_eqb l 0 (λ zero_is. omega arith))
 
 pub stored_at-is : (es : List Event) (p b : ℕ) → stored_at es p b ≡ store_of es (last_store es p b) (write_back_epoch (stores b) (line_of_byte b) es p)
 unfolding store_of
@@ -121,7 +121,7 @@ line_is-none l w zero_is = ap (λ v. if v then Untouched else dirty_unless w) ((
 
 pub line_is-some : (l : ℕ) (w : Option ℕ) → 0 < l → line_is l w ≡ dirty_unless w
 unfolding line_is
-line_is-some l w some = ap (λ v. if v then Untouched else dirty_unless w) (not_eqb l 0 (λ zero_is. omega arith))
+line_is-some l w some = ap (λ v. if v then Untouched else dirty_unless w) (ne_eqb l 0 (λ zero_is. omega arith))
 
 pub line_at-is : (es : List Event) (p l : ℕ) → line_at es p l ≡ line_is (last (stores_line l) es p) (write_back_epoch (stores_line l) l es p)
 unfolding line_is
@@ -177,38 +177,33 @@ changed-stands first end change old new was now changes before inside outside k 
       | false ↦ λ is. before k ∙ sym (outside k is)
     ] refl
 
-same-tests : (x y : Bool) → (x ≡ true → y ≡ true) → (y ≡ true → x ≡ true) → x ≡ y
-same-tests true y to from = sym (to refl)
-same-tests false true to from = let bad : false ≡ true = from refl in cc
-same-tests false false to from = refl
-
 -- the lines that a span meets, by number
 numbers-between : (s : Extent) → 0 < s.size → (n : ℕ) → is_between (s.first / 64) ((s.first + s.size - 1) / 64 + 1) n ≡ meets_line s (n * 64)
 unfolding is_between
-numbers-between s some n = same-tests _ _
+numbers-between s some n = both_ways _ _
     (λ is.
-    let parts = and-true _ _ is in
+    let parts = and_parts _ _ is in
     let from = leb-true (s.first / 64) n parts.0 in
     let to = ltb-true n ((s.first + s.size - 1) / 64 + 1) parts.1 in
     number-meets s n some from (omega arith))
     (λ meets.
     let own = meets-number s n some meets in
-    both-true _ _ (le-leb (s.first / 64) n own.0) (lt-ltb n ((s.first + s.size - 1) / 64 + 1) (omega (arith, own.1))))
+    and_from _ _ (le-leb (s.first / 64) n own.0) (lt-ltb n ((s.first + s.size - 1) / 64 + 1) (omega (arith, own.1))))
 
 -- the bytes of the lines that a span meets
 lines-between : (s : Extent) → 0 < s.size → (b : ℕ) → is_between (s.first / 64 * 64) (((s.first + s.size - 1) / 64 + 1) * 64) b ≡ meets_line s (line_of_byte b)
 unfolding is_between
 lines-between s some b =
     let own = line-bounds b in
-    same-tests _ _
+    both_ways _ _
     (λ is.
-    let parts = and-true _ _ is in
+    let parts = and_parts _ _ is in
     let from = leb-true (s.first / 64 * 64) b parts.0 in
     let to = ltb-true b (((s.first + s.size - 1) / 64 + 1) * 64) parts.1 in
     bounds-meet s (line_of_byte b) own.2 (omega arith) (omega arith))
     (λ meets.
     let bounds = meets-bounds s (line_of_byte b) meets in
-    both-true _ _ (le-leb (s.first / 64 * 64) b (omega arith)) (lt-ltb b (((s.first + s.size - 1) / 64 + 1) * 64) (omega arith)))
+    and_from _ _ (le-leb (s.first / 64 * 64) b (omega arith)) (lt-ltb b (((s.first + s.size - 1) / 64 + 1) * 64) (omega arith)))
 
 fences-kept : (shadow : Shadow) (es : List Event) (p : ℕ) (e : Event) (fences : ℕ) → event_at es (suc p) ≡ Some e → is_fence e ≡ false →
     fences ≡ count (at is_fence es) p → fences ≡ count (at is_fence es) (suc p)

@@ -1,10 +1,11 @@
 -- What is kept of two bytes says whether they are unordered, and whether the pair is certified; and the
 -- walks that the shadow makes find the least pair.
-use Rattle.std.proofs.Common.{◌≡◌, ℕ, ◌+◌, ◌-◌, ◌<◌, ◌≤◌, Bool, true, false, not, ◌&&◌, ◌==◌, nat_lt, nat_le, if◌then◌else◌, List, refl, sym, ◌∙◌, ap, subst, arith, inl, inr}
+use Rattle.std.proofs.Common.{◌≡◌, ℕ, ◌+◌, ◌-◌, ◌<◌, ◌≤◌, Bool, true, false, not, ◌&&◌, ◌==◌, nat_lt, if◌then◌else◌, List, refl, sym, ◌∙◌, ap, subst, arith, inl, inr}
 use Rattle.std.specs.Prelude.{◌||◌, Option, Some, None}
-use Rattle.std.proofs.lemmas.Bool.{cases_lt, cases_eq, leb-true, le-leb, le-ltb}
+use Rattle.std.proofs.lemmas.Bool.{cases_lt, cases_eq, le-leb, le-ltb, lt-ltb, and_parts, ltb-true, lt-leb, ne_eqb}
 use Rattle.std.proofs.lemmas.Bool.Decides.{Decides-eqb}
-use borrow.Author.Tests.{ltb-true}
+use Rattle.std.proofs.Math.Bool.{or-false, and-false, or-true, and-true}
+use Rattle.pmf_event.proofs.LeastPairLemmas.{least_pair-by, least_pair-none}
 use Rattle.pmf_event.specs.declared.event.Event.{Event}
 use Rattle.pmf_event.specs.declared.profile.Profile.{Profile}
 use Rattle.pmf_event.specs.declared.profile.Profile.TheVariants.{One, Two}
@@ -13,25 +14,21 @@ use Rattle.pmf_event.specs.Line.{line_of_byte}
 use Rattle.pmf_event.specs.Places.{least, count}
 use Rattle.pmf_event.specs.Ranges.{first_byte}
 use Rattle.pmf_event.specs.Store.{at, stores, is_fence, last, last_store, epoch_of}
-use Rattle.pmf_event.specs.WriteBack.{write_back_epoch, epoch_unless}
+use Rattle.pmf_event.specs.WriteBack.{write_back_epoch}
 use Rattle.pmf_event.specs.Interval.{writes_back, first_write_back, interval_at}
 use Rattle.pmf_event.specs.Persist.{is_checked}
 use Rattle.pmf_event.specs.Order.{is_closed_by, precedes, share_line, is_stored_before, is_ordered, is_unordered, is_certified, with_partner, least_pair}
-use Rattle.pmf_event.proofs.PlacesLemmas.{lt-ltb, least-passes, count-mono}
-use Rattle.pmf_event.proofs.EventLemmas.{and-true}
+use Rattle.pmf_event.proofs.PlacesLemmas.{least-passes, count-mono}
 use Rattle.pmf_event.proofs.RangeLemmas.{none-passes, first_from-same}
-use Rattle.pmf_event.proofs.WriteBackLemmas.{epoch_unless-none, epoch_unless-some, last-bound}
+use Rattle.pmf_event.proofs.WriteBackLemmas.{last-bound, epoch_unless-place}
 use Rattle.pmf_shadow.specs.declared.byte.ByteState.{ByteState}
 use Rattle.pmf_shadow.specs.declared.byte.Stored.{Stored}
 use Rattle.pmf_shadow.specs.declared.shadow.Shadow.{Shadow}
 use Rattle.pmf_shadow.specs.States.{checked_store, holds_of, any_store, is_late, late_for, is_before, opens_in, stored_by, comes_after, has_one_by, opening_of, place_of}
 use Rattle.pmf_shadow.specs.Pairs.{kept, both_hold, by_epoch, by_place, by_epochs, by_lines, by_line, on_line, off_line, IsLeastValue}
 use Rattle.pmf_shadow.specs.Shadow.{stored_at, byte_at, closing, StandsFor}
-use Rattle.pmf_shadow.proofs.PairLemmas.{late-monotone, least_pair-by, least_pair-none, no_pairs-by_epochs, has_partner-by_epochs, partner-by_epochs, no_pairs-by_lines, has_partner-by_lines, partner-by_lines, by_lines-on, by_lines-off, by_line-on, by_line-off, on_line-on}
-use Rattle.pmf_shadow.proofs.QuestionLemmas.{IsWritten, written-from_stored, interval-written, checked-is}
-
-not_leb : (a b : ℕ) → b < a → nat_le a b ≡ false
-not_leb a b below = elim (nat_le a b) as (λ v. nat_le a b ≡ v → v ≡ false) [ true ↦ λ is. let bad = leb-true a b is in absurd (omega arith) | false ↦ λ is. refl ] refl
+use Rattle.pmf_shadow.proofs.PairLemmas.{late-monotone, no_pairs-by_epochs, has_partner-by_epochs, partner-by_epochs, no_pairs-by_lines, has_partner-by_lines, partner-by_lines, by_lines-on, by_lines-off, by_line-on, by_line-off, on_line-on}
+use Rattle.pmf_shadow.proofs.QuestionLemmas.{IsWritten, written-from_stored, interval-written, checked-is, closing-some, closing-open}
 
 -- ---- what is kept of a checked byte
 
@@ -76,12 +73,6 @@ epoch-bound : (es : List Event) (i p : ℕ) → i ≤ p → epoch_of es i ≤ co
 unfolding epoch_of
 epoch-bound es i p low = count-mono (at is_fence es) (i - 1) p (omega arith)
 
-epoch-place : (es : List Event) (k w : ℕ) → epoch_unless es k ≡ Some w → (0 < k) × (epoch_of es k ≡ w)
-epoch-place es k w is = elim (cases_eq k 0) [
-  | inl zero_is ↦ let bad : None ≡ Some w = sym (epoch_unless-none es k zero_is) ∙ is in cc
-  | inr other ↦ let same : Some (epoch_of es k) ≡ Some w = sym (epoch_unless-some es k (omega arith)) ∙ is in (omega arith, cc)
-]
-
 -- a write-back lies in no epoch before that of the store
 own-late : (es : List Event) (p x : ℕ) (o : Option ℕ) → write_back_epoch (stores x) (line_of_byte x) es p ≡ o → is_late (epoch_of es (last_store es p x)) o ≡ true
 unfolding write_back_epoch first_write_back writes_back
@@ -89,8 +80,8 @@ own-late es p x None is = refl
 own-late es p x (Some w) is =
     let k = last (stores x) es p in
     let place = least (writes_back es (line_of_byte x) k) p in
-    let own = epoch-place es place w is in
-    let passed = and-true _ _ (least-passes (writes_back es (line_of_byte x) k) p own.0) in
+    let own = epoch_unless-place es place w is in
+    let passed = and_parts _ _ (least-passes (writes_back es (line_of_byte x) k) p own.0) in
     let after = ltb-true k place passed.0 in
     let rise = epoch-mono es k place (omega arith) in
     let same = own.1 in le-leb (epoch_of es k) w (omega arith)
@@ -98,7 +89,7 @@ own-late es p x (Some w) is =
 at_most-from_before : (ties : Bool) (i j : ℕ) → is_before ties i j ≡ true → i ≤ j
 at_most-from_before ties i j is = elim (nat_lt i j) as (λ v. nat_lt i j ≡ v → (v || (ties && i == j)) ≡ true → i ≤ j) [
   | true ↦ λ less more. let low = ltb-true i j less in omega arith
-  | false ↦ λ other tie. let both = and-true ties (i == j) tie in let same : i ≡ j = (Decides-eqb i j).0 both.1 in omega arith
+  | false ↦ λ other tie. let both = and_parts ties (i == j) tie in let same : i ≡ j = (Decides-eqb i j).0 both.1 in omega arith
 ] refl is
 
 -- a byte that was stored no earlier than another was written back in no epoch before the other's
@@ -117,37 +108,12 @@ stored-later es p x y k m own other low =
 not-closed : (fences opens : ℕ) (o : Option ℕ) → opens ≤ fences → not (is_closed_by (closing fences o) opens) ≡ is_late opens o
 not-closed fences opens None low = refl
 not-closed fences opens (Some w) low = elim (cases_lt w fences) [
-  | inl ended ↦ ap (λ c. not (is_closed_by c opens)) (closing_some fences w ended) ∙ elim (cases_lt w opens) [
-    | inl before ↦ ap (λ v. not v) (le-leb (w + 1) opens (omega arith)) ∙ sym (not_leb opens w before)
-    | inr after ↦ ap (λ v. not v) (not_leb (w + 1) opens (omega arith)) ∙ sym (le-leb opens w after)
+  | inl ended ↦ ap (λ c. not (is_closed_by c opens)) (closing-some fences w ended) ∙ elim (cases_lt w opens) [
+    | inl before ↦ ap (λ v. not v) (le-leb (w + 1) opens (omega arith)) ∙ sym (lt-leb opens w before)
+    | inr after ↦ ap (λ v. not v) (lt-leb (w + 1) opens (omega arith)) ∙ sym (le-leb opens w after)
   ]
-  | inr late ↦ ap (λ c. not (is_closed_by c opens)) (closing_none fences w late) ∙ sym (le-leb opens w (omega arith))
+  | inr late ↦ ap (λ c. not (is_closed_by c opens)) (closing-open fences w late) ∙ sym (le-leb opens w (omega arith))
 ]
-  where
-    closing_some : (fences w : ℕ) → w < fences → closing fences (Some w) ≡ Some (w + 1)
-    closing_some fences w ended = ap (λ v. if v then Some (w + 1) else None) (lt-ltb w fences ended)
-
-    closing_none : (fences w : ℕ) → fences ≤ w → closing fences (Some w) ≡ None
-    closing_none fences w late = ap (λ v. if v then Some (w + 1) else None) (le-ltb w fences late)
-
-eqb-cases : (x y : ℕ) → (x ≡ y → ⊥) → (x == y) ≡ false
-eqb-cases x y other = elim (x == y) as (λ v. (x == y) ≡ v → v ≡ false) [ true ↦ λ is. absurd (other ((Decides-eqb x y).0 is)) | false ↦ λ is. refl ] refl
-
-or-false : (v : Bool) → (v || false) ≡ v
-or-false true = refl
-or-false false = refl
-
-and-true-right : (v : Bool) → (v && true) ≡ v
-and-true-right true = refl
-and-true-right false = refl
-
-and-false : (v : Bool) → (v && false) ≡ false
-and-false true = refl
-and-false false = refl
-
-or-true : (v : Bool) → (v || true) ≡ true
-or-true true = refl
-or-true false = refl
 
 module _ (es : List Event) (p x y : ℕ) (k m : Stored) (own : IsKept es p x k) (other : IsKept es p y m) where
   -- the two checked bytes, by their epochs
@@ -208,7 +174,7 @@ module _ (es : List Event) (p x y : ℕ) (k m : Stored) (own : IsKept es p x k) 
         unordered-two-on on
         ∙ ap (λ v. not (precedes (interval_at es p x) (interval_at es p y) || v)) (lt-ltb k.last m.last before)
         ∙ ap (λ v. not v) (or-true (precedes (interval_at es p x) (interval_at es p y)))
-        ∙ sym (ap (λ v. v || (true && m.last == k.last)) (le-ltb m.last k.last (omega arith)) ∙ eqb-cases m.last k.last (λ same. omega arith))
+        ∙ sym (ap (λ v. v || (true && m.last == k.last)) (le-ltb m.last k.last (omega arith)) ∙ ne_eqb m.last k.last (λ same. omega arith))
     | inr after ↦ later-two on after ∙ sym (elim (cases_eq m.last k.last) [
       | inl same ↦ ap (λ v. nat_lt m.last k.last || v) ((Decides-eqb m.last k.last).1 same) ∙ or-true (nat_lt m.last k.last)
       | inr apart ↦ ap (λ v. v || (true && m.last == k.last)) (lt-ltb m.last k.last (omega arith))
@@ -218,7 +184,7 @@ module _ (es : List Event) (p x y : ℕ) (k m : Stored) (own : IsKept es p x k) 
   certified-off : (profile : Profile) → share_line x y ≡ false → is_unordered profile es p x y ≡ is_late m.opens k.written_back → is_certified profile es p x y ≡ is_late m.opens k.written_back
   unfolding is_certified
   certified-off profile off is =
-      ap (λ s. is_unordered profile es p x y && (not s || is_stored_before es p y x)) off ∙ and-true-right (is_unordered profile es p x y) ∙ is
+      ap (λ s. is_unordered profile es p x y && (not s || is_stored_before es p y x)) off ∙ and-true (is_unordered profile es p x y) ∙ is
 
   certified-on : (profile : Profile) → share_line x y ≡ true → (m.last < k.last → is_unordered profile es p x y ≡ true) → is_certified profile es p x y ≡ is_before false m.last k.last
   unfolding is_certified
@@ -226,7 +192,7 @@ module _ (es : List Event) (p x y : ℕ) (k m : Stored) (own : IsKept es p x k) 
       ap (λ s. is_unordered profile es p x y && (not s || is_stored_before es p y x)) on
       ∙ ap (λ v. is_unordered profile es p x y && v) after-is
       ∙ elim (cases_lt m.last k.last) [
-        | inl before ↦ ap (λ v. is_unordered profile es p x y && v) (lt-ltb m.last k.last before) ∙ and-true-right (is_unordered profile es p x y) ∙ later before
+        | inl before ↦ ap (λ v. is_unordered profile es p x y && v) (lt-ltb m.last k.last before) ∙ and-true (is_unordered profile es p x y) ∙ later before
             ∙ sym (ap (λ v. v || (false && m.last == k.last)) (lt-ltb m.last k.last before))
         | inr after ↦ ap (λ v. is_unordered profile es p x y && v) (le-ltb m.last k.last after) ∙ and-false (is_unordered profile es p x y)
             ∙ sym (ap (λ v. v || (false && m.last == k.last)) (le-ltb m.last k.last after))
@@ -288,7 +254,7 @@ module _ (shadow : Shadow) (es : List Event) (p : ℕ) (stands : StandsFor shado
         on x y k m (kept-some shadow es p stands x k one) (kept-some shadow es p stands y m other) ((Decides-eqb (line_of_byte x) (line_of_byte y)).1 same)
         ∙ sym (by_lines-on ties (kept shadow.bytes) x y same ∙ both-is (by_place ties) x y k m one other)
     | inr apart ↦
-        off x y k m (kept-some shadow es p stands x k one) (kept-some shadow es p stands y m other) (eqb-cases (line_of_byte x) (line_of_byte y) apart)
+        off x y k m (kept-some shadow es p stands x k one) (kept-some shadow es p stands y m other) (ne_eqb (line_of_byte x) (line_of_byte y) apart)
         ∙ sym (by_lines-off ties (kept shadow.bytes) x y apart ∙ both-is by_epoch x y k m one other)
   ]
   lines-by ties want on off none x y None v one other = none x y (neither-left x y one) ∙ sym (elim (cases_eq (line_of_byte x) (line_of_byte y)) [

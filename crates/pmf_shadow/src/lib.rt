@@ -4,6 +4,10 @@
 //! states, by `specs/Runs`. What it answers about a range is a search of `pmf_event`'s
 //! `specs/Ranges` over the states.
 //!
+//! A [`Shadow`] keeps such maps of the bytes and of the cache lines, and stands for the first `p` events
+//! of a list by `specs/Shadow`: then its questions are answered as `pmf_event`'s definitions answer them
+//! for those events.
+//!
 //! Not promised here: how much memory a map takes, and that neighbours of equal state are one run.
 #![tactic(auto)]
 

@@ -203,7 +203,7 @@ impl Shadow {
             None => None,
             Some(least) => Some(Lines {
                 least: least * LINE_SIZE,
-                count: self.lines.count_where(line, end, test),
+                count: self.lines.count_where(least, end, test),
             }),
         }
     }

@@ -5,19 +5,17 @@ use Rattle.std.proofs.lemmas.List.{take_more, get_or-take, length-take-le}
 use Rattle.std.proofs.lemmas.List.Elements.{All-from_get_or}
 use Rattle.std.proofs.lemmas.List.Splits.{slice_split_none, slice_split_first, slice_split_at}
 use Rattle.std.proofs.lemmas.List.Sums.{position_or_len_is}
+use Rattle.std.proofs.lemmas.Bool.{false_from_ne_true}
 use Rattle.memchr.specs.Find.{IsFirstByte}
 
 -- what isn't true is false
-pub not_true : (b : Bool) → (b ≡ true → ⊥) → b ≡ false
-not_true true never = absurd (never refl)
-not_true false never = refl
 
 module _ (p : ℕ → Bool) where
   -- no byte passes
   pub none_pass : (xs : List ℕ) → IsFirstByte p xs None → All (λ c. p c ≡ false) xs
   none_pass xs none =
       let P = λ (c : ℕ). p c ≡ false in
-      All-from_get_or P xs 0 (λ i below. not_true _ (none i (omega arith) below))
+      All-from_get_or P xs 0 (λ i below. false_from_ne_true _ (none i (omega arith) below))
 
   -- with no byte that passes, there is one part
   pub split_none : (xs : List ℕ) → IsFirstByte p xs None → slice_split p xs ≡ xs ∷ []
@@ -29,7 +27,7 @@ module _ (p : ℕ → Bool) where
       let first = found.0 in
       let is : position_or_len p xs ≡ k =
       position_or_len_is p xs k 0 (omega (arith, first.high))
-      (λ j below. not_true _ (first.before j (omega arith) below))
+      (λ j below. false_from_ne_true _ (first.before j (omega arith) below))
       (λ _. found.1) in
       slice_split_first p xs 0 (omega (arith, is, first.high)) ∙ ap (λ n. take n xs ∷ slice_split p (drop (n + 1) xs)) is
 
@@ -51,7 +49,7 @@ module _ (p : ℕ → Bool) where
       let none : All P (take k xs) =
       All-from_get_or P (take k xs) 0
       (λ i below. subst P (sym (get_or-take k xs i 0 (omega (arith, length-take-le k xs (omega (arith, first.high))))))
-      (not_true _ (first.before i (omega arith) (omega (arith, length-take-le k xs (omega (arith, first.high))))))) in
+      (false_from_ne_true _ (first.before i (omega arith) (omega (arith, length-take-le k xs (omega (arith, first.high))))))) in
       ap (slice_split p) (take_more xs k 0 first.high) ∙ slice_split_at p (take k xs) (get_or xs k 0) [] none found.1
 
 -- the parts of two lists joined: the last part of the first goes on as the first part of the second

@@ -2,6 +2,7 @@
 use Rattle.std.proofs.Common.{◌≡◌, ℕ, suc, ◌+◌, ◌-◌, ◌<◌, Bool, true, false, not, ◌&&◌, if◌then◌else◌, List, refl, sym, ◌∙◌, ap, arith, inl, inr}
 use Rattle.std.specs.Prelude.{Option, Some, None, is_some}
 use Rattle.std.proofs.lemmas.Bool.{cases_eq, eq-eqb, ne_eqb, both_ways}
+use Rattle.std.proofs.Math.Bool.{and-false}
 use Rattle.pmf_event.specs.declared.event.Event.{Event}
 use Rattle.pmf_event.specs.declared.event.Event.TheVariants.{Store, Flush, Fence, Persist, Ordered, Exclude, Include, TxBegin, TxAdd, TxEnd, CheckStart, CheckEnd}
 use Rattle.pmf_event.specs.declared.finding.Finding.TheVariants.{TxStillOpen, Unmatched, Outside, Nested, Unopened, Unclosed}
@@ -10,7 +11,7 @@ use Rattle.pmf_event.specs.Ranges.{first_from, first_byte}
 use Rattle.pmf_event.specs.Store.{event_at, stores}
 use Rattle.pmf_event.specs.Transactions.{begins, ends, depth_at, in_transaction, is_outside, adds, is_backed, opens_scope, closes_scope, scope_at, in_scope, is_scoped, lacks_backup, is_left_open, duplog_with, nobackup_with, scope_passes_unless, end_finding, add_finding, store_finding, start_finding, check_finding, close_finding}
 use Rattle.pmf_event.specs.declared.span.TheConstants.{ADDRESS_LIMIT}
-use Rattle.pmf_event.proofs.RangeLemmas.{first_from-same}
+use Rattle.pmf_event.proofs.RangeLemmas.{first_from-same, some-from}
 use Rattle.pmf_event.proofs.TransactionLemmas.{depth-start, depth-begun, depth-ended, depth-kept, inside-from, outside-from, inside-depth, inside-kept, backed-begun, backed-added, backed-kept, scope-start, scope-some, scoped-from, unscoped-from, in_scope-same, scope-stays, scope-opened, scope-kept, scope-closed, scoped-opened, scoped-kept, scoped-stored}
 use Rattle.pmf_shadow.specs.declared.runs.RunMap.{RunMap}
 use Rattle.pmf_shadow.specs.Runs.{state_at, passing, is_between, ChangesBetween}
@@ -24,14 +25,6 @@ scope_unless-none n none = ap (λ v. if v then None else Some n) (eq-eqb n 0 non
 
 scope_unless-some : (n : ℕ) → 0 < n → scope_unless n ≡ Some n
 scope_unless-some n some = ap (λ v. if v then None else Some n) (ne_eqb n 0 (λ none. omega arith))
-
-some-from : (o : Option ℕ) → is_some o ≡ true → (n : ℕ) × (o ≡ Some n)
-some-from None some = let bad : false ≡ true = some in cc
-some-from (Some n) some = (n, refl)
-
-pub none-from : (o : Option ℕ) → is_some o ≡ false → o ≡ None
-none-from None none = refl
-none-from (Some n) none = let bad : true ≡ false = none in cc
 
 module _ (state : TxState) (es : List Event) (p : ℕ) (tracks : Tracks state es p) where
   pub outside-by : state.depth ≡ 0 → in_transaction es p ≡ false
@@ -245,10 +238,6 @@ module _ (state : TxState) (es : List Event) (p : ℕ) (tracks : Tracks state es
         scope = scope-same state es p (Store s) here tracks same;
         stored = stored-same state es p (Store s) here tracks same (λ b. ap (λ v. stores b (Store s) && v) outside ∙ and-false (stores b (Store s)));
       }
-    where
-      and-false : (x : Bool) → (x && false) ≡ false
-      and-false true = refl
-      and-false false = refl
 
   pub tracks-store_unscoped : state.scope ≡ None → event_at es (suc p) ≡ Some (Store s) → Tracks state es (suc p)
   unfolding begins ends adds closes_scope opens_scope

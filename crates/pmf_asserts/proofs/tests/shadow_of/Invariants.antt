@@ -1,4 +1,3 @@
-use Rattle.std.proofs.Common.{◌≡◌}
 use Rattle.pmf_shadow.specs.Shadow.{StandsFor}
 use Rattle.pmf_asserts.proofs.tests.shadow_of.Given as goal
 

@@ -1,5 +1,6 @@
 use Rattle.std.proofs.Common.{sym, ◌∙◌}
-use Rattle.pmf_txcheck.proofs.TrackLemmas.{none-from, in_scope-by_some, tracks-nested, tracks-opened, start-nested, start-nothing}
+use Rattle.pmf_event.proofs.RangeLemmas.{none-from}
+use Rattle.pmf_txcheck.proofs.TrackLemmas.{in_scope-by_some, tracks-nested, tracks-opened, start-nested, start-nothing}
 use Rattle.pmf_txcheck.proofs.state.TxState.check_start.Goals as goal
 
 pub returns-then-is_some-clause-tracks : goal.returns-then-is_some-clause-tracks

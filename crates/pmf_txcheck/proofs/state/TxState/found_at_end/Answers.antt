@@ -1,6 +1,7 @@
 use Rattle.std.proofs.Common.{sym, ◌∙◌, ap, arith}
 use Rattle.std.specs.Prelude.{Some, None, not}
-use Rattle.pmf_txcheck.proofs.TrackLemmas.{none-from, in_scope-by_some, check-unopened, check-inside, check-found}
+use Rattle.pmf_event.proofs.RangeLemmas.{none-from}
+use Rattle.pmf_txcheck.proofs.TrackLemmas.{in_scope-by_some, check-unopened, check-inside, check-found}
 use Rattle.pmf_txcheck.proofs.state.TxState.found_at_end.Goals as goal
 
 pub returns-then-is_none : goal.returns-then-is_none
