@@ -1,13 +1,14 @@
 -- Laws of the search for the least pair, whatever the test of pairs.
-use Rattle.std.proofs.Common.{◌≡◌, ℕ, ◌+◌, ◌<◌, ◌≤◌, Bool, true, false, List, refl, sym, ◌∙◌, ap, inl, inr}
+use Rattle.std.proofs.Common.{◌≡◌, ℕ, ◌+◌, ◌<◌, ◌≤◌, Bool, true, false, List, refl, sym, ◌∙◌, ap, subst, inl, inr}
 use Rattle.std.specs.Prelude.{Option, Some, None, is_some}
 use Rattle.std.proofs.lemmas.Bool.{and_parts}
 use Rattle.std.proofs.lemmas.Option.{none-some}
 use Rattle.pmf_event.specs.declared.event.Event.{Event}
 use Rattle.pmf_event.specs.declared.profile.Profile.{Profile}
-use Rattle.pmf_event.specs.Span.{Extent}
+use Rattle.pmf_event.specs.Span.{Extent, covers_byte}
 use Rattle.pmf_event.specs.Ranges.{first_from, first_byte}
 use Rattle.pmf_event.specs.Order.{has_partner, paired, with_partner, is_unordered, is_certified, least_pair}
+use Rattle.pmf_event.proofs.LineLemmas.{covers-bounds, bounds-cover}
 use Rattle.pmf_event.proofs.RangeLemmas.{some-or-none, none-from, first_from-none, none-passes, first-passes, first_from-same}
 
 -- the n numbers from b on have one that passes
@@ -90,6 +91,45 @@ module _ (few many : ℕ → ℕ → Bool) (a b : Extent) where
         | true ↦ λ is. sym (some_of x y is) ∙ none-passes (many x) b.first b.size alone y from to
         | false ↦ λ is. refl
       ] refl))))
+
+-- without a pair no two bytes pass
+pub unpaired : (test : ℕ → ℕ → Bool) (a b : Extent) → least_pair test a b ≡ None →
+    (x y : ℕ) → covers_byte a x ≡ true → covers_byte b y ≡ true → test x y ≡ false
+unfolding has_partner
+unpaired test a b none x y in_a in_b =
+    let one = covers-bounds a x in_a in
+    let other = covers-bounds b y in_b in
+    none-passes (test x) b.first b.size (none-from (first_byte (test x) b) (no_partner test test a b none x one.0 one.1)) y other.0 other.1
+
+-- ---- where there is one
+
+-- a pair of the two spans that passes
+pub record Pair (test : ℕ → ℕ → Bool) (a b : Extent) (x y : ℕ) : Type 0 where
+  pub one : covers_byte a x ≡ true
+  pub other : covers_byte b y ≡ true
+  pub passes : test x y ≡ true
+
+paired-parts : (z : ℕ) (o : Option ℕ) (x y : ℕ) → paired z o ≡ Some (x, y) → (z ≡ x) × (o ≡ Some y)
+paired-parts z None x y is = let bad : None ≡ Some (x, y) = is in cc
+paired-parts z (Some k) x y is =
+    let pair : ◌≡◌ {A = ℕ × ℕ} (z, k) (x, y) = cc in (ap (λ q. q.0) pair, ap (λ q. Some q.1) pair)
+
+pair-by : (test : ℕ → ℕ → Bool) (a b : Extent) (x y : ℕ) (o : Option ℕ) → first_byte (has_partner test b) a ≡ o → with_partner test b o ≡ Some (x, y) → Pair test a b x y
+pair-by test a b x y None none is = let bad : None ≡ Some (x, y) = is in cc
+pair-by test a b x y (Some z) found is =
+    let parts = paired-parts z (first_byte (test z) b) x y is in
+    let first = first-passes (has_partner test b) a.first a.size z found in
+    let second = first-passes (test z) b.first b.size y parts.1 in
+    record {
+      one = subst (λ k. covers_byte a k ≡ true) parts.0 (bounds-cover a z first.from first.within);
+      other = bounds-cover b y second.from second.within;
+      passes = subst (λ k. test k y ≡ true) parts.0 second.passes;
+    }
+
+-- the pair that is found passes, and its bytes are of the spans
+pub pair-from : (test : ℕ → ℕ → Bool) (a b : Extent) (x y : ℕ) → least_pair test a b ≡ Some (x, y) → Pair test a b x y
+unfolding least_pair
+pair-from test a b x y is = pair-by test a b x y (first_byte (has_partner test b) a) refl is
 
 -- a certified pair is unordered
 pub certified-unordered : (profile : Profile) (es : List Event) (p x y : ℕ) → is_certified profile es p x y ≡ true → is_unordered profile es p x y ≡ true

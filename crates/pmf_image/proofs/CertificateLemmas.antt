@@ -3,11 +3,10 @@
 use Rattle.std.proofs.Common.{◌≡◌, ℕ, zero, suc, ◌+◌, ◌-◌, ◌<◌, ◌≤◌, Bool, true, false, ◌&&◌, ◌==◌, nat_lt, nat_le, if◌then◌else◌, List, length, refl, sym, ◌∙◌, ap, arith}
 use Rattle.std.specs.Prelude.{Option, Some, None, unwrap_or, get_or, take, nat_eq}
 use Rattle.std.specs.Option.{option_eq}
-use Rattle.std.proofs.lemmas.Bool.{leb-true, le-leb}
+use Rattle.std.proofs.lemmas.Bool.{leb-true, le-leb, and_from, ltb-true}
 use Rattle.std.proofs.lemmas.Bool.Decides.{Decides-eqb}
 use Rattle.std.proofs.lemmas.List.{length-take-le, get_or-take}
 use Rattle.std.proofs.lemmas.Option.{slice_get_read}
-use borrow.Author.Tests.{ltb-true}
 use Rattle.pmf_event.specs.declared.event.Event.{Event}
 use Rattle.pmf_event.specs.declared.event.Event.TheVariants.{Store, Flush, Fence}
 use Rattle.pmf_event.specs.Span.{Extent, covers_byte}
@@ -15,7 +14,7 @@ use Rattle.pmf_event.specs.Line.{line_of_byte, meets_line}
 use Rattle.pmf_event.specs.Places.{greatest, count, some_between}
 use Rattle.pmf_event.specs.Store.{event_at, at, stores, stores_line, flushes, is_fence, last, last_store}
 use Rattle.pmf_event.proofs.PlacesLemmas.{SameUpTo, greatest-step, greatest-zero, greatest-bound, count-step, count-zero, count-le, some_between-here}
-use Rattle.pmf_event.proofs.EventLemmas.{both-true, at-is, last-step, not_fence_and_flush}
+use Rattle.pmf_event.proofs.EventLemmas.{at-is, last-step, not_fence_and_flush}
 use Rattle.pmf_event.proofs.LineLemmas.{line-meets}
 use Rattle.pmf_image.specs.declared.certificate.Certificate.{Certificate}
 use Rattle.pmf_image.specs.Certificate.{full_cuts, image_of, cut_in, shows_in}
@@ -299,7 +298,7 @@ module _ (es : List Event) (c : Certificate) (b i stored shown stored_next shown
   Shown-reached s is meets covers counted within shows =
       Shown-step es c b i stored shown stored_next shown_next e before here
       (counted ∙ sym (ap (λ v. if v then suc stored else stored) (stores_line-is (line_of_byte b) e s is ∙ meets)))
-      (shows ∙ sym (ap (λ v. if v then suc i else shown) (both-true _ _ (stores-is b e s is ∙ covers) (le-leb stored_next (cut_in es c (line_of_byte b)) within))))
+      (shows ∙ sym (ap (λ v. if v then suc i else shown) (and_from _ _ (stores-is b e s is ∙ covers) (le-leb stored_next (cut_in es c (line_of_byte b)) within))))
 
   -- a store of the line that leaves the byte out
   pub Shown-beside : (s : Extent) → e ≡ Store s → meets_line s (line_of_byte b) ≡ true → covers_byte s b ≡ false →

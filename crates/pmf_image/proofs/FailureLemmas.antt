@@ -1,9 +1,8 @@
 -- Failures are real: the image of a certificate that shows one.
 use Rattle.std.proofs.Common.{◌≡◌, ℕ, zero, suc, ◌+◌, ◌-◌, ◌<◌, ◌≤◌, Bool, true, false, not, ◌&&◌, ◌||◌, ◌==◌, nat_lt, if◌then◌else◌, List, [], ◌∷◌, length, refl, sym, ◌∙◌, ap, arith, inl, inr, subst}
 use Rattle.std.specs.Prelude.{Option, Some, None, unwrap_or}
-use Rattle.std.proofs.lemmas.Bool.{cases_lt, cases_eq, le-leb, leb-true, or_cases}
+use Rattle.std.proofs.lemmas.Bool.{cases_lt, cases_eq, le-leb, or_cases, and_parts, and_from, ltb-true}
 use Rattle.std.proofs.lemmas.Bool.Decides.{Decides-eqb}
-use borrow.Author.Tests.{ltb-true}
 use Rattle.pmf_event.specs.declared.event.Event.{Event}
 use Rattle.pmf_event.specs.declared.event.Event.TheVariants.{Fence}
 use Rattle.pmf_event.specs.declared.interval.Interval.{Interval}
@@ -16,7 +15,7 @@ use Rattle.pmf_event.specs.Interval.{closes, closing_fence, epoch_after, interva
 use Rattle.pmf_event.specs.Order.{is_closed_by, precedes, share_line, is_stored_before, is_ordered, is_unordered, is_certified}
 use Rattle.pmf_event.specs.Persist.{is_checked, is_exposed}
 use Rattle.pmf_event.proofs.PlacesLemmas.{greatest-bound, greatest-passes, greatest-above, least-below, least-passes, count-mono, count-here, some_between-here, some_between-found}
-use Rattle.pmf_event.proofs.EventLemmas.{and-true, both-true}
+
 use Rattle.pmf_event.proofs.IntervalLemmas.{Closing, Closing-closes, no_Closing-from_open}
 use Rattle.pmf_image.specs.declared.certificate.Certificate.{Certificate}
 use Rattle.pmf_image.specs.Image.{Image, IsAllowed, count_of, is_fenced, floor_of, value_of, is_in, cut_of, reach_of, reaches, shows}
@@ -92,7 +91,7 @@ shown-closed es n b k image untorn floor some is shown =
 pub shown-where_open : OpenIntervalsAreShown
 unfolding is_exposed
 shown-where_open es p b exposed =
-    let is = and-true (is_checked es p b) (is_open (interval_at es p b)) exposed in
+    let is = and_parts (is_checked es p b) (is_open (interval_at es p b)) exposed in
     let written = written-from_checked es p b is.0 in
     let image = image_of es (record { crash = p; full_line = None }) in
     elim (cases_lt (shows es p image b) (last_store es p b)) [
@@ -123,9 +122,9 @@ closed_by-closing es p x k within c before =
     let line = line_of_byte x in
     let last = last_store es p x in
     let between = some_between-here (at (flushes line) es) last c.fence c.flush c.after c.before c.is_flush in
-    let first = least-below (closes es line last) p c.fence (omega (arith, c.before)) (omega (arith, c.within)) (both-true (at is_fence es c.fence) (some_between (at (flushes line) es) last c.fence) c.is_fence between) in
+    let first = least-below (closes es line last) p c.fence (omega (arith, c.before)) (omega (arith, c.within)) (and_from (at is_fence es c.fence) (some_between (at (flushes line) es) last c.fence) c.is_fence between) in
     let fence = least (closes es line last) p in
-    let is = and-true (at is_fence es fence) (some_between (at (flushes line) es) last fence) (least-passes (closes es line last) p first.0) in
+    let is = and_parts (at is_fence es fence) (some_between (at (flushes line) es) last fence) (least-passes (closes es line last) p first.0) in
     let rise = count-here (at is_fence es) fence first.0 is.0 in
     let more = count-mono (at is_fence es) fence (k - 1) (omega (arith, first.1)) in
     ap (λ v. is_closed_by (if v then None else Some (count (at is_fence es) (fence - 1) + 1)) (count (at is_fence es) (k - 1))) (not_zero-eqb fence first.0)
@@ -195,7 +194,7 @@ apart-other x y apart = elim (line_of_byte y == line_of_byte x) as (λ v. (line_
 pub pair-shown : CertifiedPairsAreShown
 unfolding is_certified is_unordered at_y is_stored_before
 pair-shown profile es p x y certified =
-    let is = and-true (is_unordered profile es p x y) (not (share_line x y) || nat_lt (last_store es p y) (last_store es p x)) certified in
+    let is = and_parts (is_unordered profile es p x y) (not (share_line x y) || nat_lt (last_store es p y) (last_store es p x)) certified in
     let parts = unordered-parts (is_checked es p x) (is_checked es p y) (is_ordered profile es p x y) is.0 in
     let x_written = written-from_checked es p x parts.0 in
     let y_written = written-from_checked es p y parts.1 in

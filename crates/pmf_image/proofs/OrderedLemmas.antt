@@ -1,9 +1,8 @@
 -- Soundness of ordered pairs: what is durable before a store is shown wherever that store is.
 use Rattle.std.proofs.Common.{◌≡◌, ℕ, ◌+◌, ◌-◌, ◌<◌, ◌≤◌, Bool, true, false, ◌&&◌, ◌==◌, if◌then◌else◌, List, refl, sym, ◌∙◌, arith, inl, inr, subst}
 use Rattle.std.specs.Prelude.{Some, None}
-use Rattle.std.proofs.lemmas.Bool.{cases_lt, cases_eq, leb-true, or_cases}
+use Rattle.std.proofs.lemmas.Bool.{cases_lt, cases_eq, leb-true, or_cases, and_parts, ltb-true}
 use Rattle.std.proofs.lemmas.Bool.Decides.{Decides-eqb}
-use borrow.Author.Tests.{ltb-true}
 use Rattle.pmf_event.specs.declared.event.Event.{Event}
 use Rattle.pmf_event.specs.declared.interval.Interval.{Interval}
 use Rattle.pmf_event.specs.declared.profile.Profile.{Profile}
@@ -14,7 +13,6 @@ use Rattle.pmf_event.specs.Store.{at, stores, flushes, is_fence, last_store, epo
 use Rattle.pmf_event.specs.Interval.{closes, closing_fence, epoch_after, interval_at}
 use Rattle.pmf_event.specs.Order.{is_closed_by, precedes, share_line, is_stored_before, is_ordered}
 use Rattle.pmf_event.proofs.PlacesLemmas.{least-passes, count-mono, some_between-found}
-use Rattle.pmf_event.proofs.EventLemmas.{and-true}
 use Rattle.pmf_event.proofs.IntervalLemmas.{Closing}
 use Rattle.pmf_image.specs.Image.{Image, IsAllowed, count_of, cut_of, is_in, reach_of, shows}
 use Rattle.pmf_image.specs.Laws.{OrderedPairsHold}
@@ -56,7 +54,7 @@ closed_before es p x k n closed within =
     let fence = closing_fence (stores x) line es p in
     let by = closed_by-some es fence (epoch_of es k) closed in
     let before = earlier-place es fence k by.1 in
-    let is = and-true (at is_fence es fence) (some_between (at (flushes line) es) last fence) (least-passes (closes es line last) p by.0) in
+    let is = and_parts (at is_fence es fence) (some_between (at (flushes line) es) last fence) (least-passes (closes es line last) p by.0) in
     let found = some_between-found (at (flushes line) es) last fence is.1 in
     record {
       flush = found.place;
@@ -122,7 +120,7 @@ module _ (es : List Event) (p n : ℕ) (image : Image) (allowed : IsAllowed es n
   shown-ordered One ordered = shown-by_epochs ordered
   shown-ordered Two ordered = elim (or_cases (precedes (interval_at es p x) (interval_at es p y)) (share_line x y && is_stored_before es p x y) ordered) [
     | inl epochs ↦ shown-by_epochs epochs
-    | inr lines ↦ let both = and-true (share_line x y) (is_stored_before es p x y) lines in shown-by_lines both.0 both.1
+    | inr lines ↦ let both = and_parts (share_line x y) (is_stored_before es p x y) lines in shown-by_lines both.0 both.1
   ]
 
 pub holds-where_ordered : OrderedPairsHold

@@ -20,7 +20,8 @@ use Rattle.pmf_event.specs.Ranges.{first_from, first_byte}
 use Rattle.pmf_event.specs.Persist.{is_checked, is_exposed, pass_unless, persist_finding}
 use Rattle.pmf_event.specs.Order.{share_line, is_stored_before, is_ordered, is_unordered, is_certified, has_partner, paired, with_partner, least_pair, finding_of_pairs, ordered_finding}
 use Rattle.pmf_event.specs.Transactions.{in_transaction, depth_at, in_scope, is_scoped, is_left_open, scope_passes_unless, check_finding}
-use Rattle.pmf_event.proofs.RangeLemmas.{IsFirst, first-passes}
+use Rattle.pmf_event.proofs.RangeLemmas.{first-passes}
+use Rattle.pmf_event.proofs.LeastPairLemmas.{pair-from, certified-unordered}
 use Rattle.pmf_event.proofs.LineLemmas.{bounds-cover}
 use Rattle.pmf_event.proofs.TransactionLemmas.{left_open-exposed}
 use Rattle.pmf_image.specs.declared.certificate.Certificate.{Certificate}
@@ -125,37 +126,10 @@ fails-ordered es p true w c u x y n is = let bad : OrderedFail x y n ≡ Ordered
 fails-ordered es p false true c u x y n is = let bad : OrderedFail x y n ≡ OrderedEmpty = is in cc
 fails-ordered es p false false c u x y n is = fails-pairs es p c u x y n is
 
--- the pair that is found passes, and its bytes are of the spans
-pub record Pair (test : ℕ → ℕ → Bool) (a b : Extent) (x y : ℕ) : Type 0 where
-  pub one : covers_byte a x ≡ true
-  pub other : covers_byte b y ≡ true
-  pub passes : test x y ≡ true
-
-paired-parts : (z : ℕ) (o : Option ℕ) (x y : ℕ) → paired z o ≡ Some (x, y) → (z ≡ x) × (o ≡ Some y)
-paired-parts z None x y is = let bad : None ≡ Some (x, y) = is in cc
-paired-parts z (Some k) x y is =
-    let pair : ◌≡◌ {A = ℕ × ℕ} (z, k) (x, y) = cc in (ap (λ q. q.0) pair, ap (λ q. Some q.1) pair)
-
-pair-by : (test : ℕ → ℕ → Bool) (a b : Extent) (x y : ℕ) (o : Option ℕ) → first_byte (has_partner test b) a ≡ o → with_partner test b o ≡ Some (x, y) → Pair test a b x y
-pair-by test a b x y None none is = let bad : None ≡ Some (x, y) = is in cc
-pair-by test a b x y (Some z) found is =
-    let parts = paired-parts z (first_byte (test z) b) x y is in
-    let first = first-passes (has_partner test b) a.first a.size z found in
-    let second = first-passes (test z) b.first b.size y parts.1 in
-    record {
-      one = subst (λ k. covers_byte a k ≡ true) parts.0 (bounds-cover a z first.from first.within);
-      other = bounds-cover b y second.from second.within;
-      passes = subst (λ k. test k y ≡ true) parts.0 second.passes;
-    }
-
-pair-from : (test : ℕ → ℕ → Bool) (a b : Extent) (x y : ℕ) → least_pair test a b ≡ Some (x, y) → Pair test a b x y
-unfolding least_pair
-pair-from test a b x y is = pair-by test a b x y (first_byte (has_partner test b) a) refl is
-
 certified-checked : (profile : Profile) (es : List Event) (p x y : ℕ) → is_certified profile es p x y ≡ true → (is_checked es p x ≡ true) × (is_checked es p y ≡ true)
 unfolding is_certified is_unordered
 certified-checked profile es p x y is =
-    let unordered = (and_parts (is_unordered profile es p x y) (not (share_line x y) || is_stored_before es p y x) is).0 in
+    let unordered = certified-unordered profile es p x y is in
     let parts = all_parts (is_checked es p x) (is_checked es p y) (not (is_ordered profile es p x y)) unordered in (parts.0, parts.1)
 
 ordered-contradicted : (profile : Profile) (es : List Event) (p : ℕ) (a b : Extent) (x y n : ℕ) → OrderedFail x y n ≡ ordered_finding profile es p a b →

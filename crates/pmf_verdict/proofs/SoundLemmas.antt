@@ -16,7 +16,8 @@ use Rattle.pmf_event.specs.Ranges.{first_from, first_byte}
 use Rattle.pmf_event.specs.Persist.{is_checked, is_exposed, pass_unless, persist_finding}
 use Rattle.pmf_event.specs.Order.{is_ordered, is_unordered, is_certified, has_partner, paired, with_partner, least_pair, finding_of_pairs, ordered_finding}
 use Rattle.pmf_event.specs.Transactions.{in_transaction, depth_at, in_scope, is_scoped, is_left_open, scope_passes_unless, check_finding}
-use Rattle.pmf_event.proofs.RangeLemmas.{none-passes, first-passes}
+use Rattle.pmf_event.proofs.RangeLemmas.{none-passes}
+use Rattle.pmf_event.proofs.LeastPairLemmas.{unpaired}
 use Rattle.pmf_event.proofs.LineLemmas.{covers-bounds, bounds-cover}
 use Rattle.pmf_event.proofs.TransactionLemmas.{scoped-written, left_open-exposed}
 use Rattle.pmf_image.specs.Holds.{ScopeHolds}
@@ -60,39 +61,6 @@ none-unordered es p false true c u is = let bad : OrderedEmpty ≡ OrderedPass =
 none-unordered es p false false (Some (x, y)) u is = let bad : OrderedFail x y (last_store es p y) ≡ OrderedPass = is in cc
 none-unordered es p false false None (Some (x, y)) is = let bad : OrderedSameLine x y ≡ OrderedPass = is in cc
 none-unordered es p false false None None is = refl
-
-paired-none : (x : ℕ) (o : Option ℕ) → paired x o ≡ None → is_some o ≡ false
-paired-none x None is = refl
-paired-none x (Some y) is = let bad : Some (x, y) ≡ None = is in cc
-
-none-some : (o : Option ℕ) → is_some o ≡ false → o ≡ None
-none-some None is = refl
-none-some (Some x) is = let bad : true ≡ false = is in cc
-
-partner-none : (test : ℕ → ℕ → Bool) (b : Extent) (x : ℕ) → paired x (first_byte (test x) b) ≡ None → has_partner test b x ≡ false
-unfolding has_partner
-partner-none test b x is = paired-none x (first_byte (test x) b) is
-
-partner-alone : (test : ℕ → ℕ → Bool) (b : Extent) (x y : ℕ) → has_partner test b x ≡ false → covers_byte b y ≡ true → test x y ≡ false
-unfolding has_partner
-partner-alone test b x y alone covered =
-    let bounds = covers-bounds b y covered in
-    none-passes (test x) b.first b.size (none-some (first_byte (test x) b) alone) y bounds.0 bounds.1
-
--- without a pair no byte has a partner
-no_partner : (test : ℕ → ℕ → Bool) (a b : Extent) (o : Option ℕ) → first_byte (has_partner test b) a ≡ o → with_partner test b o ≡ None →
-    (x : ℕ) → covers_byte a x ≡ true → has_partner test b x ≡ false
-no_partner test a b None none is x covered =
-    let bounds = covers-bounds a x covered in none-passes (has_partner test b) a.first a.size none x bounds.0 bounds.1
-no_partner test a b (Some z) found is x covered =
-    let first = first-passes (has_partner test b) a.first a.size z found in
-    let bad : true ≡ false = sym first.passes ∙ partner-none test b z is in cc
-
--- without a pair no two bytes pass
-unpaired : (test : ℕ → ℕ → Bool) (a b : Extent) → least_pair test a b ≡ None → (x y : ℕ) → covers_byte a x ≡ true → covers_byte b y ≡ true → test x y ≡ false
-unfolding least_pair
-unpaired test a b none x y in_a in_b =
-    partner-alone test b x y (no_partner test a b (first_byte (has_partner test b) a) refl none x in_a) in_b
 
 ordered-from : (u v w : Bool) → u ≡ true → v ≡ true → (u && v && not w) ≡ false → w ≡ true
 ordered-from true true true one other none = refl
