@@ -4,6 +4,7 @@ ghost use Rattle.pmf_event.specs.FlushWarnings.{if_any};
 ghost use Rattle.pmf_verdict.specs.Walks.{Walks, Follows};
 ghost use Rattle.pmf_verdict.specs.Checked.{rows_in};
 ghost use Rattle.pmf_verdict.specs.Rows.{row_at, rows_of};
+ghost use Rattle.pmf_verdict.specs.Explained.{FailuresAreReal};
 ghost use Rattle.pmf_verdict.specs.Sound.{PassesHold, OrdersHold, ScopesHold};
 
 use crate::verdict::Verdict;
@@ -166,6 +167,9 @@ pub fn check(
         (λ verdict. OrdersHold verdict.section.events (rows_in verdict)) }
     ensures sound_scopes { IfOk result
         (λ verdict. ScopesHold verdict.section.events (rows_in verdict)) }
+    // What they show as failed has an allowed image that contradicts it, which `explain` names.
+    ensures real { IfOk result
+        (λ verdict. FailuresAreReal verdict.section.events (rows_in verdict)) }
     ensures returned { IfErr result (λ refused. refused.1.value ≡ section.value) }
 {
     match rows_for(alloc, section.events(), profile) {

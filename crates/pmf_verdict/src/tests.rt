@@ -4,6 +4,7 @@ use std::alloc::Global;
 use std::sync::Arc;
 use std::test::Fail;
 
+mod explaining;
 mod plain;
 mod random;
 

@@ -1,6 +1,7 @@
 ghost use Rattle.std.specs.Prelude.{◌≡◌};
 ghost use Rattle.pmf_verdict.specs.Checked.{Checked, rows_in};
 ghost use Rattle.pmf_verdict.specs.Rows.{rows_of};
+ghost use Rattle.pmf_verdict.specs.Explained.{FailuresAreReal};
 ghost use Rattle.pmf_verdict.specs.Sound.{PassesHold, OrdersHold, ScopesHold};
 
 use pmf_event::{Name, Profile, Row, Rows, Section};
@@ -64,6 +65,8 @@ impl Verdict {
         ensures sound { PassesHold self.now.section.events result.now }
         ensures sound_orders { OrdersHold self.now.section.events result.now }
         ensures sound_scopes { ScopesHold self.now.section.events result.now }
+        // What is shown as failed has an allowed image that contradicts it.
+        ensures real { FailuresAreReal self.now.section.events result.now }
     {
         self.rows.as_slice()
     }

@@ -1,6 +1,8 @@
 use Rattle.std.proofs.Common.{sym, ◌∙◌, ap, subst}
 use Rattle.pmf_verdict.specs.Checked.{Checked, rows_in}
+use Rattle.pmf_verdict.specs.Explained.{FailuresAreReal}
 use Rattle.pmf_verdict.specs.Sound.{PassesHold, OrdersHold, ScopesHold}
+use Rattle.pmf_verdict.proofs.ExplainLemmas.{failures_real}
 use Rattle.pmf_verdict.proofs.SoundLemmas.{passes_hold, orders_hold, scopes_hold}
 use Rattle.pmf_verdict.proofs.verdict.Verdict.rows.Goals as goal
 
@@ -21,3 +23,9 @@ returns-clause-sound_scopes c =
     subst (λ rows. ScopesHold c.args.self.now.section.events rows)
     (sym (c.as_slice.ensures ∙ c.self.invariant ∙ ap (λ (v : Checked). rows_in v) c.self.view_is))
     (scopes_hold c.args.self.now.profile c.args.self.now.section.events)
+
+pub returns-clause-real : goal.returns-clause-real
+returns-clause-real c =
+    subst (λ rows. FailuresAreReal c.args.self.now.section.events rows)
+    (sym (c.as_slice.ensures ∙ c.self.invariant ∙ ap (λ (v : Checked). rows_in v) c.self.view_is))
+    (failures_real c.args.self.now.profile c.args.self.now.section.events)
