@@ -14,3 +14,6 @@ mod certificate;
 pub mod laws;
 
 pub use certificate::{Certificate, cut, last_store, shows};
+
+#[cfg(test)]
+mod tests;
