@@ -1,5 +1,5 @@
 -- The worked examples, computed by the definitions alone.
-use Rattle.std.proofs.Common.{◌≡◌, ℕ, Bool, true, false, List, [], ◌∷◌, refl}
+use Rattle.std.proofs.Common.{◌≡◌, ℕ, true, false, List, [], ◌∷◌, refl}
 use Rattle.std.specs.Prelude.{Some, None}
 use Rattle.pmf_event.specs.Span.{Extent}
 use Rattle.pmf_event.specs.declared.event.Event.{Event}

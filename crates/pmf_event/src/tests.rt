@@ -157,7 +157,11 @@ fn a_span_between_two_addresses_holds_at_most_2_to_the_32_bytes(rt: HostRuntime)
         ((1 << 63) - 1, 1 << 63, 1),
     ] {
         let span = Span::between(first, end);
-        assert_eq!(rt; (span.first(), span.size()), (first, size), "{first:x} to {end:x}");
+        assert_eq!(rt;
+            (span.first(), span.size()),
+            (first, size),
+            "{first:x} to {end:x}"
+        );
     }
 }
 

@@ -1,7 +1,7 @@
 -- Failures are real: the image of a certificate that shows one.
-use Rattle.std.proofs.Common.{◌≡◌, ℕ, zero, suc, ◌+◌, ◌-◌, ◌<◌, ◌≤◌, Bool, true, false, not, ◌&&◌, ◌||◌, ◌==◌, nat_lt, if◌then◌else◌, List, [], ◌∷◌, length, refl, sym, ◌∙◌, ap, arith, inl, inr, subst}
+use Rattle.std.proofs.Common.{◌≡◌, ℕ, ◌+◌, ◌-◌, ◌<◌, ◌≤◌, Bool, true, false, not, ◌&&◌, ◌||◌, ◌==◌, nat_lt, if◌then◌else◌, List, [], refl, sym, ◌∙◌, ap, arith, inl, inr, subst}
 use Rattle.std.specs.Prelude.{Option, Some, None, unwrap_or}
-use Rattle.std.proofs.lemmas.Bool.{cases_lt, cases_eq, le-leb, or_cases, and_parts, and_from, ltb-true}
+use Rattle.std.proofs.lemmas.Bool.{cases_lt, le-leb, or_cases, and_parts, and_from, ltb-true}
 use Rattle.std.proofs.lemmas.Bool.Decides.{Decides-eqb}
 use Rattle.pmf_event.specs.declared.event.Event.{Event}
 use Rattle.pmf_event.specs.declared.event.Event.TheVariants.{Fence}
@@ -10,18 +10,16 @@ use Rattle.pmf_event.specs.declared.profile.Profile.{Profile}
 use Rattle.pmf_event.specs.declared.profile.Profile.TheVariants.{One, Two}
 use Rattle.pmf_event.specs.Line.{line_of_byte}
 use Rattle.pmf_event.specs.Places.{greatest, least, count, some_between}
-use Rattle.pmf_event.specs.Store.{event_at, passes, at, stores, flushes, is_fence, last, last_store, epoch_of}
+use Rattle.pmf_event.specs.Store.{event_at, passes, at, stores, flushes, is_fence, last_store, epoch_of}
 use Rattle.pmf_event.specs.Interval.{closes, closing_fence, epoch_after, interval_at, is_open}
 use Rattle.pmf_event.specs.Order.{is_closed_by, precedes, share_line, is_stored_before, is_ordered, is_unordered, is_certified}
 use Rattle.pmf_event.specs.Persist.{is_checked, is_exposed}
-use Rattle.pmf_event.proofs.PlacesLemmas.{greatest-bound, greatest-passes, greatest-above, least-below, least-passes, count-mono, count-here, some_between-here, some_between-found}
-
-use Rattle.pmf_event.proofs.IntervalLemmas.{Closing, Closing-closes, no_Closing-from_open}
-use Rattle.pmf_image.specs.declared.certificate.Certificate.{Certificate}
-use Rattle.pmf_image.specs.Image.{Image, IsAllowed, count_of, is_fenced, floor_of, value_of, is_in, cut_of, reach_of, reaches, shows}
+use Rattle.pmf_event.proofs.PlacesLemmas.{greatest-bound, least-below, least-passes, count-mono, count-here, some_between-here}
+use Rattle.pmf_event.proofs.IntervalLemmas.{Closing, no_Closing-from_open}
+use Rattle.pmf_image.specs.Image.{Image, IsAllowed, count_of, is_fenced, floor_of, value_of, is_in, cut_of, reaches, shows}
 use Rattle.pmf_image.specs.Certificate.{image_of}
 use Rattle.pmf_image.specs.Laws.{CertificatesAreAllowed, OpenIntervalsAreShown, CertifiedPairsAreShown}
-use Rattle.pmf_image.proofs.ImageLemmas.{written-from_checked, last_store-stores, last_store-bound, shown-reaches, last_store-above, count_of-here, count_of-mono, reached-shown, reach-untorn, Closing-from_fenced, floor-below_count, is_in-empty}
+use Rattle.pmf_image.proofs.ImageLemmas.{written-from_checked, last_store-stores, last_store-bound, shown-reaches, count_of-here, count_of-mono, reached-shown, reach-untorn, Closing-from_fenced, floor-below_count, is_in-empty}
 
 not_zero-eqb : (n : ℕ) → 0 < n → (n == 0) ≡ false
 not_zero-eqb n some = elim (n == 0) as (λ v. (n == 0) ≡ v → v ≡ false) [ true ↦ λ is. let none : n ≡ 0 = (Decides-eqb n 0).0 is in absurd (omega arith) | false ↦ λ is. refl ] refl
@@ -199,13 +197,14 @@ pair-shown profile es p x y certified =
     let x_written = written-from_checked es p x parts.0 in
     let y_written = written-from_checked es p y parts.1 in
     let n = last_store es p y in
-    let image = image_of es (record { crash = n; full_line = Some (line_of_byte y) }) in
-    (y-shown es p x y x_written y_written,
-    λ shown. elim (or_cases (not (share_line x y)) (nat_lt n (last_store es p x)) is.1) [
-      | inl apart ↦
-          let ordered = ordered-from_precedes profile es p x y (x-shown es p x y x_written y_written (apart-other x y apart) shown) in
-          let bad : true ≡ false = sym ordered ∙ parts.2 in cc
-      | inr later ↦
-          let after = ltb-true n (last_store es p x) later in
-          let bound = shows-bound es n x image in absurd (omega arith)
-    ])
+    let image = image_of es (record { crash = n; full_line = Some (line_of_byte y) }) in (
+      y-shown es p x y x_written y_written,
+      λ shown. elim (or_cases (not (share_line x y)) (nat_lt n (last_store es p x)) is.1) [
+        | inl apart ↦
+            let ordered = ordered-from_precedes profile es p x y (x-shown es p x y x_written y_written (apart-other x y apart) shown) in
+            let bad : true ≡ false = sym ordered ∙ parts.2 in cc
+        | inr later ↦
+            let after = ltb-true n (last_store es p x) later in
+            let bound = shows-bound es n x image in absurd (omega arith)
+      ],
+    )
