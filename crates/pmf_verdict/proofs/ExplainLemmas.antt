@@ -1,32 +1,30 @@
 -- Where a certificate comes from, and that its image is allowed and contradicts the assertion.
-use Rattle.std.proofs.Common.{◌≡◌, ℕ, zero, suc, ◌+◌, ◌-◌, ◌<◌, ◌≤◌, Bool, true, false, not, ◌&&◌, ◌||◌, ◌==◌, if◌then◌else◌, List, [], ◌∷◌, drop, get_or, length, refl, sym, ◌∙◌, ap, arith, inl, inr, subst}
+use Rattle.std.proofs.Common.{◌≡◌, ℕ, zero, suc, ◌+◌, ◌-◌, ◌<◌, Bool, true, false, not, ◌&&◌, ◌==◌, if◌then◌else◌, List, [], ◌∷◌, drop, get_or, length, refl, sym, ◌∙◌, ap, arith, subst}
 use Rattle.std.specs.Prelude.{Option, Some, None, is_some, is_none, Contains}
 use Rattle.std.proofs.lemmas.Bool.{and_parts}
 use Rattle.std.proofs.lemmas.Bool.Decides.{Decides-eqb}
 use Rattle.std.proofs.lemmas.List.{at_drop_more}
 use Rattle.pmf_event.specs.declared.event.Event.{Event}
-use Rattle.pmf_event.specs.declared.event.Event.TheVariants.{Persist, Ordered, CheckEnd}
+use Rattle.pmf_event.specs.declared.event.Event.TheVariants.{CheckEnd}
 use Rattle.pmf_event.specs.declared.finding.Finding.{Finding}
 use Rattle.pmf_event.specs.declared.finding.Finding.TheVariants.{PersistPass, PersistFail, PersistEmpty, OrderedPass, OrderedFail, OrderedSameLine, OrderedEmpty, CheckPass, CheckFail, TxStillOpen, Unopened}
 use Rattle.pmf_event.specs.declared.profile.Profile.{Profile}
 use Rattle.pmf_event.specs.declared.row.Row.{Row}
 use Rattle.pmf_event.specs.declared.span.TheConstants.{ADDRESS_LIMIT}
-use Rattle.pmf_event.specs.Span.{Extent, covers_byte}
+use Rattle.pmf_event.specs.Span.{Extent}
 use Rattle.pmf_event.specs.Line.{line_of_byte}
 use Rattle.pmf_event.specs.Store.{event_at, last_store}
 use Rattle.pmf_event.specs.Interval.{interval_at, is_open}
 use Rattle.pmf_event.specs.Exclusion.{is_included}
 use Rattle.pmf_event.specs.Ranges.{first_from, first_byte}
 use Rattle.pmf_event.specs.Persist.{is_checked, is_exposed, pass_unless, persist_finding}
-use Rattle.pmf_event.specs.Order.{share_line, is_stored_before, is_ordered, is_unordered, is_certified, has_partner, paired, with_partner, least_pair, finding_of_pairs, ordered_finding}
+use Rattle.pmf_event.specs.Order.{is_ordered, is_unordered, is_certified, least_pair, finding_of_pairs, ordered_finding}
 use Rattle.pmf_event.specs.Transactions.{in_transaction, depth_at, in_scope, is_scoped, is_left_open, scope_passes_unless, check_finding}
 use Rattle.pmf_event.proofs.RangeLemmas.{first-passes}
 use Rattle.pmf_event.proofs.LeastPairLemmas.{pair-from, certified-unordered}
 use Rattle.pmf_event.proofs.LineLemmas.{bounds-cover}
 use Rattle.pmf_event.proofs.TransactionLemmas.{left_open-exposed}
 use Rattle.pmf_image.specs.declared.certificate.Certificate.{Certificate}
-use Rattle.pmf_image.specs.Image.{IsAllowed}
-use Rattle.pmf_image.specs.Certificate.{image_of}
 use Rattle.pmf_image.specs.Contradiction.{PersistContradicted, OrderedContradicted, ScopeContradicted, ContradictsEvent, Contradicts}
 use Rattle.pmf_image.proofs.ImageLemmas.{last_store-bound}
 use Rattle.pmf_image.proofs.FailureLemmas.{certificates-allowed, shown-where_open, pair-shown}
@@ -167,9 +165,16 @@ scope_contradicted-after es p b is =
     let parts = left_open-parts es p b first.passes in
     let exposed = sym (left_open-exposed es p b parts.0) ∙ first.passes in
     let before : suc p - 1 ≡ p = omega arith in
-    let below = first.within in
-    (ap (in_scope es) before ∙ fails.0, ap (in_transaction es) before ∙ fails.1, omega arith, b, omega arith,
-    ap (λ q. is_scoped es q b) before ∙ parts.0, parts.1, shown-where_open es (suc p) b exposed)
+    let below = first.within in (
+      ap (in_scope es) before ∙ fails.0,
+      ap (in_transaction es) before ∙ fails.1,
+      omega arith,
+      b,
+      omega arith,
+      ap (λ q. is_scoped es q b) before ∙ parts.0,
+      parts.1,
+      shown-where_open es (suc p) b exposed,
+    )
 
 scope-contradicted : (es : List Event) (p b : ℕ) → event_at es p ≡ Some CheckEnd → CheckFail b ≡ check_finding es (p - 1) → ScopeContradicted es p (record { crash = p; full_line = None })
 unfolding event_at

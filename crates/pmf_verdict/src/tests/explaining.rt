@@ -18,7 +18,11 @@ fn assert_explained(
     for profile in [Profile::One, Profile::Two] {
         let verdict = verdict_of(alloc, events, profile)?;
         for (place, want) in wanted {
-            assert_eq!(rt; explain(&verdict, *place), *want, "place {place} by {profile:?}");
+            assert_eq!(rt;
+                explain(&verdict, *place),
+                *want,
+                "place {place} by {profile:?}"
+            );
         }
     }
     Ok(())
