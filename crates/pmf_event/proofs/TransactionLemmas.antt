@@ -235,8 +235,8 @@ pub in_scope-same : (es : List Event) (p q : ℕ) → scope_at es q ≡ scope_at
 unfolding in_scope
 in_scope-same es p q same = ap (λ k. nat_lt 0 k) same
 
-or-zero : (n m : ℕ) → 0 < n → (if nat_lt 0 n then n else m) ≡ n
-or-zero n m some = ap (λ v. if v then n else m) (lt-ltb 0 n some)
+some-or : (n m : ℕ) → 0 < n → (if nat_lt 0 n then n else m) ≡ n
+some-or n m some = ap (λ v. if v then n else m) (lt-ltb 0 n some)
 
 zero-or : (n m : ℕ) → n ≡ 0 → (if nat_lt 0 n then n else m) ≡ m
 zero-or n m none = ap (λ v. if v then n else m) (le-ltb 0 n (omega arith))
@@ -255,7 +255,7 @@ module _ (es : List Event) (p : ℕ) (e : Event) (here : event_at es (suc p) ≡
       ∙ ap (λ v. if nat_lt 0 (least test p) then least test p else (if v then suc p else 0)) (opens_after-next (last closes_scope es p) (last-bound closes_scope es p))
 
   pub scope-stays : closes_scope e ≡ false → 0 < scope_at es p → scope_at es (suc p) ≡ scope_at es p
-  scope-stays other some = scope-step other ∙ or-zero (scope_at es p) (if opens_scope e then suc p else 0) some
+  scope-stays other some = scope-step other ∙ some-or (scope_at es p) (if opens_scope e then suc p else 0) some
 
   pub scope-opened : closes_scope e ≡ false → opens_scope e ≡ true → scope_at es p ≡ 0 → scope_at es (suc p) ≡ suc p
   scope-opened other is none =

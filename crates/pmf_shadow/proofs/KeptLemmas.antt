@@ -1,11 +1,11 @@
 -- The walk over the runs that a change leaves as they are.
-use Rattle.std.proofs.Common.{◌≡◌, ℕ, ◌+◌, ◌<◌, ◌≤◌, List, [], ◌∷◌, sym, ◌∙◌, ap, subst, arith, inl, inr}
+use Rattle.std.proofs.Common.{◌≡◌, ℕ, ◌+◌, ◌<◌, ◌≤◌, List, ◌∷◌, sym, ◌∙◌, ap, subst, arith, inl, inr}
 use Rattle.std.specs.Prelude.{◌⊎◌, Some, is_some}
 use Rattle.std.specs.Ordering.{nat_cmp}
 use Rattle.std.specs.BTreeMap.{get}
-use Rattle.std.proofs.lemmas.Bool.{cases_lt, cases_eq, false≢true}
+use Rattle.std.proofs.lemmas.Bool.{cases_lt, cases_eq}
 use Rattle.pmf_shadow.specs.declared.runs.RunMap.{RunMap}
-use Rattle.pmf_shadow.specs.Runs.{state_at, HasStart}
+use Rattle.pmf_shadow.specs.Runs.{state_at}
 use Rattle.pmf_shadow.specs.RunSteps.{state_before, NoStart, IsKept, IsNextChange}
 use Rattle.pmf_shadow.proofs.RunLemmas.{before-in_run}
 use Rattle.pmf_shadow.proofs.WalkLemmas.{Walks, run-alike, walks-state, walks-within}
@@ -90,10 +90,3 @@ module _ {S : Type 0} (change : S → S) (r : RunMap S) (first end : ℕ) where
   keeps-run e es rest before is keeps =
       let walk : Walks r keeps.place (end + 1) (e ∷ es) = subst (Walks r keeps.place (end + 1)) is keeps.walk in
       (walk.2, keeps.before_is ∙ sym (before-in_run r keeps.place e.0 walk.0 walk.1))
-
-  -- the walk meets the end, which is a start
-  pub keeps-not_all : (rest : List (ℕ × S)) (before : S) → rest ≡ [] → Keeps rest before → HasStart r end → ⊥
-  keeps-not_all rest before is keeps has =
-      let walk : Walks r keeps.place (end + 1) [] = subst (Walks r keeps.place (end + 1)) is keeps.walk in
-      let below = keeps.below in
-      false≢true (sym (ap is_some (walk.1 end (omega arith) (omega arith))) ∙ has)

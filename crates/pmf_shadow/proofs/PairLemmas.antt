@@ -128,9 +128,6 @@ module _ (kept : ℕ → Option Stored) (b : Extent) where
 
 -- ---- by lines
 
-eqb-sym : (x y : ℕ) → (x == y) ≡ (y == x)
-eqb-sym x y = both_ways (x == y) (y == x) (λ is. (Decides-eqb y x).1 (sym ((Decides-eqb x y).0 is))) (λ is. (Decides-eqb x y).1 (sym ((Decides-eqb y x).0 is)))
-
 module _ (line : ℕ) where
   pub by_line-on : (on off : ℕ → Bool) (x : ℕ) → line_of_byte x ≡ line → by_line line on off x ≡ on x
   unfolding by_line

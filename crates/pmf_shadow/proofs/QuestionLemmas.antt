@@ -56,10 +56,6 @@ late-is_open fences (Some w) = elim (cases_lt w fences) [
 interval_of : List Event → ℕ → Option ℕ → Option Interval
 interval_of es l c = if l == 0 then None else Some (record { last = l; opens = epoch_of es l; closes = c })
 
-interval_of-none : (es : List Event) (l : ℕ) (c : Option ℕ) → l ≡ 0 → interval_of es l c ≡ None
-unfolding interval_of
-interval_of-none es l c zero_is = ap (λ v. if v then None else Some (record { last = l; opens = epoch_of es l; closes = c })) ((Decides-eqb l 0).1 zero_is)
-
 interval_of-some : (es : List Event) (l : ℕ) (c : Option ℕ) → 0 < l → interval_of es l c ≡ Some (record { last = l; opens = epoch_of es l; closes = c })
 unfolding interval_of
 interval_of-some es l c some = ap (λ v. if v then None else Some (record { last = l; opens = epoch_of es l; closes = c })) (ne_eqb l 0 (λ zero_is. omega arith))
@@ -115,9 +111,6 @@ interval-written es p b k is =
     ∙ ap (λ l. Some (record { last = l; opens = epoch_of es (last_store es p b); closes = c })) (sym own.place)
     ∙ ap (λ o. Some (record { last = k.last; opens = o; closes = c })) (sym own.epoch)
     ∙ ap (λ x. Some (record { last = k.last; opens = k.opens; closes = x })) (sym (closes-is (stores b) (line_of_byte b) es p k.written_back (sym own.write_back)))
-
-pub interval-unwritten : (es : List Event) (p b : ℕ) → stored_at es p b ≡ None → interval_at es p b ≡ None
-interval-unwritten es p b is = interval_at-is es p b ∙ interval_of-none es (last_store es p b) (epoch_after es (closing_fence (stores b) (line_of_byte b) es p)) (unwritten-from_none es p b is)
 
 -- whether it is checked, by what is kept
 checked-by : (es : List Event) (p b : ℕ) (out : Bool) (o : Option Stored) → is_excluded es p b ≡ out → stored_at es p b ≡ o →
@@ -261,9 +254,6 @@ module _ (shadow : Shadow) (es : List Event) (p : ℕ) (stands : StandsFor shado
   interval-same-some b s k is stored =
       ap (λ f. Some (record { last = k.last; opens = k.opens; closes = closing f k.written_back })) stands.fences
       ∙ sym (interval-written es p b k (sym (ap (λ (t : ByteState). t.stored) (is ∙ stands.bytes b)) ∙ stored))
-
-  pub interval-same-none : (b : ℕ) (s : ByteState) → s ≡ state_at shadow.bytes b → s.stored ≡ None → None ≡ interval_at es p b
-  interval-same-none b s is stored = sym (interval-unwritten es p b (sym (ap (λ (t : ByteState). t.stored) (is ∙ stands.bytes b)) ∙ stored))
 
   pub checked-same : (s : Extent) → first_byte (passing (λ t. holds_of any_store (checked_store t)) shadow.bytes) s ≡ first_byte (is_checked es p) s
   unfolding passing

@@ -209,14 +209,6 @@ fences-kept : (shadow : Shadow) (es : List Event) (p : ℕ) (e : Event) (fences 
     fences ≡ count (at is_fence es) p → fences ≡ count (at is_fence es) (suc p)
 fences-kept shadow es p e fences here other before = before ∙ sym (fences-step es p e here ∙ ap (λ v. if v then suc (count (at is_fence es) p) else count (at is_fence es) p) other)
 
-pub stands-same : (old new : Shadow) (es : List Event) (p : ℕ) → new.fences ≡ old.fences → SameStates old.bytes new.bytes → SameStates old.lines new.lines →
-    StandsFor old es p → StandsFor new es p
-stands-same old new es p fences bytes lines stands = record {
-  fences = fences ∙ stands.fences;
-  bytes = λ b. bytes b ∙ stands.bytes b;
-  lines = λ n. lines n ∙ stands.lines n;
-}
-
 pub stands-store : (old new : Shadow) (s : Extent) (place : ℕ) (es : List Event) (p : ℕ) → 0 < s.size → new.fences ≡ old.fences →
     ChangesBetween s.first (s.first + s.size) (after_store place old.fences) old.bytes new.bytes →
     ChangesBetween (s.first / 64) ((s.first + s.size - 1) / 64 + 1) line_after_store old.lines new.lines →
