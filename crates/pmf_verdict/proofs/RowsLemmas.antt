@@ -1,7 +1,7 @@
 -- The rows so far, and where a row comes from.
 use Rattle.std.proofs.Common.{◌≡◌, ℕ, zero, suc, ◌-◌, List, [], ◌∷◌, ◌++◌, map, refl, sym, ◌∙◌, ap, subst, arith, inl, inr}
 use Rattle.std.specs.Prelude.{Option, Some, Contains}
-use Rattle.std.proofs.lemmas.List.{append-nil, append_assoc, map-append}
+use Rattle.std.proofs.lemmas.List.{append_assoc, map-append}
 use Rattle.std.proofs.lemmas.List.Elements.{Contains-append_cases}
 use Rattle.pmf_event.specs.declared.event.Event.{Event}
 use Rattle.pmf_event.specs.declared.event.Event.TheVariants.{Flush}
@@ -29,10 +29,6 @@ rows_upto-next profile es p e fs here found =
     rows_upto-more profile es p
     ∙ ap (λ o. rows_upto profile es p ++ map (row_at (suc p)) (findings_of profile es (suc p) o)) here
     ∙ ap (λ fs. rows_upto profile es p ++ map (row_at (suc p)) fs) found
-
-pub rows_upto-silent : (profile : Profile) (es : List Event) (p : ℕ) (e : Event) → event_at es (suc p) ≡ Some e → findings_of profile es (suc p) (Some e) ≡ [] →
-    rows_upto profile es (suc p) ≡ rows_upto profile es p
-rows_upto-silent profile es p e here none = rows_upto-next profile es p e [] here none ∙ append-nil (rows_upto profile es p)
 
 -- the rows of a write-back, one finding after the other
 pub rows_upto-flush : (profile : Profile) (es : List Event) (p : ℕ) (s : Extent) (one other : Option Finding) → event_at es (suc p) ≡ Some (Flush s) →
