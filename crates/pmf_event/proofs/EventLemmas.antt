@@ -46,11 +46,11 @@ unfolding is_fence flushes
 fence_or_flush l Fence fence flush = let bad : false ≡ true = flush in cc
 fence_or_flush l _ fence flush = let bad : false ≡ true = fence in cc
 
--- no event is both a store and a write-back
-store_or_flush : (b l : ℕ) (e : Event) → stores b e ≡ true → flushes l e ≡ true → ⊥
-unfolding stores flushes
-store_or_flush b l (Store s) store flush = let bad : false ≡ true = flush in cc
-store_or_flush b l _ store flush = let bad : false ≡ true = store in cc
+-- no event is both a fence and a store
+fence_or_store : (b : ℕ) (e : Event) → is_fence e ≡ true → stores b e ≡ true → ⊥
+unfolding is_fence stores
+fence_or_store b Fence fence store = let bad : false ≡ true = store in cc
+fence_or_store b _ fence store = let bad : false ≡ true = fence in cc
 
 passes_both : (s t : Event → Bool) (o : Option Event) → ((e : Event) → s e ≡ true → t e ≡ true → ⊥) → passes s o ≡ true → passes t o ≡ true → ⊥
 passes_both s t None never one other = let bad : false ≡ true = one in cc
@@ -60,6 +60,6 @@ pub not_fence_and_flush : (es : List Event) (l k : ℕ) → at is_fence es k ≡
 unfolding at
 not_fence_and_flush es l k fence flush = passes_both is_fence (flushes l) (event_at es k) (fence_or_flush l) fence flush
 
-pub not_store_and_flush : (es : List Event) (b l k : ℕ) → at (stores b) es k ≡ true → at (flushes l) es k ≡ true → ⊥
+pub not_fence_and_store : (es : List Event) (b k : ℕ) → at is_fence es k ≡ true → at (stores b) es k ≡ true → ⊥
 unfolding at
-not_store_and_flush es b l k store flush = passes_both (stores b) (flushes l) (event_at es k) (store_or_flush b l) store flush
+not_fence_and_store es b k fence store = passes_both is_fence (stores b) (event_at es k) (fence_or_store b) fence store

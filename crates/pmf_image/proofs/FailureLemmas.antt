@@ -1,72 +1,56 @@
 -- Failures are real: the image of a certificate that shows one.
 use Rattle.std.proofs.Common.{◌≡◌, ℕ, ◌+◌, ◌-◌, ◌<◌, ◌≤◌, Bool, true, false, not, ◌&&◌, ◌||◌, ◌==◌, nat_lt, if◌then◌else◌, List, [], refl, sym, ◌∙◌, ap, arith, inl, inr, subst}
-use Rattle.std.specs.Prelude.{Option, Some, None, unwrap_or}
-use Rattle.std.proofs.lemmas.Bool.{cases_lt, le-leb, or_cases, and_parts, and_from, ltb-true}
+use Rattle.std.specs.Prelude.{Some, None, nat_eq}
+use Rattle.std.specs.Option.{option_eq}
+use Rattle.std.proofs.lemmas.Bool.{cases_lt, le-leb, ne_eqb, or_cases, and_parts, and_from, ltb-true}
 use Rattle.std.proofs.lemmas.Bool.Decides.{Decides-eqb}
 use Rattle.pmf_event.specs.declared.event.Event.{Event}
-use Rattle.pmf_event.specs.declared.event.Event.TheVariants.{Fence}
 use Rattle.pmf_event.specs.declared.interval.Interval.{Interval}
 use Rattle.pmf_event.specs.declared.profile.Profile.{Profile}
 use Rattle.pmf_event.specs.declared.profile.Profile.TheVariants.{One, Two}
 use Rattle.pmf_event.specs.Line.{line_of_byte}
 use Rattle.pmf_event.specs.Places.{greatest, least, count, some_between}
-use Rattle.pmf_event.specs.Store.{event_at, passes, at, stores, flushes, is_fence, last_store, epoch_of}
+use Rattle.pmf_event.specs.Store.{at, stores, flushes, is_fence, last_store, epoch_of}
 use Rattle.pmf_event.specs.Interval.{closes, closing_fence, epoch_after, interval_at, is_open}
 use Rattle.pmf_event.specs.Order.{is_closed_by, precedes, share_line, is_stored_before, is_ordered, is_unordered, is_certified}
 use Rattle.pmf_event.specs.Persist.{is_checked, is_exposed}
 use Rattle.pmf_event.proofs.PlacesLemmas.{greatest-bound, least-below, least-passes, count-mono, count-here, some_between-here}
+use Rattle.pmf_event.proofs.EventLemmas.{not_fence_and_store}
 use Rattle.pmf_event.proofs.IntervalLemmas.{Closing, no_Closing-from_open}
-use Rattle.pmf_image.specs.Image.{Image, IsAllowed, count_of, is_fenced, floor_of, value_of, is_in, cut_of, reaches, shows}
-use Rattle.pmf_image.specs.Certificate.{image_of}
+use Rattle.pmf_image.proofs.CertificateLemmas.{cut-is}
+use Rattle.pmf_image.specs.Image.{Image, count_of, is_fenced, floor_of, cut_of, reaches, shows}
+use Rattle.pmf_image.specs.declared.certificate.Certificate.{Certificate}
+use Rattle.pmf_image.specs.Certificate.{image_of, cut_in}
 use Rattle.pmf_image.specs.Laws.{CertificatesAreAllowed, OpenIntervalsAreShown, CertifiedPairsAreShown}
 use Rattle.pmf_image.proofs.ImageLemmas.{written-from_checked, last_store-stores, last_store-bound, shown-reaches, count_of-here, count_of-mono, reached-shown, reach-untorn, Closing-from_fenced, floor-below_count, is_in-empty}
 
-not_zero-eqb : (n : ℕ) → 0 < n → (n == 0) ≡ false
-not_zero-eqb n some = elim (n == 0) as (λ v. (n == 0) ≡ v → v ≡ false) [ true ↦ λ is. let none : n ≡ 0 = (Decides-eqb n 0).0 is in absurd (omega arith) | false ↦ λ is. refl ] refl
-
 -- ---- the image of a certificate
 
--- off its full line the cut is the floor
-no_line-cut : (es : List Event) (n line : ℕ) → cut_of es n (image_of es (record { crash = n; full_line = None })) line ≡ floor_of es n line
-unfolding cut_of value_of
-no_line-cut es n line = refl
+-- with no full line every cut is the floor
+no_line-cut : (es : List Event) (n line : ℕ) → cut_in es (record { crash = n; full_line = None }) line ≡ floor_of es n line
+no_line-cut es n line = cut-is es (record { crash = n; full_line = None }) line
 
-full-cut : (es : List Event) (n line : ℕ) → cut_of es n (image_of es (record { crash = n; full_line = Some line })) line ≡ count_of es n line
-unfolding cut_of value_of
-full-cut es n line = ap (λ v. unwrap_or (if v then Some (count_of es n line) else None) (floor_of es n line)) ((Decides-eqb line line).1 refl)
+full-cut : (es : List Event) (n line : ℕ) → cut_in es (record { crash = n; full_line = Some line }) line ≡ count_of es n line
+full-cut es n line = cut-is es (record { crash = n; full_line = Some line }) line ∙ ap (λ v. if v then count_of es n line else floor_of es n line) ((Decides-eqb line line).1 refl)
 
-other-cut : (es : List Event) (n line other : ℕ) → (line == other) ≡ false → cut_of es n (image_of es (record { crash = n; full_line = Some line })) other ≡ floor_of es n other
-unfolding cut_of value_of
-other-cut es n line other apart = ap (λ v. unwrap_or (if v then Some (count_of es n line) else None) (floor_of es n other)) apart
+other-cut : (es : List Event) (n line other : ℕ) → (line == other) ≡ false → cut_in es (record { crash = n; full_line = Some line }) other ≡ floor_of es n other
+other-cut es n line other apart = cut-is es (record { crash = n; full_line = Some line }) other ∙ ap (λ v. if v then count_of es n other else floor_of es n other) apart
 
--- an untorn image whose cuts lie from floor to count is allowed
-untorn-allowed : (es : List Event) (n : ℕ) (image : Image) → image.torn ≡ [] →
-    ((line : ℕ) → (floor_of es n line ≤ cut_of es n image line) × (cut_of es n image line ≤ count_of es n line)) → IsAllowed es n image
-untorn-allowed es n image untorn within = record {
-  low = λ line. (within line).0;
-  high = λ line. (within line).1;
-  torn = λ b some. absurd (is_in-empty b (ap (λ t. is_in t b) (sym untorn) ∙ some));
-}
-
-no_line-allowed : (es : List Event) (n : ℕ) → IsAllowed es n (image_of es (record { crash = n; full_line = None }))
-no_line-allowed es n = untorn-allowed es n (image_of es (record { crash = n; full_line = None })) refl
-    (λ line. let here = no_line-cut es n line in let below = floor-below_count es n line in (omega arith, omega arith))
-
-full-allowed : (es : List Event) (n line : ℕ) → IsAllowed es n (image_of es (record { crash = n; full_line = Some line }))
-full-allowed es n line = untorn-allowed es n (image_of es (record { crash = n; full_line = Some line })) refl
-    (λ other. let below = floor-below_count es n other in
-    elim (line == other) as (λ v. (line == other) ≡ v →
-    (floor_of es n other ≤ cut_of es n (image_of es (record { crash = n; full_line = Some line })) other) × (cut_of es n (image_of es (record { crash = n; full_line = Some line })) other ≤ count_of es n other)) [
-      | true ↦ λ is. let here = subst (λ k. cut_of es n (image_of es (record { crash = n; full_line = Some line })) k ≡ count_of es n k) ((Decides-eqb line other).0 is) (full-cut es n line) in (omega arith, omega arith)
-      | false ↦ λ is. let here = other-cut es n line other is in (omega arith, omega arith)
-    ] refl)
-
-allowed-by : (es : List Event) (n : ℕ) (o : Option ℕ) → IsAllowed es n (image_of es (record { crash = n; full_line = o }))
-allowed-by es n None = no_line-allowed es n
-allowed-by es n (Some line) = full-allowed es n line
+cut-within : (es : List Event) (c : Certificate) (line : ℕ) → (floor_of es c.crash line ≤ cut_in es c line) × (cut_in es c line ≤ count_of es c.crash line)
+cut-within es c line =
+    let below = floor-below_count es c.crash line in
+    elim (option_eq nat_eq c.full_line (Some line)) as (λ v. cut_in es c line ≡ (if v then count_of es c.crash line else floor_of es c.crash line) →
+    (floor_of es c.crash line ≤ cut_in es c line) × (cut_in es c line ≤ count_of es c.crash line)) [
+      | true ↦ λ is. (omega arith, omega arith)
+      | false ↦ λ is. (omega arith, omega arith)
+    ] (cut-is es c line)
 
 pub certificates-allowed : CertificatesAreAllowed
-certificates-allowed es c = allowed-by es c.crash c.full_line
+certificates-allowed es c = record {
+  low = λ line. (cut-within es c line).0;
+  high = λ line. (cut-within es c line).1;
+  torn = λ b some. absurd (is_in-empty b some);
+}
 
 -- ---- what a byte shows at its line's floor
 
@@ -99,19 +83,6 @@ shown-where_open es p b exposed =
 
 -- ---- certified pairs
 
-fence_or_store : (b : ℕ) (e : Event) → is_fence e ≡ true → stores b e ≡ true → ⊥
-unfolding is_fence stores
-fence_or_store b Fence fence store = let bad : false ≡ true = store in cc
-fence_or_store b _ fence store = let bad : false ≡ true = fence in cc
-
-fence_or_store-passes : (b : ℕ) (o : Option Event) → passes is_fence o ≡ true → passes (stores b) o ≡ true → ⊥
-fence_or_store-passes b None fence store = let bad : false ≡ true = fence in cc
-fence_or_store-passes b (Some e) fence store = fence_or_store b e fence store
-
-not_fence_and_store : (es : List Event) (b k : ℕ) → at is_fence es k ≡ true → at (stores b) es k ≡ true → ⊥
-unfolding at
-not_fence_and_store es b k fence store = fence_or_store-passes b (event_at es k) fence store
-
 -- a byte whose store was written back and fenced before y's last store is durable before y
 closed_by-closing : (es : List Event) (p x k : ℕ) → k ≤ p → (c : Closing es (line_of_byte x) (last_store es p x) k) → c.fence < k →
     is_closed_by (epoch_after es (closing_fence (stores x) (line_of_byte x) es p)) (epoch_of es k) ≡ true
@@ -125,7 +96,7 @@ closed_by-closing es p x k within c before =
     let is = and_parts (at is_fence es fence) (some_between (at (flushes line) es) last fence) (least-passes (closes es line last) p first.0) in
     let rise = count-here (at is_fence es) fence first.0 is.0 in
     let more = count-mono (at is_fence es) fence (k - 1) (omega (arith, first.1)) in
-    ap (λ v. is_closed_by (if v then None else Some (count (at is_fence es) (fence - 1) + 1)) (count (at is_fence es) (k - 1))) (not_zero-eqb fence first.0)
+    ap (λ v. is_closed_by (if v then None else Some (count (at is_fence es) (fence - 1) + 1)) (count (at is_fence es) (k - 1))) (ne_eqb fence 0 (λ none. omega (arith, first.0)))
     ∙ le-leb (count (at is_fence es) (fence - 1) + 1) (count (at is_fence es) (k - 1)) (omega arith)
 
 precedes-from : (u v : Bool) (x y : Interval) → u ≡ false → v ≡ false → is_closed_by x.closes y.opens ≡ true →
@@ -134,18 +105,18 @@ precedes-from false false x y one other is = is
 precedes-from false true x y one other is = let bad : true ≡ false = other in cc
 precedes-from true v x y one other is = let bad : true ≡ false = one in cc
 
-ordered-from_precedes : (profile : Profile) (es : List Event) (p x y : ℕ) → precedes (interval_at es p x) (interval_at es p y) ≡ true → is_ordered profile es p x y ≡ true
+pub ordered-from_precedes : (profile : Profile) (es : List Event) (p x y : ℕ) → precedes (interval_at es p x) (interval_at es p y) ≡ true → is_ordered profile es p x y ≡ true
 unfolding is_ordered
 ordered-from_precedes One es p x y is = is
 ordered-from_precedes Two es p x y is = ap (λ v. v || (share_line x y && is_stored_before es p x y)) is
 
-unordered-parts : (u v w : Bool) → (u && v && not w) ≡ true → (u ≡ true) × (v ≡ true) × (w ≡ false)
+pub unordered-parts : (u v w : Bool) → (u && v && not w) ≡ true → (u ≡ true) × (v ≡ true) × (w ≡ false)
 unordered-parts true true false is = (refl, refl, refl)
 unordered-parts true true true is = let bad : false ≡ true = is in cc
 unordered-parts true false w is = let bad : false ≡ true = is in cc
 unordered-parts false v w is = let bad : false ≡ true = is in cc
 
-shows-bound : (es : List Event) (n b : ℕ) (image : Image) → shows es n image b ≤ n
+pub shows-bound : (es : List Event) (n b : ℕ) (image : Image) → shows es n image b ≤ n
 unfolding shows
 shows-bound es n b image = greatest-bound (reaches es n image b) n
 
@@ -178,7 +149,7 @@ module _ (es : List Event) (p x y : ℕ) (x_written : 0 < last_store es p x) (y_
             let same : closing.fence ≡ n = omega (arith, closing.within) in
             absurd (not_fence_and_store es y n (subst (λ k. at is_fence es k ≡ true) same closing.is_fence) (last_store-stores es p y y_written))
       ] in
-      precedes-from (last_store es p x == 0) (last_store es p y == 0) _ _ (not_zero-eqb (last_store es p x) x_written) (not_zero-eqb (last_store es p y) y_written)
+      precedes-from (last_store es p x == 0) (last_store es p y == 0) _ _ (ne_eqb (last_store es p x) 0 (λ none. omega arith)) (ne_eqb (last_store es p y) 0 (λ none. omega arith))
       (closed_by-closing es p x n (last_store-bound es p y) closing before)
 
 apart-other : (x y : ℕ) → not (share_line x y) ≡ true → (line_of_byte y == line_of_byte x) ≡ false

@@ -1,8 +1,8 @@
 -- Soundness of closed intervals, the two images that are always there, and the image of an open interval.
 use Rattle.std.specs.Prelude.{◌||◌}
-use Rattle.std.proofs.Common.{subst, ◌≡◌, ℕ, zero, suc, ◌+◌, ◌-◌, ◌<◌, ◌≤◌, true, false, ◌==◌, List, [], ◌∷◌, if◌then◌else◌, refl, sym, ◌∙◌, ap, arith, inl, inr}
+use Rattle.std.proofs.Common.{◌≡◌, ℕ, zero, suc, ◌+◌, ◌-◌, ◌<◌, ◌≤◌, true, false, ◌==◌, List, [], ◌∷◌, if◌then◌else◌, refl, sym, ◌∙◌, ap, arith, inl, inr}
 use Rattle.std.specs.Prelude.{Some, None, unwrap_or, slice_get}
-use Rattle.std.proofs.lemmas.Bool.{cases_lt, cases_eq, leb-true, le-leb, and_parts, and_from, ltb-true}
+use Rattle.std.proofs.lemmas.Bool.{cases_lt, cases_eq, leb-true, le-leb, ne_eqb, and_parts, and_from, ltb-true}
 use Rattle.std.proofs.lemmas.Bool.Decides.{Decides-eqb}
 use Rattle.pmf_event.specs.declared.event.Event.{Event}
 use Rattle.pmf_event.specs.declared.event.Event.TheVariants.{Store}
@@ -191,8 +191,7 @@ one_cut-here es n line cut = ap (λ v. unwrap_or (if v then Some cut else None) 
 one_cut-elsewhere : (es : List Event) (n line cut other : ℕ) → (other ≡ line → ⊥) → cut_of es n (one_cut line cut) other ≡ floor_of es n other
 unfolding one_cut cut_of value_of
 one_cut-elsewhere es n line cut other apart =
-    ap (λ v. unwrap_or (if v then Some cut else None) (floor_of es n other))
-    (elim (line == other) as (λ v. (line == other) ≡ v → v ≡ false) [ true ↦ λ is. absurd (apart (sym ((Decides-eqb line other).0 is))) | false ↦ λ is. refl ] refl)
+    ap (λ v. unwrap_or (if v then Some cut else None) (floor_of es n other)) (ne_eqb line other (λ same. apart (sym same)))
 
 pub allows_each_cut : EachCutIsAllowed
 unfolding one_cut
@@ -214,12 +213,16 @@ allows_each_cut es n line cut low high = record {
   };
 }
 
-one_torn : ℕ → Image
-one_torn b = record { cuts = []; torn = b ∷ [] }
+one_torn : ℕ → ℕ → ℕ → Image
+one_torn line cut b = record { cuts = (line, cut) ∷ []; torn = b ∷ [] }
 
-one_torn-cut_of : (es : List Event) (n b line : ℕ) → cut_of es n (one_torn b) line ≡ floor_of es n line
+one_torn-here : (es : List Event) (n line cut b : ℕ) → cut_of es n (one_torn line cut b) line ≡ cut
 unfolding one_torn cut_of value_of
-one_torn-cut_of es n b line = refl
+one_torn-here es n line cut b = ap (λ v. unwrap_or (if v then Some cut else None) (floor_of es n line)) ((Decides-eqb line line).1 refl)
+
+one_torn-elsewhere : (es : List Event) (n line cut b other : ℕ) → (other ≡ line → ⊥) → cut_of es n (one_torn line cut b) other ≡ floor_of es n other
+unfolding one_torn cut_of value_of
+one_torn-elsewhere es n line cut b other apart = ap (λ v. unwrap_or (if v then Some cut else None) (floor_of es n other)) (ne_eqb line other (λ same. apart (sym same)))
 
 one_torn-is_in : (b other : ℕ) → is_in (b ∷ []) other ≡ true → other ≡ b
 unfolding is_in
@@ -235,16 +238,24 @@ is_in-itself b other same = ap (λ v. v || false) ((Decides-eqb b other).1 (sym 
 
 pub allows_each_torn : EachByteMayBeTorn
 unfolding one_torn
-allows_each_torn es n b room = record {
-  image = one_torn b;
-  torn = λ other. (one_torn-is_in b other, is_in-itself b other);
-  floors = one_torn-cut_of es n b;
-  allowed = record {
-    low = λ line. rw (one_torn-cut_of es n b line) (omega arith);
-    high = λ line. rw (one_torn-cut_of es n b line) (floor-below_count es n line);
-    torn = λ other some. rw (one_torn-cut_of es n b (line_of_byte other)) (subst (λ k. floor_of es n (line_of_byte k) < count_of es n (line_of_byte k)) (sym (one_torn-is_in b other some)) room);
-  };
-}
+allows_each_torn es n b cut low room =
+    let line = line_of_byte b in record {
+      image = one_torn line cut b;
+      torn = λ other. (one_torn-is_in b other, is_in-itself b other);
+      here = one_torn-here es n line cut b;
+      elsewhere = one_torn-elsewhere es n line cut b;
+      allowed = record {
+        low = λ other. elim (cases_eq other line) [
+          | inl same ↦ rw (same, one_torn-here es n line cut b) low
+          | inr apart ↦ rw (one_torn-elsewhere es n line cut b other apart) (omega arith)
+        ];
+        high = λ other. elim (cases_eq other line) [
+          | inl same ↦ rw (same, one_torn-here es n line cut b) (omega arith)
+          | inr apart ↦ rw (one_torn-elsewhere es n line cut b other apart) (floor-below_count es n other)
+        ];
+        torn = λ other some. rw (one_torn-is_in b other some, one_torn-here es n line cut b) room;
+      };
+    }
 
 -- ---- an open interval
 

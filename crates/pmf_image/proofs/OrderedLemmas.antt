@@ -115,7 +115,7 @@ module _ (es : List Event) (p n : ℕ) (image : Image) (allowed : IsAllowed es n
       (subst (λ line. count_of es (last_store es p x) line ≤ reach_of es n image x) (sym same)
       (let low : cut_of es n image (line_of_byte y) ≤ reach_of es n image x = subst (λ line. cut_of es n image line ≤ reach_of es n image x) same reach in omega arith))
 
-  shown-ordered : (profile : Profile) → is_ordered profile es p x y ≡ true → shows es n image x ≡ last_store es p x
+  pub shown-ordered : (profile : Profile) → is_ordered profile es p x y ≡ true → shows es n image x ≡ last_store es p x
   unfolding is_ordered
   shown-ordered One ordered = shown-by_epochs ordered
   shown-ordered Two ordered = elim (or_cases (precedes (interval_at es p x) (interval_at es p y)) (share_line x y && is_stored_before es p x y) ordered) [

@@ -1,10 +1,11 @@
 -- When an assertion holds: in every crash image that the rules allow, at every crash that it speaks of.
 -- The premises: the events are all of one thread's stores, write-backs and fences on its lines, from
 -- durable memory on, no other thread writes those lines meanwhile, and the hardware keeps the rules.
-use Rattle.std.specs.Prelude.{◌≡◌, ℕ, ◌-◌, ◌<◌, ◌≤◌, true, List, length}
+use Rattle.std.specs.Prelude.{◌≡◌, ℕ, ◌-◌, ◌<◌, ◌≤◌, true, List, length, Option, Some}
 use Rattle.pmf_event.specs.declared.event.Event.{Event}
+use Rattle.pmf_event.specs.declared.event.Event.TheVariants.{Persist, Ordered, CheckEnd}
 use Rattle.pmf_event.specs.Span.{Extent, covers_byte}
-use Rattle.pmf_event.specs.Store.{last_store}
+use Rattle.pmf_event.specs.Store.{event_at, last_store}
 use Rattle.pmf_event.specs.Persist.{is_checked}
 use Rattle.pmf_event.specs.declared.span.TheConstants.{ADDRESS_LIMIT}
 use Rattle.pmf_event.specs.Exclusion.{is_included}
@@ -33,3 +34,14 @@ abbrev pub ScopeHolds : List Event → ℕ → Type 0
 ScopeHolds es p =
     (n : ℕ) → p ≤ n → n ≤ length es → (image : Image) → IsAllowed es n image →
     (b : ℕ) → b < ADDRESS_LIMIT → is_scoped es (p - 1) b ≡ true → is_included es p b ≡ true → last_store es p b ≤ shows es n image b
+
+-- an event that is an assertion holds at p; no other event asks for anything
+abbrev pub EventHolds : List Event → ℕ → Option Event → Type 0
+EventHolds es p (Some (Persist s)) = PersistHolds es p s
+EventHolds es p (Some (Ordered a b)) = OrderedHolds es p a b
+EventHolds es p (Some CheckEnd) = ScopeHolds es p
+EventHolds es p _ = Unit {0}
+
+-- the assertion at p holds
+abbrev pub Holds : List Event → ℕ → Type 0
+Holds es p = EventHolds es p (event_at es p)

@@ -7,11 +7,13 @@ use Rattle.pmf_event.specs.Interval.{interval_at, is_open}
 use Rattle.pmf_event.specs.Persist.{is_checked, is_exposed}
 use Rattle.pmf_image.specs.Image.{Image, IsAllowed, count_of, floor_of, cut_of, is_in}
 use Rattle.pmf_event.specs.declared.profile.Profile.{Profile}
-use Rattle.pmf_event.specs.Order.{is_ordered, is_certified}
+use Rattle.pmf_event.specs.declared.profile.Profile.TheVariants.{Two}
+use Rattle.pmf_event.specs.Order.{is_ordered, is_unordered, is_certified}
 use Rattle.pmf_event.specs.Store.{last_store}
 use Rattle.pmf_image.specs.declared.certificate.Certificate.{Certificate}
 use Rattle.pmf_image.specs.Certificate.{image_of, shows_in}
-use Rattle.pmf_image.specs.Holds.{PersistHolds, OrderedHolds}
+use Rattle.pmf_image.specs.Contradiction.{Contradicts}
+use Rattle.pmf_image.specs.Holds.{PersistHolds, OrderedHolds, Holds}
 
 -- where the interval of each checked byte of the span is closed, the assertion holds
 abbrev pub ClosedIntervalsHold : Type 0
@@ -53,16 +55,18 @@ pub record AllowsCutAt (es : List Event) (n line cut : ℕ) : Type 0 where
 abbrev pub EachCutIsAllowed : Type 0
 EachCutIsAllowed = (es : List Event) (n line cut : ℕ) → floor_of es n line ≤ cut → cut ≤ count_of es n line → AllowsCutAt es n line cut
 
--- an image that is allowed at n, with every cut at its floor and this byte alone torn
-pub record AllowsTorn (es : List Event) (n b : ℕ) : Type 0 where
+-- an image that is allowed at n, with this cut at the byte's line, the floor at every other, and this byte
+-- alone torn
+pub record AllowsTorn (es : List Event) (n b cut : ℕ) : Type 0 where
   pub image : Image
   pub torn : (other : ℕ) → (is_in image.torn other ≡ true) ↔ (other ≡ b)
-  pub floors : (line : ℕ) → cut_of es n image line ≡ floor_of es n line
+  pub here : cut_of es n image (line_of_byte b) ≡ cut
+  pub elsewhere : (line : ℕ) → line ≢ line_of_byte b → cut_of es n image line ≡ floor_of es n line
   pub allowed : IsAllowed es n image
 
--- a byte alone may be torn wherever its line has a store above the floor
+-- a byte alone may be torn wherever its line has a store after the cut
 abbrev pub EachByteMayBeTorn : Type 0
-EachByteMayBeTorn = (es : List Event) (n b : ℕ) → floor_of es n (line_of_byte b) < count_of es n (line_of_byte b) → AllowsTorn es n b
+EachByteMayBeTorn = (es : List Event) (n b cut : ℕ) → floor_of es n (line_of_byte b) ≤ cut → cut < count_of es n (line_of_byte b) → AllowsTorn es n b cut
 
 -- the image of each certificate is allowed at its crash place
 abbrev pub CertificatesAreAllowed : Type 0
@@ -85,3 +89,20 @@ at_store es p y = record { crash = last_store es p y; full_line = Some (line_of_
 abbrev pub CertifiedPairsAreShown : Type 0
 CertifiedPairsAreShown = (profile : Profile) (es : List Event) (p x y : ℕ) → is_certified profile es p x y ≡ true →
     (shows_in es (at_store es p y) y ≡ last_store es p y) × (shows_in es (at_store es p y) x ≢ last_store es p x)
+
+-- what a certificate of a place of the list contradicts does not hold
+abbrev pub ContradictedDoNotHold : Type 0
+ContradictedDoNotHold = (es : List Event) (p : ℕ) (c : Certificate) → c.crash ≤ length es → Contradicts es p c → Holds es p → ⊥
+
+-- an order assertion with a certified pair does not hold
+abbrev pub CertifiedPairsDoNotHold : Type 0
+CertifiedPairsDoNotHold = (profile : Profile) (es : List Event) (p : ℕ) (a b : Extent) (x y : ℕ) →
+    covers_byte a x ≡ true → covers_byte b y ≡ true → is_certified profile es p x y ≡ true → OrderedHolds es p a b → ⊥
+
+-- each pair that profile Two leaves unordered is one byte with itself
+abbrev pub PairsAreOneByte : List Event → ℕ → Extent → Extent → Type 0
+PairsAreOneByte es p a b = (x y : ℕ) → covers_byte a x ≡ true → covers_byte b y ≡ true → is_unordered Two es p x y ≡ true → x ≡ y
+
+-- an order assertion holds exactly where profile Two orders each pair of two bytes
+abbrev pub ProfileTwoIsExact : Type 0
+ProfileTwoIsExact = (es : List Event) (p : ℕ) (a b : Extent) → OrderedHolds es p a b ↔ PairsAreOneByte es p a b

@@ -1,6 +1,6 @@
 //! Laws of the definitions, each the clause of an empty function.
 
-ghost use Rattle.pmf_image.specs.Laws.{CertificatesAreAllowed, CertifiedPairsAreShown, ClosedIntervalsHold, EachByteMayBeTorn, EachCutIsAllowed, EveryPlaceHasImages, OpenIntervalsAreShown, OpenIntervalsDoNotHold, OrderedPairsHold};
+ghost use Rattle.pmf_image.specs.Laws.{CertificatesAreAllowed, CertifiedPairsAreShown, CertifiedPairsDoNotHold, ClosedIntervalsHold, ContradictedDoNotHold, EachByteMayBeTorn, EachCutIsAllowed, EveryPlaceHasImages, OpenIntervalsAreShown, OpenIntervalsDoNotHold, OrderedPairsHold, ProfileTwoIsExact};
 
 /// A persist assertion whose checked bytes all have closed intervals holds at every crash from its
 /// place on, in every allowed image, torn stores included.
@@ -31,7 +31,7 @@ pub fn each_cut_is_allowed()
     ensures { EachCutIsAllowed }
 {}
 
-/// A byte alone may be torn wherever its line has a store above the floor.
+/// A byte alone may be torn wherever its line has a store after the cut, at every cut from the floor on.
 pub fn each_byte_may_be_torn()
     ensures { EachByteMayBeTorn }
 {}
@@ -51,4 +51,20 @@ pub fn open_intervals_are_shown()
 /// byte's line in full, shows that store, and not the last store of the first byte.
 pub fn certified_pairs_are_shown()
     ensures { CertifiedPairsAreShown }
+{}
+
+/// An assertion that the image of some certificate contradicts does not hold.
+pub fn contradicted_do_not_hold()
+    ensures { ContradictedDoNotHold }
+{}
+
+/// An order assertion with a certified pair, by either profile, does not hold.
+pub fn certified_pairs_do_not_hold()
+    ensures { CertifiedPairsDoNotHold }
+{}
+
+/// An order assertion holds exactly where each pair that profile Two leaves unordered is one byte with
+/// itself: of two bytes that one store of a line wrote, a torn image shows the second alone.
+pub fn profile_two_is_exact()
+    ensures { ProfileTwoIsExact }
 {}
