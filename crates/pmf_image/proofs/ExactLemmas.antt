@@ -41,7 +41,7 @@ not_holds-contradicted es p c within contradicted holds = not_holds-event es p c
 
 -- ---- certified pairs
 
-checked-parts : (profile : Profile) (es : List Event) (p x y : ℕ) → is_unordered profile es p x y ≡ true →
+pub checked-parts : (profile : Profile) (es : List Event) (p x y : ℕ) → is_unordered profile es p x y ≡ true →
     (is_checked es p x ≡ true) × (is_checked es p y ≡ true) × (is_ordered profile es p x y ≡ false)
 unfolding is_unordered
 checked-parts profile es p x y is = unordered-parts (is_checked es p x) (is_checked es p y) (is_ordered profile es p x y) is

@@ -183,7 +183,7 @@ scope-contradicted es (suc p) b here is = scope_contradicted-after es p b (is �
 
 -- ---- failures are real
 
-contradicted-by : (profile : Profile) (es : List Event) (p : ℕ) (c : Certificate) (f : Finding) → Contains (rows_of profile es) (row_at p f) → certificate_of p f ≡ Some c → Contradicts es p c
+pub contradicted-by : (profile : Profile) (es : List Event) (p : ℕ) (c : Certificate) (f : Finding) → Contains (rows_of profile es) (row_at p f) → certificate_of p f ≡ Some c → Contradicts es p c
 contradicted-by profile es p c (PersistFail b) found is =
     let own = persist-from_rows profile es p (PersistFail b) found refl in
     let same : record { crash = p; full_line = None } ≡ c = cc in

@@ -122,11 +122,11 @@ kind-check false true d o = refl
 kind-check false false d None = refl
 kind-check false false d (Some b) = refl
 
-persist-kind : (es : List Event) (p : ℕ) (s : Extent) → kind_of (persist_finding es p s) ≡ 1
+pub persist-kind : (es : List Event) (p : ℕ) (s : Extent) → kind_of (persist_finding es p s) ≡ 1
 unfolding persist_finding
 persist-kind es p s = kind-persist (is_none (first_byte (is_checked es p) s)) (first_byte (is_exposed es p) s)
 
-ordered-kind : (profile : Profile) (es : List Event) (p : ℕ) (a b : Extent) → kind_of (ordered_finding profile es p a b) ≡ 2
+pub ordered-kind : (profile : Profile) (es : List Event) (p : ℕ) (a b : Extent) → kind_of (ordered_finding profile es p a b) ≡ 2
 unfolding ordered_finding
 ordered-kind profile es p a b =
     let certified = least_pair (is_certified profile es p) a b in

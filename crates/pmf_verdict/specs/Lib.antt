@@ -6,12 +6,14 @@ pub use Rattle.pmf_event.specs.Order
 pub use Rattle.pmf_event.specs.FlushWarnings
 pub use Rattle.pmf_event.specs.Transactions
 pub use Rattle.pmf_image.specs.Holds
+pub use Rattle.pmf_image.specs.Laws
 pub use Rattle.pmf_image.specs.Certificate
 pub use Rattle.pmf_image.specs.Contradiction
 pub mod Rows
 pub mod Checked
 pub mod Walks
 pub mod Sound
+pub mod Exact
 pub mod Explained
 pub mod Text
 pub mod Outcome

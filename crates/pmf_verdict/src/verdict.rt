@@ -3,6 +3,7 @@ ghost use Rattle.pmf_verdict.specs.Checked.{Checked, rows_in};
 ghost use Rattle.pmf_verdict.specs.Rows.{rows_of};
 ghost use Rattle.pmf_verdict.specs.Explained.{FailuresAreReal};
 ghost use Rattle.pmf_verdict.specs.Sound.{PassesHold, OrdersHold, ScopesHold};
+ghost use Rattle.pmf_verdict.specs.Exact.{IsExact};
 
 use pmf_event::{Name, Profile, Row, Rows, Section};
 use std::marker::Model;
@@ -67,6 +68,8 @@ impl Verdict {
         ensures sound_scopes { ScopesHold self.now.section.events result.now }
         // What is shown as failed has an allowed image that contradicts it.
         ensures real { FailuresAreReal self.now.section.events result.now }
+        // So they say which assertions hold.
+        ensures exact { IsExact self.now.profile self.now.section.events result.now }
     {
         self.rows.as_slice()
     }

@@ -1,3 +1,4 @@
+use Rattle.pmf_verdict.proofs.ExactLemmas.{rows_exact}
 use Rattle.pmf_verdict.proofs.ExplainLemmas.{failures_real}
 use Rattle.pmf_verdict.proofs.SoundLemmas.{passes_hold, orders_hold, scopes_hold}
 use Rattle.pmf_verdict.proofs.checking.check.Goals as goal
@@ -13,3 +14,6 @@ returns-in-Ok-clause-sound_scopes c = scopes_hold c.of_rows.result.profile c.of_
 
 pub returns-in-Ok-clause-real : goal.returns-in-Ok-clause-real
 returns-in-Ok-clause-real c = failures_real c.of_rows.result.profile c.of_rows.result.section.events
+
+pub returns-in-Ok-clause-exact : goal.returns-in-Ok-clause-exact
+returns-in-Ok-clause-exact c = rows_exact c.of_rows.result.profile c.of_rows.result.section.events

@@ -1,0 +1,253 @@
+-- Which assertions hold, by their rows.
+use Rattle.std.proofs.Common.{◌≡◌, ℕ, zero, suc, ◌-◌, ◌<◌, ◌≤◌, Bool, true, false, not, if◌then◌else◌, List, [], ◌∷◌, map, length, refl, sym, ◌∙◌, ap, subst, arith, inl, inr}
+use Rattle.std.specs.Prelude.{◌↔◌, ◌⊎◌, Option, Some, None, Contains, is_none}
+use Rattle.std.proofs.lemmas.List.Elements.{Contains-append_left, Contains-append_right}
+use Rattle.std.proofs.lemmas.Option.{slice_get_within}
+use Rattle.std.proofs.lemmas.Bool.{cases_eq}
+use Rattle.pmf_event.specs.declared.event.Event.{Event}
+use Rattle.pmf_event.specs.declared.event.Event.TheVariants.{Persist, Ordered, CheckEnd}
+use Rattle.pmf_event.specs.declared.finding.Finding.{Finding}
+use Rattle.pmf_event.specs.declared.finding.Finding.TheVariants.{PersistPass, PersistFail, PersistEmpty, OrderedPass, OrderedFail, OrderedSameLine, OrderedEmpty, CheckPass, CheckFail, TxStillOpen, Unopened}
+use Rattle.pmf_event.specs.declared.profile.Profile.{Profile}
+use Rattle.pmf_event.specs.declared.profile.Profile.TheVariants.{One, Two}
+use Rattle.pmf_event.specs.declared.span.TheConstants.{ADDRESS_LIMIT}
+use Rattle.pmf_event.specs.Line.{line_of_byte}
+use Rattle.pmf_event.specs.Span.{Extent, covers_byte}
+use Rattle.pmf_event.specs.Store.{event_at, last_store}
+use Rattle.pmf_event.specs.Ranges.{first_from, first_byte}
+use Rattle.pmf_event.specs.Persist.{is_checked, is_exposed, pass_unless, persist_finding}
+use Rattle.pmf_event.specs.Order.{is_unordered, is_certified, least_pair, finding_of_pairs, ordered_finding}
+use Rattle.pmf_event.specs.Transactions.{in_transaction, depth_at, in_scope, is_left_open, scope_passes_unless, check_finding}
+use Rattle.pmf_event.proofs.RangeLemmas.{none-passes}
+use Rattle.pmf_event.proofs.LeastPairLemmas.{pair-from}
+use Rattle.pmf_event.proofs.LineLemmas.{covers-bounds}
+use Rattle.pmf_image.specs.declared.certificate.Certificate.{Certificate}
+use Rattle.pmf_image.specs.Contradiction.{ContradictsEvent}
+use Rattle.pmf_image.specs.Holds.{PersistHolds, OrderedHolds, ScopeHolds, EventHolds, Holds}
+use Rattle.pmf_image.proofs.ExactLemmas.{not_holds-contradicted, holds-by_profile_two, checked-parts}
+use Rattle.pmf_verdict.specs.Rows.{findings_of, row_at, rows_upto, rows_at_end, rows_of}
+use Rattle.pmf_verdict.specs.Explained.{certificate_of}
+use Rattle.pmf_verdict.specs.Exact.{OrderIsNotRefuted, AreApart, OrderIsExact, IsExact}
+use Rattle.pmf_verdict.proofs.KindLemmas.{kind_of, persist-kind, ordered-kind, persist-from_rows, ordered-from_rows}
+use Rattle.pmf_verdict.proofs.ExplainLemmas.{contradicted-by}
+use Rattle.pmf_verdict.proofs.SoundLemmas.{passes_hold, orders_hold, scopes_hold}
+
+-- ---- each assertion has a row
+
+in-upto : (profile : Profile) (es : List Event) (p : ℕ) (f : Finding) → findings_of profile es p (event_at es p) ≡ f ∷ [] → 0 < p →
+    (n : ℕ) → p ≤ n → Contains (rows_upto profile es n) (row_at p f)
+unfolding rows_upto
+in-upto profile es p f only some zero within = absurd (omega arith)
+in-upto profile es p f only some (suc n) within =
+    let here = map (row_at (suc n)) (findings_of profile es (suc n) (event_at es (suc n))) in
+    elim (cases_eq p (suc n)) [
+      | inl last ↦
+          let own : map (row_at p) (findings_of profile es p (event_at es p)) ≡ row_at p f ∷ [] = ap (map (row_at p)) only in
+          let found : Contains (map (row_at p) (findings_of profile es p (event_at es p))) (row_at p f) =
+          subst (λ rows. Contains rows (row_at p f)) (sym own) (0, omega arith, refl) in
+          Contains-append_right (rows_upto profile es n) here (row_at p f)
+          (subst (λ q. Contains (map (row_at q) (findings_of profile es q (event_at es q))) (row_at p f)) last found)
+      | inr before ↦ Contains-append_left (rows_upto profile es n) here (row_at p f) (in-upto profile es p f only some n (omega arith))
+    ]
+
+place-within : (es : List Event) (p : ℕ) (e : Event) → event_at es p ≡ Some e → (0 < p) × (p ≤ length es)
+unfolding event_at
+place-within es zero e here = let bad : None ≡ Some e = here in cc
+place-within es (suc p) e here = let within = slice_get_within es p e here in (omega arith, omega arith)
+
+row-of : (profile : Profile) (es : List Event) (p : ℕ) (e : Event) (f : Finding) → event_at es p ≡ Some e → findings_of profile es p (Some e) ≡ f ∷ [] →
+    Contains (rows_of profile es) (row_at p f)
+unfolding rows_of
+row-of profile es p e f here only =
+    let within = place-within es p e here in
+    Contains-append_left (rows_upto profile es (length es)) (rows_at_end es (length es)) (row_at p f)
+    (in-upto profile es p f (ap (findings_of profile es p) here ∙ only) within.0 (length es) within.1)
+
+persist-row : (profile : Profile) (es : List Event) (p : ℕ) (s : Extent) → event_at es p ≡ Some (Persist s) → Contains (rows_of profile es) (row_at p (persist_finding es p s))
+unfolding findings_of
+persist-row profile es p s here = row-of profile es p (Persist s) (persist_finding es p s) here refl
+
+ordered-row : (profile : Profile) (es : List Event) (p : ℕ) (a b : Extent) → event_at es p ≡ Some (Ordered a b) →
+    Contains (rows_of profile es) (row_at p (ordered_finding profile es p a b))
+unfolding findings_of
+ordered-row profile es p a b here = row-of profile es p (Ordered a b) (ordered_finding profile es p a b) here refl
+
+check-row : (profile : Profile) (es : List Event) (p : ℕ) → event_at es p ≡ Some CheckEnd → Contains (rows_of profile es) (row_at p (check_finding es (p - 1)))
+unfolding findings_of
+check-row profile es p here = row-of profile es p CheckEnd (check_finding es (p - 1)) here refl
+
+-- ---- what failed does not hold
+
+not_holds-failed : (profile : Profile) (es : List Event) (p : ℕ) (c : Certificate) (f : Finding) → Contains (rows_of profile es) (row_at p f) →
+    certificate_of p f ≡ Some c → c.crash ≤ length es → Holds es p → ⊥
+not_holds-failed profile es p c f found is within holds = not_holds-contradicted es p c within (contradicted-by profile es p c f found is) holds
+
+none-from : {A : Type 0} (o : Option A) → is_none o ≡ true → o ≡ None
+none-from None is = refl
+none-from (Some x) is = let bad : false ≡ true = is in cc
+
+-- ---- persist assertions
+
+module _ (profile : Profile) (es : List Event) (p : ℕ) (s : Extent) (here : event_at es p ≡ Some (Persist s)) where
+  passed-by_row : (f : Finding) → kind_of f ≡ 1 → Contains (rows_of profile es) (row_at p f) → PersistHolds es p s →
+      Contains (rows_of profile es) (row_at p PersistPass) ⊎ Contains (rows_of profile es) (row_at p PersistEmpty)
+  passed-by_row PersistPass kind found holds = inl found
+  passed-by_row PersistEmpty kind found holds = inr found
+  passed-by_row (PersistFail b) kind found holds =
+      absurd (not_holds-failed profile es p (record { crash = p; full_line = None }) (PersistFail b) found refl (place-within es p (Persist s) here).1
+      (subst (EventHolds es p) (sym here) holds))
+  passed-by_row _ kind found holds = absurd (omega (arith, kind))
+
+  unchecked-persist : (v : Bool) (o : Option ℕ) → PersistEmpty ≡ (if v then PersistEmpty else pass_unless o) → v ≡ true
+  unchecked-persist true o is = refl
+  unchecked-persist false None is = let bad : PersistEmpty ≡ PersistPass = is in cc
+  unchecked-persist false (Some b) is = let bad : PersistEmpty ≡ PersistFail b = is in cc
+
+  holds-empty : Contains (rows_of profile es) (row_at p PersistEmpty) → PersistHolds es p s
+  unfolding persist_finding
+  holds-empty found n later within image allowed b covered checked =
+      let own = persist-from_rows profile es p PersistEmpty found refl in
+      let none = none-from (first_byte (is_checked es p) own.0) (unchecked-persist (is_none (first_byte (is_checked es p) own.0)) (first_byte (is_exposed es p) own.0) own.2) in
+      let same : Some (Persist own.0) ≡ Some (Persist s) = sym own.1 ∙ here in
+      let spans : own.0 ≡ s = cc in
+      let bounds = covers-bounds s b covered in
+      let shut = none-passes (is_checked es p) s.first s.size (subst (λ t. first_byte (is_checked es p) t ≡ None) spans none) b bounds.0 bounds.1 in
+      let bad : true ≡ false = sym checked ∙ shut in cc
+
+  holds-passed : Contains (rows_of profile es) (row_at p PersistPass) → PersistHolds es p s
+  holds-passed found =
+      let own = passes_hold profile es p found in
+      let same : Some (Persist own.0) ≡ Some (Persist s) = sym own.1 ∙ here in
+      let spans : own.0 ≡ s = cc in
+      subst (PersistHolds es p) spans own.2
+
+  persist-exact : PersistHolds es p s ↔ (Contains (rows_of profile es) (row_at p PersistPass) ⊎ Contains (rows_of profile es) (row_at p PersistEmpty))
+  persist-exact = (
+    λ holds. passed-by_row (persist_finding es p s) (persist-kind es p s) (persist-row profile es p s here) holds,
+    λ rows. elim rows [ inl passed ↦ holds-passed passed | inr empty ↦ holds-empty empty ],
+  )
+
+-- ---- order assertions
+
+module _ (profile : Profile) (es : List Event) (p : ℕ) (a b : Extent) (here : event_at es p ≡ Some (Ordered a b)) where
+  kept-by_row : (f : Finding) → kind_of f ≡ 2 → Contains (rows_of profile es) (row_at p f) → OrderedHolds es p a b → OrderIsNotRefuted (rows_of profile es) p
+  kept-by_row OrderedPass kind found holds = inl (inl found)
+  kept-by_row OrderedEmpty kind found holds = inl (inr found)
+  kept-by_row (OrderedSameLine x y) kind found holds = inr (x, y, found)
+  kept-by_row (OrderedFail x y n) kind found holds =
+      let contradicted = subst (ContradictsEvent es p (record { crash = n; full_line = Some (line_of_byte y) })) here
+      (contradicted-by profile es p (record { crash = n; full_line = Some (line_of_byte y) }) (OrderedFail x y n) found refl) in
+      absurd (not_holds-failed profile es p (record { crash = n; full_line = Some (line_of_byte y) }) (OrderedFail x y n) found refl
+      (let early = contradicted.0 in let within = (place-within es p (Ordered a b) here).1 in omega arith)
+      (subst (EventHolds es p) (sym here) holds))
+  kept-by_row _ kind found holds = absurd (omega (arith, kind))
+
+  not_refuted : OrderedHolds es p a b → OrderIsNotRefuted (rows_of profile es) p
+  not_refuted holds = kept-by_row (ordered_finding profile es p a b) (ordered-kind profile es p a b) (ordered-row profile es p a b here) holds
+
+  unchecked-ordered : (v w : Bool) (c u : Option (ℕ × ℕ)) → OrderedEmpty ≡ (if v then OrderedEmpty else if w then OrderedEmpty else finding_of_pairs es p c u) →
+      (v ≡ true) ⊎ (w ≡ true)
+  unchecked-ordered true w c u is = inl refl
+  unchecked-ordered false true c u is = inr refl
+  unchecked-ordered false false (Some (x, y)) u is = let bad : OrderedEmpty ≡ OrderedFail x y (last_store es p y) = is in cc
+  unchecked-ordered false false None (Some (x, y)) is = let bad : OrderedEmpty ≡ OrderedSameLine x y = is in cc
+  unchecked-ordered false false None None is = let bad : OrderedEmpty ≡ OrderedPass = is in cc
+
+  -- the row is what the assertion finds
+  own-ordered : (f : Finding) → kind_of f ≡ 2 → Contains (rows_of profile es) (row_at p f) → f ≡ ordered_finding profile es p a b
+  own-ordered f kind found =
+      let own = ordered-from_rows profile es p f found kind in
+      let same : Some (Ordered own.0 own.1) ≡ Some (Ordered a b) = sym own.2 ∙ here in
+      let one : own.0 ≡ a = cc in
+      let other : own.1 ≡ b = cc in
+      own.3 ∙ ap (λ s. ordered_finding profile es p s own.1) one ∙ ap (ordered_finding profile es p a) other
+
+  none-checked : (s : Extent) → is_none (first_byte (is_checked es p) s) ≡ true → (x : ℕ) → covers_byte s x ≡ true → is_checked es p x ≡ false
+  none-checked s none x covered =
+      let bounds = covers-bounds s x covered in
+      none-passes (is_checked es p) s.first s.size (none-from (first_byte (is_checked es p) s) none) x bounds.0 bounds.1
+
+  holds-unchecked : Contains (rows_of profile es) (row_at p OrderedEmpty) → OrderedHolds es p a b
+  unfolding ordered_finding
+  holds-unchecked found n within image allowed x y in_a in_b x_checked y_checked shown =
+      let is = own-ordered OrderedEmpty refl found in
+      elim (unchecked-ordered (is_none (first_byte (is_checked es p) a)) (is_none (first_byte (is_checked es p) b))
+      (least_pair (is_certified profile es p) a b) (least_pair (is_unordered profile es p) a b) is) [
+        | inl none ↦ let bad : true ≡ false = sym x_checked ∙ none-checked a none x in_a in cc
+        | inr none ↦ let bad : true ≡ false = sym y_checked ∙ none-checked b none y in_b in cc
+      ]
+
+  holds-kept : Contains (rows_of profile es) (row_at p OrderedPass) → OrderedHolds es p a b
+  holds-kept found =
+      let own = orders_hold profile es p found in
+      let same : Some (Ordered own.0 own.1) ≡ Some (Ordered a b) = sym own.2 ∙ here in
+      let one : own.0 ≡ a = cc in
+      let other : own.1 ≡ b = cc in
+      subst (OrderedHolds es p a) other (subst (λ s. OrderedHolds es p s own.1) one own.3)
+
+  same_line-pairs : (v w : Bool) (c u : Option (ℕ × ℕ)) (x y : ℕ) →
+      OrderedSameLine x y ≡ (if v then OrderedEmpty else if w then OrderedEmpty else finding_of_pairs es p c u) → u ≡ Some (x, y)
+  same_line-pairs true w c u x y is = let bad : OrderedSameLine x y ≡ OrderedEmpty = is in cc
+  same_line-pairs false true c u x y is = let bad : OrderedSameLine x y ≡ OrderedEmpty = is in cc
+  same_line-pairs false false (Some (k, l)) u x y is = let bad : OrderedSameLine x y ≡ OrderedFail k l (last_store es p l) = is in cc
+  same_line-pairs false false None None x y is = let bad : OrderedSameLine x y ≡ OrderedPass = is in cc
+  same_line-pairs false false None (Some (k, l)) x y is =
+      let same : OrderedSameLine x y ≡ OrderedSameLine k l = is in
+      let one : k ≡ x = cc in let other : l ≡ y = cc in
+      ap (λ z. Some (z, l)) one ∙ ap (λ z. Some (x, z)) other
+
+  -- over spans apart, no pair of a SAMELINE row is one byte with itself
+  not_one_byte : AreApart es p a b → (x y : ℕ) → Contains (rows_of profile es) (row_at p (OrderedSameLine x y)) →
+      ((k l : ℕ) → covers_byte a k ≡ true → covers_byte b l ≡ true → is_unordered profile es p k l ≡ true → k ≡ l) → ⊥
+  unfolding ordered_finding
+  not_one_byte apart x y found one_byte =
+      let is = own-ordered (OrderedSameLine x y) refl found in
+      let unordered = same_line-pairs (is_none (first_byte (is_checked es p) a)) (is_none (first_byte (is_checked es p) b))
+      (least_pair (is_certified profile es p) a b) (least_pair (is_unordered profile es p) a b) x y is in
+      let pair = pair-from (is_unordered profile es p) a b x y unordered in
+      let same = one_byte x y pair.one pair.other pair.passes in
+      let shut = apart x pair.one (subst (λ z. covers_byte b z ≡ true) (sym same) pair.other) in
+      let checked = (checked-parts profile es p x y pair.passes).0 in
+      let bad : true ≡ false = sym checked ∙ shut in cc
+
+order-exact : (profile : Profile) (es : List Event) (p : ℕ) (a b : Extent) → event_at es p ≡ Some (Ordered a b) → OrderIsExact profile es (rows_of profile es) p a b
+order-exact One es p a b here = not_refuted One es p a b here
+order-exact Two es p a b here = (
+  holds-by_profile_two es p a b,
+  λ apart. (
+    λ holds. elim (not_refuted Two es p a b here holds) [
+      | inl kept ↦ kept
+      | inr (x, y, found) ↦ absurd (not_one_byte Two es p a b here apart x y found ((holds-by_profile_two es p a b).0 holds))
+    ],
+    λ kept. elim kept [ inl passed ↦ holds-kept Two es p a b here passed | inr empty ↦ holds-unchecked Two es p a b here empty ],
+  ),
+)
+
+-- ---- scopes
+
+module _ (profile : Profile) (es : List Event) (p : ℕ) (here : event_at es p ≡ Some CheckEnd) where
+  closed-by_row : (o : Option ℕ) → Contains (rows_of profile es) (row_at p (scope_passes_unless o)) → ScopeHolds es p → Contains (rows_of profile es) (row_at p CheckPass)
+  closed-by_row None found holds = found
+  closed-by_row (Some b) found holds =
+      absurd (not_holds-failed profile es p (record { crash = p; full_line = None }) (CheckFail b) found refl (place-within es p CheckEnd here).1
+      (subst (EventHolds es p) (sym here) holds))
+
+  closes : in_scope es (p - 1) ≡ true → in_transaction es (p - 1) ≡ false → check_finding es (p - 1) ≡ scope_passes_unless (first_from (is_left_open es (p - 1)) 0 ADDRESS_LIMIT)
+  unfolding check_finding
+  closes inside outside =
+      ap (λ v. if not v then Unopened else if in_transaction es (p - 1) then TxStillOpen (depth_at es (p - 1)) else scope_passes_unless (first_from (is_left_open es (p - 1)) 0 ADDRESS_LIMIT)) inside
+      ∙ ap (λ v. if v then TxStillOpen (depth_at es (p - 1)) else scope_passes_unless (first_from (is_left_open es (p - 1)) 0 ADDRESS_LIMIT)) outside
+
+  scope-exact : in_scope es (p - 1) ≡ true → in_transaction es (p - 1) ≡ false → ScopeHolds es p ↔ Contains (rows_of profile es) (row_at p CheckPass)
+  scope-exact inside outside = (
+    λ holds. closed-by_row (first_from (is_left_open es (p - 1)) 0 ADDRESS_LIMIT)
+        (subst (λ f. Contains (rows_of profile es) (row_at p f)) (closes inside outside) (check-row profile es p here)) holds,
+    λ found. (scopes_hold profile es p found).1,
+  )
+
+pub rows_exact : (profile : Profile) (es : List Event) → IsExact profile es (rows_of profile es)
+rows_exact profile es = record {
+  persists = persist-exact profile es;
+  orders = order-exact profile es;
+  scopes = scope-exact profile es;
+}

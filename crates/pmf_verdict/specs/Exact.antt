@@ -1,0 +1,56 @@
+-- Exactness: which assertions hold, by their rows. An assertion holds where it does so in every crash image
+-- that the rules allow, torn stores included.
+use Rattle.std.specs.Prelude.{◌≡◌, ◌↔◌, ◌⊎◌, ℕ, ◌-◌, true, false, List, Some, Contains}
+use Rattle.pmf_event.specs.declared.event.Event.{Event}
+use Rattle.pmf_event.specs.declared.event.Event.TheVariants.{Persist, Ordered, CheckEnd}
+use Rattle.pmf_event.specs.declared.finding.Finding.TheVariants.{PersistPass, PersistEmpty, OrderedPass, OrderedEmpty, OrderedSameLine, CheckPass}
+use Rattle.pmf_event.specs.declared.profile.Profile.{Profile}
+use Rattle.pmf_event.specs.declared.profile.Profile.TheVariants.{One, Two}
+use Rattle.pmf_event.specs.declared.row.Row.{Row}
+use Rattle.pmf_event.specs.Span.{Extent, covers_byte}
+use Rattle.pmf_event.specs.Store.{event_at}
+use Rattle.pmf_event.specs.Persist.{is_checked}
+use Rattle.pmf_event.specs.Transactions.{in_scope, in_transaction}
+use Rattle.pmf_image.specs.Holds.{PersistHolds, OrderedHolds, ScopeHolds}
+use Rattle.pmf_image.specs.Laws.{PairsAreOneByte}
+use Rattle.pmf_verdict.specs.Rows.{row_at}
+
+-- a persist assertion holds exactly where its row is PASS or EMPTY
+abbrev pub PersistsAreExact : List Event → List Row → Type 0
+PersistsAreExact es rows = (p : ℕ) (s : Extent) → event_at es p ≡ Some (Persist s) →
+    PersistHolds es p s ↔ (Contains rows (row_at p PersistPass) ⊎ Contains rows (row_at p PersistEmpty))
+
+-- a CHECKEND that closes a scope outside of transactions holds exactly where its row is PASS
+abbrev pub ScopesAreExact : List Event → List Row → Type 0
+ScopesAreExact es rows = (p : ℕ) → event_at es p ≡ Some CheckEnd → in_scope es (p - 1) ≡ true → in_transaction es (p - 1) ≡ false →
+    ScopeHolds es p ↔ Contains rows (row_at p CheckPass)
+
+-- the row of an order assertion at p is PASS or EMPTY
+abbrev pub OrderIsKept : List Row → ℕ → Type 0
+OrderIsKept rows p = Contains rows (row_at p OrderedPass) ⊎ Contains rows (row_at p OrderedEmpty)
+
+-- it is PASS, EMPTY or SAMELINE
+abbrev pub OrderIsNotRefuted : List Row → ℕ → Type 0
+OrderIsNotRefuted rows p = OrderIsKept rows p ⊎ ((x : ℕ) × (y : ℕ) × Contains rows (row_at p (OrderedSameLine x y)))
+
+-- the two spans have no checked byte in common
+abbrev pub AreApart : List Event → ℕ → Extent → Extent → Type 0
+AreApart es p a b = (x : ℕ) → covers_byte a x ≡ true → covers_byte b x ≡ true → is_checked es p x ≡ false
+
+-- by profile One, an order assertion that holds is PASS, EMPTY or SAMELINE; by profile Two it holds exactly
+-- where each unordered pair is one byte with itself, and so over spans without a checked byte in common
+-- exactly where its row is PASS or EMPTY
+abbrev pub OrderIsExact : Profile → List Event → List Row → ℕ → Extent → Extent → Type 0
+OrderIsExact One es rows p a b = OrderedHolds es p a b → OrderIsNotRefuted rows p
+OrderIsExact Two es rows p a b =
+    (OrderedHolds es p a b ↔ PairsAreOneByte es p a b) × (AreApart es p a b → (OrderedHolds es p a b ↔ OrderIsKept rows p))
+
+-- each order assertion is exact by the profile
+abbrev pub OrdersAreExact : Profile → List Event → List Row → Type 0
+OrdersAreExact profile es rows = (p : ℕ) (a b : Extent) → event_at es p ≡ Some (Ordered a b) → OrderIsExact profile es rows p a b
+
+-- the rows are exact by the profile, for assertions of all three kinds
+pub record IsExact (profile : Profile) (es : List Event) (rows : List Row) : Type 0 where
+  pub persists : PersistsAreExact es rows
+  pub orders : OrdersAreExact profile es rows
+  pub scopes : ScopesAreExact es rows
