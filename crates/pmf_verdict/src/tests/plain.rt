@@ -11,6 +11,7 @@ use pmf_event::{Event, Finding, Profile, Row, Rows};
 use std::alloc::{AllocError, Global};
 
 pub(crate) mod bytes;
+pub(crate) mod images;
 pub(crate) mod lines;
 pub(crate) mod pairs;
 pub(crate) mod places;
