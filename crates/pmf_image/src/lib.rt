@@ -12,9 +12,14 @@
 #![tactic(auto)]
 
 mod certificate;
+mod contradicting;
 pub mod laws;
+mod questions;
+mod runs;
+mod transactions;
 
 pub use certificate::{Certificate, cut, last_store, shows};
+pub use contradicting::contradicts;
 
 #[cfg(test)]
 mod tests;
