@@ -10,7 +10,8 @@ use crate::transactions::scope_at;
 use pmf_event::{ADDRESS_LIMIT, Event, Span};
 
 /// Whether the event at the place is an assertion, and the certificate's image contradicts it: the crash
-/// is one that the assertion speaks of, and the image shows what the assertion rules out.
+/// is one that the assertion speaks of, and the image shows what the assertion rules out. No other event is
+/// contradicted.
 ///
 /// - A persist assertion: the crash is at its place or later, and a checked byte of its span shows less
 ///   than its last store.
@@ -19,10 +20,11 @@ use pmf_event::{ADDRESS_LIMIT, Event, Span};
 /// - The end of a scope, outside of transactions: the crash is at its place or later, and an included
 ///   byte of the scope shows less than its last store.
 ///
-/// No byte is looked at one by one, so the size of a span costs nothing. Bytes behave alike from one
-/// border to the next, where a border is an end of an event's span, of the lines that it meets, or of the
-/// full line. There are at most six passes over the events for each border inside the assertion's spans,
-/// and at the end of a scope for each border. Takes no memory.
+/// No byte is looked at one by one. Bytes are alike from one border to the next, where a border is an end
+/// of a span that is stored to, written back, excluded or included, an end of the lines that it meets, or
+/// an end of the full line. There are at most six passes over the events for each run between two borders
+/// inside the assertion's spans, however many bytes it has; for the end of a scope, for each run at all.
+/// Takes no memory.
 pub fn contradicts(events: &[Event], place: u32, certificate: Certificate) -> bool
     requires fits { Fits events.now certificate }
     requires some { 0 < place }

@@ -6,7 +6,7 @@
 //! know neither epochs nor intervals.
 //!
 //! A [`Certificate`] names one image, by `specs/Certificate`; [`cut`], [`shows`] and [`last_store`]
-//! answer about it, and `specs/Contradiction` says when it rules an assertion out.
+//! answer about it. `specs/Contradiction` says when it rules an assertion out, and [`contradicts`] tells.
 //!
 //! Not promised here: that the hardware keeps these rules. Not modelled: values of bytes.
 #![tactic(auto)]

@@ -10,9 +10,9 @@ ghost use Rattle.pmf_image.specs.Runs.{Alike};
 use crate::certificate::Certificate;
 use pmf_event::{Event, LINE_SIZE, Span, line_of};
 
-// The end of the run of bytes from this byte on that are alike to it, or `end`, if that comes first. One
-// pass over the events: a run ends where one of their spans begins or ends, where the lines that a span
-// meets begin or end, and where the full line does.
+// The end of a run of bytes from this one on that are all alike to it, at `end` at the latest. One pass
+// over the events: a run ends at the next border. The borders are where a span of a store, a write-back, an
+// exclusion or an inclusion begins and ends, where the lines that it meets do, and where the full line does.
 pub fn end_of_run(events: &[Event], certificate: Certificate, byte: u64, end: u64) -> u64
     requires fits { Fits events.now certificate }
     requires before { byte < end }
@@ -31,13 +31,15 @@ pub fn end_of_run(events: &[Event], certificate: Certificate, byte: u64, end: u6
     run_end
 }
 
-// The least border of the full line, if there is one, above the byte, or the end, if that comes first.
+// The least border of the full line above the byte; the end, if that comes first or no line is full.
 fn before_line(full_line: Option<u64>, byte: u64, end: u64) -> u64
     requires lines { (line : ℕ) → full_line ≡ Some line → IsLine line }
     requires before { byte < end }
     ensures above { byte < result }
     ensures below { result ≤ end }
-    ensures alike { (x : ℕ) → byte ≤ x → x < result → option_eq nat_eq full_line (Some (line_of_byte byte)) ≡ option_eq nat_eq full_line (Some (line_of_byte x)) }
+    ensures alike { (x : ℕ) → byte ≤ x → x < result
+        → option_eq nat_eq full_line (Some (line_of_byte byte))
+        ≡ option_eq nat_eq full_line (Some (line_of_byte x)) }
 {
     match full_line {
         Some(line) => {
@@ -48,14 +50,16 @@ fn before_line(full_line: Option<u64>, byte: u64, end: u64) -> u64
     }
 }
 
-// The least border above the byte, of the span and of the lines that it meets, or the end, if that comes
+// The least border above the byte, of the span and of the lines that it meets; the end, if that comes
 // first.
 fn before_borders(span: Span, byte: u64, end: u64) -> u64
     requires before { byte < end }
     ensures above { byte < result }
     ensures below { result ≤ end }
-    ensures bytes { (x : ℕ) → byte ≤ x → x < result → covers_byte span byte ≡ covers_byte span x }
-    ensures lines { (x : ℕ) → byte ≤ x → x < result → meets_line span (line_of_byte byte) ≡ meets_line span (line_of_byte x) }
+    ensures bytes { (x : ℕ) → byte ≤ x → x < result
+        → covers_byte span byte ≡ covers_byte span x }
+    ensures lines { (x : ℕ) → byte ≤ x → x < result
+        → meets_line span (line_of_byte byte) ≡ meets_line span (line_of_byte x) }
 {
     let behind = span.first() + span.size();
     let end = before_border(span.first(), byte, end);
