@@ -22,9 +22,9 @@ use pmf_event::{ADDRESS_LIMIT, Event, Span};
 ///
 /// No byte is looked at one by one. Bytes are alike from one border to the next, where a border is an end
 /// of a span that is stored to, written back, excluded or included, an end of the lines that it meets, or
-/// an end of the full line. There are at most six passes over the events for each run between two borders
-/// inside the assertion's spans, however many bytes it has; for the end of a scope, for each run at all.
-/// Takes no memory.
+/// an end of the full line. For each run between two borders inside the assertion's spans, however many
+/// bytes it has, there are at most six passes over the events; at the end of a scope there are six for each
+/// run at all, and one more. Takes no memory.
 pub fn contradicts(events: &[Event], place: u32, certificate: Certificate) -> bool
     requires fits { Fits events.now certificate }
     requires some { 0 < place }
@@ -89,6 +89,7 @@ fn scope_contradicted(events: &[Event], place: u32, certificate: Certificate) ->
     if certificate.crash < place {
         return false;
     }
+    // Of any byte: what is asked here is the same for all.
     let scope = scope_at(events, place - 1, 0);
     if !scope.is_open {
         return false;
