@@ -219,6 +219,10 @@ pub scope-some : (es : List Event) (p : ℕ) → in_scope es p ≡ true → 0 < 
 unfolding in_scope
 scope-some es p some = ltb-true 0 (scope_at es p) some
 
+pub scope-none : (es : List Event) (p : ℕ) → in_scope es p ≡ false → scope_at es p ≡ 0
+unfolding in_scope
+scope-none es p none = let small = ltb-false 0 (scope_at es p) none in omega arith
+
 pub scoped-from : (es : List Event) (p : ℕ) → 0 < scope_at es p → in_scope es p ≡ true
 unfolding in_scope
 scoped-from es p some = lt-ltb 0 (scope_at es p) some

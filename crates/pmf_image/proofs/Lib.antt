@@ -3,3 +3,7 @@ pub mod OrderedLemmas
 pub mod FailureLemmas
 pub mod CertificateLemmas
 pub mod ExactLemmas
+pub mod RunLemmas
+pub mod ScopeLemmas
+pub mod QuestionLemmas
+pub mod ContradictionLemmas

@@ -6,15 +6,20 @@
 //! know neither epochs nor intervals.
 //!
 //! A [`Certificate`] names one image, by `specs/Certificate`; [`cut`], [`shows`] and [`last_store`]
-//! answer about it, and `specs/Contradiction` says when it rules an assertion out.
+//! answer about it. `specs/Contradiction` says when it rules an assertion out, and [`contradicts`] tells.
 //!
 //! Not promised here: that the hardware keeps these rules. Not modelled: values of bytes.
 #![tactic(auto)]
 
 mod certificate;
+mod contradicting;
 pub mod laws;
+mod questions;
+mod runs;
+mod transactions;
 
 pub use certificate::{Certificate, cut, last_store, shows};
+pub use contradicting::contradicts;
 
 #[cfg(test)]
 mod tests;

@@ -1,6 +1,8 @@
 ghost use Rattle.std.specs.Prelude.{◌≡◌, true};
 ghost use Rattle.pmf_image.specs.Certificate.{Fits};
 
+mod contradicting;
+
 use super::*;
 use pmf_event::{Event, LINE_SIZE, Span, SpanFault};
 use std::alloc::Global;
@@ -14,6 +16,13 @@ enum Step {
     Fence,
     Persist(u64, u64),
     Ordered((u64, u64), (u64, u64)),
+    Exclude(u64, u64),
+    Include(u64, u64),
+    TxBegin,
+    TxAdd(u64, u64),
+    TxEnd,
+    CheckStart,
+    CheckEnd,
 }
 
 const STORE: Step = Step::Store(0x1000, 8);
@@ -69,6 +78,13 @@ impl Step {
                 let second = Span::make(b.0, b.1)?;
                 Ok(Event::Ordered(first, second))
             }
+            Step::Exclude(first, size) => Ok(Event::Exclude(Span::make(first, size)?)),
+            Step::Include(first, size) => Ok(Event::Include(Span::make(first, size)?)),
+            Step::TxBegin => Ok(Event::TxBegin),
+            Step::TxAdd(first, size) => Ok(Event::TxAdd(Span::make(first, size)?)),
+            Step::TxEnd => Ok(Event::TxEnd),
+            Step::CheckStart => Ok(Event::CheckStart),
+            Step::CheckEnd => Ok(Event::CheckEnd),
         }
     }
 }

@@ -1,0 +1,83 @@
+-- The search for a byte that answers yes.
+use Rattle.std.proofs.Common.{◌≡◌, ℕ, ◌<◌, ◌≤◌, ◌-◌, Bool, true, false, not, ◌&&◌, nat_lt, ◌↔◌, List, refl, sym, ◌∙◌, ap, arith, inl, inr}
+use Rattle.std.proofs.Math.Bool.{and-false}
+use Rattle.std.proofs.lemmas.Bool.{cases_lt}
+use Rattle.pmf_event.specs.declared.event.Event.{Event}
+use Rattle.pmf_image.specs.declared.certificate.Certificate.{Certificate}
+use Rattle.pmf_image.specs.declared.questions.Question.{Question}
+use Rattle.pmf_image.specs.declared.questions.Question.TheVariants.{FallsShort, IsShown, IsLost, ScopeFallsShort}
+use Rattle.pmf_event.specs.Store.{last_store}
+use Rattle.pmf_event.specs.Exclusion.{is_excluded, is_included}
+use Rattle.pmf_event.specs.Persist.{is_checked}
+use Rattle.pmf_event.specs.Transactions.{is_scoped}
+use Rattle.pmf_image.specs.Certificate.{shows_in}
+use Rattle.pmf_image.specs.Runs.{Alike}
+use Rattle.pmf_image.specs.Questions.{is_asked, compares, answer_of, SomeByte}
+use Rattle.pmf_image.proofs.RunLemmas.{answer-alike}
+
+-- no byte from first up to end, which is not one of them, passes the test
+pub record NoByte (test : ℕ → Bool) (first end : ℕ) : Type 0 where
+  pub from : first ≤ end
+  pub none : (b : ℕ) → first ≤ b → b < end → test b ≡ false
+
+-- ---- the answer for one byte
+
+pub not_asked : (q : Question) (es : List Event) (p b : ℕ) → is_included es p b ≡ false → is_asked q es p b ≡ false
+unfolding is_asked is_checked is_included
+not_asked FallsShort es p b out = ap (λ v. nat_lt 0 (last_store es p b) && v) out ∙ and-false (nat_lt 0 (last_store es p b))
+not_asked IsShown es p b out = ap (λ v. nat_lt 0 (last_store es p b) && v) out ∙ and-false (nat_lt 0 (last_store es p b))
+not_asked IsLost es p b out = ap (λ v. nat_lt 0 (last_store es p b) && v) out ∙ and-false (nat_lt 0 (last_store es p b))
+not_asked ScopeFallsShort es p b out = ap (λ v. is_scoped es (p - 1) b && v) out ∙ and-false (is_scoped es (p - 1) b)
+
+and-true_right : (u v : Bool) → v ≡ true → (u && v) ≡ u
+and-true_right true v is = is
+and-true_right false v is = refl
+
+checked-included : (es : List Event) (p b : ℕ) → is_included es p b ≡ true → is_checked es p b ≡ nat_lt 0 (last_store es p b)
+unfolding is_checked is_included
+checked-included es p b included = and-true_right (nat_lt 0 (last_store es p b)) (not (is_excluded es p b)) included
+
+pub asked-scoped : (q : Question) (es : List Event) (p b : ℕ) → q ≡ ScopeFallsShort → is_included es p b ≡ true → is_asked q es p b ≡ is_scoped es (p - 1) b
+unfolding is_asked
+asked-scoped q es p b is included = ap (λ k. is_asked k es p b) is ∙ and-true_right (is_scoped es (p - 1) b) (is_included es p b) included
+
+pub asked-checked : (q : Question) (es : List Event) (p b : ℕ) → (q ≡ ScopeFallsShort → ⊥) → is_included es p b ≡ true → is_asked q es p b ≡ nat_lt 0 (last_store es p b)
+unfolding is_asked
+asked-checked FallsShort es p b other included = checked-included es p b included
+asked-checked IsShown es p b other included = checked-included es p b included
+asked-checked IsLost es p b other included = checked-included es p b included
+asked-checked ScopeFallsShort es p b other included = absurd (other refl)
+
+pub answer-none : (q : Question) (es : List Event) (p : ℕ) (c : Certificate) (b : ℕ) → is_asked q es p b ≡ false → answer_of q es p c b ≡ false
+unfolding answer_of
+answer-none q es p c b none = ap (λ v. v && compares q (shows_in es c b) (last_store es p b)) none
+
+pub answer-asked : (q : Question) (es : List Event) (p : ℕ) (c : Certificate) (b : ℕ) → is_asked q es p b ≡ true →
+    answer_of q es p c b ≡ compares q (shows_in es c b) (last_store es p b)
+unfolding answer_of
+answer-asked q es p c b asked = ap (λ v. v && compares q (shows_in es c b) (last_store es p b)) asked
+
+-- ---- the search
+
+pub no_byte-start : (test : ℕ → Bool) (first : ℕ) → NoByte test first first
+no_byte-start test first = record { from = omega arith; none = λ b low high. absurd (omega arith) }
+
+-- where one byte of a run answers no, all do
+pub no_byte-run : (q : Question) (es : List Event) (p : ℕ) (c : Certificate) (first b end : ℕ) → NoByte (answer_of q es p c) first b →
+    answer_of q es p c b ≡ false → b < end → ((x : ℕ) → b ≤ x → x < end → Alike es c b x) → NoByte (answer_of q es p c) first end
+no_byte-run q es p c first b end before other above alike = record {
+  from = let low = before.from in omega arith;
+  none = λ x low high. elim (cases_lt x b) [
+    | inl earlier ↦ before.none x low earlier
+    | inr from ↦ sym (answer-alike es c b x (alike x from high) q p) ∙ other
+  ];
+}
+
+pub found-byte : (test : ℕ → Bool) (first b end : ℕ) → NoByte test first b → b < end → test b ≡ true → (true ≡ true) ↔ SomeByte test first end
+found-byte test first b end before below is = (λ yes. record { byte = b; from = before.from; before = below; passes = is }, λ some. refl)
+
+pub found-none : (test : ℕ → Bool) (first b end : ℕ) → NoByte test first b → end ≤ b → (false ≡ true) ↔ SomeByte test first end
+found-none test first b end before past = (
+  λ bad. let never : false ≡ true = bad in cc,
+  λ some. let below = some.before in let other = before.none some.byte some.from (omega arith) in sym other ∙ some.passes,
+)

@@ -1,0 +1,92 @@
+//! What is asked of a byte in a certificate's image, and the search for a byte that answers yes.
+
+ghost use Rattle.std.specs.Prelude.{◌≡◌, ◌<◌, ◌≤◌, ◌↔◌, true, length};
+ghost use Rattle.pmf_image.specs.Certificate.{Fits};
+ghost use Rattle.pmf_image.specs.Questions.{SomeByte, answer_of, compares, is_asked};
+
+use crate::certificate::{Certificate, last_store, shows};
+use crate::runs::end_of_run;
+use crate::transactions::{is_included, scope_at};
+use pmf_event::Event;
+
+/// What is asked of a byte, at a place and in a certificate's image.
+#[derive(Clone, Copy, Debug, PartialEq, Eq)]
+pub enum Question {
+    /// Whether it is checked, and shows less than its last store.
+    FallsShort,
+    /// Whether it is checked, and shows its last store.
+    IsShown,
+    /// Whether it is checked, and shows something else than its last store.
+    IsLost,
+    /// Whether it is one of the scope's just before the place, is included at the place, and shows less
+    /// than its last store.
+    ScopeFallsShort,
+}
+
+impl Question {
+    // Whether the byte is asked, and the answer is yes. At most five passes over the events.
+    pub fn answer(self, events: &[Event], place: u32, certificate: Certificate, byte: u64) -> bool
+        requires fits { Fits events.now certificate }
+        requires some { 0 < place }
+        requires within { place ≤ length events.now }
+        ensures { result ≡ answer_of self events.now place certificate byte }
+    {
+        if !self.is_asked(events, place, byte) {
+            return false;
+        }
+        let shown = shows(events, certificate, byte);
+        self.compares(shown, last_store(events, place, byte))
+    }
+
+    // Whether the byte is one of those that are asked. At most two passes over the events.
+    fn is_asked(self, events: &[Event], place: u32, byte: u64) -> bool
+        requires some { 0 < place }
+        requires within { place ≤ length events.now }
+        ensures { result ≡ is_asked self events.now place byte }
+    {
+        if !is_included(events, place, byte) {
+            return false;
+        }
+        match self {
+            Question::ScopeFallsShort => scope_at(events, place - 1, byte).has_byte,
+            _ => last_store(events, place, byte) > 0,
+        }
+    }
+
+    // Whether the answer is yes where the byte shows this place, and its last store is at that.
+    #[tactic(auto, unfolding(crate::specs::Questions::compares))]
+    fn compares(self, shown: u32, last: u32) -> bool
+        ensures { result ≡ compares self shown last }
+    {
+        match self {
+            Question::FallsShort | Question::ScopeFallsShort => shown < last,
+            Question::IsShown => shown == last,
+            Question::IsLost => shown != last,
+        }
+    }
+
+    // Whether the answer is yes for a byte from `first` up to `end`, which is not one of them. Asks one
+    // byte of each run of bytes that are alike.
+    pub fn finds(
+        self,
+        events: &[Event],
+        place: u32,
+        certificate: Certificate,
+        first: u64,
+        end: u64,
+    ) -> bool
+        requires fits { Fits events.now certificate }
+        requires some { 0 < place }
+        requires within { place ≤ length events.now }
+        ensures { (result ≡ true) ↔ SomeByte (answer_of self events.now place certificate) first end }
+    {
+        let mut byte = first;
+        while byte < end {
+            if self.answer(events, place, certificate, byte) {
+                return true;
+            }
+            byte = end_of_run(events, certificate, byte, end);
+        }
+        false
+    }
+}
