@@ -4,3 +4,4 @@ pub mod KindLemmas
 pub mod SoundLemmas
 pub mod WalkLemmas
 pub mod ExplainLemmas
+pub mod TextLemmas
