@@ -5,3 +5,4 @@ pub mod SoundLemmas
 pub mod WalkLemmas
 pub mod ExplainLemmas
 pub mod TextLemmas
+pub mod FitLemmas

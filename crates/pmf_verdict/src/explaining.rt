@@ -1,6 +1,6 @@
 ghost use Rattle.std.specs.Prelude.{◌≡◌, ℕ, Some};
 ghost use Rattle.pmf_image.specs.Image.{IsAllowed};
-ghost use Rattle.pmf_image.specs.Certificate.{image_of};
+ghost use Rattle.pmf_image.specs.Certificate.{Fits, image_of};
 ghost use Rattle.pmf_image.specs.Contradiction.{Contradicts};
 ghost use Rattle.pmf_image.specs.declared.certificate.Certificate.{Certificate};
 ghost use Rattle.pmf_verdict.specs.Checked.{rows_in};
@@ -15,6 +15,9 @@ use pmf_image::Certificate;
 /// It looks through the rows once.
 pub fn explain(verdict: &Verdict, place: u32) -> Option<Certificate>
     ensures value { Explains (rows_in verdict.now) place result }
+    // It can be asked what the image holds.
+    ensures fits { (c : Certificate) → result ≡ Some c
+        → Fits verdict.now.section.events c }
     // The image is allowed, nothing in it is torn, and the assertion doesn't hold in it.
     ensures allowed { (c : Certificate) → result ≡ Some c
         → IsAllowed verdict.now.section.events c.crash (image_of verdict.now.section.events c) }
