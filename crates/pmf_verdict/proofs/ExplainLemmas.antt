@@ -1,15 +1,12 @@
 -- Where a certificate comes from, and that its image is allowed and contradicts the assertion.
-use Rattle.std.proofs.Common.{◌≡◌, ℕ, zero, suc, ◌+◌, ◌-◌, ◌<◌, Bool, true, false, not, ◌&&◌, ◌==◌, if◌then◌else◌, List, [], ◌∷◌, drop, get_or, length, refl, sym, ◌∙◌, ap, arith, subst}
-use Rattle.std.specs.Prelude.{Option, Some, None, is_some, is_none, Contains}
+use Rattle.std.proofs.Common.{◌≡◌, ℕ, zero, suc, ◌-◌, Bool, true, false, not, ◌&&◌, if◌then◌else◌, List, refl, sym, ◌∙◌, ap, arith, subst}
+use Rattle.std.specs.Prelude.{Option, Some, None, is_none, Contains}
 use Rattle.std.proofs.lemmas.Bool.{and_parts}
-use Rattle.std.proofs.lemmas.Bool.Decides.{Decides-eqb}
-use Rattle.std.proofs.lemmas.List.{at_drop_more}
 use Rattle.pmf_event.specs.declared.event.Event.{Event}
 use Rattle.pmf_event.specs.declared.event.Event.TheVariants.{CheckEnd}
 use Rattle.pmf_event.specs.declared.finding.Finding.{Finding}
 use Rattle.pmf_event.specs.declared.finding.Finding.TheVariants.{PersistPass, PersistFail, PersistEmpty, OrderedPass, OrderedFail, OrderedSameLine, OrderedEmpty, CheckPass, CheckFail, TxStillOpen, Unopened}
 use Rattle.pmf_event.specs.declared.profile.Profile.{Profile}
-use Rattle.pmf_event.specs.declared.row.Row.{Row}
 use Rattle.pmf_event.specs.declared.span.TheConstants.{ADDRESS_LIMIT}
 use Rattle.pmf_event.specs.Span.{Extent}
 use Rattle.pmf_event.specs.Line.{line_of_byte}
@@ -29,59 +26,10 @@ use Rattle.pmf_image.specs.Contradiction.{PersistContradicted, OrderedContradict
 use Rattle.pmf_image.proofs.ImageLemmas.{last_store-bound}
 use Rattle.pmf_image.proofs.FailureLemmas.{certificates-allowed, shown-where_open, pair-shown}
 use Rattle.pmf_verdict.specs.Rows.{row_at, rows_of}
-use Rattle.pmf_verdict.specs.Explained.{certificate_of, first_of, certificate_at, explained, FailuresAreReal}
+use Rattle.pmf_verdict.specs.Explained.{certificate_of, FailuresAreReal}
 use Rattle.pmf_verdict.proofs.KindLemmas.{persist-from_rows, ordered-from_rows, check-from_rows}
 
--- ---- the first certificate
-
-first-some : (o other : Option Certificate) → is_some o ≡ true → o ≡ first_of o other
-first-some None other is = let bad : false ≡ true = is in cc
-first-some (Some c) other is = refl
-
-first-other : (o other : Option Certificate) → is_some o ≡ false → first_of o other ≡ other
-first-other None other is = refl
-first-other (Some c) other is = let bad : true ≡ false = is in cc
-
-pub explained-none : (p : ℕ) → explained [] p ≡ None
-unfolding explained
-explained-none p = refl
-
-module _ (rows : List Row) (p i : ℕ) (d : Row) (within : i < length rows) where
-  step : explained (drop i rows) p ≡ first_of (certificate_at p (get_or rows i d)) (explained (drop (i + 1) rows) p)
-  unfolding explained
-  step = at_drop_more (λ rs. explained rs p) rows i d within
-
-  pub explained-here : is_some (certificate_at p (get_or rows i d)) ≡ true → certificate_at p (get_or rows i d) ≡ explained (drop i rows) p
-  explained-here some = first-some (certificate_at p (get_or rows i d)) (explained (drop (i + 1) rows) p) some ∙ sym step
-
-  pub explained-later : is_some (certificate_at p (get_or rows i d)) ≡ false → explained (drop i rows) p ≡ explained (drop (i + 1) rows) p
-  explained-later none = step ∙ first-other (certificate_at p (get_or rows i d)) (explained (drop (i + 1) rows) p) none
-
--- ---- the row of a certificate
-
--- a finding of a row at p, with this certificate
-pub record Source (rows : List Row) (p : ℕ) (c : Certificate) : Type 0 where
-  pub finding : Finding
-  pub found : Contains rows (row_at p finding)
-  pub gives : certificate_of p finding ≡ Some c
-
-source-at : (p : ℕ) (row : Row) (c : Certificate) → certificate_at p row ≡ Some c → (row.place ≡ p) × (certificate_of p row.finding ≡ Some c)
-source-at p row c is = elim (row.place == p) as (λ v. (row.place == p) ≡ v → (if v then certificate_of p row.finding else None) ≡ Some c → (row.place ≡ p) × (certificate_of p row.finding ≡ Some c)) [
-  | true ↦ λ here gives. ((Decides-eqb row.place p).0 here, gives)
-  | false ↦ λ apart none. let bad : None ≡ Some c = none in cc
-] refl is
-
-source-from : (rows : List Row) (p : ℕ) (c : Certificate) → explained rows p ≡ Some c → Source rows p c
-unfolding explained
-source-from [] p c is = let bad : None ≡ Some c = is in cc
-source-from (row ∷ rows) p c is = elim (certificate_at p row) as (λ o. certificate_at p row ≡ o → first_of o (explained rows p) ≡ Some c → Source (row ∷ rows) p c) [
-  | None ↦ λ none later.
-      let s = source-from rows p c later in
-      record { finding = s.finding; found = (suc s.found.0, (let bound = s.found.1 in omega arith), s.found.2); gives = s.gives }
-  | Some k ↦ λ some same.
-      let here = source-at p row c (some ∙ same) in
-      record { finding = row.finding; found = (0, omega arith, ap (λ q. row_at q row.finding) here.0); gives = here.1 }
-] refl is
+-- ---- the parts of a failure
 
 all_parts : (u v w : Bool) → (u && v && w) ≡ true → (u ≡ true) × (v ≡ true) × (w ≡ true)
 all_parts true true true is = (refl, refl, refl)
@@ -199,6 +147,4 @@ contradicted-by profile es p c (CheckFail b) found is =
 contradicted-by profile es p c _ found is = let bad : None ≡ Some c = is in cc
 
 pub failures_real : (profile : Profile) (es : List Event) → FailuresAreReal es (rows_of profile es)
-failures_real profile es p c is =
-    let source = source-from (rows_of profile es) p c is in
-    (certificates-allowed es c, contradicted-by profile es p c source.finding source.found source.gives)
+failures_real profile es p c source = (certificates-allowed es c, contradicted-by profile es p c source.0 source.1 source.2)

@@ -6,3 +6,5 @@ pub mod WalkLemmas
 pub mod ExplainLemmas
 pub mod ExactLemmas
 pub mod ListingLemmas
+pub mod TextLemmas
+pub mod FitLemmas

@@ -1,5 +1,5 @@
 -- Certificates of failed assertions: the crash image that shows the failure.
-use Rattle.std.specs.Prelude.{◌≡◌, ℕ, ◌==◌, List, [], ◌∷◌, Option, None, Some, if◌then◌else◌}
+use Rattle.std.specs.Prelude.{◌≡◌, ℕ, List, Option, None, Some, Contains}
 use Rattle.pmf_event.specs.declared.event.Event.{Event}
 use Rattle.pmf_event.specs.declared.finding.Finding.{Finding}
 use Rattle.pmf_event.specs.declared.finding.Finding.TheVariants.{PersistFail, OrderedFail, CheckFail}
@@ -9,6 +9,7 @@ use Rattle.pmf_image.specs.declared.certificate.Certificate.{Certificate}
 use Rattle.pmf_image.specs.Image.{IsAllowed}
 use Rattle.pmf_image.specs.Certificate.{image_of}
 use Rattle.pmf_image.specs.Contradiction.{Contradicts}
+use Rattle.pmf_verdict.specs.Rows.{row_at}
 
 -- the certificate of what is found at p: of a failed persist assertion, and of a scope that failed, a crash
 -- at p with no full line; of a failed order assertion a crash at the row's crash place, with the line of the
@@ -19,20 +20,11 @@ certificate_of p (OrderedFail byte after crash) = Some (record { crash = crash; 
 certificate_of p (CheckFail byte) = Some (record { crash = p; full_line = None })
 certificate_of p _ = None
 
--- the one certificate, or else the other
-abbrev pub first_of : Option Certificate → Option Certificate → Option Certificate
-first_of None other = other
-first_of (Some c) other = Some c
+-- what certificate the rows give at p: that of a row there; none only where no row there has one
+abbrev pub Explains : List Row → ℕ → Option Certificate → Type 0
+Explains rows p (Some c) = (f : Finding) × Contains rows (row_at p f) × (certificate_of p f ≡ Some c)
+Explains rows p None = (f : Finding) → Contains rows (row_at p f) → certificate_of p f ≡ None
 
--- the certificate of a row, if it stands at p and has one
-abbrev pub certificate_at : ℕ → Row → Option Certificate
-certificate_at p row = if row.place == p then certificate_of p row.finding else None
-
--- the certificate at p among the rows: that of the first row there that has one
-unfoldable pub explained : List Row → ℕ → Option Certificate
-explained [] p = None
-explained (row ∷ rows) p = first_of (certificate_at p row) (explained rows p)
-
--- a certificate among the rows is of an allowed image, which contradicts the assertion at its place
+-- each certificate that the rows give is of an allowed image, which contradicts the assertion at its place
 abbrev pub FailuresAreReal : List Event → List Row → Type 0
-FailuresAreReal es rows = (p : ℕ) (c : Certificate) → explained rows p ≡ Some c → IsAllowed es c.crash (image_of es c) × Contradicts es p c
+FailuresAreReal es rows = (p : ℕ) (c : Certificate) → Explains rows p (Some c) → IsAllowed es c.crash (image_of es c) × Contradicts es p c

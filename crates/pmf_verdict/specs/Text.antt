@@ -1,6 +1,6 @@
 -- The text of a row: its place, its word, and the addresses and numbers that belong to it. ASCII, each
 -- row one text line that ends with LF. Defined here.
-use Rattle.std.specs.Prelude.{ℕ, List, ◌++◌, codes}
+use Rattle.std.specs.Prelude.{ℕ, ◌==◌, Bool, List, ◌++◌, filter, codes}
 use Rattle.std.specs.List.{flat_map}
 use Rattle.std.specs.Fmt.{decimal}
 use Rattle.pmf_event.specs.Address.{address}
@@ -41,3 +41,11 @@ text_of_row row = decimal row.place ++ text_of_finding row.place row.finding ++ 
 -- the text lines of some rows, one after another
 abbrev pub text_of_rows : List Row → List ℕ
 text_of_rows rows = flat_map text_of_row rows
+
+-- whether the row stands at p
+unfoldable pub stands_at : ℕ → Row → Bool
+stands_at p row = row.place == p
+
+-- the rows at p, in their order
+abbrev pub rows_at : List Row → ℕ → List Row
+rows_at rows p = filter (stands_at p) rows

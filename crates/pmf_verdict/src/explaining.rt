@@ -1,10 +1,10 @@
 ghost use Rattle.std.specs.Prelude.{◌≡◌, ℕ, Some};
 ghost use Rattle.pmf_image.specs.Image.{IsAllowed};
-ghost use Rattle.pmf_image.specs.Certificate.{image_of};
+ghost use Rattle.pmf_image.specs.Certificate.{Fits, image_of};
 ghost use Rattle.pmf_image.specs.Contradiction.{Contradicts};
 ghost use Rattle.pmf_image.specs.declared.certificate.Certificate.{Certificate};
 ghost use Rattle.pmf_verdict.specs.Checked.{rows_in};
-ghost use Rattle.pmf_verdict.specs.Explained.{certificate_at, explained};
+ghost use Rattle.pmf_verdict.specs.Explained.{Explains, certificate_of};
 
 use crate::verdict::Verdict;
 use pmf_event::{Finding, Row, line_of};
@@ -14,7 +14,10 @@ use pmf_image::Certificate;
 /// ORDERED or CHECKEND. Its crash is that of the row; of ORDERED its full line is that of the byte `after`.
 /// It looks through the rows once.
 pub fn explain(verdict: &Verdict, place: u32) -> Option<Certificate>
-    ensures value { result ≡ explained (rows_in verdict.now) place }
+    ensures value { Explains (rows_in verdict.now) place result }
+    // It can be asked what the image holds.
+    ensures fits { (c : Certificate) → result ≡ Some c
+        → Fits verdict.now.section.events c }
     // The image is allowed, nothing in it is torn, and the assertion doesn't hold in it.
     ensures allowed { (c : Certificate) → result ≡ Some c
         → IsAllowed verdict.now.section.events c.crash (image_of verdict.now.section.events c) }
@@ -25,24 +28,23 @@ pub fn explain(verdict: &Verdict, place: u32) -> Option<Certificate>
 }
 
 fn first_certificate(rows: &[Row], place: u32) -> Option<Certificate>
-    ensures { result ≡ explained rows.now place }
+    ensures { Explains rows.now place result }
 {
     for row in rows {
-        let certificate = certificate_at(*row, place);
-        if certificate.is_some() {
-            return certificate;
+        if row.place == place {
+            let certificate = certificate_of(place, row.finding);
+            if certificate.is_some() {
+                return certificate;
+            }
         }
     }
     None
 }
 
-fn certificate_at(row: Row, place: u32) -> Option<Certificate>
-    ensures { result ≡ certificate_at place row }
+fn certificate_of(place: u32, finding: Finding) -> Option<Certificate>
+    ensures { result ≡ certificate_of place finding }
 {
-    if row.place != place {
-        return None;
-    }
-    match row.finding {
+    match finding {
         Finding::PersistFail { .. } | Finding::CheckFail { .. } => Some(Certificate {
             crash: place,
             full_line: None,

@@ -229,6 +229,32 @@ fn the_rows_of_a_verdict_are_written_a_text_line_each(rt: HostRuntime) -> Result
     Ok(())
 }
 
+// A write-back with two rows, and an assertion with one.
+#[test]
+fn the_rows_at_one_place_are_written_alone(rt: HostRuntime) -> Result<(), Fail> {
+    let events = [
+        Event::Store(Span::make(0x1000, 8)?),
+        Event::Flush(Span::make(0x1000, 0x40)?),
+        Event::Flush(Span::make(0x1000, 0xc0)?),
+        Event::Persist(Span::make(0x1000, 8)?),
+    ];
+    let verdict = verdict_of(rt.alloc(), events.as_slice(), Profile::One)?;
+    for (place, want) in [
+        (0, ""),
+        (2, ""),
+        (
+            3,
+            "3 FLUSH DOUBLED line=0x1000 lines=1\n3 FLUSH NEEDLESS line=0x1040 lines=2\n",
+        ),
+        (4, "4 PERSIST FAIL byte=0x1000 crash=4\n"),
+        (5, ""),
+    ] {
+        let text = write_rows_at(rt.alloc(), &verdict, place)?;
+        assert!(rt; text.as_slice() == want.as_bytes(), "at place {place}");
+    }
+    Ok(())
+}
+
 #[test]
 fn a_section_without_assertions_has_no_rows(rt: HostRuntime) -> Result<(), Fail> {
     let verdict = verdict_of(rt.alloc(), [Event::Fence].as_slice(), Profile::Two)?;

@@ -3,7 +3,7 @@
 ghost use Rattle.std.specs.Prelude.{◌≡◌, ◌++◌, OnOk, IfOk};
 ghost use Rattle.std.specs.String.{string_bytes};
 ghost use Rattle.pmf_verdict.specs.Checked.{rows_in};
-ghost use Rattle.pmf_verdict.specs.Text.{text_of_pair, text_of_finding, text_of_row, text_of_rows};
+ghost use Rattle.pmf_verdict.specs.Text.{text_of_pair, text_of_finding, text_of_row, text_of_rows, rows_at};
 
 use crate::verdict::Verdict;
 use pmf_event::{Finding, Row};
@@ -77,6 +77,21 @@ pub fn write_rows(alloc: Global, verdict: &Verdict) -> Result<Vec<u8>, AllocErro
     let mut text = String::new(alloc);
     for row in verdict.rows() {
         push_row(&mut text, row)?;
+    }
+    Ok(text.into_bytes())
+}
+
+/// The rows of the verdict at this place, one text line each. Looks through the rows once, and takes memory
+/// for the text alone.
+pub fn write_rows_at(alloc: Global, verdict: &Verdict, place: u32) -> Result<Vec<u8>, AllocError>
+    ensures { IfOk result (λ text. text.items
+        ≡ text_of_rows (rows_at (rows_in verdict.now) place)) }
+{
+    let mut text = String::new(alloc);
+    for row in verdict.rows() {
+        if row.place == place {
+            push_row(&mut text, row)?;
+        }
     }
     Ok(text.into_bytes())
 }

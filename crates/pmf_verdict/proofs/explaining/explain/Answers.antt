@@ -1,10 +1,14 @@
-use Rattle.std.proofs.Common.{sym, ◌∙◌, ap}
-use Rattle.pmf_verdict.specs.Explained.{explained}
-use Rattle.pmf_verdict.proofs.ExplainLemmas.{failures_real}
+use Rattle.std.proofs.Common.{subst}
+use Rattle.pmf_verdict.specs.Explained.{Explains}
+use Rattle.pmf_verdict.proofs.FitLemmas.{certificates_fit}
 use Rattle.pmf_verdict.proofs.explaining.explain.Goals as goal
 
 pub returns-clause-allowed : goal.returns-clause-allowed
-returns-clause-allowed c = λ k is. (failures_real c.args.verdict.now.profile c.args.verdict.now.section.events c.args.place k (sym (c.first_certificate.ensures ∙ ap (λ rows. explained rows c.args.place) c.rows.ensures.value) ∙ is)).0
+returns-clause-allowed c = λ k is. (c.rows.ensures.real c.args.place k (subst (Explains c.rows.result.now c.args.place) is c.first_certificate.ensures)).0
 
 pub returns-clause-real : goal.returns-clause-real
-returns-clause-real c = λ k is. (failures_real c.args.verdict.now.profile c.args.verdict.now.section.events c.args.place k (sym (c.first_certificate.ensures ∙ ap (λ rows. explained rows c.args.place) c.rows.ensures.value) ∙ is)).1
+returns-clause-real c = λ k is. (c.rows.ensures.real c.args.place k (subst (Explains c.rows.result.now c.args.place) is c.first_certificate.ensures)).1
+
+pub returns-clause-fits : goal.returns-clause-fits
+returns-clause-fits c = λ k is.
+    certificates_fit c.args.verdict.now.profile c.args.verdict.now.section.events c.rows.result.now c.args.place k c.rows.ensures.value (subst (Explains c.rows.result.now c.args.place) is c.first_certificate.ensures)

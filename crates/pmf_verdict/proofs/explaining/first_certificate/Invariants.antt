@@ -1,6 +1,7 @@
-use Rattle.std.proofs.Common.{◌≡◌, drop}
-use Rattle.pmf_verdict.specs.Explained.{explained}
+use Rattle.std.proofs.Common.{take}
+use Rattle.std.specs.Prelude.{None}
+use Rattle.pmf_verdict.specs.Explained.{Explains}
 use Rattle.pmf_verdict.proofs.explaining.first_certificate.Given as goal
 
 abbrev pub invariant-loop-row : goal.invariant-loop-row
-invariant-loop-row l = explained (drop l.row-index l.rows) l.place ≡ explained l.rows l.place
+invariant-loop-row l = Explains (take l.row-index l.rows) l.place None
