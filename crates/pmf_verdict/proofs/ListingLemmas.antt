@@ -428,18 +428,32 @@ pub is_in-none : (b : ℕ) → is_in [] b ≡ false
 unfolding is_in
 is_in-none b = refl
 
-pub is_in-step : (torn : List ℕ) (b i d : ℕ) → i < length torn → is_in (drop i torn) b ≡ (get_or torn i d == b || is_in (drop (i + 1) torn) b)
+is_in-step : (torn : List ℕ) (b i d : ℕ) → i < length torn → is_in (drop i torn) b ≡ (get_or torn i d == b || is_in (drop (i + 1) torn) b)
 unfolding is_in
 is_in-step torn b i d within = at_drop_more (λ ts. is_in ts b) torn i d within
+
+pub is_in-here : (torn : List ℕ) (b i d : ℕ) → i < length torn → get_or torn i d ≡ b → true ≡ is_in (drop i torn) b
+is_in-here torn b i d within is = sym (is_in-step torn b i d within ∙ ap (λ v. v || is_in (drop (i + 1) torn) b) ((Decides-eqb (get_or torn i d) b).1 is))
+
+pub is_in-later : (torn : List ℕ) (b i d : ℕ) → i < length torn → (get_or torn i d ≡ b → ⊥) → is_in (drop (i + 1) torn) b ≡ is_in (drop i torn) b
+is_in-later torn b i d within other = sym (is_in-step torn b i d within ∙ ap (λ v. v || is_in (drop (i + 1) torn) b) (ne_eqb (get_or torn i d) b other))
 
 pub value_of-none : (line : ℕ) → value_of [] line ≡ None
 unfolding value_of
 value_of-none line = refl
 
-pub value_of-step : (cuts : List (ℕ × ℕ)) (line i : ℕ) (d : ℕ × ℕ) → i < length cuts →
+value_of-step : (cuts : List (ℕ × ℕ)) (line i : ℕ) (d : ℕ × ℕ) → i < length cuts →
     value_of (drop i cuts) line ≡ (if (get_or cuts i d).0 == line then Some (get_or cuts i d).1 else value_of (drop (i + 1) cuts) line)
 unfolding value_of
 value_of-step cuts line i d within = at_drop_more (λ cs. value_of cs line) cuts i d within
+
+pub value_of-here : (cuts : List (ℕ × ℕ)) (line i : ℕ) (d : ℕ × ℕ) → i < length cuts → (get_or cuts i d).0 ≡ line → Some (get_or cuts i d).1 ≡ value_of (drop i cuts) line
+value_of-here cuts line i d within is =
+    sym (value_of-step cuts line i d within ∙ ap (λ v. if v then Some (get_or cuts i d).1 else value_of (drop (i + 1) cuts) line) ((Decides-eqb (get_or cuts i d).0 line).1 is))
+
+pub value_of-later : (cuts : List (ℕ × ℕ)) (line i : ℕ) (d : ℕ × ℕ) → i < length cuts → ((get_or cuts i d).0 ≡ line → ⊥) → value_of (drop (i + 1) cuts) line ≡ value_of (drop i cuts) line
+value_of-later cuts line i d within other =
+    sym (value_of-step cuts line i d within ∙ ap (λ v. if v then Some (get_or cuts i d).1 else value_of (drop (i + 1) cuts) line) (ne_eqb (get_or cuts i d).0 line other))
 
 pub all_cuts-none : (es : List Event) (n : ℕ) (images : List Image) → all_cuts es n [] images ≡ images
 unfolding all_cuts
@@ -471,3 +485,7 @@ recuts-more line low zero image found some is = absurd (omega (arith, some))
 recuts-more line low (suc more) image found some is =
     let before : suc more - 1 ≡ more = omega arith in
     ap (λ k. recuts line low k image ++ found ∷ []) before ∙ ap (λ x. recuts line low more image ++ x ∷ []) is
+
+pub all_images-is : (es : List Event) (n : ℕ) (lines bytes : List ℕ) → all_images es n lines bytes ≡ all_torn es n bytes (all_cuts es n lines (floors ∷ []))
+unfolding all_images
+all_images-is es n lines bytes = refl

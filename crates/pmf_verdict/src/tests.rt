@@ -5,6 +5,7 @@ use std::sync::Arc;
 use std::test::Fail;
 
 mod explaining;
+mod images;
 mod plain;
 mod random;
 

@@ -11,10 +11,10 @@ const BYTES: u64 = 160;
 
 /// Numbers that look random, the same ones in each run of the test.
 #[derive(Debug, Drop)]
-struct Numbers(u64);
+pub(super) struct Numbers(pub(super) u64);
 
 impl Numbers {
-    fn below(&mut self, limit: u64) -> u64
+    pub(super) fn below(&mut self, limit: u64) -> u64
         requires { 0 < limit }
         ensures { result < limit }
     {

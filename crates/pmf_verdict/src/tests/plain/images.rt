@@ -57,7 +57,7 @@ impl Picture {
         Ok(Picture { cuts, torn })
     }
 
-    fn is_torn(&self, byte: u64) -> bool
+    pub(crate) fn is_torn(&self, byte: u64) -> bool
         ensures { result ≡ is_in self.now.torn byte }
     {
         is_in(&self.torn, byte)

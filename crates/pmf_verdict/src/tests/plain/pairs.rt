@@ -50,7 +50,7 @@ fn is_ordered(profile: Profile, events: &[Event], p: u32, x: u64, y: u64) -> boo
 }
 
 /// What is asked of two bytes.
-trait PairTest: Copy {
+pub(crate) trait PairTest: Copy {
     ghost holds: { Self → List Event → ℕ → ℕ → Bool };
 
     fn holds(&self, events: &[Event], x: u64, y: u64) -> bool
@@ -59,9 +59,9 @@ trait PairTest: Copy {
 
 /// Whether the pair is unordered.
 #[derive(Clone, Copy, Debug, Drop)]
-struct IsUnordered {
-    profile: Profile,
-    p: u32,
+pub(crate) struct IsUnordered {
+    pub(crate) profile: Profile,
+    pub(crate) p: u32,
 }
 
 impl PairTest for IsUnordered {

@@ -44,7 +44,7 @@ fn depth_at(events: &[Event], p: u32) -> u32
 }
 
 #[tactic(auto, unfolding(pmf_event::specs::Transactions::in_transaction))]
-fn in_transaction(events: &[Event], p: u32) -> bool
+pub(crate) fn in_transaction(events: &[Event], p: u32) -> bool
     ensures { result ≡ in_transaction events.now p }
 {
     depth_at(events, p) > 0
@@ -97,7 +97,7 @@ fn scope_at(events: &[Event], p: u32) -> u32
 }
 
 #[tactic(auto, unfolding(pmf_event::specs::Transactions::in_scope))]
-fn in_scope(events: &[Event], p: u32) -> bool
+pub(crate) fn in_scope(events: &[Event], p: u32) -> bool
     ensures { result ≡ in_scope events.now p }
 {
     scope_at(events, p) > 0
@@ -141,7 +141,7 @@ impl NumberTest for LacksBackup {
 }
 
 #[tactic(auto, unfolding(pmf_event::specs::Transactions::is_scoped))]
-fn is_scoped(events: &[Event], p: u32, byte: u64) -> bool
+pub(crate) fn is_scoped(events: &[Event], p: u32, byte: u64) -> bool
     ensures { result ≡ is_scoped events.now p byte }
 {
     in_scope(events, p) && scope_at(events, p) < greatest(events, &StoresInside(byte), p)

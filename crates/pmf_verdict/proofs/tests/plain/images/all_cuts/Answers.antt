@@ -1,4 +1,4 @@
-use Rattle.std.proofs.Common.{◌≡◌, ◌≤◌, ◌+◌, [], ◌∷◌, length, drop, refl, sym, ◌∙◌, ap, arith}
+use Rattle.std.proofs.Common.{◌≡◌, ◌≤◌, ◌+◌, [], ◌∷◌, length, drop, get_or, refl, sym, ◌∙◌, ap, arith}
 use Rattle.std.proofs.lemmas.List.{drop_all}
 use Rattle.std.specs.List.{flat_map}
 use Rattle.pmf_verdict.specs.Listing.{all_cuts, floors, with_cuts}
@@ -7,7 +7,7 @@ use Rattle.pmf_verdict.proofs.tests.plain.images.all_cuts.Goals as goal
 
 pub loop-line-preserved : goal.loop-line-preserved
 loop-line-preserved c =
-    ap (all_cuts c.args.events.now c.args.n (drop (c.loop-line.line-index + 1) c.args.lines.now)) (c.in_ok-images.ensures ∙ ap (λ images. flat_map (with_cuts c.args.events.now c.args.n _) images) c.as_slice.ensures.value)
+    ap (all_cuts c.args.events.now c.args.n (drop (c.loop-line.line-index + 1) c.args.lines.now)) (c.in_ok-images.ensures ∙ ap (λ images. flat_map (with_cuts c.args.events.now c.args.n (get_or c.args.lines.now c.loop-line.line-index 0)) images) c.as_slice.ensures.value)
     ∙ sym (all_cuts-step c.args.events.now c.args.n c.args.lines.now c.loop-line.images.items c.loop-line.line-index 0 c.loop-line-test.true)
     ∙ c.loop-line.invariant
 

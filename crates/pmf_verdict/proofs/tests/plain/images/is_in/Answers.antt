@@ -1,22 +1,16 @@
-use Rattle.std.proofs.Common.{◌≡◌, ◌≤◌, ◌||◌, length, refl, sym, ◌∙◌, ap, arith}
-use Rattle.std.proofs.lemmas.Bool.{ne_eqb}
-use Rattle.std.proofs.lemmas.Bool.Decides.{Decides-eqb}
+use Rattle.std.proofs.Common.{◌≡◌, ◌≤◌, length, sym, ◌∙◌, ap, arith}
 use Rattle.std.proofs.lemmas.List.{drop_all}
 use Rattle.pmf_image.specs.Image.{is_in}
-use Rattle.pmf_verdict.proofs.ListingLemmas.{is_in-none, is_in-step}
+use Rattle.pmf_verdict.proofs.ListingLemmas.{is_in-none, is_in-here, is_in-later}
 use Rattle.pmf_verdict.proofs.tests.plain.images.is_in.Goals as goal
 
 pub returns-then-other-byte : goal.returns-then-other-byte
 returns-then-other-byte c =
-    sym (ap (λ v. v || _) ((Decides-eqb _ c.args.byte).1 c.if-other-byte.true))
-    ∙ sym (is_in-step c.args.torn.now c.args.byte c.loop-other.other-index 0 c.loop-other-test.true)
-    ∙ c.loop-other.invariant
+    is_in-here c.args.torn.now c.args.byte c.loop-other.other-index 0 c.loop-other-test.true c.if-other-byte.true ∙ c.loop-other.invariant
 
 pub loop-other-preserved : goal.loop-other-preserved
 loop-other-preserved c =
-    sym (is_in-step c.args.torn.now c.args.byte c.loop-other.other-index 0 c.loop-other-test.true
-    ∙ ap (λ v. v || _) (ne_eqb _ c.args.byte c.if-other-byte.false))
-    ∙ c.loop-other.invariant
+    is_in-later c.args.torn.now c.args.byte c.loop-other.other-index 0 c.loop-other-test.true c.if-other-byte.false ∙ c.loop-other.invariant
 
 pub returns : goal.returns
 returns c =

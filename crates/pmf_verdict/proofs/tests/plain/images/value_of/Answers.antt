@@ -1,23 +1,16 @@
-use Rattle.std.proofs.Common.{◌≡◌, ◌≤◌, length, refl, sym, ◌∙◌, ap, arith, if◌then◌else◌}
-use Rattle.std.specs.Prelude.{Some}
-use Rattle.std.proofs.lemmas.Bool.{ne_eqb}
-use Rattle.std.proofs.lemmas.Bool.Decides.{Decides-eqb}
+use Rattle.std.proofs.Common.{◌≡◌, ◌≤◌, length, sym, ◌∙◌, ap, arith}
 use Rattle.std.proofs.lemmas.List.{drop_all}
 use Rattle.pmf_image.specs.Image.{value_of}
-use Rattle.pmf_verdict.proofs.ListingLemmas.{value_of-none, value_of-step}
+use Rattle.pmf_verdict.proofs.ListingLemmas.{value_of-none, value_of-here, value_of-later}
 use Rattle.pmf_verdict.proofs.tests.plain.images.value_of.Goals as goal
 
 pub returns-then-cut-line : goal.returns-then-cut-line
 returns-then-cut-line c =
-    sym (ap (λ v. if v then Some _ else _) ((Decides-eqb _ c.args.line).1 c.if-cut-line.true))
-    ∙ sym (value_of-step c.args.cuts.now c.args.line c.loop-cut.cut-index (0, 0) c.loop-cut-test.true)
-    ∙ c.loop-cut.invariant
+    value_of-here c.args.cuts.now c.args.line c.loop-cut.cut-index (0, 0) c.loop-cut-test.true c.if-cut-line.true ∙ c.loop-cut.invariant
 
 pub loop-cut-preserved : goal.loop-cut-preserved
 loop-cut-preserved c =
-    sym (value_of-step c.args.cuts.now c.args.line c.loop-cut.cut-index (0, 0) c.loop-cut-test.true
-    ∙ ap (λ v. if v then Some _ else _) (ne_eqb _ c.args.line c.if-cut-line.false))
-    ∙ c.loop-cut.invariant
+    value_of-later c.args.cuts.now c.args.line c.loop-cut.cut-index (0, 0) c.loop-cut-test.true c.if-cut-line.false ∙ c.loop-cut.invariant
 
 pub returns : goal.returns
 returns c =
