@@ -1,6 +1,6 @@
 -- The plain list of images: each one is allowed, and each allowed image is shown by one of them.
 use Rattle.std.proofs.Common.{◌≡◌, ℕ, zero, suc, ◌+◌, ◌-◌, ◌<◌, ◌≤◌, Bool, true, false, ◌&&◌, ◌||◌, ◌==◌, nat_lt, nat_le, if◌then◌else◌, List, [], ◌∷◌, ◌++◌, drop, get_or, length, refl, sym, ◌∙◌, ap, subst, arith, inl, inr}
-use Rattle.std.specs.Prelude.{◌⊎◌, Contains, Option, Some, None, unwrap_or}
+use Rattle.std.specs.Prelude.{◌⊎◌, Contains, Some, None, unwrap_or}
 use Rattle.std.specs.List.{flat_map}
 use Rattle.std.proofs.lemmas.Bool.{cases_lt, cases_eq, or_cases, and_parts, and_from, ltb-true, lt-ltb, leb-true, le-leb, ne_eqb}
 use Rattle.std.proofs.lemmas.Bool.Decides.{Decides-eqb}
@@ -10,7 +10,7 @@ use Rattle.pmf_event.specs.declared.event.Event.{Event}
 use Rattle.pmf_event.specs.Line.{line_of_byte}
 use Rattle.pmf_event.specs.Places.{greatest}
 use Rattle.pmf_event.specs.Store.{at, stores}
-use Rattle.pmf_event.proofs.PlacesLemmas.{SameUpTo, greatest-passes, greatest-bound, greatest-above}
+use Rattle.pmf_event.proofs.PlacesLemmas.{greatest-passes, greatest-bound, greatest-above}
 use Rattle.pmf_image.specs.Image.{Image, IsAllowed, count_of, floor_of, value_of, is_in, cut_of, reach_of, reaches, shows}
 use Rattle.pmf_image.proofs.CertificateLemmas.{greatest-same}
 use Rattle.pmf_image.proofs.ImageLemmas.{floor-below_count, count_of-mono, is_in-empty}
@@ -417,9 +417,9 @@ listed-shows es n lines bytes image allowed =
       torn.listed,
       torn.found,
       λ b in_bytes in_lines.
-        let here = cuts.same (line_of_byte b) in_lines in
-        shows-by es n b torn.listed image (torn.cuts (line_of_byte b) ∙ here) (torn.only b)
-        (λ is may. torn.all b in_bytes is (may_tear-same es n b cuts.listed image here ∙ may)),
+          let here = cuts.same (line_of_byte b) in_lines in
+          shows-by es n b torn.listed image (torn.cuts (line_of_byte b) ∙ here) (torn.only b)
+          (λ is may. torn.all b in_bytes is (may_tear-same es n b cuts.listed image here ∙ may)),
     )
 
 -- ---- a search or a change from the front of a list

@@ -5,8 +5,8 @@ ghost use Rattle.pmf_image.specs.Certificate.{Fits};
 
 use super::plain::bytes::{IsChecked, NumberTest, is_included, last_store};
 use super::plain::images::{Picture, all_images};
-use super::plain::places::event_at;
 use super::plain::pairs::{IsUnordered, PairTest};
+use super::plain::places::event_at;
 use super::plain::transactions::{in_scope, in_transaction, is_scoped};
 use super::random::Numbers;
 use super::verdict_of;
@@ -164,7 +164,10 @@ fn holds(
     };
     for crash in first..=last {
         let images = all_images(alloc, events, crash, &LINES, &BYTES)?;
-        if images.iter().any(|image| breaks(events, crash, image, promise)) {
+        if images
+            .iter()
+            .any(|image| breaks(events, crash, image, promise))
+        {
             return Ok(false);
         }
     }
@@ -188,7 +191,9 @@ fn pairs_are_one_byte(events: &[Event], place: u32, a: Span, b: Span) -> bool {
 }
 
 fn finding_at(rows: &[Row], place: u32) -> Option<Finding> {
-    rows.iter().find(|row| row.place == place).map(|row| row.finding)
+    rows.iter()
+        .find(|row| row.place == place)
+        .map(|row| row.finding)
 }
 
 /// Whether the finding is true of an assertion that holds, or doesn't. SAMELINE alone says neither.
@@ -199,9 +204,8 @@ fn is_true(finding: Finding, holds: bool) -> bool {
         | Finding::OrderedPass
         | Finding::OrderedEmpty
         | Finding::CheckPass => holds,
-        Finding::PersistFail { .. }
-        | Finding::OrderedFail { .. }
-        | Finding::CheckFail { .. } => !holds,
+        Finding::PersistFail { .. } | Finding::OrderedFail { .. } | Finding::CheckFail { .. } =>
+            !holds,
         Finding::OrderedSameLine { .. } => true,
         _ => false,
     }
@@ -334,7 +338,10 @@ fn compare(
     let Some(finding) = finding_at(verdict.rows(), place) else {
         panic!(rt; "no row at {place} of {events:?}");
     };
-    assert!(rt; is_true(finding, holds), "{finding:?} at {place} of {events:?}");
+    assert!(rt;
+        is_true(finding, holds),
+        "{finding:?} at {place} of {events:?}"
+    );
     if let Event::Ordered(a, b) = event {
         let exact = pairs_are_one_byte(events, place, a, b);
         assert_eq!(rt; holds, exact, "at {place} of {events:?}");
@@ -343,7 +350,11 @@ fn compare(
         finding,
         Finding::PersistFail { .. } | Finding::OrderedFail { .. } | Finding::CheckFail { .. }
     );
-    assert_eq!(rt; is_explained(alloc, verdict, place)?, fails, "at {place} of {events:?}");
+    assert_eq!(rt;
+        is_explained(alloc, verdict, place)?,
+        fails,
+        "at {place} of {events:?}"
+    );
     met.meet(finding, holds);
     Ok(())
 }

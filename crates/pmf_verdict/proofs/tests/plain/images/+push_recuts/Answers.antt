@@ -1,6 +1,6 @@
-use Rattle.std.proofs.Common.{◌≡◌, ◌+◌, ◌-◌, ◌++◌, [], ◌∷◌, suc, refl, sym, ◌∙◌, ap, arith}
+use Rattle.std.proofs.Common.{◌-◌, ◌++◌, [], ◌∷◌, ◌∙◌, ap, arith}
 use Rattle.std.proofs.lemmas.List.{append_assoc}
-use Rattle.pmf_verdict.specs.Listing.{recut, recuts}
+use Rattle.pmf_verdict.specs.Listing.{recuts}
 use Rattle.pmf_verdict.proofs.ListingLemmas.{recuts-none, recuts-more}
 use Rattle.pmf_verdict.proofs.tests.plain.images.+push_recuts.Goals.{then-more-gt0+in_ok-push_recuts, else-more-gt0}
 use Rattle.pmf_verdict.proofs.tests.plain.images.+push_recuts.Goals as goal

@@ -1,7 +1,7 @@
-use Rattle.std.proofs.Common.{◌≡◌, ◌≤◌, ◌+◌, [], ◌∷◌, length, drop, get_or, refl, sym, ◌∙◌, ap, arith}
+use Rattle.std.proofs.Common.{◌≤◌, ◌+◌, length, drop, get_or, sym, ◌∙◌, ap, arith}
 use Rattle.std.proofs.lemmas.List.{drop_all}
 use Rattle.std.specs.List.{flat_map}
-use Rattle.pmf_verdict.specs.Listing.{all_cuts, floors, with_cuts}
+use Rattle.pmf_verdict.specs.Listing.{all_cuts, with_cuts}
 use Rattle.pmf_verdict.proofs.ListingLemmas.{all_cuts-none, all_cuts-step}
 use Rattle.pmf_verdict.proofs.tests.plain.images.all_cuts.Goals as goal
 

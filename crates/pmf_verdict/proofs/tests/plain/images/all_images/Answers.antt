@@ -1,7 +1,7 @@
-use Rattle.std.proofs.Common.{◌≡◌, ◌≤◌, ◌+◌, ◌++◌, length, drop, get_or, sym, ◌∙◌, ap, subst, arith}
+use Rattle.std.proofs.Common.{◌≤◌, ◌+◌, ◌++◌, length, drop, get_or, sym, ◌∙◌, ap, subst, arith}
 use Rattle.std.specs.List.{flat_map}
 use Rattle.std.proofs.lemmas.List.{drop_all}
-use Rattle.pmf_verdict.specs.Listing.{AreAllowed, ShowAll, if_torn, all_torn, all_images}
+use Rattle.pmf_verdict.specs.Listing.{AreAllowed, ShowAll, if_torn, all_torn}
 use Rattle.pmf_verdict.proofs.ListingLemmas.{all_torn-none, all_torn-step, all_images-is, listed-allowed, listed-shows}
 use Rattle.pmf_verdict.proofs.tests.plain.images.all_images.Goals as goal
 

@@ -1,4 +1,4 @@
-use Rattle.std.proofs.Common.{◌≡◌, ◌≤◌, length, sym, ◌∙◌, ap, arith}
+use Rattle.std.proofs.Common.{◌≤◌, length, sym, ◌∙◌, ap, arith}
 use Rattle.std.proofs.lemmas.List.{drop_all}
 use Rattle.pmf_image.specs.Image.{is_in}
 use Rattle.pmf_verdict.proofs.ListingLemmas.{is_in-none, is_in-here, is_in-later}

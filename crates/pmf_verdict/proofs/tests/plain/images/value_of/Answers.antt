@@ -1,4 +1,4 @@
-use Rattle.std.proofs.Common.{◌≡◌, ◌≤◌, length, sym, ◌∙◌, ap, arith}
+use Rattle.std.proofs.Common.{◌≤◌, length, sym, ◌∙◌, ap, arith}
 use Rattle.std.proofs.lemmas.List.{drop_all}
 use Rattle.pmf_image.specs.Image.{value_of}
 use Rattle.pmf_verdict.proofs.ListingLemmas.{value_of-none, value_of-here, value_of-later}
