@@ -248,9 +248,6 @@ module _ (run : ℕ) (numbers : List ℕ) (events : ℕ → List Event) (current
   pub first_begun : (mid : OpenSections) → length old.sections.items ≡ 0 → Opens 0 old mid → HasSections run (with_number numbers 0) events 0 mid
   first_begun mid empty opens = begun 0 mid (none_yet empty) opens
 
-  pub first_full : SECTION_LIMIT ≤ length old.sections.items → length old.sections.items ≡ 0 → ⊥
-  first_full full empty = omega (arith, full, empty)
-
   -- the current section's events
   pub current_stands : length old.sections.items ≢ 0 → StandsAt (section_named run current (events current)) old.sections.items old.current
   current_stands some = has.found current old.current (has.here ∙ here_is old some)

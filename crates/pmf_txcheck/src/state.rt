@@ -149,8 +149,7 @@ impl TxState {
         ensures tracks { (es : List Event) (p : ℕ) → Tracks self.old es p
             → event_at es (suc p) ≡ Some Event.CheckEnd → Tracks self.new es (suc p) }
         ensures finds { (es : List Event) (p : ℕ) → Tracks self.old es p
-            → StandsFor shadow.now es (suc p) → event_at es (suc p) ≡ Some Event.CheckEnd
-            → result ≡ check_finding es p }
+            → StandsFor shadow.now es (suc p) → result ≡ check_finding es p }
     {
         let finding = self.found_at_end(shadow);
         self.scope = None;

@@ -93,4 +93,4 @@ returns-in_ok-say-in-CheckEnd-clause-walks c = λ es p walks here place.
     let stands = stands-still old old es p _ own walks refl in
     walks-said old c.say-in-CheckEnd.new.self es p _ own walks old.shadow c.check_end-finding.new.self c.args.place (c.check_end-finding.result ∷ [])
     c.in_ok-say-in-CheckEnd.ensures stands (c.check_end-finding.ensures.tracks es p walks.tracks own) place
-    (found-check old.profile es p c.check_end-finding.result (c.check_end-finding.ensures.finds es p walks.tracks stands own))
+    (found-check old.profile es p c.check_end-finding.result (c.check_end-finding.ensures.finds es p walks.tracks stands))
