@@ -4,6 +4,10 @@ use Rattle.clap.specs.declared.error.kind.ErrorKind.{ErrorKind}
 use Rattle.clap.specs.declared.error.kind.ErrorKind.TheVariants.{DisplayHelp, DisplayVersion, OutOfMemory}
 use Rattle.pmf_storelog.specs.declared.fault.Cause.{Cause}
 use Rattle.pmf_storelog.specs.declared.fault.Cause.TheVariants as log
+use Rattle.pmfarm.specs.declared.asking.AskFault.{AskFault}
+use Rattle.pmfarm.specs.declared.asking.AskFault.TheVariants as asking
+use Rattle.pmfarm.specs.declared.explaining.ExplainFault.{ExplainFault}
+use Rattle.pmfarm.specs.declared.explaining.ExplainFault.TheVariants as explaining
 use Rattle.pmfarm.specs.declared.stream.Done.{Done}
 use Rattle.pmfarm.specs.declared.stream.StreamFault.{StreamFault}
 use Rattle.pmfarm.specs.declared.stream.StreamFault.TheVariants as stream
@@ -45,6 +49,25 @@ status_of_fault stream.ReadFault = DeviceFault
 status_of_fault (stream.Log fault) = status_of_cause fault.cause
 status_of_fault (stream.WriteFault written) = DeviceFault
 status_of_fault stream.OutOfMemory = NoMemory
+
+-- how the program ends where what is asked for is refused
+abbrev pub status_of_refusal : ExplainFault → Status
+status_of_refusal (explaining.Log fault) = status_of_cause fault.cause
+status_of_refusal (explaining.NoSection run section) = Refused
+status_of_refusal (explaining.NoEvent run section event) = Refused
+status_of_refusal explaining.OutOfMemory = NoMemory
+
+-- how the program ends where the stream is not explained
+abbrev pub status_of_ask_fault : AskFault → Status
+status_of_ask_fault asking.ReadFault = DeviceFault
+status_of_ask_fault (asking.Refused fault) = status_of_refusal fault
+status_of_ask_fault (asking.WriteFault written) = DeviceFault
+status_of_ask_fault asking.OutOfMemory = NoMemory
+
+-- how the program ends after this answer of explain_stream
+abbrev pub status_of_asked : Result (Unit {0}) AskFault → Status
+status_of_asked (Ok done) = NoFail
+status_of_asked (Err fault) = status_of_ask_fault fault
 
 -- how the program ends after this answer of check_stream
 abbrev pub status_of_answer : Result Done StreamFault → Status

@@ -1,15 +1,18 @@
 ghost use Rattle.std.specs.Prelude.{◌≡◌, ◌⊎◌, ◌↔◌, ◌+◌, Result, IfOk};
 ghost use Rattle.pmf_storelog.specs.LogValue.{LogValue};
+ghost use Rattle.pmfarm.specs.Asking.{Asks, failed_reads_asking, failed_writes_asking};
+ghost use Rattle.pmfarm.specs.declared.asking.AskFault.{AskFault};
 ghost use Rattle.pmfarm.specs.declared.stream.Done.{Done};
 ghost use Rattle.pmfarm.specs.declared.stream.StreamFault.{StreamFault};
 ghost use Rattle.pmfarm.specs.Stream.{IfLogFault, IsFaultOf, IsLogOf, Reports, failed_reads, failed_writes};
 ghost use Rattle.std.specs.Io.KnownBytes.{Appends};
 ghost use Rattle.clap.specs.Words.{kind_of};
 ghost use Rattle.pmfarm.specs.Failures.{CanCountOneMore};
-ghost use Rattle.pmfarm.specs.Statuses.{IsAnswerTo, status_of_answer};
+ghost use Rattle.pmfarm.specs.Statuses.{IsAnswerTo, status_of_answer, status_of_asked};
 
+use crate::asking::{AskFault, explain_stream};
 use crate::diagnostics::{fail, out_of_memory, refuse_words, say_skipped};
-use crate::request::{Request, Settings, request_of};
+use crate::request::{Question, Request, Settings, request_of};
 use crate::sink::{Sink, StdSink};
 use crate::source::{Source, StdSource};
 use crate::status::Status;
@@ -29,6 +32,7 @@ pub fn run(rt: &HostRuntime) -> Status {
     };
     match request_of(alloc, words.as_slice()) {
         Ok(Request::Check(settings)) => run_check(rt, settings),
+        Ok(Request::Explain(question)) => run_explain(rt, question),
         Err(error) => answer(rt, alloc, &error),
     }
 }
@@ -78,6 +82,43 @@ fn tell<R: Eprint>(rt: &R, answer: Result<Done, StreamFault>) -> Status
             Status::of_done(done)
         }
         Err(fault) => fail(rt, fault, Status::of_fault(fault)),
+    }
+}
+
+/// Reads the log on standard input and writes the explanation of one event to standard output.
+fn run_explain(rt: &HostRuntime, question: Question) -> Status {
+    let mut source = StdSource::new(rt.reader());
+    let mut sink = StdSink::new(io::writer(rt));
+    explain_to(rt, rt.alloc(), &mut source, &mut sink, question)
+}
+
+/// Reads the log of the source and writes the explanation of one event to the sink.
+fn explain_to<R: Eprint, S: Source, W: Sink>(
+    rt: &R,
+    alloc: Global,
+    source: &mut S,
+    sink: &mut W,
+    question: Question,
+) -> Status
+    requires read { CanCountOneMore (S.failed_calls source.old) }
+    requires write { CanCountOneMore (W.failed_calls sink.old) }
+    ensures { (answer : Result (Unit {0}) AskFault) × (result ≡ status_of_asked answer)
+        × Asks question (S.left source.old) (S.left source.new)
+        (W.held sink.old) (W.held sink.new) answer
+        × (S.failed_calls source.new ≡ S.failed_calls source.old + failed_reads_asking answer)
+        × (W.failed_calls sink.new ≡ W.failed_calls sink.old + failed_writes_asking answer) }
+{
+    let answer = explain_stream(alloc, source, sink, question);
+    tell_asked(rt, answer)
+}
+
+/// Says on standard error why there is no explanation, if there is none, and how the program ends.
+fn tell_asked<R: Eprint>(rt: &R, answer: Result<(), AskFault>) -> Status
+    ensures { result ≡ status_of_asked answer }
+{
+    match answer {
+        Ok(()) => Status::NoFail,
+        Err(fault) => fail(rt, fault, Status::of_ask_fault(fault)),
     }
 }
 

@@ -13,8 +13,10 @@ ghost use Rattle.std.specs.Prelude.{◌≡◌};
 ghost use Rattle.std.specs.Process.{exit_status};
 ghost use Rattle.pmfarm.specs.Statuses.{exit_code_of};
 
+mod asking;
 mod commands;
 mod diagnostics;
+mod explaining;
 mod failed;
 mod report;
 mod request;

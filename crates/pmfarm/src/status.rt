@@ -1,6 +1,8 @@
 ghost use Rattle.std.specs.Prelude.{◌≡◌};
-ghost use Rattle.pmfarm.specs.Statuses.{exit_code_of, status_of_done, status_of_fault, status_of_kind};
+ghost use Rattle.pmfarm.specs.Statuses.{exit_code_of, status_of_ask_fault, status_of_cause, status_of_done, status_of_fault, status_of_kind, status_of_refusal};
 
+use crate::asking::AskFault;
+use crate::explaining::ExplainFault;
 use crate::stream::{Done, StreamFault};
 use clap::error::ErrorKind;
 use pmf_storelog::Cause;
@@ -56,6 +58,16 @@ impl Status {
         }
     }
 
+    /// How the program ends where the log is refused.
+    pub fn of_cause(cause: Cause) -> Status
+        ensures { result ≡ status_of_cause cause }
+    {
+        match cause {
+            Cause::OutOfMemory => Status::NoMemory,
+            _ => Status::Refused,
+        }
+    }
+
     /// How the program ends where the stream is not reported.
     pub fn of_fault(fault: StreamFault) -> Status
         ensures { result ≡ status_of_fault fault }
@@ -63,10 +75,29 @@ impl Status {
         match fault {
             StreamFault::ReadFault | StreamFault::WriteFault { .. } => Status::DeviceFault,
             StreamFault::OutOfMemory => Status::NoMemory,
-            StreamFault::Log(fault) => match fault.cause {
-                Cause::OutOfMemory => Status::NoMemory,
-                _ => Status::Refused,
-            },
+            StreamFault::Log(fault) => Status::of_cause(fault.cause),
+        }
+    }
+
+    /// How the program ends where what is asked for is refused.
+    pub fn of_refusal(fault: ExplainFault) -> Status
+        ensures { result ≡ status_of_refusal fault }
+    {
+        match fault {
+            ExplainFault::NoSection { .. } | ExplainFault::NoEvent { .. } => Status::Refused,
+            ExplainFault::OutOfMemory => Status::NoMemory,
+            ExplainFault::Log(fault) => Status::of_cause(fault.cause),
+        }
+    }
+
+    /// How the program ends where the stream is not explained.
+    pub fn of_ask_fault(fault: AskFault) -> Status
+        ensures { result ≡ status_of_ask_fault fault }
+    {
+        match fault {
+            AskFault::ReadFault | AskFault::WriteFault { .. } => Status::DeviceFault,
+            AskFault::OutOfMemory => Status::NoMemory,
+            AskFault::Refused(fault) => Status::of_refusal(fault),
         }
     }
 }

@@ -1,3 +1,4 @@
+mod explaining;
 mod failing;
 mod fakes;
 mod limits;

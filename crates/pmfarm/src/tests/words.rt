@@ -1,5 +1,5 @@
 // What the words of the command line ask for, and the status where they are refused.
-use crate::request::{Request, Settings, request_of};
+use crate::request::{Question, Request, Settings, request_of};
 use crate::status::Status;
 use pmf_event::Profile;
 use std::alloc::{AllocError, Global};
@@ -56,6 +56,43 @@ fn check_takes_profile_1_or_2(rt: HostRuntime) -> Result<(), Fail> {
 }
 
 #[test]
+fn explain_takes_a_section_and_an_event(rt: HostRuntime) -> Result<(), Fail> {
+    let cases = [
+        (
+            &["pmfarm", "explain", "--section", "7", "--event", "3"][..],
+            Question {
+                run: 0,
+                profile: Profile::One,
+                section: 7,
+                event: 3,
+            },
+        ),
+        (
+            &[
+                "pmfarm",
+                "explain",
+                "--profile=2",
+                "--event=4294967295",
+                "--section=18446744073709551615",
+                "--run=5",
+            ][..],
+            Question {
+                run: 5,
+                profile: Profile::Two,
+                section: u64::MAX,
+                event: u32::MAX,
+            },
+        ),
+    ];
+    for (words, question) in cases {
+        let words = strings(rt.alloc(), words)?;
+        let request = request_of(rt.alloc(), words.as_slice())?;
+        assert!(rt; request == Request::Explain(question), "{question:?}");
+    }
+    Ok(())
+}
+
+#[test]
 fn words_that_are_no_request_are_refused(rt: HostRuntime) -> Result<(), Fail> {
     let cases = [
         &["pmfarm"][..],
@@ -73,6 +110,48 @@ fn words_that_are_no_request_are_refused(rt: HostRuntime) -> Result<(), Fail> {
         &["pmfarm", "check", "--profile", "two"][..],
         &["pmfarm", "check", "--profile", ""][..],
         &["pmfarm", "check", "--profile", "1", "--profile", "2"][..],
+        &["pmfarm", "check", "--section", "1"][..],
+        &["pmfarm", "explain"][..],
+        &["pmfarm", "explain", "--section", "0"][..],
+        &["pmfarm", "explain", "--event", "1"][..],
+        &["pmfarm", "explain", "--section", "x", "--event", "1"][..],
+        &["pmfarm", "explain", "--section", "0", "--event", "-1"][..],
+        &[
+            "pmfarm",
+            "explain",
+            "--section",
+            "0",
+            "--event",
+            "4294967296",
+        ][..],
+        &[
+            "pmfarm",
+            "explain",
+            "--section",
+            "18446744073709551616",
+            "--event",
+            "1",
+        ][..],
+        &[
+            "pmfarm",
+            "explain",
+            "--section",
+            "0",
+            "--event",
+            "1",
+            "--event",
+            "1",
+        ][..],
+        &[
+            "pmfarm",
+            "explain",
+            "--section",
+            "0",
+            "--event",
+            "1",
+            "--profile",
+            "3",
+        ][..],
     ];
     for words in cases {
         let status = status_at(rt.alloc(), words)?;
@@ -87,6 +166,7 @@ fn help_and_the_version_are_no_fault(rt: HostRuntime) -> Result<(), Fail> {
         &["pmfarm", "--help"][..],
         &["pmfarm", "help"][..],
         &["pmfarm", "check", "--help"][..],
+        &["pmfarm", "explain", "--help"][..],
         &["pmfarm", "--version"][..],
     ];
     for words in cases {
