@@ -1,9 +1,9 @@
 -- Certificates: what a pass over the events keeps of a line and of a byte, and what a certificate's image
 -- holds.
-use Rattle.std.proofs.Common.{◌≡◌, ℕ, zero, suc, ◌+◌, ◌-◌, ◌<◌, ◌≤◌, Bool, true, false, ◌&&◌, ◌==◌, nat_lt, nat_le, if◌then◌else◌, List, length, refl, sym, ◌∙◌, ap, arith}
+use Rattle.std.proofs.Common.{◌≡◌, ℕ, zero, suc, ◌+◌, ◌-◌, ◌<◌, ◌≤◌, Bool, true, false, ◌&&◌, ◌==◌, nat_lt, if◌then◌else◌, List, [], length, refl, sym, ◌∙◌, ap, arith, inl, inr}
 use Rattle.std.specs.Prelude.{Option, Some, None, unwrap_or, get_or, take, nat_eq}
 use Rattle.std.specs.Option.{option_eq}
-use Rattle.std.proofs.lemmas.Bool.{leb-true, le-leb, and_from, ltb-true}
+use Rattle.std.proofs.lemmas.Bool.{cases_lt, cases_eq, ltb-true}
 use Rattle.std.proofs.lemmas.Bool.Decides.{Decides-eqb}
 use Rattle.std.proofs.lemmas.List.{length-take-le, get_or-take}
 use Rattle.std.proofs.lemmas.Option.{slice_get_read}
@@ -15,11 +15,10 @@ use Rattle.pmf_event.specs.Places.{greatest, count, some_between}
 use Rattle.pmf_event.specs.Store.{event_at, at, stores, stores_line, flushes, is_fence, last, last_store}
 use Rattle.pmf_event.proofs.PlacesLemmas.{SameUpTo, greatest-step, greatest-zero, greatest-bound, count-step, count-zero, count-le, some_between-here}
 use Rattle.pmf_event.proofs.EventLemmas.{at-is, last-step, not_fence_and_flush}
-use Rattle.pmf_event.proofs.LineLemmas.{line-meets}
 use Rattle.pmf_image.specs.declared.certificate.Certificate.{Certificate}
 use Rattle.pmf_image.specs.Certificate.{full_cuts, image_of, cut_in, shows_in}
-use Rattle.pmf_image.specs.Image.{count_of, is_fenced, floor_of, value_of, cut_of, reach_of, reaches, shows}
-use Rattle.pmf_image.proofs.ImageLemmas.{reach-untorn}
+use Rattle.pmf_image.specs.Image.{Image, count_of, is_fenced, floor_of, value_of, cut_of, shows}
+use Rattle.pmf_image.proofs.ImageLemmas.{reach-untorn, reached-shown, shown-reaches, last_store-stores, last_store-bound, last_store-above, count_of-here, count_of-mono}
 
 and-one : (x : Bool) → (x && true) ≡ x
 and-one true = refl
@@ -108,11 +107,6 @@ greatest-at_fence es n line fence =
     ∙ ap (λ v. if v then suc n else greatest (is_fenced es (suc n) line) n) (not_fenced-at_fence es n line fence)
     ∙ greatest-same (is_fenced es (suc n) line) (at (flushes line) es) n (λ k some within. fenced-by_fence es n line k fence some within)
 
-floor-at_fence : (es : List Event) (n line : ℕ) → at is_fence es (suc n) ≡ true →
-    floor_of es (suc n) line ≡ count_of es (last (flushes line) es n - 1) line
-unfolding floor_of
-floor-at_fence es n line fence = ap (λ k. count_of es (k - 1) line) (greatest-at_fence es n line fence)
-
 -- another event fences nothing
 fenced-other : (es : List Event) (n line k : ℕ) → at is_fence es (suc n) ≡ false → is_fenced es (suc n) line k ≡ is_fenced es n line k
 unfolding is_fenced some_between
@@ -133,24 +127,85 @@ not_fenced-past es n line =
     (is-false (nat_lt (suc n) (greatest (at is_fence es) (n + 1 - 1))) (λ is. let above = ltb-true (suc n) (greatest (at is_fence es) (n + 1 - 1)) is in absurd (omega arith)))
     ∙ and-none (at (flushes line) es (suc n))
 
-floor-other : (es : List Event) (n line : ℕ) → at is_fence es (suc n) ≡ false → floor_of es (suc n) line ≡ floor_of es n line
-unfolding floor_of
-floor-other es n line other =
-    ap (λ k. count_of es (k - 1) line)
-    (greatest-step (is_fenced es (suc n) line) n
+greatest-other : (es : List Event) (n line : ℕ) → at is_fence es (suc n) ≡ false →
+    greatest (is_fenced es (suc n) line) (suc n) ≡ greatest (is_fenced es n line) n
+greatest-other es n line other =
+    greatest-step (is_fenced es (suc n) line) n
     ∙ ap (λ v. if v then suc n else greatest (is_fenced es (suc n) line) n) (fenced-other es n line (suc n) other ∙ not_fenced-past es n line)
-    ∙ greatest-same (is_fenced es (suc n) line) (is_fenced es n line) n (λ k some within. fenced-other es n line k other))
+    ∙ greatest-same (is_fenced es (suc n) line) (is_fenced es n line) n (λ k some within. fenced-other es n line k other)
 
--- ---- a pass over the events, for the cut of a line
+-- ---- a pass over the events, for what is durable of a line
 
--- how many stores of the line stand among the first i events, how many of them before the last write-back
--- of the line, and the line's floor
-pub record Counts (es : List Event) (line i stored flushed floor : ℕ) : Type 0 where
-  pub stored_is : stored ≡ count_of es i line
-  pub flushed_is : flushed ≡ count_of es (last (flushes line) es i - 1) line
-  pub floor_is : floor ≡ floor_of es i line
+-- what was stored by the first i events, as a number; what of it by the line's last write-back; and what of it
+-- by the last write-back that a fence follows
+pub record Carried (es : List Event) (line : ℕ) (stored_by : ℕ → ℕ) (i stored flushed durable : ℕ) : Type 0 where
+  pub stored_is : stored ≡ stored_by i
+  pub flushed_is : flushed ≡ stored_by (last (flushes line) es i - 1)
+  pub durable_is : durable ≡ stored_by (greatest (is_fenced es i line) i - 1)
 
-count_of-none : (es : List Event) (line : ℕ) → count_of es 0 line ≡ 0
+pub Carried-none : (es : List Event) (line : ℕ) (stored_by : ℕ → ℕ) → stored_by 0 ≡ 0 → Carried es line stored_by 0 0 0 0
+unfolding last
+Carried-none es line stored_by none = record {
+  stored_is = sym none;
+  flushed_is = sym (ap (λ k. stored_by (k - 1)) (greatest-zero (at (flushes line) es)) ∙ none);
+  durable_is = sym (ap (λ k. stored_by (k - 1)) (greatest-zero (is_fenced es 0 line)) ∙ none);
+}
+
+-- one more event, by its kind
+module _ (es : List Event) (line : ℕ) (stored_by : ℕ → ℕ) (i stored flushed durable : ℕ) (e : Event)
+    (carried : Carried es line stored_by i stored flushed durable) (here : event_at es (suc i) ≡ Some e) where
+  flushed-step : (if flushes line e then stored else flushed) ≡ stored_by (last (flushes line) es (suc i) - 1)
+  flushed-step =
+      elim (flushes line e) as (λ v. (if v then stored else flushed) ≡ stored_by ((if v then suc i else last (flushes line) es i) - 1)) [
+        | true ↦ let same : i ≡ suc i - 1 = omega arith in carried.stored_is ∙ ap stored_by same
+        | false ↦ carried.flushed_is
+      ]
+      ∙ sym (ap (λ k. stored_by (k - 1)) (last-step (flushes line) es i e here))
+
+  durable-step : (if is_fence e then flushed else durable) ≡ stored_by (greatest (is_fenced es (suc i) line) (suc i) - 1)
+  durable-step =
+      elim (is_fence e) as (λ v. at is_fence es (suc i) ≡ v → (if v then flushed else durable) ≡ stored_by (greatest (is_fenced es (suc i) line) (suc i) - 1)) [
+        | true ↦ λ fence. carried.flushed_is ∙ sym (ap (λ k. stored_by (k - 1)) (greatest-at_fence es i line fence))
+        | false ↦ λ other. carried.durable_is ∙ sym (ap (λ k. stored_by (k - 1)) (greatest-other es i line other))
+      ] (at-is is_fence es (suc i) (Some e) here)
+
+  Carried-step : (stored_next flushed_next durable_next : ℕ) → stored_next ≡ stored_by (suc i) →
+      flushed_next ≡ (if flushes line e then stored else flushed) → durable_next ≡ (if is_fence e then flushed else durable) →
+      Carried es line stored_by (suc i) stored_next flushed_next durable_next
+  Carried-step stored_next flushed_next durable_next stores written fenced =
+      record { stored_is = stores; flushed_is = written ∙ flushed-step; durable_is = fenced ∙ durable-step }
+
+  pub Carried-store : (stored_next flushed_next durable_next : ℕ) (s : Extent) → e ≡ Store s → stored_next ≡ stored_by (suc i) →
+      flushed_next ≡ flushed → durable_next ≡ durable → Carried es line stored_by (suc i) stored_next flushed_next durable_next
+  unfolding flushes is_fence
+  Carried-store stored_next flushed_next durable_next s is stores written fenced =
+      Carried-step stored_next flushed_next durable_next stores
+      (written ∙ sym (ap (λ x. if flushes line x then stored else flushed) is)) (fenced ∙ sym (ap (λ x. if is_fence x then flushed else durable) is))
+
+  pub Carried-flush : (stored_next flushed_next durable_next : ℕ) (s : Extent) → e ≡ Flush s → stored_by (suc i) ≡ stored_by i → stored_next ≡ stored →
+      flushed_next ≡ (if meets_line s line then stored else flushed) → durable_next ≡ durable → Carried es line stored_by (suc i) stored_next flushed_next durable_next
+  unfolding flushes is_fence
+  Carried-flush stored_next flushed_next durable_next s is kept stores written fenced =
+      Carried-step stored_next flushed_next durable_next (stores ∙ carried.stored_is ∙ sym kept)
+      (written ∙ sym (ap (λ x. if flushes line x then stored else flushed) is)) (fenced ∙ sym (ap (λ x. if is_fence x then flushed else durable) is))
+
+  pub Carried-fence : (stored_next flushed_next durable_next : ℕ) → e ≡ Fence → stored_by (suc i) ≡ stored_by i → stored_next ≡ stored →
+      flushed_next ≡ flushed → durable_next ≡ flushed → Carried es line stored_by (suc i) stored_next flushed_next durable_next
+  unfolding flushes is_fence
+  Carried-fence stored_next flushed_next durable_next is kept stores written fenced =
+      Carried-step stored_next flushed_next durable_next (stores ∙ carried.stored_is ∙ sym kept)
+      (written ∙ sym (ap (λ x. if flushes line x then stored else flushed) is)) (fenced ∙ sym (ap (λ x. if is_fence x then flushed else durable) is))
+
+  pub Carried-other : (stored_next flushed_next durable_next : ℕ) → ((s : Extent) → e ≡ Flush s → ⊥) → (e ≡ Fence → ⊥) → stored_by (suc i) ≡ stored_by i →
+      stored_next ≡ stored → flushed_next ≡ flushed → durable_next ≡ durable → Carried es line stored_by (suc i) stored_next flushed_next durable_next
+  Carried-other stored_next flushed_next durable_next no_flush no_fence kept stores written fenced =
+      Carried-step stored_next flushed_next durable_next (stores ∙ carried.stored_is ∙ sym kept)
+      (written ∙ sym (ap (λ v. if v then stored else flushed) (flushes-other line e no_flush)))
+      (fenced ∙ sym (ap (λ v. if v then flushed else durable) (fence-other e no_fence)))
+
+-- ---- how many stores of a line there are
+
+pub count_of-none : (es : List Event) (line : ℕ) → count_of es 0 line ≡ 0
 unfolding count_of
 count_of-none es line = count-zero (at (stores_line line) es)
 
@@ -165,71 +220,26 @@ pub count_of-bound : (es : List Event) (line i : ℕ) → count_of es i line ≤
 unfolding count_of
 count_of-bound es line i = count-le (at (stores_line line) es) i
 
-pub Counts-none : (es : List Event) (line : ℕ) → Counts es line 0 0 0 0
-unfolding floor_of last
-Counts-none es line = record {
-  stored_is = sym (count_of-none es line);
-  flushed_is = sym (ap (λ k. count_of es (k - 1) line) (greatest-zero (at (flushes line) es)) ∙ count_of-none es line);
-  floor_is = sym (ap (λ k. count_of es (k - 1) line) (greatest-zero (is_fenced es 0 line)) ∙ count_of-none es line);
-}
+pub count_of-next : (es : List Event) (line i before after : ℕ) (e : Event) (s : Extent) → before ≡ count_of es i line → event_at es (suc i) ≡ Some e → e ≡ Store s →
+    after ≡ (if meets_line s line then suc before else before) → after ≡ count_of es (suc i) line
+count_of-next es line i before after e s so_far here is counted =
+    counted
+    ∙ ap (λ k. if meets_line s line then suc k else k) so_far
+    ∙ sym (count_of-step es line i e here ∙ ap (λ v. if v then suc (count_of es i line) else count_of es i line) (stores_line-is line e s is))
 
-flushed-step : (es : List Event) (line i stored flushed floor : ℕ) (e : Event) → Counts es line i stored flushed floor → event_at es (suc i) ≡ Some e →
-    (if flushes line e then stored else flushed) ≡ count_of es (last (flushes line) es (suc i) - 1) line
-flushed-step es line i stored flushed floor e counts here =
-    elim (flushes line e) as (λ v. (if v then stored else flushed) ≡ count_of es ((if v then suc i else last (flushes line) es i) - 1) line) [
-      | true ↦ let same : i ≡ suc i - 1 = omega arith in counts.stored_is ∙ ap (λ k. count_of es k line) same
-      | false ↦ counts.flushed_is
-    ]
-    ∙ sym (ap (λ k. count_of es (k - 1) line) (last-step (flushes line) es i e here))
+pub no_store-flush : (e : Event) (t : Extent) → e ≡ Flush t → (s : Extent) → e ≡ Store s → ⊥
+no_store-flush e t is s other = let bad : Flush t ≡ Store s = sym is ∙ other in cc
 
-floor-step : (es : List Event) (line i stored flushed floor : ℕ) (e : Event) → Counts es line i stored flushed floor → event_at es (suc i) ≡ Some e →
-    (if is_fence e then flushed else floor) ≡ floor_of es (suc i) line
-floor-step es line i stored flushed floor e counts here =
-    elim (is_fence e) as (λ v. at is_fence es (suc i) ≡ v → (if v then flushed else floor) ≡ floor_of es (suc i) line) [
-      | true ↦ λ fence. counts.flushed_is ∙ sym (floor-at_fence es i line fence)
-      | false ↦ λ other. counts.floor_is ∙ sym (floor-other es i line other)
-    ] (at-is is_fence es (suc i) (Some e) here)
+pub no_store-fence : (e : Event) → e ≡ Fence → (s : Extent) → e ≡ Store s → ⊥
+no_store-fence e is s other = let bad : Fence ≡ Store s = sym is ∙ other in cc
 
--- one more event
-pub Counts-step : (es : List Event) (line i stored flushed floor stored_next flushed_next floor_next : ℕ) (e : Event) →
-    Counts es line i stored flushed floor → event_at es (suc i) ≡ Some e →
-    stored_next ≡ (if stores_line line e then suc stored else stored) →
-    flushed_next ≡ (if flushes line e then stored else flushed) →
-    floor_next ≡ (if is_fence e then flushed else floor) → Counts es line (suc i) stored_next flushed_next floor_next
-Counts-step es line i stored flushed floor stored_next flushed_next floor_next e counts here counted written fenced = record {
-  stored_is = counted ∙ ap (λ k. if stores_line line e then suc k else k) counts.stored_is ∙ sym (count_of-step es line i e here);
-  flushed_is = written ∙ flushed-step es line i stored flushed floor e counts here;
-  floor_is = fenced ∙ floor-step es line i stored flushed floor e counts here;
-}
+pub count_of-kept : (es : List Event) (line i : ℕ) (e : Event) → event_at es (suc i) ≡ Some e → ((s : Extent) → e ≡ Store s → ⊥) → count_of es (suc i) line ≡ count_of es i line
+count_of-kept es line i e here other =
+    count_of-step es line i e here ∙ ap (λ v. if v then suc (count_of es i line) else count_of es i line) (stores_line-other line e other)
 
--- by kinds of event
-module _ (es : List Event) (line i stored flushed floor stored_next flushed_next floor_next : ℕ) (e : Event)
-    (counts : Counts es line i stored flushed floor) (here : event_at es (suc i) ≡ Some e) where
-  pub Counts-store : (s : Extent) → e ≡ Store s → stored_next ≡ (if meets_line s line then suc stored else stored) → flushed_next ≡ flushed →
-      floor_next ≡ floor → Counts es line (suc i) stored_next flushed_next floor_next
-  unfolding stores_line flushes is_fence
-  Counts-store s is counted written fenced =
-      Counts-step es line i stored flushed floor stored_next flushed_next floor_next (Store s) counts (here ∙ ap (λ x. Some x) is) counted written fenced
-
-  pub Counts-flush : (s : Extent) → e ≡ Flush s → stored_next ≡ stored → flushed_next ≡ (if meets_line s line then stored else flushed) →
-      floor_next ≡ floor → Counts es line (suc i) stored_next flushed_next floor_next
-  unfolding stores_line flushes is_fence
-  Counts-flush s is counted written fenced =
-      Counts-step es line i stored flushed floor stored_next flushed_next floor_next (Flush s) counts (here ∙ ap (λ x. Some x) is) counted written fenced
-
-  pub Counts-fence : e ≡ Fence → stored_next ≡ stored → flushed_next ≡ flushed → floor_next ≡ flushed →
-      Counts es line (suc i) stored_next flushed_next floor_next
-  unfolding stores_line flushes is_fence
-  Counts-fence is counted written fenced =
-      Counts-step es line i stored flushed floor stored_next flushed_next floor_next Fence counts (here ∙ ap (λ x. Some x) is) counted written fenced
-
-  pub Counts-other : ((s : Extent) → e ≡ Store s → ⊥) → ((s : Extent) → e ≡ Flush s → ⊥) → (e ≡ Fence → ⊥) →
-      stored_next ≡ stored → flushed_next ≡ flushed → floor_next ≡ floor → Counts es line (suc i) stored_next flushed_next floor_next
-  Counts-other no_store no_flush no_fence counted written fenced =
-      Counts-step es line i stored flushed floor stored_next flushed_next floor_next e counts here
-      (counted ∙ sym (ap (λ v. if v then suc stored else stored) (stores_line-other line e no_store)))
-      (written ∙ sym (ap (λ v. if v then stored else flushed) (flushes-other line e no_flush)))
-      (fenced ∙ sym (ap (λ v. if v then flushed else floor) (fence-other e no_fence)))
+pub last_store-kept : (es : List Event) (b i : ℕ) (e : Event) → event_at es (suc i) ≡ Some e → ((s : Extent) → e ≡ Store s → ⊥) → last_store es (suc i) b ≡ last_store es i b
+last_store-kept es b i e here other =
+    last-step (stores b) es i e here ∙ ap (λ v. if v then suc i else last_store es i b) (stores-other b e other)
 
 -- ---- the cut of a certificate's image
 
@@ -250,90 +260,51 @@ pub cut-is : (es : List Event) (c : Certificate) (line : ℕ) →
 unfolding cut_of
 cut-is es c line = cut-of_map es c.crash line c.full_line
 
--- ---- a pass over the events, for what a byte shows
+-- the stores of the line up to the last write-back that a fence follows
+pub floor-is : (es : List Event) (n line : ℕ) → floor_of es n line ≡ count_of es (greatest (is_fenced es n line) n - 1) line
+unfolding floor_of
+floor-is es n line = refl
 
--- how many stores of the byte's line stand among the first i events, and the last of these events that
--- reaches the byte
-pub record Shown (es : List Event) (c : Certificate) (b i stored shown : ℕ) : Type 0 where
-  pub stored_is : stored ≡ count_of es i (line_of_byte b)
-  pub shown_is : shown ≡ greatest (reaches es c.crash (image_of es c) b) i
+-- ---- what a byte shows in it
 
-pub Shown-none : (es : List Event) (c : Certificate) (b : ℕ) → Shown es c b 0 0 0
-Shown-none es c b = record {
-  stored_is = sym (count_of-none es (line_of_byte b));
-  shown_is = sym (greatest-zero (reaches es c.crash (image_of es c) b));
-}
+-- where the cut of its line is the count at m, an untorn byte shows its last store at m
+shows-upto : (es : List Event) (n b m : ℕ) (image : Image) → image.torn ≡ [] → m ≤ n →
+    cut_of es n image (line_of_byte b) ≡ count_of es m (line_of_byte b) → shows es n image b ≡ last_store es m b
+shows-upto es n b m image untorn within cut =
+    let line = line_of_byte b in
+    let reach = reach-untorn es n b image untorn in
+    let bound = last_store-bound es m b in
+    let low : last_store es m b ≤ shows es n image b = elim (cases_eq (last_store es m b) 0) [
+      | inl none ↦ omega arith
+      | inr some ↦
+          let fewer = count_of-mono es (last_store es m b) m (line_of_byte b) bound in
+          reached-shown es n b (last_store es m b) image (omega arith) (omega arith) (last_store-stores es m b (omega arith)) (omega arith)
+    ] in
+    let high : shows es n image b ≤ last_store es m b = elim (cases_eq (shows es n image b) 0) [
+      | inl none ↦ omega arith
+      | inr some ↦
+          let here = shown-reaches es n b image (omega arith) in
+          elim (cases_lt m (shows es n image b)) [
+            | inr before ↦ last_store-above es m b (shows es n image b) (omega arith) before here.0
+            | inl after ↦
+                let rise = count_of-here es b (shows es n image b) (omega arith) here.0 in
+                let fewer = count_of-mono es m (shows es n image b - 1) (line_of_byte b) (omega arith) in absurd (omega (arith, here.1))
+          ]
+    ] in
+    omega arith
 
-reaches-is : (es : List Event) (c : Certificate) (b i : ℕ) (e : Event) → event_at es (suc i) ≡ Some e →
-    reaches es c.crash (image_of es c) b (suc i) ≡ (stores b e && nat_le (count_of es (suc i) (line_of_byte b)) (cut_in es c (line_of_byte b)))
-unfolding reaches
-reaches-is es c b i e here =
-    ap (λ v. v && nat_le (count_of es (suc i) (line_of_byte b)) (reach_of es c.crash (image_of es c) b)) (at-is (stores b) es (suc i) (Some e) here)
-    ∙ ap (λ k. stores b e && nat_le (count_of es (suc i) (line_of_byte b)) k) (reach-untorn es c.crash b (image_of es c) refl)
-
--- one more event
-pub Shown-step : (es : List Event) (c : Certificate) (b i stored shown stored_next shown_next : ℕ) (e : Event) →
-    Shown es c b i stored shown → event_at es (suc i) ≡ Some e →
-    stored_next ≡ (if stores_line (line_of_byte b) e then suc stored else stored) →
-    shown_next ≡ (if stores b e && nat_le stored_next (cut_in es c (line_of_byte b)) then suc i else shown) → Shown es c b (suc i) stored_next shown_next
-Shown-step es c b i stored shown stored_next shown_next e before here counted shows =
-    let rank : stored_next ≡ count_of es (suc i) (line_of_byte b) =
-    counted ∙ ap (λ k. if stores_line (line_of_byte b) e then suc k else k) before.stored_is ∙ sym (count_of-step es (line_of_byte b) i e here) in
-    record {
-      stored_is = rank;
-      shown_is =
-          shows
-          ∙ ap (λ k. if stores b e && nat_le k (cut_in es c (line_of_byte b)) then suc i else shown) rank
-          ∙ ap (λ k. if stores b e && nat_le (count_of es (suc i) (line_of_byte b)) (cut_in es c (line_of_byte b)) then suc i else k) before.shown_is
-          ∙ ap (λ v. if v then suc i else greatest (reaches es c.crash (image_of es c) b) i) (sym (reaches-is es c b i e here))
-          ∙ sym (greatest-step (reaches es c.crash (image_of es c) b) i);
-    }
-
--- by kinds of event
-module _ (es : List Event) (c : Certificate) (b i stored shown stored_next shown_next : ℕ) (e : Event)
-    (before : Shown es c b i stored shown) (here : event_at es (suc i) ≡ Some e) where
-  -- a store of the byte that is among those of the cut
-  pub Shown-reached : (s : Extent) → e ≡ Store s → meets_line s (line_of_byte b) ≡ true → covers_byte s b ≡ true →
-      stored_next ≡ suc stored → stored_next ≤ cut_in es c (line_of_byte b) → shown_next ≡ suc i → Shown es c b (suc i) stored_next shown_next
-  Shown-reached s is meets covers counted within shows =
-      Shown-step es c b i stored shown stored_next shown_next e before here
-      (counted ∙ sym (ap (λ v. if v then suc stored else stored) (stores_line-is (line_of_byte b) e s is ∙ meets)))
-      (shows ∙ sym (ap (λ v. if v then suc i else shown) (and_from _ _ (stores-is b e s is ∙ covers) (le-leb stored_next (cut_in es c (line_of_byte b)) within))))
-
-  -- a store of the line that leaves the byte out
-  pub Shown-beside : (s : Extent) → e ≡ Store s → meets_line s (line_of_byte b) ≡ true → covers_byte s b ≡ false →
-      stored_next ≡ suc stored → shown_next ≡ shown → Shown es c b (suc i) stored_next shown_next
-  Shown-beside s is meets apart counted shows =
-      Shown-step es c b i stored shown stored_next shown_next e before here
-      (counted ∙ sym (ap (λ v. if v then suc stored else stored) (stores_line-is (line_of_byte b) e s is ∙ meets)))
-      (shows ∙ sym (ap (λ v. if v && nat_le stored_next (cut_in es c (line_of_byte b)) then suc i else shown) (stores-is b e s is ∙ apart)))
-
-  -- a store of the line that is past the cut
-  pub Shown-past : (s : Extent) → e ≡ Store s → meets_line s (line_of_byte b) ≡ true →
-      stored_next ≡ suc stored → cut_in es c (line_of_byte b) < stored_next → shown_next ≡ shown → Shown es c b (suc i) stored_next shown_next
-  Shown-past s is meets counted past shows =
-      Shown-step es c b i stored shown stored_next shown_next e before here
-      (counted ∙ sym (ap (λ v. if v then suc stored else stored) (stores_line-is (line_of_byte b) e s is ∙ meets)))
-      (shows ∙ sym (ap (λ v. if v then suc i else shown)
-      (ap (λ v. stores b e && v) (is-false _ (λ within. let bound = leb-true stored_next (cut_in es c (line_of_byte b)) within in absurd (omega arith)))
-      ∙ and-none (stores b e))))
-
-  -- a store of another line
-  pub Shown-elsewhere : (s : Extent) → e ≡ Store s → meets_line s (line_of_byte b) ≡ false →
-      stored_next ≡ stored → shown_next ≡ shown → Shown es c b (suc i) stored_next shown_next
-  Shown-elsewhere s is apart counted shows =
-      let aside : covers_byte s b ≡ false = is-false (covers_byte s b) (λ covers. let bad : true ≡ false = sym (line-meets s b covers) ∙ apart in cc) in
-      Shown-step es c b i stored shown stored_next shown_next e before here
-      (counted ∙ sym (ap (λ v. if v then suc stored else stored) (stores_line-is (line_of_byte b) e s is ∙ apart)))
-      (shows ∙ sym (ap (λ v. if v && nat_le stored_next (cut_in es c (line_of_byte b)) then suc i else shown) (stores-is b e s is ∙ aside)))
-
-  pub Shown-other : ((s : Extent) → e ≡ Store s → ⊥) → stored_next ≡ stored → shown_next ≡ shown → Shown es c b (suc i) stored_next shown_next
-  Shown-other no_store counted shows =
-      Shown-step es c b i stored shown stored_next shown_next e before here
-      (counted ∙ sym (ap (λ v. if v then suc stored else stored) (stores_line-other (line_of_byte b) e no_store)))
-      (shows ∙ sym (ap (λ v. if v && nat_le stored_next (cut_in es c (line_of_byte b)) then suc i else shown) (stores-other b e no_store)))
-
--- what the last place that reaches the byte is, at the crash
-pub shown-is : (es : List Event) (c : Certificate) (b stored shown : ℕ) → Shown es c b c.crash stored shown → shown ≡ shows_in es c b
-unfolding shows
-shown-is es c b stored shown end = end.shown_is
+-- its last store at the crash on the full line, and elsewhere that before the last write-back that a fence
+-- follows
+pub shows-is : (es : List Event) (c : Certificate) (b : ℕ) →
+    shows_in es c b ≡ (if option_eq nat_eq c.full_line (Some (line_of_byte b)) then last_store es c.crash b
+    else last_store es (greatest (is_fenced es c.crash (line_of_byte b)) c.crash - 1) b)
+shows-is es c b =
+    elim (option_eq nat_eq c.full_line (Some (line_of_byte b))) as (λ v.
+    cut_in es c (line_of_byte b) ≡ (if v then count_of es c.crash (line_of_byte b) else floor_of es c.crash (line_of_byte b)) →
+    shows_in es c b ≡ (if v then last_store es c.crash b else last_store es (greatest (is_fenced es c.crash (line_of_byte b)) c.crash - 1) b)) [
+      | true ↦ λ cut. shows-upto es c.crash b c.crash (image_of es c) refl (omega arith) cut
+      | false ↦ λ cut.
+          let bound = greatest-bound (is_fenced es c.crash (line_of_byte b)) c.crash in
+          shows-upto es c.crash b (greatest (is_fenced es c.crash (line_of_byte b)) c.crash - 1) (image_of es c) refl (omega arith)
+          (cut ∙ floor-is es c.crash (line_of_byte b))
+    ] (cut-is es c (line_of_byte b))

@@ -49,27 +49,37 @@ pub fn cut(events: &[Event], certificate: Certificate, line: u64) -> u32
     floor
 }
 
-/// The place of the store that the byte shows in the certificate's image, or 0 where it shows none. Two
-/// passes over the events.
+/// The place of the store that the byte shows in the certificate's image, or 0 where it shows none: on the
+/// full line its last store, elsewhere that before the line's last write-back that a fence follows. One pass
+/// over the events.
 pub fn shows(events: &[Event], certificate: Certificate, byte: u64) -> u32
     requires fits { Fits events.now certificate }
     ensures { result ≡ shows_in events.now certificate byte }
 {
     let line = line_of(byte);
-    let cut = cut(events, certificate, line);
-    let mut count = 0;
-    let mut shown = 0;
+    let mut stored = 0;
+    let mut flushed = 0;
+    let mut durable = 0;
     for (index, event) in events[..certificate.crash as usize].iter().enumerate() {
-        if let Event::Store(span) = event {
-            if meets_line(*span, line) {
-                count += 1;
-                if count <= cut && span.covers(byte) {
-                    shown = index as u32 + 1;
+        match event {
+            Event::Store(span) => {
+                if span.covers(byte) {
+                    stored = index as u32 + 1;
                 }
             }
+            Event::Flush(span) => {
+                if meets_line(*span, line) {
+                    flushed = stored;
+                }
+            }
+            Event::Fence => durable = flushed,
+            _ => {}
         }
     }
-    shown
+    if certificate.full_line == Some(line) {
+        return stored;
+    }
+    durable
 }
 
 /// The place of the last store of the byte among the events up to the place, or 0 where there is none.
