@@ -15,7 +15,7 @@ use Rattle.pmf_image.specs.Runs.{Alike}
 use Rattle.pmf_image.specs.Questions.{is_asked, compares, answer_of, SomeByte}
 use Rattle.pmf_image.proofs.RunLemmas.{answer-alike}
 
--- no byte from first up to end, which is not one of them, passes the test
+-- no byte from first on and below end passes the test
 pub record NoByte (test : ℕ → Bool) (first end : ℕ) : Type 0 where
   pub from : first ≤ end
   pub none : (b : ℕ) → first ≤ b → b < end → test b ≡ false

@@ -13,20 +13,20 @@ use Rattle.pmf_image.specs.declared.certificate.Certificate.{Certificate}
 use Rattle.pmf_image.specs.Certificate.{shows_in}
 
 -- a persist assertion over the span at p: the crash is at p or later, and a checked byte shows less than
--- its last store
+-- its last store at p
 abbrev pub PersistContradicted : List Event → ℕ → Extent → Certificate → Type 0
 PersistContradicted es p s c =
     (p ≤ c.crash) × (b : ℕ) × (covers_byte s b ≡ true) × (is_checked es p b ≡ true) × (shows_in es c b < last_store es p b)
 
 -- an order assertion over the two spans at p: the crash is at p or earlier, a checked byte of the second
--- shows its last store, and a checked byte of the first doesn't
+-- shows its last store at p, and a checked byte of the first doesn't
 abbrev pub OrderedContradicted : List Event → ℕ → Extent → Extent → Certificate → Type 0
 OrderedContradicted es p a b c =
     (c.crash ≤ p) × (x : ℕ) × (y : ℕ) × (covers_byte a x ≡ true) × (covers_byte b y ≡ true) × (is_checked es p x ≡ true) × (is_checked es p y ≡ true)
     × (shows_in es c y ≡ last_store es p y) × (shows_in es c x ≢ last_store es p x)
 
 -- a CHECKEND at p that closes a scope outside of transactions: the crash is at p or later, and an included
--- byte of the scope shows less than its last store
+-- byte of the scope shows less than its last store at p
 abbrev pub ScopeContradicted : List Event → ℕ → Certificate → Type 0
 ScopeContradicted es p c =
     (in_scope es (p - 1) ≡ true) × (in_transaction es (p - 1) ≡ false) × (p ≤ c.crash)

@@ -35,7 +35,8 @@ ScopeHolds es p =
     (n : ℕ) → p ≤ n → n ≤ length es → (image : Image) → IsAllowed es n image →
     (b : ℕ) → b < ADDRESS_LIMIT → is_scoped es (p - 1) b ≡ true → is_included es p b ≡ true → last_store es p b ≤ shows es n image b
 
--- an event that is an assertion holds at p; no other event asks for anything
+-- what the event at p asks holds, if it is an assertion; no other event asks for anything. A CHECKEND without
+-- a scope asks for nothing, and one inside of a transaction for the bytes of its scope all the same
 abbrev pub EventHolds : List Event → ℕ → Option Event → Type 0
 EventHolds es p (Some (Persist s)) = PersistHolds es p s
 EventHolds es p (Some (Ordered a b)) = OrderedHolds es p a b

@@ -51,7 +51,7 @@ pub record AllowsCutAt (es : List Event) (n line cut : ℕ) : Type 0 where
   pub elsewhere : (other : ℕ) → other ≢ line → cut_of es n image other ≡ floor_of es n other
   pub allowed : IsAllowed es n image
 
--- every cut from the floor to the count is allowed at a line, whatever the other lines have
+-- every cut from the floor to the count is allowed at a line, with every other line at its floor
 abbrev pub EachCutIsAllowed : Type 0
 EachCutIsAllowed = (es : List Event) (n line cut : ℕ) → floor_of es n line ≤ cut → cut ≤ count_of es n line → AllowsCutAt es n line cut
 
@@ -90,7 +90,7 @@ abbrev pub CertifiedPairsAreShown : Type 0
 CertifiedPairsAreShown = (profile : Profile) (es : List Event) (p x y : ℕ) → is_certified profile es p x y ≡ true →
     (shows_in es (at_store es p y) y ≡ last_store es p y) × (shows_in es (at_store es p y) x ≢ last_store es p x)
 
--- what a certificate of a place of the list contradicts does not hold
+-- what a certificate contradicts does not hold, if its crash is at a place of the list or at the start
 abbrev pub ContradictedDoNotHold : Type 0
 ContradictedDoNotHold = (es : List Event) (p : ℕ) (c : Certificate) → c.crash ≤ length es → Contradicts es p c → Holds es p → ⊥
 
@@ -103,6 +103,6 @@ CertifiedPairsDoNotHold = (profile : Profile) (es : List Event) (p : ℕ) (a b :
 abbrev pub PairsAreOneByte : List Event → ℕ → Extent → Extent → Type 0
 PairsAreOneByte es p a b = (x y : ℕ) → covers_byte a x ≡ true → covers_byte b y ≡ true → is_unordered Two es p x y ≡ true → x ≡ y
 
--- an order assertion holds exactly where profile Two orders each pair of two bytes
+-- an order assertion holds exactly where profile Two orders each pair of two different checked bytes
 abbrev pub ProfileTwoIsExact : Type 0
 ProfileTwoIsExact = (es : List Event) (p : ℕ) (a b : Extent) → OrderedHolds es p a b ↔ PairsAreOneByte es p a b

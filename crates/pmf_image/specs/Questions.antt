@@ -30,7 +30,7 @@ compares ScopeFallsShort shown last = nat_lt shown last
 unfoldable pub answer_of : Question → List Event → ℕ → Certificate → ℕ → Bool
 answer_of q es p c b = is_asked q es p b && compares q (shows_in es c b) (last_store es p b)
 
--- a byte from first up to end, which is not one of them, that passes the test
+-- a byte from first on and below end that passes the test
 pub record SomeByte (test : ℕ → Bool) (first end : ℕ) : Type 0 where
   pub byte : ℕ
   pub from : first ≤ byte

@@ -14,11 +14,11 @@ use pmf_event::{ADDRESS_LIMIT, Event, Span};
 /// contradicted.
 ///
 /// - A persist assertion: the crash is at its place or later, and a checked byte of its span shows less
-///   than its last store.
+///   than its last store at that place.
 /// - An order assertion: the crash is at its place or earlier, a checked byte of the second span shows
-///   its last store, and a checked byte of the first does not.
+///   its last store at that place, and a checked byte of the first does not.
 /// - The end of a scope, outside of transactions: the crash is at its place or later, and an included
-///   byte of the scope shows less than its last store.
+///   byte of the scope shows less than its last store at that place.
 ///
 /// No byte is looked at one by one. Bytes are alike from one border to the next, where a border is an end
 /// of a span that is stored to, written back, excluded or included, an end of the lines that it meets, or

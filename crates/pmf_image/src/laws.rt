@@ -26,7 +26,7 @@ pub fn open_intervals_do_not_hold()
     ensures { OpenIntervalsDoNotHold }
 {}
 
-/// Every cut of a line from its floor to its count is allowed, whatever the other lines have.
+/// Every cut of a line from its floor to its count is allowed, with every other line at its floor.
 pub fn each_cut_is_allowed()
     ensures { EachCutIsAllowed }
 {}

@@ -65,8 +65,8 @@ impl Question {
         }
     }
 
-    // Whether the answer is yes for a byte from `first` up to `end`, which is not one of them. Asks one
-    // byte of each run of bytes that are alike.
+    // Whether the answer is yes for a byte from `first` on and below `end`. Asks one byte of each run of
+    // bytes that are alike.
     pub fn finds(
         self,
         events: &[Event],

@@ -2,7 +2,6 @@
 use Rattle.std.proofs.Common.{◌≡◌, ℕ, zero, suc, ◌-◌, ◌<◌, ◌≤◌, Bool, true, false, not, if◌then◌else◌, List, [], ◌∷◌, map, length, refl, sym, ◌∙◌, ap, subst, arith, inl, inr}
 use Rattle.std.specs.Prelude.{◌↔◌, ◌⊎◌, Option, Some, None, Contains, is_none}
 use Rattle.std.proofs.lemmas.List.Elements.{Contains-append_left, Contains-append_right}
-use Rattle.std.proofs.lemmas.Option.{slice_get_within}
 use Rattle.std.proofs.lemmas.Bool.{cases_eq}
 use Rattle.pmf_event.specs.declared.event.Event.{Event}
 use Rattle.pmf_event.specs.declared.event.Event.TheVariants.{Persist, Ordered, CheckEnd}
@@ -27,7 +26,8 @@ use Rattle.pmf_image.specs.Holds.{PersistHolds, OrderedHolds, ScopeHolds, EventH
 use Rattle.pmf_image.proofs.ExactLemmas.{not_holds-contradicted, holds-by_profile_two, checked-parts}
 use Rattle.pmf_verdict.specs.Rows.{findings_of, row_at, rows_upto, rows_at_end, rows_of}
 use Rattle.pmf_verdict.specs.Explained.{certificate_of}
-use Rattle.pmf_verdict.specs.Exact.{OrderIsNotRefuted, AreApart, OrderIsExact, IsExact}
+use Rattle.pmf_verdict.specs.Exact.{IsPassOrEmpty, IsNotFailed, AreApart, OrderIsExact, IsExact}
+use Rattle.pmf_verdict.proofs.RowsLemmas.{place-within}
 use Rattle.pmf_verdict.proofs.KindLemmas.{kind_of, persist-kind, ordered-kind, persist-from_rows, ordered-from_rows}
 use Rattle.pmf_verdict.proofs.ExplainLemmas.{contradicted-by}
 use Rattle.pmf_verdict.proofs.SoundLemmas.{passes_hold, orders_hold, scopes_hold}
@@ -49,11 +49,6 @@ in-upto profile es p f only some (suc n) within =
           (subst (λ q. Contains (map (row_at q) (findings_of profile es q (event_at es q))) (row_at p f)) last found)
       | inr before ↦ Contains-append_left (rows_upto profile es n) here (row_at p f) (in-upto profile es p f only some n (omega arith))
     ]
-
-place-within : (es : List Event) (p : ℕ) (e : Event) → event_at es p ≡ Some e → (0 < p) × (p ≤ length es)
-unfolding event_at
-place-within es zero e here = let bad : None ≡ Some e = here in cc
-place-within es (suc p) e here = let within = slice_get_within es p e here in (omega arith, omega arith)
 
 row-of : (profile : Profile) (es : List Event) (p : ℕ) (e : Event) (f : Finding) → event_at es p ≡ Some e → findings_of profile es p (Some e) ≡ f ∷ [] →
     Contains (rows_of profile es) (row_at p f)
@@ -130,7 +125,7 @@ module _ (profile : Profile) (es : List Event) (p : ℕ) (s : Extent) (here : ev
 -- ---- order assertions
 
 module _ (profile : Profile) (es : List Event) (p : ℕ) (a b : Extent) (here : event_at es p ≡ Some (Ordered a b)) where
-  kept-by_row : (f : Finding) → kind_of f ≡ 2 → Contains (rows_of profile es) (row_at p f) → OrderedHolds es p a b → OrderIsNotRefuted (rows_of profile es) p
+  kept-by_row : (f : Finding) → kind_of f ≡ 2 → Contains (rows_of profile es) (row_at p f) → OrderedHolds es p a b → IsNotFailed (rows_of profile es) p
   kept-by_row OrderedPass kind found holds = inl (inl found)
   kept-by_row OrderedEmpty kind found holds = inl (inr found)
   kept-by_row (OrderedSameLine x y) kind found holds = inr (x, y, found)
@@ -142,7 +137,7 @@ module _ (profile : Profile) (es : List Event) (p : ℕ) (a b : Extent) (here : 
       (subst (EventHolds es p) (sym here) holds))
   kept-by_row _ kind found holds = absurd (omega (arith, kind))
 
-  not_refuted : OrderedHolds es p a b → OrderIsNotRefuted (rows_of profile es) p
+  not_refuted : OrderedHolds es p a b → IsNotFailed (rows_of profile es) p
   not_refuted holds = kept-by_row (ordered_finding profile es p a b) (ordered-kind profile es p a b) (ordered-row profile es p a b here) holds
 
   unchecked-ordered : (v w : Bool) (c u : Option (ℕ × ℕ)) → OrderedEmpty ≡ (if v then OrderedEmpty else if w then OrderedEmpty else finding_of_pairs es p c u) →
@@ -210,16 +205,20 @@ module _ (profile : Profile) (es : List Event) (p : ℕ) (a b : Extent) (here : 
       let checked = (checked-parts profile es p x y pair.passes).0 in
       let bad : true ≡ false = sym checked ∙ shut in cc
 
+holds-by_row : (profile : Profile) (es : List Event) (p : ℕ) (a b : Extent) → event_at es p ≡ Some (Ordered a b) → IsPassOrEmpty (rows_of profile es) p → OrderedHolds es p a b
+holds-by_row profile es p a b here row = elim row [ inl passed ↦ holds-kept profile es p a b here passed | inr empty ↦ holds-unchecked profile es p a b here empty ]
+
 order-exact : (profile : Profile) (es : List Event) (p : ℕ) (a b : Extent) → event_at es p ≡ Some (Ordered a b) → OrderIsExact profile es (rows_of profile es) p a b
-order-exact One es p a b here = not_refuted One es p a b here
+order-exact One es p a b here = (holds-by_row One es p a b here, not_refuted One es p a b here)
 order-exact Two es p a b here = (
+  holds-by_row Two es p a b here,
   holds-by_profile_two es p a b,
   λ apart. (
     λ holds. elim (not_refuted Two es p a b here holds) [
       | inl kept ↦ kept
       | inr (x, y, found) ↦ absurd (not_one_byte Two es p a b here apart x y found ((holds-by_profile_two es p a b).0 holds))
     ],
-    λ kept. elim kept [ inl passed ↦ holds-kept Two es p a b here passed | inr empty ↦ holds-unchecked Two es p a b here empty ],
+    holds-by_row Two es p a b here,
   ),
 )
 

@@ -24,9 +24,9 @@ use Rattle.pmf_event.proofs.TransactionLemmas.{left_open-exposed}
 use Rattle.pmf_image.specs.declared.certificate.Certificate.{Certificate}
 use Rattle.pmf_image.specs.Contradiction.{PersistContradicted, OrderedContradicted, ScopeContradicted, ContradictsEvent, Contradicts}
 use Rattle.pmf_image.proofs.ImageLemmas.{last_store-bound}
-use Rattle.pmf_image.proofs.FailureLemmas.{certificates-allowed, shown-where_open, pair-shown}
+use Rattle.pmf_image.proofs.FailureLemmas.{shown-where_open, pair-shown}
 use Rattle.pmf_verdict.specs.Rows.{row_at, rows_of}
-use Rattle.pmf_verdict.specs.Explained.{certificate_of, FailuresAreReal}
+use Rattle.pmf_verdict.specs.Explained.{certificate_of}
 use Rattle.pmf_verdict.proofs.KindLemmas.{persist-from_rows, ordered-from_rows, check-from_rows}
 
 -- ---- the parts of a failure
@@ -145,6 +145,3 @@ contradicted-by profile es p c (CheckFail b) found is =
     let same : record { crash = p; full_line = None } ≡ c = cc in
     subst (λ k. Contradicts es p k) same (subst (ContradictsEvent es p (record { crash = p; full_line = None })) (sym own.0) (scope-contradicted es p b own.0 own.1))
 contradicted-by profile es p c _ found is = let bad : None ≡ Some c = is in cc
-
-pub failures_real : (profile : Profile) (es : List Event) → FailuresAreReal es (rows_of profile es)
-failures_real profile es p c source = (certificates-allowed es c, contradicted-by profile es p c source.0 source.1 source.2)

@@ -1,28 +1,23 @@
--- A certificate that the rows give speaks of the section's events.
-use Rattle.std.proofs.Common.{◌≡◌, ℕ, zero, suc, ◌≤◌, List, length, refl, ap, arith, subst}
+-- Failures are real: a certificate that the rows give speaks of the section's events, and its image is allowed
+-- and contradicts the assertion.
+use Rattle.std.proofs.Common.{◌≡◌, ℕ, ◌≤◌, List, length, refl, ap, arith, subst}
 use Rattle.std.specs.Prelude.{Some, None, Contains}
-use Rattle.std.proofs.lemmas.Option.{slice_get_within}
 use Rattle.pmf_event.specs.declared.event.Event.{Event}
 use Rattle.pmf_event.specs.declared.event.Event.TheVariants.{Persist, Ordered, CheckEnd}
 use Rattle.pmf_event.specs.declared.finding.Finding.{Finding}
 use Rattle.pmf_event.specs.declared.finding.Finding.TheVariants.{PersistFail, OrderedFail, CheckFail}
 use Rattle.pmf_event.specs.declared.profile.Profile.{Profile}
-use Rattle.pmf_event.specs.declared.row.Row.{Row}
 use Rattle.pmf_event.specs.Line.{line_of_byte}
-use Rattle.pmf_event.specs.Store.{event_at}
 use Rattle.pmf_event.proofs.LineLemmas.{line-bounds}
 use Rattle.pmf_image.specs.declared.certificate.Certificate.{Certificate}
 use Rattle.pmf_image.specs.Certificate.{Fits, IsLine}
 use Rattle.pmf_image.specs.Contradiction.{ContradictsEvent}
 use Rattle.pmf_verdict.specs.Rows.{row_at, rows_of}
-use Rattle.pmf_verdict.specs.Explained.{certificate_of, Explains}
+use Rattle.pmf_verdict.specs.Explained.{certificate_of, FailuresAreReal}
 use Rattle.pmf_verdict.proofs.KindLemmas.{persist-from_rows, ordered-from_rows, check-from_rows}
-use Rattle.pmf_verdict.proofs.ExplainLemmas.{failures_real}
-
-place-within : (es : List Event) (p : ℕ) (e : Event) → event_at es p ≡ Some e → p ≤ length es
-unfolding event_at
-place-within es zero e is = let bad : None ≡ Some e = is in cc
-place-within es (suc k) e is = let within = slice_get_within es k e is in omega arith
+use Rattle.pmf_image.proofs.FailureLemmas.{certificates-allowed}
+use Rattle.pmf_verdict.proofs.RowsLemmas.{place-within}
+use Rattle.pmf_verdict.proofs.ExplainLemmas.{contradicted-by}
 
 bare-fits : (es : List Event) (p : ℕ) → p ≤ length es → Fits es (record { crash = p; full_line = None })
 bare-fits es p within = record { crash = within; full_line = λ line is. let bad : None ≡ Some line = is in cc }
@@ -37,21 +32,21 @@ certificate-fits : (profile : Profile) (es : List Event) (p : ℕ) (c : Certific
 certificate-fits profile es p c (PersistFail b) found is =
     let own = persist-from_rows profile es p (PersistFail b) found refl in
     let same : record { crash = p; full_line = None } ≡ c = cc in
-    subst (λ k. Fits es k) same (bare-fits es p (place-within es p (Persist own.0) own.1))
+    subst (λ k. Fits es k) same (bare-fits es p (place-within es p (Persist own.0) own.1).1)
 certificate-fits profile es p c (OrderedFail x y n) found is =
     let own = ordered-from_rows profile es p (OrderedFail x y n) found refl in
     let same : record { crash = n; full_line = Some (line_of_byte y) } ≡ c = cc in
-    let contradicted = subst (ContradictsEvent es p c) own.2 (failures_real profile es p c (OrderedFail x y n, found, is)).1 in
+    let contradicted = subst (ContradictsEvent es p c) own.2 (contradicted-by profile es p c (OrderedFail x y n) found is) in
     let crash : n ≡ c.crash = ap (λ (k : Certificate). k.crash) same in
-    let within = place-within es p (Ordered own.0 own.1) own.2 in
+    let within = (place-within es p (Ordered own.0 own.1) own.2).1 in
     let early = contradicted.0 in
     subst (λ k. Fits es k) same (full-fits es n y (omega arith))
 certificate-fits profile es p c (CheckFail b) found is =
     let own = check-from_rows profile es p (CheckFail b) found refl in
     let same : record { crash = p; full_line = None } ≡ c = cc in
-    subst (λ k. Fits es k) same (bare-fits es p (place-within es p CheckEnd own.0))
+    subst (λ k. Fits es k) same (bare-fits es p (place-within es p CheckEnd own.0).1)
 certificate-fits profile es p c _ found is = let bad : None ≡ Some c = is in cc
 
--- each certificate that the section's rows give
-pub certificates_fit : (profile : Profile) (es : List Event) (rows : List Row) (p : ℕ) (c : Certificate) → rows ≡ rows_of profile es → Explains rows p (Some c) → Fits es c
-certificates_fit profile es rows p c are source = certificate-fits profile es p c source.0 (subst (λ rs. Contains rs (row_at p source.0)) are source.1) source.2
+pub failures_real : (profile : Profile) (es : List Event) → FailuresAreReal es (rows_of profile es)
+failures_real profile es p c source =
+    (certificate-fits profile es p c source.0 source.1 source.2, certificates-allowed es c, contradicted-by profile es p c source.0 source.1 source.2)

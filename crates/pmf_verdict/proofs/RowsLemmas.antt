@@ -1,8 +1,9 @@
 -- The rows so far, and where a row comes from.
-use Rattle.std.proofs.Common.{◌≡◌, ℕ, zero, suc, ◌-◌, List, [], ◌∷◌, ◌++◌, map, refl, sym, ◌∙◌, ap, subst, arith, inl, inr}
-use Rattle.std.specs.Prelude.{Option, Some, Contains}
+use Rattle.std.proofs.Common.{◌≡◌, ℕ, zero, suc, ◌-◌, ◌<◌, ◌≤◌, List, [], ◌∷◌, ◌++◌, map, length, refl, sym, ◌∙◌, ap, subst, arith, inl, inr}
+use Rattle.std.specs.Prelude.{Option, Some, None, Contains}
 use Rattle.std.proofs.lemmas.List.{append_assoc, map-append}
 use Rattle.std.proofs.lemmas.List.Elements.{Contains-append_cases}
+use Rattle.std.proofs.lemmas.Option.{slice_get_within}
 use Rattle.pmf_event.specs.declared.event.Event.{Event}
 use Rattle.pmf_event.specs.declared.event.Event.TheVariants.{Flush}
 use Rattle.pmf_event.specs.declared.finding.Finding.{Finding}
@@ -62,3 +63,9 @@ finding-from_rows profile es (suc n) p f found =
           let own = place-of_row (suc n) p f (findings_of profile es (suc n) (event_at es (suc n))) here in
           subst (λ q. Contains (findings_of profile es q (event_at es q)) f) own.0 own.1
     ]
+
+-- an event stands at a place of the list
+pub place-within : (es : List Event) (p : ℕ) (e : Event) → event_at es p ≡ Some e → (0 < p) × (p ≤ length es)
+unfolding event_at
+place-within es zero e here = let bad : None ≡ Some e = here in cc
+place-within es (suc p) e here = let within = slice_get_within es p e here in (omega arith, omega arith)

@@ -1,5 +1,5 @@
--- Exactness: which assertions hold, by their rows. An assertion holds where it does so in every crash image
--- that the rules allow, torn stores included.
+-- Exactness: which assertions hold, by their rows. An assertion holds if it does so at each crash that it speaks
+-- of, in every image that the rules allow there, torn stores included.
 use Rattle.std.specs.Prelude.{◌≡◌, ◌↔◌, ◌⊎◌, ℕ, ◌-◌, true, false, List, Some, Contains}
 use Rattle.pmf_event.specs.declared.event.Event.{Event}
 use Rattle.pmf_event.specs.declared.event.Event.TheVariants.{Persist, Ordered, CheckEnd}
@@ -26,24 +26,26 @@ ScopesAreExact es rows = (p : ℕ) → event_at es p ≡ Some CheckEnd → in_sc
     ScopeHolds es p ↔ Contains rows (row_at p CheckPass)
 
 -- the row of an order assertion at p is PASS or EMPTY
-abbrev pub OrderIsKept : List Row → ℕ → Type 0
-OrderIsKept rows p = Contains rows (row_at p OrderedPass) ⊎ Contains rows (row_at p OrderedEmpty)
+abbrev pub IsPassOrEmpty : List Row → ℕ → Type 0
+IsPassOrEmpty rows p = Contains rows (row_at p OrderedPass) ⊎ Contains rows (row_at p OrderedEmpty)
 
 -- it is PASS, EMPTY or SAMELINE
-abbrev pub OrderIsNotRefuted : List Row → ℕ → Type 0
-OrderIsNotRefuted rows p = OrderIsKept rows p ⊎ ((x : ℕ) × (y : ℕ) × Contains rows (row_at p (OrderedSameLine x y)))
+abbrev pub IsNotFailed : List Row → ℕ → Type 0
+IsNotFailed rows p = IsPassOrEmpty rows p ⊎ ((x : ℕ) × (y : ℕ) × Contains rows (row_at p (OrderedSameLine x y)))
 
 -- the two spans have no checked byte in common
 abbrev pub AreApart : List Event → ℕ → Extent → Extent → Type 0
 AreApart es p a b = (x : ℕ) → covers_byte a x ≡ true → covers_byte b x ≡ true → is_checked es p x ≡ false
 
--- by profile One, an order assertion that holds is PASS, EMPTY or SAMELINE; by profile Two it holds exactly
--- where each unordered pair is one byte with itself, and so over spans without a checked byte in common
--- exactly where its row is PASS or EMPTY
+-- an order assertion whose row is PASS or EMPTY holds. By profile One, one that holds is PASS, EMPTY or SAMELINE;
+-- by profile Two it holds exactly where each unordered pair is one byte with itself, and so over spans without a
+-- checked byte in common exactly where its row is PASS or EMPTY
 abbrev pub OrderIsExact : Profile → List Event → List Row → ℕ → Extent → Extent → Type 0
-OrderIsExact One es rows p a b = OrderedHolds es p a b → OrderIsNotRefuted rows p
+OrderIsExact One es rows p a b =
+    (IsPassOrEmpty rows p → OrderedHolds es p a b) × (OrderedHolds es p a b → IsNotFailed rows p)
 OrderIsExact Two es rows p a b =
-    (OrderedHolds es p a b ↔ PairsAreOneByte es p a b) × (AreApart es p a b → (OrderedHolds es p a b ↔ OrderIsKept rows p))
+    (IsPassOrEmpty rows p → OrderedHolds es p a b) × (OrderedHolds es p a b ↔ PairsAreOneByte es p a b)
+    × (AreApart es p a b → (OrderedHolds es p a b ↔ IsPassOrEmpty rows p))
 
 -- each order assertion is exact by the profile
 abbrev pub OrdersAreExact : Profile → List Event → List Row → Type 0

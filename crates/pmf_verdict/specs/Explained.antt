@@ -7,7 +7,7 @@ use Rattle.pmf_event.specs.declared.row.Row.{Row}
 use Rattle.pmf_event.specs.Line.{line_of_byte}
 use Rattle.pmf_image.specs.declared.certificate.Certificate.{Certificate}
 use Rattle.pmf_image.specs.Image.{IsAllowed}
-use Rattle.pmf_image.specs.Certificate.{image_of}
+use Rattle.pmf_image.specs.Certificate.{Fits, image_of}
 use Rattle.pmf_image.specs.Contradiction.{Contradicts}
 use Rattle.pmf_verdict.specs.Rows.{row_at}
 
@@ -25,6 +25,8 @@ abbrev pub Explains : List Row → ℕ → Option Certificate → Type 0
 Explains rows p (Some c) = (f : Finding) × Contains rows (row_at p f) × (certificate_of p f ≡ Some c)
 Explains rows p None = (f : Finding) → Contains rows (row_at p f) → certificate_of p f ≡ None
 
--- each certificate that the rows give is of an allowed image, which contradicts the assertion at its place
+-- each certificate that the rows give speaks of these events, and its image is allowed and contradicts the
+-- assertion at the row's place
 abbrev pub FailuresAreReal : List Event → List Row → Type 0
-FailuresAreReal es rows = (p : ℕ) (c : Certificate) → Explains rows p (Some c) → IsAllowed es c.crash (image_of es c) × Contradicts es p c
+FailuresAreReal es rows = (p : ℕ) (c : Certificate) → Explains rows p (Some c) →
+    Fits es c × IsAllowed es c.crash (image_of es c) × Contradicts es p c

@@ -38,7 +38,8 @@ tear b image = record { cuts = image.cuts; torn = b ∷ image.torn }
 unfoldable pub is_next : List Event → ℕ → ℕ → ℕ → Bool
 is_next es b cut k = at (stores b) es k && count_of es k (line_of_byte b) == suc cut
 
--- whether byte b may be torn in the image: the store after the cut of its line is one of it
+-- whether byte b may be torn in the image: the store after the cut of its line covers it; where it doesn't, a
+-- torn byte shows nothing new and is left out
 unfoldable pub may_tear : List Event → ℕ → ℕ → Image → Bool
 may_tear es n b image = nat_lt 0 (greatest (is_next es b (cut_of es n image (line_of_byte b))) n)
 

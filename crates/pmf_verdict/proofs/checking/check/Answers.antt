@@ -1,5 +1,5 @@
 use Rattle.pmf_verdict.proofs.ExactLemmas.{rows_exact}
-use Rattle.pmf_verdict.proofs.ExplainLemmas.{failures_real}
+use Rattle.pmf_verdict.proofs.FitLemmas.{failures_real}
 use Rattle.pmf_verdict.proofs.SoundLemmas.{passes_hold, orders_hold, scopes_hold}
 use Rattle.pmf_verdict.proofs.checking.check.Goals as goal
 

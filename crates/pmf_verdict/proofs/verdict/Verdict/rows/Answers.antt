@@ -4,7 +4,7 @@ use Rattle.pmf_verdict.specs.Explained.{FailuresAreReal}
 use Rattle.pmf_verdict.specs.Sound.{PassesHold, OrdersHold, ScopesHold}
 use Rattle.pmf_verdict.specs.Exact.{IsExact}
 use Rattle.pmf_verdict.proofs.ExactLemmas.{rows_exact}
-use Rattle.pmf_verdict.proofs.ExplainLemmas.{failures_real}
+use Rattle.pmf_verdict.proofs.FitLemmas.{failures_real}
 use Rattle.pmf_verdict.proofs.SoundLemmas.{passes_hold, orders_hold, scopes_hold}
 use Rattle.pmf_verdict.proofs.verdict.Verdict.rows.Goals as goal
 
