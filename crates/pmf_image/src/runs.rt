@@ -1,6 +1,6 @@
 //! Runs of bytes that no event, and no certificate, tells apart.
 
-ghost use Rattle.std.specs.Prelude.{ℕ, ◌≡◌, ◌<◌, ◌≤◌, Some, nat_eq};
+ghost use Rattle.std.specs.Prelude.{ℕ, ◌≡◌, ◌⊎◌, ◌<◌, ◌≤◌, Some, nat_eq};
 ghost use Rattle.std.specs.Option.{option_eq};
 ghost use Rattle.pmf_event.specs.Line.{line_of_byte, meets_line};
 ghost use Rattle.pmf_event.specs.Span.{covers_byte};
@@ -74,6 +74,8 @@ fn before_border(border: u64, byte: u64, end: u64) -> u64
     ensures above { byte < result }
     ensures below { result ≤ end }
     ensures border { byte < border → result ≤ border }
+    // No other byte ends a run.
+    ensures which { (result ≡ border) ⊎ (result ≡ end) }
 {
     if byte < border && border < end {
         return border;
