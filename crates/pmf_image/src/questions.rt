@@ -24,7 +24,7 @@ pub enum Question {
 }
 
 impl Question {
-    // Whether the byte is asked, and the answer is yes. At most five passes over the events.
+    // Whether the byte is asked, and the answer is yes. At most four passes over the events.
     pub fn answer(self, events: &[Event], place: u32, certificate: Certificate, byte: u64) -> bool
         requires fits { Fits events.now certificate }
         requires some { 0 < place }
