@@ -67,11 +67,11 @@ floor-below_store es k line =
 not_in : (torn : List ℕ) (x y : ℕ) → (is_in torn x ≡ true → x ≡ y) → (x ≡ y → ⊥) → is_in torn x ≡ false
 not_in torn x y only apart = elim (is_in torn x) as (λ v. is_in torn x ≡ v → v ≡ false) [ true ↦ λ is. absurd (apart (only is)) | false ↦ λ is. refl ] refl
 
-reach-torn : (es : List Event) (n b : ℕ) (image : Image) → is_in image.torn b ≡ true → reach_of es n image b ≡ cut_of es n image (line_of_byte b) + 1
+pub reach-torn : (es : List Event) (n b : ℕ) (image : Image) → is_in image.torn b ≡ true → reach_of es n image b ≡ cut_of es n image (line_of_byte b) + 1
 unfolding reach_of
 reach-torn es n b image is = ap (λ v. cut_of es n image (line_of_byte b) + (if v then 1 else 0)) is
 
-reach-whole : (es : List Event) (n b : ℕ) (image : Image) → is_in image.torn b ≡ false → reach_of es n image b ≡ cut_of es n image (line_of_byte b)
+pub reach-whole : (es : List Event) (n b : ℕ) (image : Image) → is_in image.torn b ≡ false → reach_of es n image b ≡ cut_of es n image (line_of_byte b)
 unfolding reach_of
 reach-whole es n b image is = ap (λ v. cut_of es n image (line_of_byte b) + (if v then 1 else 0)) is ∙ (omega arith)
 

@@ -1,8 +1,8 @@
 -- Soundness of closed intervals, the two images that are always there, and the image of an open interval.
-use Rattle.std.specs.Prelude.{◌||◌}
-use Rattle.std.proofs.Common.{◌≡◌, ℕ, zero, suc, ◌+◌, ◌-◌, ◌<◌, ◌≤◌, true, false, ◌==◌, List, [], ◌∷◌, if◌then◌else◌, refl, sym, ◌∙◌, ap, arith, inl, inr}
+use Rattle.std.specs.Prelude.{◌||◌, ◌⊎◌}
+use Rattle.std.proofs.Common.{◌≡◌, ℕ, zero, suc, ◌+◌, ◌-◌, ◌<◌, ◌≤◌, true, false, ◌==◌, List, [], ◌∷◌, if◌then◌else◌, refl, sym, ◌∙◌, ap, subst, arith, inl, inr}
 use Rattle.std.specs.Prelude.{Some, None, unwrap_or, slice_get}
-use Rattle.std.proofs.lemmas.Bool.{cases_lt, cases_eq, leb-true, le-leb, ne_eqb, and_parts, and_from, ltb-true}
+use Rattle.std.proofs.lemmas.Bool.{cases_lt, cases_eq, or_cases, leb-true, le-leb, ne_eqb, and_parts, and_from, ltb-true}
 use Rattle.std.proofs.lemmas.Bool.Decides.{Decides-eqb}
 use Rattle.pmf_event.specs.declared.event.Event.{Event}
 use Rattle.pmf_event.specs.declared.event.Event.TheVariants.{Store}
@@ -14,7 +14,7 @@ use Rattle.pmf_event.specs.Persist.{is_checked, is_exposed}
 use Rattle.pmf_event.proofs.PlacesLemmas.{greatest-bound, greatest-passes, greatest-above, count-zero, count-mono, count-here, count-found, some_between-here, some_between-found}
 use Rattle.pmf_event.proofs.LineLemmas.{stores-line, meets-bounds}
 use Rattle.pmf_event.proofs.IntervalLemmas.{Closing, Closing-from_closed, no_Closing-from_open}
-use Rattle.pmf_image.specs.Image.{count_of, is_fenced, floor_of, Image, value_of, is_in, cut_of, reach_of, reaches, shows}
+use Rattle.pmf_image.specs.Image.{count_of, is_fenced, floor_of, Image, IsAllowed, value_of, is_in, cut_of, reach_of, reaches, shows}
 use Rattle.pmf_image.specs.Laws.{EachCutIsAllowed, EachByteMayBeTorn, ClosedIntervalsHold, AllowsCuts, EveryPlaceHasImages, OpenIntervalsDoNotHold}
 
 -- ---- soundness
@@ -80,18 +80,18 @@ pub is_in-empty : (b : ℕ) → is_in [] b ≡ true → ⊥
 unfolding is_in
 is_in-empty b some = let bad : false ≡ true = some in cc
 
+pub untorn-allowed : (es : List Event) (n : ℕ) (image : Image) → image.torn ≡ [] →
+    ((line : ℕ) → (floor_of es n line ≤ cut_of es n image line) × (cut_of es n image line ≤ count_of es n line)) → IsAllowed es n image
+untorn-allowed es n image untorn within = record {
+  low = λ line. (within line).0;
+  high = λ line. (within line).1;
+  torn = λ b some. absurd (is_in-empty b (ap (λ t. is_in t b) (sym untorn) ∙ some));
+}
+
 allows-untorn : (es : List Event) (n : ℕ) (cut : ℕ → ℕ) (image : Image) → image.torn ≡ [] → ((line : ℕ) → cut_of es n image line ≡ cut line) →
     ((line : ℕ) → (floor_of es n line ≤ cut line) × (cut line ≤ count_of es n line)) → AllowsCuts es n cut
-allows-untorn es n cut image untorn cuts within = record {
-  image = image;
-  untorn = untorn;
-  cuts = cuts;
-  allowed = record {
-    low = λ line. rw (cuts line) (within line).0;
-    high = λ line. rw (cuts line) (within line).1;
-    torn = λ b some. absurd (is_in-empty b (ap (λ t. is_in t b) (sym untorn) ∙ some));
-  };
-}
+allows-untorn es n cut image untorn cuts within =
+    record { image = image; untorn = untorn; cuts = cuts; allowed = untorn-allowed es n image untorn (λ line. rw (cuts line) (within line)) }
 
 allows_floors : (es : List Event) (n : ℕ) → AllowsCuts es n (floor_of es n)
 unfolding no_cuts
@@ -181,79 +181,80 @@ has_images es n = (allows_floors es n, allows_counts es n)
 
 -- ---- one cut, and one torn byte
 
-one_cut : ℕ → ℕ → Image
-one_cut line cut = record { cuts = (line, cut) ∷ []; torn = [] }
+-- the cut that stands first in the map is that of its line
+pub cut-first : (es : List Event) (n line cut : ℕ) (cuts : List (ℕ × ℕ)) (torn : List ℕ) →
+    cut_of es n (record { cuts = (line, cut) ∷ cuts; torn = torn }) line ≡ cut
+unfolding cut_of value_of
+cut-first es n line cut cuts torn =
+    ap (λ v. unwrap_or (if v then Some cut else value_of cuts line) (floor_of es n line)) ((Decides-eqb line line).1 refl)
 
-one_cut-here : (es : List Event) (n line cut : ℕ) → cut_of es n (one_cut line cut) line ≡ cut
-unfolding one_cut cut_of value_of
-one_cut-here es n line cut = ap (λ v. unwrap_or (if v then Some cut else None) (floor_of es n line)) ((Decides-eqb line line).1 refl)
+pub cut-rest : (es : List Event) (n line cut other : ℕ) (cuts : List (ℕ × ℕ)) (torn : List ℕ) → (other ≡ line → ⊥) →
+    cut_of es n (record { cuts = (line, cut) ∷ cuts; torn = torn }) other ≡ cut_of es n (record { cuts = cuts; torn = torn }) other
+unfolding cut_of value_of
+cut-rest es n line cut other cuts torn apart =
+    ap (λ v. unwrap_or (if v then Some cut else value_of cuts other) (floor_of es n other)) (ne_eqb line other (λ same. apart (sym same)))
 
-one_cut-elsewhere : (es : List Event) (n line cut other : ℕ) → (other ≡ line → ⊥) → cut_of es n (one_cut line cut) other ≡ floor_of es n other
+pub in-torn : (b other : ℕ) (torn : List ℕ) → is_in (b ∷ torn) other ≡ true → (b ≡ other) ⊎ (is_in torn other ≡ true)
+unfolding is_in
+in-torn b other torn some = elim (or_cases (b == other) (is_in torn other) some) [
+  | inl is ↦ inl ((Decides-eqb b other).0 is)
+  | inr later ↦ inr later
+]
+
+pub torn-first : (b : ℕ) (torn : List ℕ) → is_in (b ∷ torn) b ≡ true
+unfolding is_in
+torn-first b torn = ap (λ v. v || is_in torn b) ((Decides-eqb b b).1 refl)
+
+one_cut : ℕ → ℕ → List ℕ → Image
+one_cut line cut torn = record { cuts = (line, cut) ∷ []; torn = torn }
+
+one_cut-here : (es : List Event) (n line cut : ℕ) (torn : List ℕ) → cut_of es n (one_cut line cut torn) line ≡ cut
+unfolding one_cut
+one_cut-here es n line cut torn = cut-first es n line cut [] torn
+
+one_cut-elsewhere : (es : List Event) (n line cut : ℕ) (torn : List ℕ) (other : ℕ) → (other ≡ line → ⊥) →
+    cut_of es n (one_cut line cut torn) other ≡ floor_of es n other
 unfolding one_cut cut_of value_of
-one_cut-elsewhere es n line cut other apart =
-    ap (λ v. unwrap_or (if v then Some cut else None) (floor_of es n other)) (ne_eqb line other (λ same. apart (sym same)))
+one_cut-elsewhere es n line cut torn other apart = cut-rest es n line cut other [] torn apart
+
+one_cut-within : (es : List Event) (n line cut : ℕ) (torn : List ℕ) → floor_of es n line ≤ cut → cut ≤ count_of es n line → (other : ℕ) →
+    (floor_of es n other ≤ cut_of es n (one_cut line cut torn) other) × (cut_of es n (one_cut line cut torn) other ≤ count_of es n other)
+one_cut-within es n line cut torn low high other = elim (cases_eq other line) [
+  | inl same ↦ rw (same, one_cut-here es n line cut torn) (low, high)
+  | inr apart ↦ rw (one_cut-elsewhere es n line cut torn other apart) (omega arith, floor-below_count es n other)
+]
 
 pub allows_each_cut : EachCutIsAllowed
 unfolding one_cut
 allows_each_cut es n line cut low high = record {
-  image = one_cut line cut;
+  image = one_cut line cut [];
   untorn = refl;
-  here = one_cut-here es n line cut;
-  elsewhere = one_cut-elsewhere es n line cut;
+  here = one_cut-here es n line cut [];
+  elsewhere = one_cut-elsewhere es n line cut [];
   allowed = record {
-    low = λ other. elim (cases_eq other line) [
-      | inl same ↦ rw (same, one_cut-here es n line cut) low
-      | inr apart ↦ rw (one_cut-elsewhere es n line cut other apart) (omega arith)
-    ];
-    high = λ other. elim (cases_eq other line) [
-      | inl same ↦ rw (same, one_cut-here es n line cut) high
-      | inr apart ↦ rw (one_cut-elsewhere es n line cut other apart) (floor-below_count es n other)
-    ];
+    low = λ other. (one_cut-within es n line cut [] low high other).0;
+    high = λ other. (one_cut-within es n line cut [] low high other).1;
     torn = λ b some. absurd (is_in-empty b some);
   };
 }
 
-one_torn : ℕ → ℕ → ℕ → Image
-one_torn line cut b = record { cuts = (line, cut) ∷ []; torn = b ∷ [] }
-
-one_torn-here : (es : List Event) (n line cut b : ℕ) → cut_of es n (one_torn line cut b) line ≡ cut
-unfolding one_torn cut_of value_of
-one_torn-here es n line cut b = ap (λ v. unwrap_or (if v then Some cut else None) (floor_of es n line)) ((Decides-eqb line line).1 refl)
-
-one_torn-elsewhere : (es : List Event) (n line cut b other : ℕ) → (other ≡ line → ⊥) → cut_of es n (one_torn line cut b) other ≡ floor_of es n other
-unfolding one_torn cut_of value_of
-one_torn-elsewhere es n line cut b other apart = ap (λ v. unwrap_or (if v then Some cut else None) (floor_of es n other)) (ne_eqb line other (λ same. apart (sym same)))
-
-one_torn-is_in : (b other : ℕ) → is_in (b ∷ []) other ≡ true → other ≡ b
-unfolding is_in
-one_torn-is_in b other some =
-    elim (b == other) as (λ v. (b == other) ≡ v → (v || false) ≡ true → other ≡ b) [
-      | true ↦ λ is more. sym ((Decides-eqb b other).0 is)
-      | false ↦ λ is more. let bad : false ≡ true = more in cc
-    ] refl some
-
-is_in-itself : (b other : ℕ) → other ≡ b → is_in (b ∷ []) other ≡ true
-unfolding is_in
-is_in-itself b other same = ap (λ v. v || false) ((Decides-eqb b other).1 (sym same))
+only-torn : (b other : ℕ) → is_in (b ∷ []) other ≡ true → other ≡ b
+only-torn b other some = elim (in-torn b other [] some) [ inl same ↦ sym same | inr none ↦ absurd (is_in-empty other none) ]
 
 pub allows_each_torn : EachByteMayBeTorn
-unfolding one_torn
+unfolding one_cut
 allows_each_torn es n b cut low room =
-    let line = line_of_byte b in record {
-      image = one_torn line cut b;
-      torn = λ other. (one_torn-is_in b other, is_in-itself b other);
-      here = one_torn-here es n line cut b;
-      elsewhere = one_torn-elsewhere es n line cut b;
+    let line = line_of_byte b in
+    let torn = b ∷ [] in
+    let within = one_cut-within es n line cut torn low (omega arith) in record {
+      image = one_cut line cut torn;
+      torn = λ other. (only-torn b other, λ same. subst (λ k. is_in (b ∷ []) k ≡ true) (sym same) (torn-first b []));
+      here = one_cut-here es n line cut torn;
+      elsewhere = one_cut-elsewhere es n line cut torn;
       allowed = record {
-        low = λ other. elim (cases_eq other line) [
-          | inl same ↦ rw (same, one_torn-here es n line cut b) low
-          | inr apart ↦ rw (one_torn-elsewhere es n line cut b other apart) (omega arith)
-        ];
-        high = λ other. elim (cases_eq other line) [
-          | inl same ↦ rw (same, one_torn-here es n line cut b) (omega arith)
-          | inr apart ↦ rw (one_torn-elsewhere es n line cut b other apart) (floor-below_count es n other)
-        ];
-        torn = λ other some. rw (one_torn-is_in b other some, one_torn-here es n line cut b) room;
+        low = λ other. (within other).0;
+        high = λ other. (within other).1;
+        torn = λ other some. rw (only-torn b other some, one_cut-here es n line cut torn) room;
       };
     }
 

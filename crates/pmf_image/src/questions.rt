@@ -2,6 +2,7 @@
 
 ghost use Rattle.std.specs.Prelude.{◌≡◌, ◌<◌, ◌≤◌, ◌↔◌, true, length};
 ghost use Rattle.pmf_image.specs.Certificate.{Fits};
+ghost use Rattle.pmf_event.specs.Store.{last_store};
 ghost use Rattle.pmf_image.specs.Questions.{SomeByte, answer_of, compares, is_asked};
 
 use crate::certificate::{Certificate, last_store, shows};
@@ -24,24 +25,24 @@ pub enum Question {
 }
 
 impl Question {
-    // Whether the byte is asked, and the answer is yes. At most four passes over the events.
+    // Whether the byte is asked, and the answer is yes. At most four passes over the events, and three but
+    // for the question of a scope.
     pub fn answer(self, events: &[Event], place: u32, certificate: Certificate, byte: u64) -> bool
         requires fits { Fits events.now certificate }
         requires some { 0 < place }
         requires within { place ≤ length events.now }
         ensures { result ≡ answer_of self events.now place certificate byte }
     {
-        if !self.is_asked(events, place, byte) {
-            return false;
-        }
-        let shown = shows(events, certificate, byte);
-        self.compares(shown, last_store(events, place, byte))
+        let last = last_store(events, place, byte);
+        self.is_asked(events, place, byte, last)
+            && self.compares(shows(events, certificate, byte), last)
     }
 
-    // Whether the byte is one of those that are asked. At most two passes over the events.
-    fn is_asked(self, events: &[Event], place: u32, byte: u64) -> bool
+    // Whether the byte is one of those that are asked, by its last store. At most two passes over the events.
+    fn is_asked(self, events: &[Event], place: u32, byte: u64, last: u32) -> bool
         requires some { 0 < place }
         requires within { place ≤ length events.now }
+        requires last { last ≡ last_store events.now place byte }
         ensures { result ≡ is_asked self events.now place byte }
     {
         if !is_included(events, place, byte) {
@@ -49,7 +50,7 @@ impl Question {
         }
         match self {
             Question::ScopeFallsShort => scope_at(events, place - 1, byte).has_byte,
-            _ => last_store(events, place, byte) > 0,
+            _ => last > 0,
         }
     }
 

@@ -15,7 +15,7 @@ use Rattle.pmf_event.specs.Interval.{interval_at, is_open}
 use Rattle.pmf_event.specs.Exclusion.{is_included}
 use Rattle.pmf_event.specs.Ranges.{first_from, first_byte}
 use Rattle.pmf_event.specs.Persist.{is_checked, is_exposed, pass_unless, persist_finding}
-use Rattle.pmf_event.specs.Order.{is_ordered, is_unordered, is_certified, least_pair, finding_of_pairs, ordered_finding}
+use Rattle.pmf_event.specs.Order.{is_unordered, is_certified, least_pair, finding_of_pairs, ordered_finding}
 use Rattle.pmf_event.specs.Transactions.{in_transaction, depth_at, in_scope, is_scoped, is_left_open, scope_passes_unless, check_finding}
 use Rattle.pmf_event.proofs.RangeLemmas.{first-passes}
 use Rattle.pmf_event.proofs.LeastPairLemmas.{pair-from, certified-unordered}
@@ -25,17 +25,10 @@ use Rattle.pmf_image.specs.declared.certificate.Certificate.{Certificate}
 use Rattle.pmf_image.specs.Contradiction.{PersistContradicted, OrderedContradicted, ScopeContradicted, ContradictsEvent, Contradicts}
 use Rattle.pmf_image.proofs.ImageLemmas.{last_store-bound}
 use Rattle.pmf_image.proofs.FailureLemmas.{shown-where_open, pair-shown}
+use Rattle.pmf_image.proofs.ExactLemmas.{checked-parts}
 use Rattle.pmf_verdict.specs.Rows.{row_at, rows_of}
 use Rattle.pmf_verdict.specs.Explained.{certificate_of}
 use Rattle.pmf_verdict.proofs.KindLemmas.{persist-from_rows, ordered-from_rows, check-from_rows}
-
--- ---- the parts of a failure
-
-all_parts : (u v w : Bool) → (u && v && w) ≡ true → (u ≡ true) × (v ≡ true) × (w ≡ true)
-all_parts true true true is = (refl, refl, refl)
-all_parts true true false is = let bad : false ≡ true = is in cc
-all_parts true false w is = let bad : false ≡ true = is in cc
-all_parts false v w is = let bad : false ≡ true = is in cc
 
 -- ---- a failure of a persist assertion
 
@@ -72,12 +65,6 @@ fails-ordered es p true w c u x y n is = let bad : OrderedFail x y n ≡ Ordered
 fails-ordered es p false true c u x y n is = let bad : OrderedFail x y n ≡ OrderedEmpty = is in cc
 fails-ordered es p false false c u x y n is = fails-pairs es p c u x y n is
 
-certified-checked : (profile : Profile) (es : List Event) (p x y : ℕ) → is_certified profile es p x y ≡ true → (is_checked es p x ≡ true) × (is_checked es p y ≡ true)
-unfolding is_certified is_unordered
-certified-checked profile es p x y is =
-    let unordered = certified-unordered profile es p x y is in
-    let parts = all_parts (is_checked es p x) (is_checked es p y) (not (is_ordered profile es p x y)) unordered in (parts.0, parts.1)
-
 ordered-contradicted : (profile : Profile) (es : List Event) (p : ℕ) (a b : Extent) (x y n : ℕ) → OrderedFail x y n ≡ ordered_finding profile es p a b →
     OrderedContradicted es p a b (record { crash = n; full_line = Some (line_of_byte y) })
 unfolding ordered_finding
@@ -86,7 +73,7 @@ ordered-contradicted profile es p a b x y n is =
     let unordered = least_pair (is_unordered profile es p) a b in
     let fails = fails-ordered es p (is_none (first_byte (is_checked es p) a)) (is_none (first_byte (is_checked es p) b)) certified unordered x y n is in
     let pair = pair-from (is_certified profile es p) a b x y fails.0 in
-    let checked = certified-checked profile es p x y pair.passes in
+    let checked = checked-parts profile es p x y (certified-unordered profile es p x y pair.passes) in
     let shown = pair-shown profile es p x y pair.passes in
     subst (λ k. OrderedContradicted es p a b (record { crash = k; full_line = Some (line_of_byte y) })) (sym fails.1)
     (last_store-bound es p y, x, y, pair.one, pair.other, checked.0, checked.1, shown.0, shown.1)
@@ -103,7 +90,8 @@ fails-check true false d (Some k) b is = let same : CheckFail b ≡ CheckFail k 
 left_open-parts : (es : List Event) (p b : ℕ) → is_left_open es p b ≡ true → (is_scoped es p b ≡ true) × (is_included es (suc p) b ≡ true)
 unfolding is_left_open
 left_open-parts es p b is =
-    let parts = all_parts (is_scoped es p b) (is_included es (suc p) b) (is_open (interval_at es (suc p) b)) is in (parts.0, parts.1)
+    and_parts (is_scoped es p b) (is_included es (suc p) b)
+    (and_parts (is_scoped es p b && is_included es (suc p) b) (is_open (interval_at es (suc p) b)) is).0
 
 scope_contradicted-after : (es : List Event) (p b : ℕ) → CheckFail b ≡ check_finding es p → ScopeContradicted es (suc p) (record { crash = suc p; full_line = None })
 unfolding check_finding

@@ -1,8 +1,8 @@
 -- The plain list of images: each one is allowed, and each allowed image is shown by one of them.
 use Rattle.std.proofs.Common.{◌≡◌, ℕ, zero, suc, ◌+◌, ◌-◌, ◌<◌, ◌≤◌, Bool, true, false, ◌&&◌, ◌||◌, ◌==◌, nat_lt, nat_le, if◌then◌else◌, List, [], ◌∷◌, ◌++◌, drop, get_or, length, refl, sym, ◌∙◌, ap, subst, arith, inl, inr}
-use Rattle.std.specs.Prelude.{◌⊎◌, Contains, Some, None, unwrap_or}
+use Rattle.std.specs.Prelude.{◌⊎◌, Contains, Some, None}
 use Rattle.std.specs.List.{flat_map}
-use Rattle.std.proofs.lemmas.Bool.{cases_lt, cases_eq, or_cases, and_parts, and_from, ltb-true, lt-ltb, leb-true, le-leb, ne_eqb}
+use Rattle.std.proofs.lemmas.Bool.{cases_lt, cases_eq, and_parts, and_from, ltb-true, lt-ltb, leb-true, le-leb, ne_eqb}
 use Rattle.std.proofs.lemmas.Bool.Decides.{Decides-eqb}
 use Rattle.std.proofs.lemmas.List.{at_drop_more}
 use Rattle.std.proofs.lemmas.List.Elements.{Contains-append_left, Contains-append_right, Contains-append_cases}
@@ -13,13 +13,12 @@ use Rattle.pmf_event.specs.Store.{at, stores}
 use Rattle.pmf_event.proofs.PlacesLemmas.{greatest-passes, greatest-bound, greatest-above}
 use Rattle.pmf_image.specs.Image.{Image, IsAllowed, count_of, floor_of, value_of, is_in, cut_of, reach_of, reaches, shows}
 use Rattle.pmf_image.proofs.CertificateLemmas.{greatest-same}
-use Rattle.pmf_image.proofs.ImageLemmas.{floor-below_count, count_of-mono, is_in-empty}
+use Rattle.pmf_image.proofs.ImageLemmas.{floor-below_count, count_of-mono, is_in-empty, untorn-allowed, cut-first, cut-rest, in-torn, torn-first}
+use Rattle.pmf_image.proofs.ExactLemmas.{reach-torn, reach-whole}
+use Rattle.pmf_verdict.proofs.RowsLemmas.{not_in_empty}
 use Rattle.pmf_verdict.specs.Listing.{floors, recut, recuts, with_cuts, all_cuts, tear, is_next, may_tear, if_torn, all_torn, all_images, AreAllowed, ShowAll}
 
 -- ---- elements
-
-not_in_empty : {X : Type 0} (x : X) → Contains [] x → ⊥
-not_in_empty x found = let bad = found.1 in omega arith
 
 only-single : {X : Type 0} (x y : X) → Contains (x ∷ []) y → x ≡ y
 only-single x y (zero, within, is) = is
@@ -50,15 +49,6 @@ in-cons x xs y (zero, within, is) = inl is
 in-cons x xs y (suc k, within, is) = inr (k, omega arith, is)
 
 -- ---- cuts
-
-cut-here : (es : List Event) (n line cut : ℕ) (image : Image) → cut_of es n (recut line cut image) line ≡ cut
-unfolding cut_of value_of
-cut-here es n line cut image = ap (λ v. unwrap_or (if v then Some cut else value_of image.cuts line) (floor_of es n line)) ((Decides-eqb line line).1 refl)
-
-cut-elsewhere : (es : List Event) (n line cut other : ℕ) (image : Image) → (other ≡ line → ⊥) → cut_of es n (recut line cut image) other ≡ cut_of es n image other
-unfolding cut_of value_of
-cut-elsewhere es n line cut other image apart =
-    ap (λ v. unwrap_or (if v then Some cut else value_of image.cuts other) (floor_of es n other)) (ne_eqb line other (λ same. apart (sym same)))
 
 cut-torn : (es : List Event) (n b line : ℕ) (image : Image) → cut_of es n (tear b image) line ≡ cut_of es n image line
 unfolding cut_of
@@ -101,12 +91,12 @@ module _ (es : List Event) (n : ℕ) where
   untorn-recut line cut image is low high = record {
     untorn = is.untorn;
     low = λ other. elim (cases_eq other line) [
-      | inl same ↦ rw (same, cut-here es n line cut image) low
-      | inr apart ↦ rw (cut-elsewhere es n line cut other image apart) (is.low other)
+      | inl same ↦ rw (same, cut-first es n line cut image.cuts image.torn) low
+      | inr apart ↦ rw (cut-rest es n line cut other image.cuts image.torn apart) (is.low other)
     ];
     high = λ other. elim (cases_eq other line) [
-      | inl same ↦ rw (same, cut-here es n line cut image) high
-      | inr apart ↦ rw (cut-elsewhere es n line cut other image apart) (is.high other)
+      | inl same ↦ rw (same, cut-first es n line cut image.cuts image.torn) high
+      | inr apart ↦ rw (cut-rest es n line cut other image.cuts image.torn apart) (is.high other)
     ];
   }
 
@@ -154,12 +144,12 @@ module _ (es : List Event) (n : ℕ) where
           listed = rest.listed;
           found = rest.found;
           same = λ other within. elim (in-cons line lines other within) [
-            | inl is ↦ rest.kept other (subst (λ l. cut_of es n (recut line (cut_of es n image line) before) l ≡ cut_of es n image l) is (cut-here es n line (cut_of es n image line) before))
+            | inl is ↦ rest.kept other (subst (λ l. cut_of es n (recut line (cut_of es n image line) before) l ≡ cut_of es n image l) is (cut-first es n line (cut_of es n image line) before.cuts before.torn))
             | inr later ↦ rest.same other later
           ];
           kept = λ other same. elim (cases_eq other line) [
-            | inl is ↦ rest.kept other (subst (λ l. cut_of es n (recut line (cut_of es n image line) before) l ≡ cut_of es n image l) (sym is) (cut-here es n line (cut_of es n image line) before))
-            | inr apart ↦ rest.kept other (cut-elsewhere es n line (cut_of es n image line) other before apart ∙ same)
+            | inl is ↦ rest.kept other (subst (λ l. cut_of es n (recut line (cut_of es n image line) before) l ≡ cut_of es n image l) (sym is) (cut-first es n line (cut_of es n image line) before.cuts before.torn))
+            | inr apart ↦ rest.kept other (cut-rest es n line (cut_of es n image line) other before.cuts before.torn apart ∙ same)
           ];
         }
 
@@ -171,23 +161,18 @@ module _ (es : List Event) (n : ℕ) where
   unfolding may_tear is_next
   room-from_tear b image may =
       let cut = cut_of es n image (line_of_byte b) in
-      let k = greatest (is_next es b (cut_of es n image (line_of_byte b))) n in
-      let some = ltb-true 0 (greatest (is_next es b (cut_of es n image (line_of_byte b))) n) may in
-      let is = and_parts _ _ (greatest-passes (is_next es b (cut_of es n image (line_of_byte b))) n some) in
-      let rank : count_of es (greatest (is_next es b (cut_of es n image (line_of_byte b))) n) (line_of_byte b) ≡ suc (cut_of es n image (line_of_byte b)) = (Decides-eqb _ _).0 is.1 in
-      let bound = greatest-bound (is_next es b (cut_of es n image (line_of_byte b))) n in
-      let rise = count_of-mono es (greatest (is_next es b (cut_of es n image (line_of_byte b))) n) n (line_of_byte b) bound in
+      let k = greatest (is_next es b cut) n in
+      let some = ltb-true 0 k may in
+      let is = and_parts (at (stores b) es k) (count_of es k (line_of_byte b) == suc cut) (greatest-passes (is_next es b cut) n some) in
+      let rank = (Decides-eqb (count_of es k (line_of_byte b)) (suc cut)).0 is.1 in
+      let rise = count_of-mono es k n (line_of_byte b) (greatest-bound (is_next es b cut) n) in
       omega (arith, rank, rise)
-
-  in-tear : (b other : ℕ) (image : Image) → is_in (b ∷ image.torn) other ≡ true → (b ≡ other) ⊎ (is_in image.torn other ≡ true)
-  unfolding is_in
-  in-tear b other image some = elim (or_cases (b == other) (is_in image.torn other) some) [ inl is ↦ inl ((Decides-eqb b other).0 is) | inr later ↦ inr later ]
 
   allowed-tear : (b : ℕ) (image : Image) → IsAllowed es n image → may_tear es n b image ≡ true → IsAllowed es n (tear b image)
   allowed-tear b image allowed may = record {
     low = λ line. rw (cut-torn es n b line image) (allowed.low line);
     high = λ line. rw (cut-torn es n b line image) (allowed.high line);
-    torn = λ other some. rw (cut-torn es n b (line_of_byte other) image) (elim (in-tear b other image some) [
+    torn = λ other some. rw (cut-torn es n b (line_of_byte other) image) (elim (in-torn b other image.torn some) [
       | inl is ↦ subst (λ k. cut_of es n image (line_of_byte k) < count_of es n (line_of_byte k)) is (room-from_tear b image may)
       | inr later ↦ allowed.torn other later
     ]);
@@ -209,10 +194,6 @@ module _ (es : List Event) (n : ℕ) where
         | inl old ↦ each other old
         | inr new ↦ let from = from-flat_map (if_torn es n b) images other new in allowed-if_torn b from.element other (each from.element from.found) from.within
       ]) image found
-
-  tear-itself : (b : ℕ) (image : Image) → is_in (tear b image).torn b ≡ true
-  unfolding is_in
-  tear-itself b image = ap (λ v. v || is_in image.torn b) ((Decides-eqb b b).1 refl)
 
   tear-others : (b other : ℕ) (image : Image) → is_in image.torn other ≡ true → is_in (tear b image).torn other ≡ true
   unfolding is_in
@@ -257,7 +238,7 @@ module _ (es : List Event) (n : ℕ) where
           | true ↦ λ both.
               let is = and_parts (is_in image.torn b) (may_tear es n b before) both in
               let rest = tears-all bytes (images ++ flat_map (if_torn es n b) images) (tear b before) (torn-here b images before found is.1)
-              (λ other some. elim (in-tear b other before some) [
+              (λ other some. elim (in-torn b other before.torn some) [
                 | inl same ↦ subst (λ k. is_in image.torn k ≡ true) same is.0
                 | inr later ↦ only other later
               ]) in
@@ -267,7 +248,7 @@ module _ (es : List Event) (n : ℕ) where
                 cuts = λ line. rest.cuts line ∙ cut-torn es n b line before;
                 only = rest.only;
                 all = λ other within torn may. elim (in-cons b bytes other within) [
-                  | inl same ↦ rest.kept other (subst (λ k. is_in (tear b before).torn k ≡ true) same (tear-itself b before))
+                  | inl same ↦ rest.kept other (subst (λ k. is_in (tear b before).torn k ≡ true) same (torn-first b before.torn))
                   | inr later ↦ rest.all other later torn (tear-same b other before ∙ may)
                 ];
                 kept = λ other some. rest.kept other (tear-others b other before some);
@@ -306,14 +287,6 @@ le-skips rank cut other = elim (cases_lt cut rank) [
 ]
 
 module _ (es : List Event) (n b : ℕ) where
-  reach-in : (image : Image) → is_in image.torn b ≡ true → reach_of es n image b ≡ suc (cut_of es n image (line_of_byte b))
-  unfolding reach_of
-  reach-in image is = ap (λ v. cut_of es n image (line_of_byte b) + (if v then 1 else 0)) is ∙ (omega arith)
-
-  reach-out : (image : Image) → is_in image.torn b ≡ false → reach_of es n image b ≡ cut_of es n image (line_of_byte b)
-  unfolding reach_of
-  reach-out image is = ap (λ v. cut_of es n image (line_of_byte b) + (if v then 1 else 0)) is ∙ (omega arith)
-
   shows-same : (one other : Image) → reach_of es n one b ≡ reach_of es n other b → shows es n one b ≡ shows es n other b
   unfolding shows reaches
   shows-same one other same = ap (λ r. greatest (λ k. at (stores b) es k && nat_le (count_of es k (line_of_byte b)) r) n) same
@@ -356,8 +329,8 @@ module _ (es : List Event) (n b : ℕ) where
       shows-untorn image none (reach_of es n image b)
       (elim (is_in image.torn b) as (λ v. is_in image.torn b ≡ v →
       (reach_of es n image b ≡ cut_of es n image (line_of_byte b)) ⊎ (reach_of es n image b ≡ suc (cut_of es n image (line_of_byte b)))) [
-        | true ↦ λ is. inr (reach-in image is)
-        | false ↦ λ is. inl (reach-out image is)
+        | true ↦ λ is. inr (reach-torn es n b image is ∙ (omega arith))
+        | false ↦ λ is. inl (reach-whole es n b image is)
       ] refl)
 
   not_in : (u v : Bool) → (u ≡ true → v ≡ true) → v ≡ false → u ≡ false
@@ -374,8 +347,8 @@ module _ (es : List Event) (n b : ℕ) where
   shows-by listed image same only all =
       elim (may_tear es n b image) as (λ v. may_tear es n b image ≡ v → shows es n listed b ≡ shows es n image b) [
         | true ↦ λ may. shows-same listed image (elim (is_in image.torn b) as (λ v. is_in image.torn b ≡ v → reach_of es n listed b ≡ reach_of es n image b) [
-          | true ↦ λ is. reach-in listed (all is may) ∙ ap (λ k. suc k) same ∙ sym (reach-in image is)
-          | false ↦ λ is. reach-out listed (not_in (is_in listed.torn b) (is_in image.torn b) only is) ∙ same ∙ sym (reach-out image is)
+          | true ↦ λ is. reach-torn es n b listed (all is may) ∙ ap (λ k. k + 1) same ∙ sym (reach-torn es n b image is)
+          | false ↦ λ is. reach-whole es n b listed (not_in (is_in listed.torn b) (is_in image.torn b) only is) ∙ same ∙ sym (reach-whole es n b image is)
         ] refl)
         | false ↦ λ none.
             shows-cut listed (may_tear-same listed image same ∙ none)
@@ -392,20 +365,14 @@ floors-cut es n line = refl
 floors-untorn : (es : List Event) (n : ℕ) → IsUntorn es n floors
 floors-untorn es n = record { untorn = refl; low = λ line. rw (floors-cut es n line) (omega arith); high = λ line. rw (floors-cut es n line) (floor-below_count es n line) }
 
-untorn-allowed : (es : List Event) (n : ℕ) (image : Image) → IsUntorn es n image → IsAllowed es n image
-untorn-allowed es n image is = record {
-  low = is.low;
-  high = is.high;
-  torn = λ b some. absurd (is_in-empty b (ap (λ torn. is_in torn b) (sym is.untorn) ∙ some));
-}
-
 only-floors : (es : List Event) (n : ℕ) (image : Image) → Contains (floors ∷ []) image → IsUntorn es n image
 only-floors es n image found = subst (IsUntorn es n) (only-single floors image found) (floors-untorn es n)
 
 pub listed-allowed : (es : List Event) (n : ℕ) (lines bytes : List ℕ) → AreAllowed es n (all_images es n lines bytes)
 unfolding all_images
 listed-allowed es n lines bytes = allowed-all_torn es n bytes (all_cuts es n lines (floors ∷ []))
-    (λ image found. untorn-allowed es n image (untorn-all_cuts es n lines (floors ∷ []) (only-floors es n) image found))
+    (λ image found. let is = untorn-all_cuts es n lines (floors ∷ []) (only-floors es n) image found in
+    untorn-allowed es n image is.untorn (λ line. (is.low line, is.high line)))
 
 pub listed-shows : (es : List Event) (n : ℕ) (lines bytes : List ℕ) → ShowAll es n lines bytes (all_images es n lines bytes)
 unfolding all_images

@@ -42,7 +42,7 @@ rows_upto-flush profile es p s one other here found =
     ∙ ap (λ rows. rows_upto profile es p ++ rows) (map-append (row_at (suc p)) (if_any one) (if_any other))
     ∙ sym (append_assoc (rows_upto profile es p) (map (row_at (suc p)) (if_any one)) (map (row_at (suc p)) (if_any other)))
 
-not_in_empty : {A : Type 0} (x : A) → Contains [] x → ⊥
+pub not_in_empty : {A : Type 0} (x : A) → Contains [] x → ⊥
 not_in_empty x found = let bad = found.1 in omega arith
 
 -- a row among those of one place is of that place, and says one of its findings

@@ -1,18 +1,13 @@
 -- A text of the rows at one place, row by row.
-use Rattle.std.proofs.Common.{◌≡◌, ℕ, ◌+◌, ◌<◌, Bool, true, false, ◌==◌, cond, List, [], ◌∷◌, ◌++◌, length, take, get_or, refl, sym, ◌∙◌, ap}
+use Rattle.std.proofs.Common.{◌≡◌, ℕ, ◌+◌, ◌<◌, Bool, cond, List, [], ◌∷◌, ◌++◌, length, take, get_or, sym, ◌∙◌, ap}
 use Rattle.std.specs.List.{flat_map}
+use Rattle.std.proofs.lemmas.Bool.{ne_eqb}
 use Rattle.std.proofs.lemmas.Bool.Decides.{Decides-eqb}
 use Rattle.std.proofs.lemmas.Grind.{flat_map-append}
 use Rattle.std.proofs.lemmas.List.{append-nil, append_assoc}
 use Rattle.std.proofs.lemmas.List.Elements.{filter_more}
 use Rattle.pmf_event.specs.declared.row.Row.{Row}
 use Rattle.pmf_verdict.specs.Text.{stands_at, rows_at}
-
-place-apart : (a b : ℕ) → (a ≡ b → ⊥) → (a == b) ≡ false
-place-apart a b apart = elim (a == b) as (λ v. (a == b) ≡ v → v ≡ false) [
-  | true ↦ λ is. absurd (apart ((Decides-eqb a b).0 is))
-  | false ↦ λ is. refl
-] refl
 
 -- a text of the rows at p, each row's by a function of it, behind another text
 module _ (f : Row → List ℕ) (rows : List Row) (p i : ℕ) (row : Row) (within : i < length rows) where
@@ -43,5 +38,5 @@ module _ (f : Row → List ℕ) (rows : List Row) (p i : ℕ) (row : Row) (withi
   text-elsewhere first text apart before =
       before
       ∙ ap (λ text. first ++ text) (sym (append-nil (so_far (take i rows))))
-      ∙ ap (λ b. first ++ (so_far (take i rows) ++ added b)) (sym (place-apart (get_or rows i row).place p apart))
+      ∙ ap (λ b. first ++ (so_far (take i rows) ++ added b)) (sym (ne_eqb (get_or rows i row).place p apart))
       ∙ ap (λ text. first ++ text) (sym more)

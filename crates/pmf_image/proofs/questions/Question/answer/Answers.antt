@@ -3,13 +3,13 @@ use Rattle.pmf_image.specs.Questions.{compares}
 use Rattle.pmf_image.proofs.QuestionLemmas.{answer-none, answer-asked}
 use Rattle.pmf_image.proofs.questions.Question.answer.Goals as goal
 
-pub returns-then-not-is_asked : goal.returns-then-not-is_asked
-returns-then-not-is_asked c =
-    sym (answer-none c.args.self c.args.events.now c.args.place c.args.certificate c.args.byte (sym c.is_asked.ensures ∙ c.if-not-is_asked.true))
-
-pub returns : goal.returns
-returns c =
+pub returns-then-is_asked : goal.returns-then-is_asked
+returns-then-is_asked c =
     c.compares.ensures
-    ∙ ap (λ n. compares c.args.self n c.last_store.result) c.shows-shown.ensures
-    ∙ ap (compares c.args.self _) c.last_store.ensures
-    ∙ sym (answer-asked c.args.self c.args.events.now c.args.place c.args.certificate c.args.byte (sym c.is_asked.ensures ∙ c.if-not-is_asked.false))
+    ∙ ap (λ n. compares c.args.self n c.last_store-last.result) c.shows.ensures
+    ∙ ap (compares c.args.self _) c.last_store-last.ensures
+    ∙ sym (answer-asked c.args.self c.args.events.now c.args.place c.args.certificate c.args.byte (sym c.is_asked.ensures ∙ c.if-is_asked.true))
+
+pub returns-else-is_asked : goal.returns-else-is_asked
+returns-else-is_asked c =
+    c.if-is_asked.false ∙ sym (answer-none c.args.self c.args.events.now c.args.place c.args.certificate c.args.byte (sym c.is_asked.ensures ∙ c.if-is_asked.false))

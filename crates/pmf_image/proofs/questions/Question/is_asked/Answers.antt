@@ -13,5 +13,5 @@ returns-in-ScopeFallsShort c =
 
 pub returns-in_default : goal.returns-in_default
 returns-in_default c =
-    ap (λ k. nat_lt 0 k) c.last_store.ensures
+    ap (λ k. nat_lt 0 k) c.requires.last
     ∙ sym (asked-checked c.args.self c.args.events.now c.args.place c.args.byte c.in_default.not-ScopeFallsShort (sym c.is_included.ensures ∙ c.if-not-is_included.false))
