@@ -3,7 +3,7 @@ use Rattle.std.proofs.Common.{◌≡◌, ℕ, suc, Bool, true, false, List, if�
 use Rattle.std.specs.Prelude.{Option, Some, None}
 use Rattle.std.proofs.Math.Numerals.{sub-one}
 use Rattle.pmf_event.specs.declared.event.Event.{Event}
-use Rattle.pmf_event.specs.declared.event.Event.TheVariants.{Store, Fence}
+use Rattle.pmf_event.specs.declared.event.Event.TheVariants.{Fence}
 use Rattle.pmf_event.specs.Places.{greatest, count}
 use Rattle.pmf_event.specs.Store.{event_at, passes, at, stores, flushes, is_fence, last, epoch_of}
 use Rattle.pmf_event.proofs.PlacesLemmas.{greatest-step, greatest-zero, count-step}

@@ -8,10 +8,6 @@ use Rattle.pmf_event.specs.Places.{greatest, least, count, some_between}
 abbrev pub SameUpTo : (ℕ → Bool) → (ℕ → Bool) → ℕ → Type 0
 SameUpTo s t n = (k : ℕ) → 0 < k → k ≤ n → s k ≡ t k
 
--- no place after i, up to j, passes
-abbrev pub NoneWithin : (ℕ → Bool) → ℕ → ℕ → Type 0
-NoneWithin test i j = (k : ℕ) → i < k → k ≤ j → test k ≡ false
-
 -- a place after i, up to j, that passes
 pub record Found (test : ℕ → Bool) (i j : ℕ) : Type 0 where
   pub place : ℕ

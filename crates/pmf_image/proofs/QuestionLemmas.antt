@@ -1,5 +1,5 @@
 -- The search for a byte that answers yes.
-use Rattle.std.proofs.Common.{◌≡◌, ℕ, ◌<◌, ◌≤◌, ◌-◌, Bool, true, false, not, ◌&&◌, nat_lt, ◌↔◌, List, refl, sym, ◌∙◌, ap, arith, inl, inr}
+use Rattle.std.proofs.Common.{◌≡◌, ℕ, ◌<◌, ◌≤◌, ◌-◌, Bool, true, false, not, ◌&&◌, nat_lt, List, refl, sym, ◌∙◌, ap, arith, inl, inr}
 use Rattle.std.proofs.Math.Bool.{and-false}
 use Rattle.std.proofs.lemmas.Bool.{cases_lt}
 use Rattle.pmf_event.specs.declared.event.Event.{Event}
@@ -12,7 +12,7 @@ use Rattle.pmf_event.specs.Persist.{is_checked}
 use Rattle.pmf_event.specs.Transactions.{is_scoped}
 use Rattle.pmf_image.specs.Certificate.{shows_in}
 use Rattle.pmf_image.specs.Runs.{Alike}
-use Rattle.pmf_image.specs.Questions.{is_asked, compares, answer_of, SomeByte}
+use Rattle.pmf_image.specs.Questions.{is_asked, compares, answer_of}
 use Rattle.pmf_image.proofs.RunLemmas.{answer-alike}
 
 -- no byte from first on and below end passes the test
@@ -59,9 +59,6 @@ answer-asked q es p c b asked = ap (λ v. v && compares q (shows_in es c b) (las
 
 -- ---- the search
 
-pub no_byte-start : (test : ℕ → Bool) (first : ℕ) → NoByte test first first
-no_byte-start test first = record { from = omega arith; none = λ b low high. absurd (omega arith) }
-
 -- where one byte of a run answers no, all do
 pub no_byte-run : (q : Question) (es : List Event) (p : ℕ) (c : Certificate) (first b end : ℕ) → NoByte (answer_of q es p c) first b →
     answer_of q es p c b ≡ false → b < end → ((x : ℕ) → b ≤ x → x < end → Alike es c b x) → NoByte (answer_of q es p c) first end
@@ -72,12 +69,3 @@ no_byte-run q es p c first b end before other above alike = record {
     | inr from ↦ sym (answer-alike es c b x (alike x from high) q p) ∙ other
   ];
 }
-
-pub found-byte : (test : ℕ → Bool) (first b end : ℕ) → NoByte test first b → b < end → test b ≡ true → (true ≡ true) ↔ SomeByte test first end
-found-byte test first b end before below is = (λ yes. record { byte = b; from = before.from; before = below; passes = is }, λ some. refl)
-
-pub found-none : (test : ℕ → Bool) (first b end : ℕ) → NoByte test first b → end ≤ b → (false ≡ true) ↔ SomeByte test first end
-found-none test first b end before past = (
-  λ bad. let never : false ≡ true = bad in cc,
-  λ some. let below = some.before in let other = before.none some.byte some.from (omega arith) in sym other ∙ some.passes,
-)

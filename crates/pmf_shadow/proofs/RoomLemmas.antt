@@ -30,9 +30,6 @@ module _ {S : Type 0} where
             (λ some. range.4 e t is q (tt, not_greater q p (omega arith)) some)),
       )
 
-  pub held-none : (r : RunMap S) (p : ℕ) (es : List (ℕ × S)) → IsRangeOf nat_cmp Unbounded (Included p) r.starts es → es ≡ [] → IsHeldFrom r p None
-  held-none r p es range is = λ q low high. range.5 is q (tt, not_greater q p (omega arith))
-
   pub held-none_here : (r : RunMap S) (p : ℕ) → IsHeldFrom r p None → get nat_cmp r.starts p ≡ None
   held-none_here r p none = none p (omega arith) (omega arith)
 

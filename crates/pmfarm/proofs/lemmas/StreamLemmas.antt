@@ -1,18 +1,17 @@
 -- A log that is read piece by piece, and what its end or its fault says.
-use Rattle.std.proofs.Common.{◌≡◌, ℕ, ◌+◌, ◌-◌, ◌≤◌, Bool, true, false, nat_lt, if◌then◌else◌, List, [], ◌++◌, length, refl, sym, ◌∙◌, ap, arith, length-append, inl, inr}
-use Rattle.std.specs.Prelude.{Option, Some, None, Ok, Err}
-use Rattle.std.specs.Io.KnownBytes.{Consumes, IsAtEnd}
-use Rattle.std.proofs.KnownBytes.{Consumes-nil, Consumes-trans}
+use Rattle.std.proofs.Common.{◌≡◌, ℕ, ◌+◌, ◌-◌, ◌≤◌, Bool, true, false, nat_lt, if◌then◌else◌, List, [], ◌++◌, length, refl, sym, ◌∙◌, ap, arith, length-append, inr}
+use Rattle.std.specs.Prelude.{Option, Some, None}
+use Rattle.std.specs.Io.KnownBytes.{Consumes}
+use Rattle.std.proofs.KnownBytes.{Consumes-trans}
 use Rattle.std.proofs.lemmas.Bool.{ltb-false}
 use Rattle.std.proofs.lemmas.List.{append-nil}
 use Rattle.pmf_storelog.specs.declared.fault.LogFault.{LogFault}
 use Rattle.pmf_storelog.specs.declared.fault.TheConstants.{LOG_LIMIT}
 use Rattle.pmf_storelog.specs.declared.reader.LogReader.{LogReader}
-use Rattle.pmf_storelog.specs.LogValue.{LogValue}
 use Rattle.pmf_storelog.specs.LogText.{log_of, shown_fault, shown_within, too_long, or_else, IsFaultOfAll}
 use Rattle.pmf_storelog.specs.Reader.{HasRead}
 use Rattle.pmf_storelog.proofs.CallerLemmas.{log_of-all}
-use Rattle.pmfarm.specs.Stream.{HasReadBytes, IsLogOf, IsFaultOf}
+use Rattle.pmfarm.specs.Stream.{IsFaultOf}
 
 -- the bytes that left the stream are those that the reader stands for, and few enough
 pub record Reading (run : ℕ) (old new : Option (List ℕ)) (log : LogReader) (total : ℕ) : Type 0 where
@@ -21,9 +20,6 @@ pub record Reading (run : ℕ) (old new : Option (List ℕ)) (log : LogReader) (
   pub parsed : HasRead run bytes log
   pub total_is : total ≡ length bytes
   pub within : total ≤ LOG_LIMIT
-
-pub Reading-none : (run : ℕ) (left : Option (List ℕ)) (log : LogReader) → HasRead run [] log → Reading run left left log 0
-Reading-none run left log fresh = record { bytes = []; consumed = Consumes-nil left; parsed = fresh; total_is = refl; within = omega arith }
 
 second-none : (first second : Option LogFault) → or_else first second ≡ None → second ≡ None
 second-none None second is = is
@@ -52,17 +48,6 @@ Reading-more run old mid new before after total count piece so_far consumed coun
       total_is = omega arith;
       within = omega arith;
     }
-
-pub Reading-few : (run : ℕ) (old new : Option (List ℕ)) (log : LogReader) (total : ℕ) (so_far : Reading run old new log total) → HasReadBytes old new so_far.bytes
-Reading-few run old new log total so_far = let same = so_far.total_is in let bound = so_far.within in record { consumed = so_far.consumed; few = omega arith }
-
-pub IsLogOf-ended : (run : ℕ) (old new : Option (List ℕ)) (log : LogReader) (total : ℕ) (value : LogValue) (so_far : Reading run old new log total) → IsAtEnd new →
-    log_of run so_far.bytes ≡ Ok value → IsLogOf run old new value
-IsLogOf-ended run old new log total value so_far ended is = record { bytes = so_far.bytes; read = Reading-few run old new log total so_far; ended = ended; faultless = is }
-
-pub IsFaultOf-ended : (run : ℕ) (old new : Option (List ℕ)) (log : LogReader) (total : ℕ) (found : LogFault) (so_far : Reading run old new log total) → IsAtEnd new →
-    log_of run so_far.bytes ≡ Err found → IsFaultOf run old new found
-IsFaultOf-ended run old new log total found so_far ended is = record { bytes = so_far.bytes; read = Reading-few run old new log total so_far; first = is; for_all = inl ended }
 
 -- a fault that a piece shows is that of every log that begins so
 pub IsFaultOf-shown : (run : ℕ) (old mid new : Option (List ℕ)) (log : LogReader) (total count : ℕ) (piece : List ℕ) (found : LogFault) (so_far : Reading run old mid log total) →

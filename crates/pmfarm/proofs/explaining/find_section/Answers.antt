@@ -1,4 +1,4 @@
-use Rattle.std.proofs.Common.{◌≤◌, map, length, sym, ◌∙◌, ap, subst, arith}
+use Rattle.std.proofs.Common.{◌≤◌, map, length, sym, subst, arith}
 use Rattle.std.specs.Prelude.{Contains}
 use Rattle.std.proofs.lemmas.List.{take_all}
 use Rattle.pmfarm.proofs.lemmas.SectionLemmas.{LacksNumber-more}
