@@ -110,12 +110,12 @@ pub record Pair (test : ℕ → ℕ → Bool) (a b : Extent) (x y : ℕ) : Type 
   pub passes : test x y ≡ true
 
 paired-parts : (z : ℕ) (o : Option ℕ) (x y : ℕ) → paired z o ≡ Some (x, y) → (z ≡ x) × (o ≡ Some y)
-paired-parts z None x y is = let bad : None ≡ Some (x, y) = is in cc
+paired-parts z None x y is = let bad : ◌≡◌ {A = Option (ℕ × ℕ)} None (Some (x, y)) = is in cc
 paired-parts z (Some k) x y is =
     let pair : ◌≡◌ {A = ℕ × ℕ} (z, k) (x, y) = cc in (ap (λ q. q.0) pair, ap (λ q. Some q.1) pair)
 
 pair-by : (test : ℕ → ℕ → Bool) (a b : Extent) (x y : ℕ) (o : Option ℕ) → first_byte (has_partner test b) a ≡ o → with_partner test b o ≡ Some (x, y) → Pair test a b x y
-pair-by test a b x y None none is = let bad : None ≡ Some (x, y) = is in cc
+pair-by test a b x y None none is = let bad : ◌≡◌ {A = Option (ℕ × ℕ)} None (Some (x, y)) = is in cc
 pair-by test a b x y (Some z) found is =
     let parts = paired-parts z (first_byte (test z) b) x y is in
     let first = first-passes (has_partner test b) a.first a.size z found in

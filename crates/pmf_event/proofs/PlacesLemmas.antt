@@ -92,6 +92,18 @@ module _ (test : ℕ → Bool) where
         ] refl
       ] refl some
 
+  -- no place is found where finding one is absurd
+  pub least-none : (n : ℕ) → (0 < least test n → ⊥) → least test n ≡ 0
+  least-none n never = elim (cases_lt 0 (least test n)) [
+    | inl some ↦ absurd (never some)
+    | inr none ↦ omega arith
+  ]
+
+  -- nor where only places behind the end pass
+  pub least-none_behind : (n : ℕ) → ((k : ℕ) → test k ≡ true → n < k) → least test n ≡ 0
+  least-none_behind n behind =
+      least-none n (λ some. let past = behind (least test n) (least-passes n some) in let bound = least-bound n in omega arith)
+
   -- where some place passes, the least that passes is there, and none before it
   pub least-below : (n k : ℕ) → 0 < k → k ≤ n → test k ≡ true → (0 < least test n) × (least test n ≤ k)
   unfolding least

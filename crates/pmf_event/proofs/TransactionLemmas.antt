@@ -11,7 +11,7 @@ use Rattle.pmf_event.specs.Exclusion.{is_included}
 use Rattle.pmf_event.specs.Interval.{interval_at, is_open}
 use Rattle.pmf_event.specs.Persist.{is_checked, is_exposed}
 use Rattle.pmf_event.specs.Transactions.{begins, ends, rise, depth_at, in_transaction, is_outside, adds, is_backed, opens_scope, closes_scope, opens_after, scope_at, in_scope, stores_inside, is_scoped, lacks_backup, is_left_open}
-use Rattle.pmf_event.proofs.PlacesLemmas.{greatest-step, greatest-zero, greatest-bound, greatest-passes, greatest-above, least-step, least-zero, least-bound, least-passes, count-step, count-mono, count-le}
+use Rattle.pmf_event.proofs.PlacesLemmas.{greatest-step, greatest-zero, greatest-bound, greatest-passes, greatest-above, least-step, least-zero, least-bound, least-none_behind, count-step, count-mono, count-le}
 use Rattle.pmf_event.proofs.EventLemmas.{at-is, last-other, last-here}
 use Rattle.pmf_event.proofs.WriteBackLemmas.{last-bound}
 
@@ -271,13 +271,7 @@ module _ (es : List Event) (p : ℕ) (e : Event) (here : event_at es (suc p) ≡
   unfolding scope_at opens_after
   scope-closed is =
       let test = opens_after es (suc p) in
-      let none : least test (suc p) ≡ 0 = elim (cases_eq (least test (suc p)) 0) [
-        | inl zero_is ↦ zero_is
-        | inr some ↦
-            let passed = and_parts _ _ (least-passes test (suc p) (omega arith)) in
-            let after = ltb-true (suc p) (least test (suc p)) passed.0 in
-            let bound = least-bound test (suc p) in absurd (omega arith)
-      ] in
+      let none = least-none_behind test (suc p) (λ k is_behind. ltb-true (suc p) k (and_parts (nat_lt (suc p) k) (at opens_scope es k) is_behind).0) in
       ap (λ k. least (opens_after es k) (suc p)) (last-here closes_scope es p e here is) ∙ none
 
 -- ---- the scope's bytes

@@ -9,7 +9,7 @@ use Rattle.pmf_event.specs.Places.{least, count, some_between}
 use Rattle.pmf_event.specs.Store.{event_at, at, flushes, is_fence, last, epoch_of}
 use Rattle.pmf_event.specs.Interval.{writes_back, first_write_back, closes, closing_fence, epoch_after}
 use Rattle.pmf_event.specs.WriteBack.{epoch_unless, write_back_epoch}
-use Rattle.pmf_event.proofs.PlacesLemmas.{greatest-bound, least-step, least-bound, least-passes, least-below, count-mono, count-found, some_between-here, some_between-found}
+use Rattle.pmf_event.proofs.PlacesLemmas.{greatest-bound, least-step, least-bound, least-passes, least-none, least-none_behind, least-below, count-mono, count-found, some_between-here, some_between-found}
 use Rattle.pmf_event.proofs.EventLemmas.{at-is, last-other, last-here, epoch_of-next, not_fence_and_flush}
 use Rattle.pmf_event.proofs.IntervalLemmas.{Closing-found, Closing-closes, write_back-from_Closing, Closing-from_write_back}
 
@@ -101,13 +101,7 @@ module _ (stored : Event → Bool) (line : ℕ) (es : List Event) (p : ℕ) wher
     unfolding write_back_epoch first_write_back writes_back
     write_back-stored is =
         let test = writes_back es line (suc p) in
-        let none : least test (suc p) ≡ 0 = elim (cases_eq (least test (suc p)) 0) [
-          | inl zero_is ↦ zero_is
-          | inr some ↦
-              let passed = and_parts _ _ (least-passes test (suc p) (omega arith)) in
-              let after = ltb-true (suc p) (least test (suc p)) passed.0 in
-              let bound = least-bound test (suc p) in absurd (omega arith)
-        ] in
+        let none = least-none_behind test (suc p) (λ k is_behind. ltb-true (suc p) k (and_parts (nat_lt (suc p) k) (at (flushes line) es k) is_behind).0) in
         ap (λ k. epoch_unless es (least (writes_back es line k) (suc p))) (last-here stored es p e here is) ∙ epoch_unless-none es (least test (suc p)) none
 
     pub write_back-flushed : stored e ≡ false → flushes line e ≡ true →
@@ -143,21 +137,15 @@ module _ (stored : Event → Bool) (line : ℕ) (es : List Event) (p : ℕ) wher
   unfolding write_back_epoch first_write_back closing_fence
   closing-none is =
       let k = last stored es p in
-      epoch_after-none es (least (closes es line k) p) (elim (cases_eq (least (closes es line k) p) 0) [
-        | inl zero_is ↦ zero_is
-        | inr some ↦
-            let first = write_back-from_Closing es line k p (Closing-found es line k p (omega arith)) in
-            let bad : None ≡ Some (epoch_of es (least (writes_back es line k) p)) = sym is ∙ epoch_unless-some es (least (writes_back es line k) p) first.0 in cc
-      ])
+      epoch_after-none es (least (closes es line k) p) (least-none (closes es line k) p (λ some.
+      let first = write_back-from_Closing es line k p (Closing-found es line k p some) in
+      let bad : None ≡ Some (epoch_of es (least (writes_back es line k) p)) = sym is ∙ epoch_unless-some es (least (writes_back es line k) p) first.0 in cc))
 
   pub closing-late : (w : ℕ) → write_back_epoch stored line es p ≡ Some w → count (at is_fence es) p ≤ w → epoch_after es (closing_fence stored line es p) ≡ None
   unfolding write_back_epoch first_write_back closing_fence
   closing-late w is late =
       let k = last stored es p in
-      epoch_after-none es (least (closes es line k) p) (elim (cases_eq (least (closes es line k) p) 0) [
-        | inl zero_is ↦ zero_is
-        | inr some ↦
-            let first = write_back-from_Closing es line k p (Closing-found es line k p (omega arith)) in
-            let place = epoch_unless-place es (least (writes_back es line k) p) w is in
-            let ended = first.1 in let same = place.1 in absurd (omega arith)
-      ])
+      epoch_after-none es (least (closes es line k) p) (least-none (closes es line k) p (λ some.
+      let first = write_back-from_Closing es line k p (Closing-found es line k p some) in
+      let place = epoch_unless-place es (least (writes_back es line k) p) w is in
+      let ended = first.1 in let same = place.1 in omega arith))
