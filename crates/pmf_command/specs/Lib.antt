@@ -1,0 +1,6 @@
+pub use Rattle.pmf_storelog.specs.LogText
+pub use Rattle.pmf_stream.specs.Failures
+pub use Rattle.pmf_stream.specs.Answering
+pub use Rattle.pmf_stream.specs.Checking
+pub use Rattle.pmf_stream.specs.Asking
+pub mod Statuses

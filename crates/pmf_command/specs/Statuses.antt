@@ -1,0 +1,70 @@
+-- The exit statuses (defined here).
+use Rattle.std.specs.Prelude.{◌≡◌, ◌⊎◌, ℕ, ◌==◌, Result, Ok, Err, if◌then◌else◌}
+use Rattle.clap.specs.declared.error.kind.ErrorKind.{ErrorKind}
+use Rattle.clap.specs.declared.error.kind.ErrorKind.TheVariants.{DisplayHelp, DisplayVersion, OutOfMemory}
+use Rattle.pmf_storelog.specs.declared.fault.Cause.{Cause}
+use Rattle.pmf_storelog.specs.declared.fault.Cause.TheVariants as log
+use Rattle.pmf_storelog.specs.declared.fault.LogFault.{LogFault}
+use Rattle.pmf_stream.specs.declared.checking.Done.{Done}
+use Rattle.pmf_stream.specs.declared.explaining.ExplainFault.{ExplainFault}
+use Rattle.pmf_stream.specs.declared.explaining.ExplainFault.TheVariants as explaining
+use Rattle.pmf_stream.specs.declared.fault.StreamFault.{StreamFault}
+use Rattle.pmf_stream.specs.declared.fault.StreamFault.TheVariants as stream
+use Rattle.pmf_command.specs.declared.status.Status.{Status}
+use Rattle.pmf_command.specs.declared.status.Status.TheVariants.{NoFail, SomeFail, Refused, NoMemory, DeviceFault}
+
+-- the number that the program exits with
+abbrev pub exit_code_of : Status → ℕ
+exit_code_of NoFail = 0
+exit_code_of SomeFail = 1
+exit_code_of Refused = 2
+exit_code_of NoMemory = 3
+exit_code_of DeviceFault = 4
+
+-- how the program ends where the words give no request: help and the version are no fault
+abbrev pub status_of_kind : ErrorKind → Status
+status_of_kind DisplayHelp = NoFail
+status_of_kind DisplayVersion = NoFail
+status_of_kind OutOfMemory = NoMemory
+status_of_kind _ = Refused
+
+-- a status that an error of this kind may end with: its own, or that its text was not written
+abbrev pub IsAnswerTo : ErrorKind → Status → Type 0
+IsAnswerTo kind status =
+    (status ≡ status_of_kind kind) ⊎ ((status ≡ NoMemory) ⊎ ((status_of_kind kind ≡ NoFail) × (status ≡ DeviceFault)))
+
+-- how the program ends where the log is reported
+abbrev pub status_of_done : Done → Status
+status_of_done done = if done.fails == 0 then NoFail else SomeFail
+
+-- how the program ends where a log is refused for this cause
+abbrev pub status_of_cause : Cause → Status
+status_of_cause log.OutOfMemory = NoMemory
+status_of_cause _ = Refused
+
+-- how the program ends where a log is refused
+abbrev pub status_of_log_fault : LogFault → Status
+status_of_log_fault fault = status_of_cause fault.cause
+
+-- how the program ends where the event is explained
+abbrev pub status_of_asked : Unit {0} → Status
+status_of_asked done = NoFail
+
+-- how the program ends where what is asked for is refused
+abbrev pub status_of_refusal : ExplainFault → Status
+status_of_refusal (explaining.Log fault) = status_of_log_fault fault
+status_of_refusal (explaining.NoSection run section) = Refused
+status_of_refusal (explaining.NoEvent run section event) = Refused
+status_of_refusal explaining.OutOfMemory = NoMemory
+
+-- how the program ends where the stream is not answered, from how it ends after a refusal
+abbrev pub status_of_fault : {E : Type 0} → (E → Status) → StreamFault E → Status
+status_of_fault status_of_found stream.ReadFault = DeviceFault
+status_of_fault status_of_found (stream.Refused found) = status_of_found found
+status_of_fault status_of_found (stream.WriteFault written) = DeviceFault
+status_of_fault status_of_found stream.OutOfMemory = NoMemory
+
+-- how the program ends after this answer of a command, from how it ends after what was done and after a refusal
+abbrev pub status_of : {T E : Type 0} → (T → Status) → (E → Status) → Result T (StreamFault E) → Status
+status_of status_of_told status_of_found (Ok told) = status_of_told told
+status_of status_of_told status_of_found (Err fault) = status_of_fault status_of_found fault

@@ -1,0 +1,152 @@
+//! What the program does.
+
+ghost use Rattle.std.specs.Prelude.{◌≡◌, ◌⊎◌, ◌↔◌, ◌+◌, Result};
+ghost use Rattle.std.specs.Io.KnownBytes.{Appends};
+ghost use Rattle.clap.specs.Words.{kind_of};
+ghost use Rattle.pmf_storelog.specs.declared.fault.LogFault.{LogFault};
+ghost use Rattle.pmf_stream.specs.Answering.{Answers, TellsFaults};
+ghost use Rattle.pmf_stream.specs.Asking.{IsExplanationOf, IsRefusalOf};
+ghost use Rattle.pmf_stream.specs.Checking.{IsLogFaultOf, IsReportOf};
+ghost use Rattle.pmf_stream.specs.Failures.{CanCountOneMore};
+ghost use Rattle.pmf_stream.specs.declared.checking.Done.{Done};
+ghost use Rattle.pmf_stream.specs.declared.explaining.ExplainFault.{ExplainFault};
+ghost use Rattle.pmf_stream.specs.declared.fault.StreamFault.{StreamFault};
+ghost use Rattle.pmf_command.specs.Statuses.{IsAnswerTo, status_of, status_of_asked, status_of_done, status_of_log_fault, status_of_refusal};
+
+use crate::diagnostics::{fail, out_of_memory, refuse_words, say_skipped};
+use crate::ending::Ending;
+use crate::request::{Request, request_of};
+use crate::status::Status;
+use pmf_stream::{
+    Question, Settings, Sink, Source, StdSink, StdSource, StreamFault, check_stream,
+    explain_stream, write_text,
+};
+use std::alloc::Global;
+use std::fmt::Display;
+use std::io::{Eprint, ErrorKind, Input, Print};
+use std::{env, io};
+
+/// Does what the words of the command line ask for.
+pub fn run(rt: &HostRuntime) -> Status {
+    let alloc = rt.alloc();
+    let words = match words_of(rt) {
+        Ok(words) => words,
+        Err(error) if error.kind() == ErrorKind::OutOfMemory => return out_of_memory(rt),
+        Err(_) => return refuse_words(rt, "error: a word of the command line is not UTF-8\n"),
+    };
+    match request_of(alloc, words.as_slice()) {
+        Ok(Request::Check(settings)) => run_check(rt, settings),
+        Ok(Request::Explain(question)) => run_explain(rt, question),
+        Err(error) => answer(rt, alloc, &error),
+    }
+}
+
+fn words_of(rt: &HostRuntime) -> io::Result<Vec<String>> {
+    let words = env::args(rt)?.collect(rt.alloc())?;
+    Ok(words)
+}
+
+/// Checks the log on standard input and writes its report to standard output.
+fn run_check(rt: &HostRuntime, settings: Settings) -> Status {
+    let mut source = StdSource::new(rt.reader());
+    let mut sink = StdSink::new(io::writer(rt));
+    check_to(rt, rt.alloc(), &mut source, &mut sink, settings)
+}
+
+/// Checks the log of the source and writes its report to the sink.
+fn check_to<R: Eprint, S: Source, W: Sink>(
+    rt: &R,
+    alloc: Global,
+    source: &mut S,
+    sink: &mut W,
+    settings: Settings,
+) -> Status
+    requires read { CanCountOneMore (S.failed_calls source.old) }
+    requires write { CanCountOneMore (W.failed_calls sink.old) }
+    ensures { (answer : Result Done (StreamFault LogFault))
+        × (result ≡ status_of status_of_done status_of_log_fault answer)
+        × Answers (IsReportOf settings (S.left source.old) (S.left source.new))
+        (IsLogFaultOf settings.run (S.left source.old) (S.left source.new))
+        (W.held sink.old) (W.held sink.new) answer
+        × TellsFaults (S.failed_calls source.old) (S.failed_calls source.new)
+        (W.failed_calls sink.old) (W.failed_calls sink.new) sink.old sink.new answer }
+{
+    let answer = check_stream(alloc, source, sink, settings);
+    if let Ok(done) = &answer {
+        say_skipped(rt, done.skipped);
+    }
+    tell(rt, answer)
+}
+
+/// Says on standard error why a stream is not answered, if it is not, and how the program ends.
+fn tell<R: Eprint, T: Ending + Drop, E: Ending + Display + Drop>(
+    rt: &R,
+    answer: Result<T, StreamFault<E>>,
+) -> Status
+    ensures { result ≡ status_of T.ends_as E.ends_as answer }
+{
+    match answer {
+        Ok(done) => done.status(),
+        Err(fault) => {
+            let status = fault.status();
+            fail(rt, fault, status)
+        }
+    }
+}
+
+/// Reads the log on standard input and writes the explanation of one event to standard output.
+fn run_explain(rt: &HostRuntime, question: Question) -> Status {
+    let mut source = StdSource::new(rt.reader());
+    let mut sink = StdSink::new(io::writer(rt));
+    explain_to(rt, rt.alloc(), &mut source, &mut sink, question)
+}
+
+/// Reads the log of the source and writes the explanation of one event to the sink.
+fn explain_to<R: Eprint, S: Source, W: Sink>(
+    rt: &R,
+    alloc: Global,
+    source: &mut S,
+    sink: &mut W,
+    question: Question,
+) -> Status
+    requires read { CanCountOneMore (S.failed_calls source.old) }
+    requires write { CanCountOneMore (W.failed_calls sink.old) }
+    ensures { (answer : Result (Unit {0}) (StreamFault ExplainFault))
+        × (result ≡ status_of status_of_asked status_of_refusal answer)
+        × Answers (IsExplanationOf question (S.left source.old) (S.left source.new))
+        (IsRefusalOf question (S.left source.old) (S.left source.new))
+        (W.held sink.old) (W.held sink.new) answer
+        × TellsFaults (S.failed_calls source.old) (S.failed_calls source.new)
+        (W.failed_calls sink.old) (W.failed_calls sink.new) sink.old sink.new answer }
+{
+    let answer = explain_stream(alloc, source, sink, question);
+    tell(rt, answer)
+}
+
+/// Writes what `clap` has to say: help and the version to standard output, a fault to standard
+/// error.
+fn answer<R: Print + Eprint>(rt: &R, alloc: Global, error: &clap::Error) -> Status
+    ensures { IsAnswerTo (kind_of error.now) result }
+{
+    let Ok(text) = format!(in alloc; "{error}") else {
+        return out_of_memory(rt);
+    };
+    match Status::of_kind(error.kind()) {
+        Status::NoFail => show(rt, &mut StdSink::new(io::writer(rt)), text.as_bytes()),
+        Status::NoMemory => out_of_memory(rt),
+        _ => refuse_words(rt, text.as_str()),
+    }
+}
+
+/// Writes a text to the sink.
+fn show<R: Eprint, W: Sink>(rt: &R, sink: &mut W, text: &[u8]) -> Status
+    requires { CanCountOneMore (W.failed_calls sink.old) }
+    ensures whole { (result ≡ Status.NoFail) → Appends (W.held sink.old) (W.held sink.new) text.now }
+    ensures failed { (result ≡ Status.DeviceFault) ↔ (W.failed_calls sink.new ≡ W.failed_calls sink.old + 1) }
+    ensures statuses { (result ≡ Status.NoFail) ⊎ (result ≡ Status.DeviceFault) }
+{
+    match write_text(sink, text) {
+        Ok(()) => Status::NoFail,
+        Err(cut) => fail(rt, cut, Status::DeviceFault),
+    }
+}

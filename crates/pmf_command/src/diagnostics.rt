@@ -1,0 +1,39 @@
+//! What is said on standard error.
+
+ghost use Rattle.std.specs.Prelude.{◌≡◌};
+
+use crate::status::Status;
+use std::fmt::Display;
+use std::io::Eprint;
+
+/// Says on standard error why the program ends so, and answers the status. A write that fails
+/// there changes nothing.
+pub fn fail<R: Eprint, D: Display + Drop>(rt: &R, cause: D, status: Status) -> Status
+    ensures { result ≡ status }
+{
+    let _ = eprintln!(rt; "pmfarm: {cause}");
+    status
+}
+
+/// Says on standard error that memory ran out.
+pub fn out_of_memory<R: Eprint>(rt: &R) -> Status
+    ensures { result ≡ Status.NoMemory }
+{
+    fail(rt, "out of memory", Status::NoMemory)
+}
+
+/// Says on standard error why the words of the command line are refused. The text ends its own
+/// line.
+pub fn refuse_words<R: Eprint>(rt: &R, text: &str) -> Status
+    ensures { result ≡ Status.Refused }
+{
+    let _ = eprint!(rt; "pmfarm: {text}");
+    Status::Refused
+}
+
+/// Says on standard error how many records of a log were skipped, if any were.
+pub fn say_skipped<R: Eprint>(rt: &R, records: u64) {
+    if records > 0 {
+        let _ = eprintln!(rt; "pmfarm: skipped {records} records");
+    }
+}

@@ -1,0 +1,79 @@
+//! The status of each answer of a command.
+
+ghost use Rattle.std.specs.Prelude.{◌≡◌};
+ghost use Rattle.pmf_command.specs.Statuses.{status_of_asked, status_of_done, status_of_fault, status_of_log_fault, status_of_refusal};
+ghost use Rattle.pmf_command.specs.declared.status.Status.{Status};
+
+use crate::status::Status;
+use pmf_storelog::{Cause, LogFault};
+use pmf_stream::{Done, ExplainFault, StreamFault};
+
+/// What a command did, or why it refused: the program ends as this says.
+pub trait Ending {
+    // How the program ends.
+    ghost ends_as: { Self → Status };
+
+    /// How the program ends.
+    fn status(&self) -> Status
+        ensures { result ≡ ends_as self.now };
+}
+
+/// The log was reported.
+impl Ending for Done {
+    ghost ends_as = { status_of_done };
+
+    fn status(&self) -> Status {
+        if self.fails == 0 {
+            Status::NoFail
+        } else {
+            Status::SomeFail
+        }
+    }
+}
+
+/// The event was explained.
+impl Ending for () {
+    ghost ends_as = { status_of_asked };
+
+    fn status(&self) -> Status {
+        Status::NoFail
+    }
+}
+
+/// The log is refused.
+impl Ending for LogFault {
+    ghost ends_as = { status_of_log_fault };
+
+    fn status(&self) -> Status {
+        match self.cause {
+            Cause::OutOfMemory => Status::NoMemory,
+            _ => Status::Refused,
+        }
+    }
+}
+
+/// What is asked for is refused.
+impl Ending for ExplainFault {
+    ghost ends_as = { status_of_refusal };
+
+    fn status(&self) -> Status {
+        match self {
+            ExplainFault::NoSection { .. } | ExplainFault::NoEvent { .. } => Status::Refused,
+            ExplainFault::OutOfMemory => Status::NoMemory,
+            ExplainFault::Log(fault) => fault.status(),
+        }
+    }
+}
+
+/// The stream is not answered.
+impl<E: Ending> Ending for StreamFault<E> {
+    ghost ends_as = { status_of_fault E.ends_as };
+
+    fn status(&self) -> Status {
+        match self {
+            StreamFault::ReadFault | StreamFault::WriteFault { .. } => Status::DeviceFault,
+            StreamFault::OutOfMemory => Status::NoMemory,
+            StreamFault::Refused(found) => found.status(),
+        }
+    }
+}

@@ -1,0 +1,22 @@
+//! The words of the command line, and how the program ends.
+//!
+//! [`run`] does what the words ask for, over the streams of `pmf_stream`. The statuses stand in
+//! `specs/Statuses`: each answer of a command has one, by [`Ending`]. [`request_of`] is a function of the
+//! words alone. Every text that is written to standard output, help too, goes out by `write_text`.
+//!
+//! Not promised here: the words of help and fault lines, or that the words of the command line give the
+//! numbers that they name.
+#![tactic(auto)]
+
+mod commands;
+mod diagnostics;
+mod ending;
+mod request;
+mod status;
+#[cfg(test)]
+mod tests;
+
+pub use commands::run;
+pub use ending::Ending;
+pub use request::{Request, request_of};
+pub use status::Status;

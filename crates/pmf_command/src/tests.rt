@@ -1,0 +1,3 @@
+//! The tests of words and statuses.
+
+mod words;

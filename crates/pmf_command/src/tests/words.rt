@@ -1,0 +1,188 @@
+//! What the words of the command line ask for, and the status where they are refused.
+
+use crate::request::{Request, request_of};
+use crate::status::Status;
+use pmf_event::Profile;
+use pmf_stream::{Question, Settings};
+use std::alloc::{AllocError, Global};
+use std::test::Fail;
+
+fn strings(alloc: Global, words: &[&str]) -> Result<Vec<String>, AllocError> {
+    let mut strings = Vec::new(alloc);
+    for word in words {
+        strings.push(String::from_str(alloc, *word)?)?;
+    }
+    Ok(strings)
+}
+
+#[test]
+fn check_takes_a_run_of_64_bits(rt: HostRuntime) -> Result<(), Fail> {
+    let cases = [
+        (&["pmfarm", "check"][..], 0),
+        (&["pmfarm", "check", "--run", "7"][..], 7),
+        (
+            &["pmfarm", "check", "--run=18446744073709551615"][..],
+            u64::MAX,
+        ),
+    ];
+    for (words, run) in cases {
+        let words = strings(rt.alloc(), words)?;
+        let request = request_of(rt.alloc(), words.as_slice())?;
+        assert!(rt;
+            request
+                == Request::Check(Settings {
+                    run,
+                    profile: Profile::One
+                }),
+            "at run {run}"
+        );
+    }
+    Ok(())
+}
+
+#[test]
+fn check_takes_profile_1_or_2(rt: HostRuntime) -> Result<(), Fail> {
+    let cases = [
+        (&["pmfarm", "check"][..], Profile::One),
+        (&["pmfarm", "check", "--profile", "1"][..], Profile::One),
+        (&["pmfarm", "check", "--profile", "2"][..], Profile::Two),
+        (&["pmfarm", "check", "--profile=2"][..], Profile::Two),
+    ];
+    for (words, profile) in cases {
+        let words = strings(rt.alloc(), words)?;
+        let request = request_of(rt.alloc(), words.as_slice())?;
+        let want = Request::Check(Settings { run: 0, profile });
+        assert!(rt; request == want, "at profile {profile:?}");
+    }
+    Ok(())
+}
+
+#[test]
+fn explain_takes_a_section_and_an_event(rt: HostRuntime) -> Result<(), Fail> {
+    let cases = [
+        (
+            &["pmfarm", "explain", "--section", "7", "--event", "3"][..],
+            Question {
+                run: 0,
+                profile: Profile::One,
+                section: 7,
+                event: 3,
+            },
+        ),
+        (
+            &[
+                "pmfarm",
+                "explain",
+                "--profile=2",
+                "--event=4294967295",
+                "--section=18446744073709551615",
+                "--run=5",
+            ][..],
+            Question {
+                run: 5,
+                profile: Profile::Two,
+                section: u64::MAX,
+                event: u32::MAX,
+            },
+        ),
+    ];
+    for (words, question) in cases {
+        let words = strings(rt.alloc(), words)?;
+        let request = request_of(rt.alloc(), words.as_slice())?;
+        assert!(rt; request == Request::Explain(question), "{question:?}");
+    }
+    Ok(())
+}
+
+#[test]
+fn words_that_are_no_request_are_refused(rt: HostRuntime) -> Result<(), Fail> {
+    let cases = [
+        &["pmfarm"][..],
+        &["pmfarm", "chek"][..],
+        &["pmfarm", "check", "store.log"][..],
+        &["pmfarm", "check", "--run"][..],
+        &["pmfarm", "check", "--run", "x"][..],
+        &["pmfarm", "check", "--run", "-1"][..],
+        &["pmfarm", "check", "--run", "18446744073709551616"][..],
+        &["pmfarm", "check", "--run", "1", "--run", "2"][..],
+        &["pmfarm", "check", "--profile"][..],
+        &["pmfarm", "check", "--profile", "0"][..],
+        &["pmfarm", "check", "--profile", "3"][..],
+        &["pmfarm", "check", "--profile", "02"][..],
+        &["pmfarm", "check", "--profile", "two"][..],
+        &["pmfarm", "check", "--profile", ""][..],
+        &["pmfarm", "check", "--profile", "1", "--profile", "2"][..],
+        &["pmfarm", "check", "--section", "1"][..],
+        &["pmfarm", "explain"][..],
+        &["pmfarm", "explain", "--section", "0"][..],
+        &["pmfarm", "explain", "--event", "1"][..],
+        &["pmfarm", "explain", "--section", "x", "--event", "1"][..],
+        &["pmfarm", "explain", "--section", "0", "--event", "-1"][..],
+        &[
+            "pmfarm",
+            "explain",
+            "--section",
+            "0",
+            "--event",
+            "4294967296",
+        ][..],
+        &[
+            "pmfarm",
+            "explain",
+            "--section",
+            "18446744073709551616",
+            "--event",
+            "1",
+        ][..],
+        &[
+            "pmfarm",
+            "explain",
+            "--section",
+            "0",
+            "--event",
+            "1",
+            "--event",
+            "1",
+        ][..],
+        &[
+            "pmfarm",
+            "explain",
+            "--section",
+            "0",
+            "--event",
+            "1",
+            "--profile",
+            "3",
+        ][..],
+    ];
+    for words in cases {
+        let status = status_at(rt.alloc(), words)?;
+        assert_eq!(rt; status, Some(Status::Refused), "{words:?}");
+    }
+    Ok(())
+}
+
+#[test]
+fn help_and_the_version_are_no_fault(rt: HostRuntime) -> Result<(), Fail> {
+    let cases = [
+        &["pmfarm", "--help"][..],
+        &["pmfarm", "help"][..],
+        &["pmfarm", "check", "--help"][..],
+        &["pmfarm", "explain", "--help"][..],
+        &["pmfarm", "--version"][..],
+    ];
+    for words in cases {
+        let status = status_at(rt.alloc(), words)?;
+        assert_eq!(rt; status, Some(Status::NoFail), "{words:?}");
+    }
+    Ok(())
+}
+
+// The status where the words are no request.
+fn status_at(alloc: Global, words: &[&str]) -> Result<Option<Status>, AllocError> {
+    let words = strings(alloc, words)?;
+    match request_of(alloc, words.as_slice()) {
+        Ok(_) => Ok(None),
+        Err(error) => Ok(Some(Status::of_kind(error.kind()))),
+    }
+}

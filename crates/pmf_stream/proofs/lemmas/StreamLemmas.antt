@@ -1,0 +1,70 @@
+-- A log that is read piece by piece, and what its end or its fault says.
+use Rattle.std.proofs.Common.{◌≡◌, ℕ, ◌+◌, ◌≤◌, Bool, true, false, nat_lt, if◌then◌else◌, List, [], ◌++◌, length, refl, sym, ◌∙◌, ap, subst, arith, append_assoc, inl, inr}
+use Rattle.std.specs.Prelude.{◌≢◌, ◌⊎◌, Option, Some, None, Ok, Err}
+use Rattle.std.proofs.lemmas.Bool.{ltb-false}
+use Rattle.std.proofs.lemmas.List.{append-nil}
+use Rattle.pmf_storelog.specs.declared.fault.LogFault.{LogFault}
+use Rattle.pmf_storelog.specs.declared.fault.TheConstants.{LOG_LIMIT}
+use Rattle.pmf_storelog.specs.declared.reader.LogReader.{LogReader}
+use Rattle.pmf_storelog.specs.LogText.{log_of, shown_fault, shown_within, too_long, or_else, first_fault, first_fault_among, IsFaultOfAll, out_of_memory}
+use Rattle.pmf_storelog.specs.Separators.{records_in, parts_of, ended_parts}
+use Rattle.pmf_storelog.specs.LogValue.{LogValue}
+use Rattle.pmf_storelog.specs.Reader.{HasRead}
+use Rattle.pmf_storelog.proofs.CallerLemmas.{log_of-all}
+use Rattle.pmf_stream.specs.Checking.{IsLogOf, IsFaultOf, IsLogFaultOf}
+use Rattle.pmf_stream.specs.Reading.{HasReadBytes, HasReadAll}
+use Rattle.pmf_stream.specs.Pieces.{Takes, Refuses, StandsFor}
+
+second-none : (first second : Option LogFault) → or_else first second ≡ None → second ≡ None
+second-none None second is = is
+second-none (Some found) second is = let bad : Some found ≡ None = is in cc
+
+fits-unless : (b : Bool) (found : LogFault) → (if b then Some found else None) ≡ None → b ≡ false
+fits-unless true found is = let bad : Some found ≡ None = is in cc
+fits-unless false found is = refl
+
+-- bytes that show no fault are few enough
+fits-from_shown : (bytes : List ℕ) → shown_fault bytes ≡ None → length bytes ≤ LOG_LIMIT
+unfolding shown_fault shown_within too_long
+fits-from_shown bytes none = ltb-false LOG_LIMIT (length bytes) (fits-unless (nat_lt LOG_LIMIT (length bytes)) _ (second-none _ _ none))
+
+-- a reader stands for no byte at first, and no byte shows no fault
+nothing-shown : shown_fault [] ≡ None
+unfolding shown_fault shown_within too_long records_in ended_parts parts_of first_fault first_fault_among
+nothing-shown = refl
+
+-- what was taken to the end of the stream is few enough to be all of it
+pub IsLogOf-all : (run : ℕ) (left rest : Option (List ℕ)) (fresh taken : LogReader) (bytes : List ℕ) (log : LogValue) →
+    HasReadAll LOG_LIMIT left rest bytes → Takes fresh bytes taken → HasRead run [] fresh → (HasRead run bytes taken → log_of run bytes ≡ Ok log) → IsLogOf run left rest log
+IsLogOf-all run left rest fresh taken bytes log all takes start is =
+    let stands = takes run [] (start, nothing-shown) in
+    let fits = fits-from_shown bytes stands.1 in record {
+      bytes = bytes;
+      read = all.read;
+      ended = elim all.all [ inl ended ↦ ended | inr long ↦ absurd (omega (arith, long, fits)) ];
+      faultless = is stands.0;
+    }
+
+-- a fault that a reader shows is that of every log that begins so
+pub IsLogFaultOf-shown : (run : ℕ) (left rest : Option (List ℕ)) (fresh : LogReader) (bytes : List ℕ) (found : LogFault) →
+    HasReadBytes LOG_LIMIT left rest bytes → Refuses fresh bytes found → HasRead run [] fresh → IsLogFaultOf run left rest found
+IsLogFaultOf-shown run left rest fresh bytes found read refuses start memory =
+    let all = refuses run [] (start, nothing-shown) memory in record {
+      bytes = bytes;
+      read = read;
+      first = ap (log_of run) (sym (append-nil bytes)) ∙ log_of-all run found bytes [] all;
+      for_all = inr all;
+    }
+
+-- so is one that shows at the end
+pub IsLogFaultOf-end : (run : ℕ) (left rest : Option (List ℕ)) (fresh taken : LogReader) (bytes : List ℕ) (found : LogFault) →
+    HasReadAll LOG_LIMIT left rest bytes → Takes fresh bytes taken → HasRead run [] fresh → (HasRead run bytes taken → found ≢ out_of_memory → log_of run bytes ≡ Err found) →
+    IsLogFaultOf run left rest found
+IsLogFaultOf-end run left rest fresh taken bytes found all takes start is memory =
+    let stands = takes run [] (start, nothing-shown) in
+    let fits = fits-from_shown bytes stands.1 in record {
+      bytes = bytes;
+      read = all.read;
+      first = is stands.0 memory;
+      for_all = elim all.all [ inl ended ↦ inl ended | inr long ↦ absurd (omega (arith, long, fits)) ];
+    }

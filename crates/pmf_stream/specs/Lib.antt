@@ -1,0 +1,15 @@
+pub use Rattle.pmf_event.specs.Section
+pub use Rattle.pmf_image.specs.Certificate
+pub use Rattle.pmf_storelog.specs.LogValue
+pub use Rattle.pmf_storelog.specs.LogText
+pub use Rattle.pmf_verdict.specs.Report
+pub use Rattle.pmf_verdict.specs.Outcome
+pub use Rattle.pmf_verdict.specs.Explained
+pub use Rattle.pmf_verdict.specs.Text
+pub mod Failures
+pub mod Reading
+pub mod Pieces
+pub mod Answering
+pub mod Checking
+pub mod Explanation
+pub mod Asking

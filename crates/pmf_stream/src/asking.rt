@@ -1,0 +1,47 @@
+//! From a stream of bytes to the explanation of one place.
+
+ghost use Rattle.pmf_stream.specs.Answering.{Answers, TellsFaults};
+ghost use Rattle.pmf_stream.specs.Asking.{IsExplanationOf, IsRefusalOf};
+ghost use Rattle.pmf_stream.specs.Failures.{CanCountOneMore};
+
+use crate::explaining::{ExplainFault, explain_text};
+use crate::fault::StreamFault;
+use crate::reading::read_all;
+use crate::settings::Question;
+use crate::sink::Sink;
+use crate::source::Source;
+use crate::writing::write_answer;
+use pmf_storelog::LOG_LIMIT;
+use std::alloc::Global;
+
+/// Reads a log and writes the text that explains the event that is asked for. Reads in pieces to the end of the
+/// stream, or to one byte past what a log may have, and writes nothing before the whole text is there.
+///
+/// Refusals: [`StreamFault::ReadFault`] and [`StreamFault::OutOfMemory`] as the reading goes, then
+/// [`StreamFault::Refused`], then [`StreamFault::WriteFault`]. Takes memory for the bytes of the log, its events,
+/// the verdict of the section and the text.
+pub fn explain_stream<R: Source, W: Sink>(
+    alloc: Global,
+    reader: &mut R,
+    writer: &mut W,
+    question: Question,
+) -> Result<(), StreamFault<ExplainFault>>
+    requires read { CanCountOneMore (R.failed_calls reader.old) }
+    requires write { CanCountOneMore (W.failed_calls writer.old) }
+    // What was read is explained or refused, and exactly the explanation was written.
+    ensures answer { Answers (IsExplanationOf question (R.left reader.old) (R.left reader.new))
+        (IsRefusalOf question (R.left reader.old) (R.left reader.new))
+        (W.held writer.old) (W.held writer.new) result }
+    ensures faults { TellsFaults (R.failed_calls reader.old) (R.failed_calls reader.new)
+        (W.failed_calls writer.old) (W.failed_calls writer.new) writer.old writer.new result }
+{
+    let log = match read_all(alloc, reader, LOG_LIMIT) {
+        Ok(log) => log,
+        Err(fault) => return Err(fault),
+    };
+    let text = match explain_text(alloc, &log, question) {
+        Ok(text) => text,
+        Err(fault) => return Err(StreamFault::Refused(fault)),
+    };
+    write_answer(writer, &text, ())
+}

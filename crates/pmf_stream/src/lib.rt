@@ -1,0 +1,37 @@
+//! What each command does over streams of bytes: reads, checks or explains, and writes one text.
+//!
+//! What is read comes from a [`Source`], what is written goes to a [`Sink`] by [`write_text`]; both count
+//! their failed calls. The clauses cite std's `KnownBytes` for the bytes and `specs/Failures` for the
+//! failed calls. What a command answers is one definition of its own (`specs/Checking`, `specs/Asking`)
+//! in the words of one skeleton (`specs/Answering`): at Ok its whole text was written, at WriteFault
+//! exactly so many bytes of it, and ReadFault and WriteFault are told exactly where a read or a write
+//! failed.
+//!
+//! Not promised here: what a device does with the bytes, or that memory suffices.
+#![tactic(auto)]
+
+mod asking;
+mod checking;
+mod device;
+mod explaining;
+mod failed;
+mod fault;
+mod reading;
+mod reporting;
+mod settings;
+mod sink;
+mod source;
+#[cfg(test)]
+mod tests;
+mod writing;
+
+pub use asking::explain_stream;
+pub use checking::{Done, check_stream};
+pub use device::{Counted, Device};
+pub use explaining::{ExplainFault, explain_text};
+pub use failed::Failed;
+pub use fault::StreamFault;
+pub use settings::{Question, Settings};
+pub use sink::{Sink, StdSink};
+pub use source::{Source, StdSource};
+pub use writing::{Cut, write_text};

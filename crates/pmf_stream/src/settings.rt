@@ -1,0 +1,25 @@
+//! What a command is asked for.
+
+use pmf_event::Profile;
+
+/// What `check` is told by its words.
+#[derive(Clone, Copy, Debug, PartialEq, Eq)]
+pub struct Settings {
+    /// The run in the name of each section.
+    pub run: u64,
+    /// By which rule order assertions judge two bytes of one line.
+    pub profile: Profile,
+}
+
+/// What `explain` is told by its words.
+#[derive(Clone, Copy, Debug, PartialEq, Eq)]
+pub struct Question {
+    /// The run in the name of each section.
+    pub run: u64,
+    /// By which rule order assertions judge two bytes of one line.
+    pub profile: Profile,
+    /// The number of the section.
+    pub section: u64,
+    /// The place of the event in its section, from 1.
+    pub event: u32,
+}

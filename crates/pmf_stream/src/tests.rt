@@ -1,0 +1,10 @@
+//! The tests of streams: worked logs by their reports, and devices that fail.
+
+mod explaining;
+mod failing;
+mod fakes;
+mod limits;
+mod orders;
+mod rows;
+mod streams;
+mod transactions;

@@ -1,0 +1,259 @@
+//! What explain answers of a place, and how it reads and writes.
+
+use super::fakes::{ByteSink, PieceSource};
+use crate::asking::explain_stream;
+use crate::device::Device;
+use crate::explaining::{ExplainFault, explain_text};
+use crate::fault::StreamFault;
+use crate::settings::Question;
+use crate::sink::Sink;
+use crate::source::Source;
+use pmf_event::{Profile, SpanFault};
+use pmf_storelog::{Cause, LogFault};
+use std::test::Fail;
+
+// Neither store is written back before the other is made.
+const PAIR: &[u8] = b"STORE;0x1000;0;8|STORE;0x2000;0;8|FLUSH;0x1000;0x40|FLUSH;0x2000;0x40|FENCE\
+|PMT.ORDERED;0x1000;8;0x2000;8";
+
+const PAIR_TEXT: &[u8] = b"\
+6 ORDERED FAIL byte=0x1000 after=0x2000 crash=2
+image crash=2 full=0x2000
+byte=0x1000 cut=0 shows=0 last=1
+byte=0x2000 cut=1 shows=2 last=2
+";
+
+const UNFENCED: &[u8] = b"STORE;0x1000;0x1;0x8|FLUSH;0x1000;0x40|PMT.PERSIST;0x1000;0x8";
+
+// The order was kept, and then the first bytes were stored again.
+const STORED_AGAIN: &[u8] =
+    b"STORE;0x1000;0;8|FLUSH;0x1000;0x40|FENCE|STORE;0x2000;0;8|FLUSH;0x2000;0x40|FENCE\
+|STORE;0x1000;0;8|FLUSH;0x1000;0x40|FENCE|PMT.ORDERED;0x1000;8;0x2000;8";
+
+const ONE_LINE: &[u8] = b"STORE;0x1000;0;8|STORE;0x1008;0;8|PMT.ORDERED;0x1000;8;0x1008;8";
+
+const TRANSACTION: &[u8] =
+    b"PMT.CHECKSTART|PMT.TXBEGIN|PMT.TXADD;0x1000;8|STORE;0x1000;0;0x10|PMT.TXEND|PMT.CHECKEND";
+
+const OPEN_TRANSACTION: &[u8] =
+    b"PMT.CHECKSTART|PMT.TXBEGIN|PMT.TXADD;0x1000;8|STORE;0x1000;0;0x10|PMT.CHECKEND";
+
+// Two write-backs of the second line and one of a line that has nothing to write back.
+const WRITTEN_BACK_TWICE: &[u8] = b"STORE;0x1000;0;8|FLUSH;0x1000;0x40|FLUSH;0x1000;0x80";
+
+// Section 3 fails where section 2 does not.
+const TWO_SECTIONS: &[u8] =
+    b"PMT.SECTION;2|STORE;0x1000;0;8|FLUSH;0x1000;64|FENCE|PMT.PERSIST;0x1000;8\
+|PMT.SECTION;3|STORE;0x1000;0;8|FLUSH;0x1000;64|STORE;0x1000;0;8|PMT.PERSIST;0x1000;8";
+
+fn asked(section: u64, event: u32) -> Question {
+    Question {
+        run: 0,
+        profile: Profile::One,
+        section,
+        event,
+    }
+}
+
+fn by_profile_two(event: u32) -> Question {
+    Question {
+        run: 0,
+        profile: Profile::Two,
+        section: 0,
+        event,
+    }
+}
+
+#[test]
+fn each_place_has_its_text(rt: HostRuntime) -> Result<(), Fail> {
+    let cases: [(&[u8], Question, &[u8]); 12] = [
+        (
+            UNFENCED,
+            asked(0, 3),
+            b"3 PERSIST FAIL byte=0x1000 crash=3\nimage crash=3 full=none\nbyte=0x1000 cut=0 shows=0 last=1\n",
+        ),
+        (PAIR, asked(0, 6), PAIR_TEXT),
+        (PAIR, by_profile_two(6), PAIR_TEXT),
+        (
+            STORED_AGAIN,
+            asked(0, 10),
+            b"10 ORDERED FAIL byte=0x1000 after=0x2000 crash=4\nimage crash=4 full=0x2000\n\
+byte=0x1000 cut=1 shows=1 last=7\nbyte=0x2000 cut=1 shows=4 last=4\n",
+        ),
+        (
+            ONE_LINE,
+            asked(0, 3),
+            b"3 ORDERED SAMELINE byte=0x1000 after=0x1008\nno image\n",
+        ),
+        (ONE_LINE, by_profile_two(3), b"3 ORDERED PASS\nno image\n"),
+        (ONE_LINE, asked(0, 1), b"no image\n"),
+        (
+            TRANSACTION,
+            asked(0, 6),
+            b"6 CHECKEND FAIL byte=0x1000 crash=6\nimage crash=6 full=none\nbyte=0x1000 cut=0 shows=0 last=4\n",
+        ),
+        (
+            TRANSACTION,
+            asked(0, 4),
+            b"4 STORE NOBACKUP byte=0x1008\nno image\n",
+        ),
+        (
+            OPEN_TRANSACTION,
+            asked(0, 5),
+            b"5 CHECKEND TXOPEN depth=1\nno image\n",
+        ),
+        (
+            WRITTEN_BACK_TWICE,
+            asked(0, 3),
+            b"3 FLUSH DOUBLED line=0x1000 lines=1\n3 FLUSH NEEDLESS line=0x1040 lines=1\nno image\n",
+        ),
+        (
+            TWO_SECTIONS,
+            asked(3, 4),
+            b"4 PERSIST FAIL byte=0x1000 crash=4\nimage crash=4 full=none\nbyte=0x1000 cut=0 shows=0 last=3\n",
+        ),
+    ];
+    for (log, question, want) in cases {
+        let text = explain_text(rt.alloc(), log, question)?;
+        assert!(rt; text.as_slice() == want, "{question:?}");
+    }
+    Ok(())
+}
+
+#[test]
+fn a_section_or_an_event_that_is_missing_is_refused(rt: HostRuntime) {
+    let no_event = |event| ExplainFault::NoEvent {
+        run: 9,
+        section: 0,
+        event,
+    };
+    let fault = ExplainFault::Log(LogFault {
+        at: 2,
+        cause: Cause::BadSpan(SpanFault::ZeroSize),
+    });
+    let faulty = b"FENCE|STORE;1;0;0|PMT.X".as_slice();
+    for (log, section, event, want) in [
+        (ONE_LINE, 0, 0, no_event(0)),
+        (ONE_LINE, 0, 4, no_event(4)),
+        (ONE_LINE, 0, u32::MAX, no_event(u32::MAX)),
+        (
+            ONE_LINE,
+            7,
+            0,
+            ExplainFault::NoSection { run: 9, section: 7 },
+        ),
+        (
+            b"".as_slice(),
+            0,
+            1,
+            ExplainFault::NoSection { run: 9, section: 0 },
+        ),
+        (b"PMT.SECTION;0".as_slice(), 0, 1, no_event(1)),
+        (faulty, 0, 1, fault),
+        (faulty, 7, 0, fault),
+    ] {
+        let question = Question {
+            run: 9,
+            profile: Profile::One,
+            section,
+            event,
+        };
+        let answer = explain_text(rt.alloc(), log, question);
+        assert_eq!(rt;
+            answer.err(),
+            Some(want),
+            "section {section}, event {event}"
+        );
+    }
+}
+
+#[test]
+fn each_refusal_is_told_by_its_text(rt: HostRuntime) -> Result<(), Fail> {
+    for (fault, want) in [
+        (
+            ExplainFault::NoSection { run: 9, section: 7 },
+            "no section 9.7",
+        ),
+        (
+            ExplainFault::NoEvent {
+                run: 9,
+                section: 7,
+                event: 0,
+            },
+            "no event 0 in section 9.7",
+        ),
+        (ExplainFault::OutOfMemory, "out of memory"),
+        (
+            ExplainFault::Log(LogFault {
+                at: 1,
+                cause: Cause::UnknownMarker,
+            }),
+            "record 1: unknown marker",
+        ),
+    ] {
+        let text = format!(in rt.alloc(); "{}", StreamFault::Refused(fault))?;
+        assert_eq!(rt; text.as_str(), want);
+    }
+    Ok(())
+}
+
+#[test]
+fn a_log_in_pieces_is_explained_as_the_whole(rt: HostRuntime) {
+    for most in [1, 7, 64, 65_536] {
+        let pieces = [PAIR];
+        let mut source = PieceSource::new(&pieces).giving(most);
+        let mut sink = ByteSink::new(rt.alloc()).taking(most);
+        let answer = explain_stream(rt.alloc(), &mut source, &mut sink, asked(0, 6));
+        assert_eq!(rt; answer, Ok(()), "in pieces of {most}");
+        assert!(rt; sink.bytes() == PAIR_TEXT, "in pieces of {most}");
+    }
+}
+
+#[test]
+fn a_read_that_fails_is_told_before_a_fault_of_the_log(rt: HostRuntime) {
+    for pieces in [
+        &[][..],
+        &[b"PMT.X|FENCE".as_slice(), b"FENCE".as_slice()][..],
+    ] {
+        let mut source = PieceSource::failing(pieces);
+        let mut sink = ByteSink::new(rt.alloc());
+        let answer = explain_stream(rt.alloc(), &mut source, &mut sink, asked(0, 6));
+        assert_eq!(rt; answer, Err(StreamFault::ReadFault));
+        assert_eq!(rt; source.failures(), 1);
+        assert_eq!(rt; sink.failures(), 0);
+        assert_eq!(rt; sink.bytes().len(), 0);
+    }
+}
+
+#[test]
+fn a_refusal_writes_nothing(rt: HostRuntime) {
+    let pieces = [PAIR];
+    let mut sink = ByteSink::new(rt.alloc());
+    let answer = explain_stream(
+        rt.alloc(),
+        &mut PieceSource::new(&pieces),
+        &mut sink,
+        asked(1, 6),
+    );
+    let want = ExplainFault::NoSection { run: 0, section: 1 };
+    assert_eq!(rt; answer, Err(StreamFault::Refused(want)));
+    assert_eq!(rt; sink.bytes().len(), 0);
+}
+
+#[test]
+fn a_writer_that_fails_after_n_bytes_holds_the_first_n(rt: HostRuntime) {
+    for room in 0..PAIR_TEXT.len() {
+        let pieces = [PAIR];
+        let mut sink = ByteSink::new(rt.alloc()).failing_after(room);
+        let answer = explain_stream(
+            rt.alloc(),
+            &mut PieceSource::new(&pieces),
+            &mut sink,
+            asked(0, 6),
+        );
+        let written = room as u64;
+        assert_eq!(rt; answer, Err(StreamFault::WriteFault { written }));
+        assert!(rt; sink.bytes() == &PAIR_TEXT[..room], "after {room}");
+        assert_eq!(rt; sink.failures(), 1, "after {room}");
+    }
+}

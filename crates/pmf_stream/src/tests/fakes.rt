@@ -1,0 +1,205 @@
+//! Sources and sinks that fail when a test wants it.
+
+ghost use Rattle.std.specs.Prelude.{◌≡◌, None, Some, IfOk};
+
+use crate::device::Device;
+use crate::failed::Failed;
+use crate::sink::Sink;
+use crate::source::Source;
+use std::alloc::Global;
+use std::io;
+use std::io::{Error, ErrorKind, Read, Write};
+
+// Gives the pieces in turn, one a read, and then the end. A piece that does not fit into the
+// buffer, or has more than `most` bytes, is given in several reads. The first piece is given
+// `again` times more before the second. No piece but the last is empty, and `most` is not 0.
+#[derive(Drop)]
+pub struct PieceSource<'a> {
+    pieces: &'a [&'a [u8]],
+    rest: &'a [u8],
+    next: usize,
+    again: usize,
+    most: usize,
+    fails_after: bool,
+    failures: u64,
+}
+
+impl<'a> PieceSource<'a> {
+    pub fn new(pieces: &'a [&'a [u8]]) -> PieceSource<'a>
+        ensures { result.failures ≡ 0 }
+    {
+        PieceSource {
+            pieces,
+            rest: b"",
+            next: 0,
+            again: 0,
+            most: usize::MAX,
+            fails_after: false,
+            failures: 0,
+        }
+    }
+
+    // The pieces, and from then on each read fails in place of the end.
+    pub fn failing(pieces: &'a [&'a [u8]]) -> PieceSource<'a>
+        ensures { result.failures ≡ 0 }
+    {
+        let mut source = PieceSource::new(pieces);
+        source.fails_after = true;
+        source
+    }
+
+    // The first piece, so many times more.
+    pub fn again(mut self, times: usize) -> PieceSource<'a>
+        ensures { result.failures ≡ self.entry.failures }
+    {
+        self.again = times;
+        self
+    }
+
+    // At most this many bytes a read.
+    pub fn giving(mut self, most: usize) -> PieceSource<'a>
+        ensures { result.failures ≡ self.entry.failures }
+    {
+        self.most = most;
+        self
+    }
+}
+
+impl<'a> Device for PieceSource<'a> {
+    ghost failed_calls = { λ s. s.failures };
+
+    fn failures(&self) -> u64 {
+        self.failures
+    }
+}
+
+impl<'a> Source for PieceSource<'a> {
+    ghost left = { λ _. None };
+
+    fn read(&mut self, buffer: &mut [u8]) -> Result<usize, Failed> {
+        if self.rest.is_empty() && self.next < self.pieces.len() {
+            self.rest = self.pieces[self.next];
+            if self.again > 0 {
+                self.again -= 1;
+            } else {
+                self.next += 1;
+            }
+        }
+        if self.rest.is_empty() && self.fails_after {
+            self.failures += 1;
+            return Err(Failed);
+        }
+        let count = self.rest.len().min(buffer.len()).min(self.most);
+        buffer[..count].copy_from_slice(&self.rest[..count]);
+        self.rest = &self.rest[count..];
+        Ok(count)
+    }
+}
+
+// Keeps what is written, at most `most` bytes a call, and fails once it holds `room` bytes.
+#[derive(Drop)]
+pub struct ByteSink {
+    bytes: Vec<u8>,
+    most: usize,
+    room: usize,
+    failures: u64,
+}
+
+impl ByteSink {
+    pub fn new(alloc: Global) -> ByteSink
+        ensures { result.failures ≡ 0 }
+    {
+        ByteSink {
+            bytes: Vec::new(alloc),
+            most: usize::MAX,
+            room: usize::MAX,
+            failures: 0,
+        }
+    }
+
+    // Takes at most this many bytes a call.
+    pub fn taking(mut self, most: usize) -> ByteSink
+        ensures { result.failures ≡ self.failures }
+    {
+        self.most = most;
+        self
+    }
+
+    // Fails once it holds this many bytes.
+    pub fn failing_after(mut self, room: usize) -> ByteSink
+        ensures { result.failures ≡ self.failures }
+    {
+        self.room = room;
+        self
+    }
+
+    // What was written.
+    pub fn bytes(&self) -> &[u8] {
+        self.bytes.as_slice()
+    }
+}
+
+impl Device for ByteSink {
+    ghost failed_calls = { λ s. s.failures };
+
+    fn failures(&self) -> u64 {
+        self.failures
+    }
+}
+
+impl Sink for ByteSink {
+    ghost held = { λ s. Some s.bytes.items };
+
+    fn write(&mut self, bytes: &[u8]) -> Result<usize, Failed> {
+        let room = self.room.saturating_sub(self.bytes.len());
+        let count = bytes.len().min(self.most).min(room);
+        if count == 0 && !bytes.is_empty() {
+            self.failures += 1;
+            return Err(Failed);
+        }
+        if self.bytes.extend_from_slice(&bytes[..count]).is_err() {
+            self.failures += 1;
+            return Err(Failed);
+        }
+        Ok(count)
+    }
+}
+
+// A device of the standard library that is interrupted at its first call, and then reads as one
+// that has ended and writes as one that takes all.
+#[derive(Drop)]
+pub struct InterruptedOnce {
+    was_called: bool,
+}
+
+impl InterruptedOnce {
+    pub fn new() -> InterruptedOnce {
+        InterruptedOnce { was_called: false }
+    }
+
+    fn answer(&mut self, count: usize) -> io::Result<usize>
+        ensures { IfOk result (λ n. n ≡ count) }
+    {
+        if self.was_called {
+            return Ok(count);
+        }
+        self.was_called = true;
+        Err(Error::from(ErrorKind::Interrupted))
+    }
+}
+
+impl Read for InterruptedOnce {
+    fn read(&mut self, _buffer: &mut [u8]) -> io::Result<usize> {
+        self.answer(0)
+    }
+}
+
+impl Write for InterruptedOnce {
+    fn write(&mut self, bytes: &[u8]) -> io::Result<usize> {
+        self.answer(bytes.len())
+    }
+
+    fn flush(&mut self) -> io::Result<()> {
+        Ok(())
+    }
+}

@@ -1,5 +1,0 @@
-pub mod TextLemmas
-pub mod ReportLemmas
-pub mod StreamLemmas
-pub mod SectionLemmas
-pub mod AskLemmas
