@@ -13,8 +13,6 @@ mod diagnostics;
 mod ending;
 mod request;
 mod status;
-#[cfg(test)]
-mod tests;
 
 pub use commands::run;
 pub use ending::Ending;

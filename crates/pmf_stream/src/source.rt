@@ -40,7 +40,7 @@ impl<R: Read> Source for Counted<R> {
 }
 
 /// Reads at most `limit` bytes to the front of the buffer, and else as [`Source::read`] does.
-pub fn read_piece<R: Source>(
+pub(crate) fn read_piece<R: Source>(
     reader: &mut R,
     buffer: &mut [u8],
     limit: usize,

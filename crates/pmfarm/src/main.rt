@@ -10,12 +10,14 @@ ghost use Rattle.std.specs.Prelude.{◌≡◌};
 ghost use Rattle.std.specs.Process.{exit_status};
 ghost use Rattle.pmf_command.specs.Statuses.{exit_code_of};
 
+#[cfg(test)]
+mod words_tests;
+
 pub use pmf_command::{Request, Status, request_of};
 pub use pmf_stream::{
     Counted, Cut, Device, Done, ExplainFault, Failed, Question, Settings, Sink, Source, StdSink,
     StdSource, StreamFault, check_stream, explain_stream, explain_text, write_text,
 };
-
 use std::process::ExitCode;
 
 fn main(rt: HostRuntime) -> ExitCode {

@@ -1,5 +1,5 @@
 -- What the writing of a command's text says of its answer.
-use Rattle.std.proofs.Common.{List, ℕ, refl, subst, sym}
+use Rattle.std.proofs.Common.{List, ℕ, subst, sym}
 use Rattle.std.specs.Prelude.{Option, Result, Ok, Err}
 use Rattle.pmf_stream.specs.declared.fault.StreamFault.{StreamFault}
 use Rattle.pmf_stream.specs.declared.fault.StreamFault.TheVariants as fault

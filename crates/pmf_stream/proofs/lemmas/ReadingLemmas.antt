@@ -1,9 +1,9 @@
 -- What the loop of reading has read and handed on so far.
-use Rattle.std.proofs.Common.{◌≡◌, ℕ, ◌+◌, ◌-◌, ◌≤◌, List, [], ◌++◌, length, refl, arith, length-append, inl, inr}
-use Rattle.std.specs.Prelude.{Option, zero}
-use Rattle.std.specs.Io.KnownBytes.{Consumes, IsAtEnd}
+use Rattle.std.proofs.Common.{◌≡◌, ℕ, ◌+◌, ◌-◌, ◌≤◌, List, ◌++◌, length, arith, length-append}
+use Rattle.std.specs.Prelude.{Option}
+use Rattle.std.specs.Io.KnownBytes.{Consumes}
 use Rattle.std.proofs.KnownBytes.{Consumes-trans}
-use Rattle.pmf_stream.specs.Reading.{HasReadBytes, HasReadAll}
+use Rattle.pmf_stream.specs.Reading.{HasReadBytes}
 
 -- the bytes that left the stream are those that were taken, and few enough
 pub record Reading {I : Type 0} (Takes : I → List ℕ → I → Type 0) (limit : ℕ) (left rest : Option (List ℕ)) (fresh now : I) (total : ℕ) : Type 0 where

@@ -1,9 +1,7 @@
 //! What the words of the command line ask for, and the status where they are refused.
 
-use crate::request::{Request, request_of};
-use crate::status::Status;
+use crate::{Question, Request, Settings, Status, request_of};
 use pmf_event::Profile;
-use pmf_stream::{Question, Settings};
 use std::alloc::{AllocError, Global};
 use std::test::Fail;
 

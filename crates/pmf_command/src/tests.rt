@@ -1,3 +1,0 @@
-//! The tests of words and statuses.
-
-mod words;
