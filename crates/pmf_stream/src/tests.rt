@@ -1,5 +1,6 @@
 //! The tests of streams: worked logs by their reports, and devices that fail.
 
+mod checks;
 mod explaining;
 mod failing;
 mod fakes;

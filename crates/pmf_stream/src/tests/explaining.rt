@@ -1,15 +1,19 @@
 //! What explain answers of a place, and how it reads and writes.
 
+ghost use Rattle.std.specs.Prelude.{◌≡◌};
+
+use super::checks::failed_calls;
 use super::fakes::{ByteSink, PieceSource};
 use crate::asking::explain_stream;
 use crate::device::Device;
 use crate::explaining::{ExplainFault, explain_text};
 use crate::fault::StreamFault;
 use crate::settings::Question;
-use crate::sink::Sink;
-use crate::source::Source;
 use pmf_event::{Profile, SpanFault};
 use pmf_storelog::{Cause, LogFault};
+use std::alloc::Global;
+use std::fmt::Display;
+use std::process::Abort;
 use std::test::Fail;
 
 // Neither store is written back before the other is made.
@@ -197,63 +201,93 @@ fn each_refusal_is_told_by_its_text(rt: HostRuntime) -> Result<(), Fail> {
     Ok(())
 }
 
+// The event that is asked for is answered so, and the sink holds this text.
+fn explains<D: Display + Drop>(
+    rt: &impl Abort,
+    alloc: Global,
+    case: D,
+    mut source: PieceSource,
+    mut sink: ByteSink,
+    question: Question,
+    want: Result<(), StreamFault<ExplainFault>>,
+    text: &[u8],
+)
+    requires read { source.failures ≡ 0 }
+    requires write { sink.failures ≡ 0 }
+{
+    let answer = explain_stream(alloc, &mut source, &mut sink, question);
+    assert_eq!(rt; answer, want, "at {case}");
+    assert!(rt; sink.bytes() == text, "at {case}");
+    let failed = (source.failures(), sink.failures());
+    assert_eq!(rt; failed, failed_calls(&want), "at {case}");
+}
+
 #[test]
 fn a_log_in_pieces_is_explained_as_the_whole(rt: HostRuntime) {
     for most in [1, 7, 64, 65_536] {
         let pieces = [PAIR];
-        let mut source = PieceSource::new(&pieces).giving(most);
-        let mut sink = ByteSink::new(rt.alloc()).taking(most);
-        let answer = explain_stream(rt.alloc(), &mut source, &mut sink, asked(0, 6));
-        assert_eq!(rt; answer, Ok(()), "in pieces of {most}");
-        assert!(rt; sink.bytes() == PAIR_TEXT, "in pieces of {most}");
+        let source = PieceSource::new(&pieces).giving(most);
+        let sink = ByteSink::new(rt.alloc()).taking(most);
+        explains(
+            &rt,
+            rt.alloc(),
+            most,
+            source,
+            sink,
+            asked(0, 6),
+            Ok(()),
+            PAIR_TEXT,
+        );
     }
 }
 
 #[test]
 fn a_read_that_fails_is_told_before_a_fault_of_the_log(rt: HostRuntime) {
-    for pieces in [
-        &[][..],
-        &[b"PMT.X|FENCE".as_slice(), b"FENCE".as_slice()][..],
-    ] {
-        let mut source = PieceSource::failing(pieces);
-        let mut sink = ByteSink::new(rt.alloc());
-        let answer = explain_stream(rt.alloc(), &mut source, &mut sink, asked(0, 6));
-        assert_eq!(rt; answer, Err(StreamFault::ReadFault));
-        assert_eq!(rt; source.failures(), 1);
-        assert_eq!(rt; sink.failures(), 0);
-        assert_eq!(rt; sink.bytes().len(), 0);
-    }
+    let faulty = [b"PMT.X|FENCE".as_slice(), b"FENCE".as_slice()];
+    let alloc = rt.alloc();
+    let want = Err(StreamFault::ReadFault);
+    let (source, sink) = (PieceSource::failing(&[]), ByteSink::new(alloc));
+    explains(&rt, alloc, "no byte", source, sink, asked(0, 6), want, b"");
+    let (source, sink) = (PieceSource::failing(&faulty), ByteSink::new(alloc));
+    explains(&rt, alloc, "a fault", source, sink, asked(0, 6), want, b"");
 }
 
 #[test]
 fn a_refusal_writes_nothing(rt: HostRuntime) {
     let pieces = [PAIR];
-    let mut sink = ByteSink::new(rt.alloc());
-    let answer = explain_stream(
+    let source = PieceSource::new(&pieces);
+    let sink = ByteSink::new(rt.alloc());
+    let want = Err(StreamFault::Refused(ExplainFault::NoSection { run: 0, section: 1 }));
+    explains(
+        &rt,
         rt.alloc(),
-        &mut PieceSource::new(&pieces),
-        &mut sink,
+        "section 1",
+        source,
+        sink,
         asked(1, 6),
+        want,
+        b"",
     );
-    let want = ExplainFault::NoSection { run: 0, section: 1 };
-    assert_eq!(rt; answer, Err(StreamFault::Refused(want)));
-    assert_eq!(rt; sink.bytes().len(), 0);
 }
 
 #[test]
 fn a_writer_that_fails_after_n_bytes_holds_the_first_n(rt: HostRuntime) {
     for room in 0..PAIR_TEXT.len() {
         let pieces = [PAIR];
-        let mut sink = ByteSink::new(rt.alloc()).failing_after(room);
-        let answer = explain_stream(
+        let source = PieceSource::new(&pieces);
+        let sink = ByteSink::new(rt.alloc()).failing_after(room);
+        let want = Err(StreamFault::WriteFault {
+            written: room as u64,
+        });
+        explains(
+            &rt,
             rt.alloc(),
-            &mut PieceSource::new(&pieces),
-            &mut sink,
+            room,
+            source,
+            sink,
             asked(0, 6),
+            want,
+            &PAIR_TEXT[..room],
         );
-        let written = room as u64;
-        assert_eq!(rt; answer, Err(StreamFault::WriteFault { written }));
-        assert!(rt; sink.bytes() == &PAIR_TEXT[..room], "after {room}");
-        assert_eq!(rt; sink.failures(), 1, "after {room}");
     }
 }

@@ -1,20 +1,14 @@
 //! Logs and reports that come or go in pieces, and devices that fail in between.
 
+use super::checks::{RUN, checks, done, refused};
 use super::fakes::{ByteSink, InterruptedOnce, PieceSource};
-use crate::checking::{Done, check_stream};
+use crate::checking::check_stream;
 use crate::device::Device;
 use crate::failed::Failed;
 use crate::fault::StreamFault;
-use crate::settings::Settings;
 use crate::sink::{Sink, StdSink};
 use crate::source::{Source, StdSource};
-use pmf_event::Profile;
-use pmf_storelog::{Cause, LogFault};
-
-const RUN: Settings = Settings {
-    run: 0,
-    profile: Profile::One,
-};
+use pmf_storelog::Cause;
 
 // Two stores of one line, of which the second comes after the write-back.
 const LOG: &[u8] = b"STORE;0x1000;0;8|FLUSH;0x1000;0x40|STORE;0x1008;0;8|FENCE\
@@ -27,31 +21,22 @@ section 0.0 events=6 pass=1 fail=1 warn=0 empty=0
 total sections=1 pass=1 fail=1 warn=0 empty=0
 ";
 
-const DONE: Done = Done {
-    skipped: 0,
-    fails: 1,
-};
-
 #[test]
 fn a_log_in_pieces_has_the_report_of_the_whole(rt: HostRuntime) {
     for most in [1, 2, 7, 64, 65_536] {
         let pieces = [LOG];
-        let mut sink = ByteSink::new(rt.alloc());
-        let mut source = PieceSource::new(&pieces).giving(most);
-        let answer = check_stream(rt.alloc(), &mut source, &mut sink, RUN);
-        assert_eq!(rt; answer, Ok(DONE), "in pieces of {most}");
-        assert!(rt; sink.bytes() == REPORT, "in pieces of {most}");
+        let source = PieceSource::new(&pieces).giving(most);
+        let sink = ByteSink::new(rt.alloc());
+        checks(&rt, rt.alloc(), most, source, sink, RUN, done(0, 1), REPORT);
     }
 }
 
 #[test]
 fn a_writer_that_takes_one_byte_a_call_gets_the_whole_report(rt: HostRuntime) {
     let pieces = [LOG];
-    let mut sink = ByteSink::new(rt.alloc()).taking(1);
-    let answer = check_stream(rt.alloc(), &mut PieceSource::new(&pieces), &mut sink, RUN);
-    assert_eq!(rt; answer, Ok(DONE));
-    assert!(rt; sink.bytes() == REPORT);
-    assert_eq!(rt; sink.failures(), 0);
+    let source = PieceSource::new(&pieces);
+    let sink = ByteSink::new(rt.alloc()).taking(1);
+    checks(&rt, rt.alloc(), 1, source, sink, RUN, done(0, 1), REPORT);
 }
 
 #[test]
@@ -68,12 +53,21 @@ fn a_writer_that_takes_no_byte_is_a_write_fault_after_0(rt: HostRuntime) {
 fn a_writer_that_fails_after_n_bytes_holds_the_first_n(rt: HostRuntime) {
     for room in 0..REPORT.len() {
         let pieces = [LOG];
-        let mut sink = ByteSink::new(rt.alloc()).failing_after(room);
-        let answer = check_stream(rt.alloc(), &mut PieceSource::new(&pieces), &mut sink, RUN);
-        let written = room as u64;
-        assert_eq!(rt; answer, Err(StreamFault::WriteFault { written }));
-        assert!(rt; sink.bytes() == &REPORT[..room], "after {room}");
-        assert_eq!(rt; sink.failures(), 1, "after {room}");
+        let source = PieceSource::new(&pieces);
+        let sink = ByteSink::new(rt.alloc()).failing_after(room);
+        let want = Err(StreamFault::WriteFault {
+            written: room as u64,
+        });
+        checks(
+            &rt,
+            rt.alloc(),
+            room,
+            source,
+            sink,
+            RUN,
+            want,
+            &REPORT[..room],
+        );
     }
 }
 
@@ -82,13 +76,10 @@ fn each_read_that_fails_in_turn_is_a_read_fault(rt: HostRuntime) {
     // As many reads as the log has pieces, and the one that would find its end.
     for working in 0..=LOG.len().div_ceil(7) {
         let pieces = [&LOG[..LOG.len().min(7 * working)]];
-        let mut sink = ByteSink::new(rt.alloc());
-        let mut source = PieceSource::failing(&pieces).giving(7);
-        let answer = check_stream(rt.alloc(), &mut source, &mut sink, RUN);
-        assert_eq!(rt; answer, Err(StreamFault::ReadFault), "after {working}");
-        assert_eq!(rt; sink.bytes().len(), 0, "after {working}");
-        assert_eq!(rt; source.failures(), 1, "after {working}");
-        assert_eq!(rt; sink.failures(), 0, "after {working}");
+        let source = PieceSource::failing(&pieces).giving(7);
+        let sink = ByteSink::new(rt.alloc());
+        let want = Err(StreamFault::ReadFault);
+        checks(&rt, rt.alloc(), working, source, sink, RUN, want, b"");
     }
 }
 
@@ -96,40 +87,57 @@ fn each_read_that_fails_in_turn_is_a_read_fault(rt: HostRuntime) {
 fn failing_reader_and_writer(rt: HostRuntime) {
     let log = b"STORE;0x1000;0x1;0x8|FLUSH;0x1000;0x40|FENCE|PMT.PERSIST;0x1000;0x8";
     let pieces = [log.as_slice()];
-    let mut sink = ByteSink::new(rt.alloc()).taking(10).failing_after(10);
-    let answer = check_stream(rt.alloc(), &mut PieceSource::new(&pieces), &mut sink, RUN);
-    assert_eq!(rt; answer, Err(StreamFault::WriteFault { written: 10 }));
-    assert!(rt; sink.bytes() == b"section 0.".as_slice());
+    let source = PieceSource::new(&pieces);
+    let sink = ByteSink::new(rt.alloc()).taking(10).failing_after(10);
+    let cut = Err(StreamFault::WriteFault { written: 10 });
+    checks(&rt, rt.alloc(), 10, source, sink, RUN, cut, b"section 0.");
 
-    let mut sink = ByteSink::new(rt.alloc());
-    let answer = check_stream(rt.alloc(), &mut PieceSource::failing(&[]), &mut sink, RUN);
-    assert_eq!(rt; answer, Err(StreamFault::ReadFault));
-    assert_eq!(rt; sink.bytes().len(), 0);
+    let source = PieceSource::failing(&[]);
+    let sink = ByteSink::new(rt.alloc());
+    let unread = Err(StreamFault::ReadFault);
+    checks(&rt, rt.alloc(), 0, source, sink, RUN, unread, b"");
 }
 
 #[test]
 fn a_fault_of_the_log_is_told_as_soon_as_its_record_ends(rt: HostRuntime) {
-    let unknown = StreamFault::Refused(LogFault {
-        at: 1,
-        cause: Cause::UnknownMarker,
-    });
-    for (log, fails, want, failures) in [
-        (b"PMT.X|".as_slice(), true, unknown, 0),
-        (b"PMT.X".as_slice(), true, StreamFault::ReadFault, 1),
-        (b"PMT.X".as_slice(), false, unknown, 0),
-    ] {
-        let pieces = [log];
-        let mut source = if fails {
-            PieceSource::failing(&pieces)
-        } else {
-            PieceSource::new(&pieces)
-        };
-        let mut sink = ByteSink::new(rt.alloc());
-        let answer = check_stream(rt.alloc(), &mut source, &mut sink, RUN);
-        assert_eq!(rt; answer, Err(want), "{want}, failing {fails}");
-        assert_eq!(rt; source.failures(), failures, "{want}, failing {fails}");
-        assert_eq!(rt; sink.bytes().len(), 0, "{want}, failing {fails}");
-    }
+    let unknown = refused(1, Cause::UnknownMarker);
+    let ended = [b"PMT.X|".as_slice()];
+    let unended = [b"PMT.X".as_slice()];
+    let unread = Err(StreamFault::ReadFault);
+    let alloc = rt.alloc();
+    let source = PieceSource::failing(&ended);
+    checks(
+        &rt,
+        alloc,
+        "ended",
+        source,
+        ByteSink::new(alloc),
+        RUN,
+        unknown,
+        b"",
+    );
+    let source = PieceSource::failing(&unended);
+    checks(
+        &rt,
+        alloc,
+        "cut off",
+        source,
+        ByteSink::new(alloc),
+        RUN,
+        unread,
+        b"",
+    );
+    let source = PieceSource::new(&unended);
+    checks(
+        &rt,
+        alloc,
+        "at the end",
+        source,
+        ByteSink::new(alloc),
+        RUN,
+        unknown,
+        b"",
+    );
 }
 
 // An interrupted call is a failed one: it is counted, and not made again.

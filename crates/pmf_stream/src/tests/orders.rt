@@ -1,7 +1,6 @@
 //! Order assertions, flush warnings and large spans: the rows of whole logs under both profiles.
 
-use super::fakes::{ByteSink, PieceSource};
-use crate::checking::{Done, check_stream};
+use super::checks::{checks_log, done};
 use crate::settings::Settings;
 use pmf_event::Profile;
 use std::alloc::Global;
@@ -18,19 +17,14 @@ pub(super) fn reports(
     rows: &str,
     fails: u128,
 ) {
-    let pieces = [log.as_bytes()];
-    let mut sink = ByteSink::new(alloc);
-    let settings = Settings { run: 0, profile };
-    let answer = check_stream(alloc, &mut PieceSource::new(&pieces), &mut sink, settings);
-    let done = Done { skipped: 0, fails };
-    assert_eq!(rt; answer, Ok(done), "at {log}, {profile:?}");
     let mut want = String::new(alloc);
     let written = write!(
         want,
         "section 0.0 {header} {counts}\n{rows}total sections=1 {counts}\n"
     );
     assert!(rt; written.is_ok(), "no memory for the report of {log}");
-    assert!(rt; sink.bytes() == want.as_bytes(), "at {log}, {profile:?}");
+    let settings = Settings { run: 0, profile };
+    checks_log(rt, alloc, log, settings, done(0, fails), want.as_bytes());
 }
 
 const ONE_PASS: &str = "pass=1 fail=0 warn=0 empty=0";

@@ -1,43 +1,22 @@
 //! Whole logs: the report of each that is accepted, and the first fault of each that is refused.
 
+use super::checks::{RUN, checks_log, done, refused};
 use super::fakes::{ByteSink, PieceSource};
-use crate::checking::{Done, check_stream};
-use crate::device::Device;
-use crate::fault::StreamFault;
+use crate::checking::check_stream;
 use crate::settings::Settings;
-use crate::sink::Sink;
-use crate::source::Source;
 use pmf_event::{Profile, SpanFault};
-use pmf_storelog::{Cause, LogFault};
+use pmf_storelog::Cause;
 use std::alloc::Global;
 use std::process::Abort;
 
-const RUN: Settings = Settings {
-    run: 0,
-    profile: Profile::One,
-};
-
-// What a check of the log writes, and what it answers.
-fn checked(alloc: Global, log: &str) -> (ByteSink, Result<Done, StreamFault<LogFault>>) {
-    let pieces = [log.as_bytes()];
-    let mut sink = ByteSink::new(alloc);
-    let answer = check_stream(alloc, &mut PieceSource::new(&pieces), &mut sink, RUN);
-    (sink, answer)
-}
-
 // The log has this report, no record of it is skipped, and so many rows count as fail.
 fn reports(rt: &impl Abort, alloc: Global, log: &str, report: &str, fails: u128) {
-    let (sink, answer) = checked(alloc, log);
-    assert_eq!(rt; answer, Ok(Done { skipped: 0, fails }), "at {log}");
-    assert!(rt; sink.bytes() == report.as_bytes(), "at {log}");
+    checks_log(rt, alloc, log, RUN, done(0, fails), report.as_bytes());
 }
 
 // The log is refused at this record, and nothing is written.
 fn refuses(rt: &impl Abort, alloc: Global, log: &str, at: u64, cause: Cause) {
-    let (sink, answer) = checked(alloc, log);
-    let fault = StreamFault::Refused(LogFault { at, cause });
-    assert_eq!(rt; answer, Err(fault), "at {log}");
-    assert_eq!(rt; sink.bytes().len(), 0, "at {log}");
+    checks_log(rt, alloc, log, RUN, refused(at, cause), b"");
 }
 
 #[test]
@@ -168,9 +147,14 @@ total sections=1 pass=0 fail=0 warn=0 empty=0
         ("START|FENCE|FENCE", 1),
         ("START|REGISTER_FILE;x|FENCE|==77== Command|FENCE|STOP", 4),
     ] {
-        let (sink, answer) = checked(rt.alloc(), log);
-        assert_eq!(rt; answer, Ok(Done { skipped, fails: 0 }), "at {log}");
-        assert!(rt; sink.bytes() == report.as_bytes(), "at {log}");
+        checks_log(
+            &rt,
+            rt.alloc(),
+            log,
+            RUN,
+            done(skipped, 0),
+            report.as_bytes(),
+        );
     }
 }
 
@@ -219,7 +203,9 @@ total sections=1 pass=0 fail=0 warn=0 empty=0
         "PMT.CHECKSTART",
         "PMT.CHECKEND;;",
     ] {
-        let (_, answer) = checked(rt.alloc(), log);
+        let mut sink = ByteSink::new(rt.alloc());
+        let pieces = [log.as_bytes()];
+        let answer = check_stream(rt.alloc(), &mut PieceSource::new(&pieces), &mut sink, RUN);
         assert_eq!(rt; answer.map(|done| done.skipped), Ok(0), "at {log}");
     }
 }
@@ -241,7 +227,6 @@ fn misspelt_markers_of_transactions_are_refused(rt: HostRuntime) {
 
 #[test]
 fn the_run_stands_in_the_name_of_the_section(rt: HostRuntime) {
-    let pieces = [b"FENCE".as_slice()];
     for (run, report) in [
         (
             7,
@@ -258,23 +243,17 @@ total sections=1 pass=0 fail=0 warn=0 empty=0
 ",
         ),
     ] {
-        let mut sink = ByteSink::new(rt.alloc());
-        let mut source = PieceSource::new(&pieces);
-        let answer = check_stream(
-            rt.alloc(),
-            &mut source,
-            &mut sink,
-            Settings {
-                run,
-                profile: Profile::One,
-            },
-        );
-        let done = Done {
-            skipped: 0,
-            fails: 0,
+        let settings = Settings {
+            run,
+            profile: Profile::One,
         };
-        assert_eq!(rt; answer, Ok(done), "at run {run}");
-        assert!(rt; sink.bytes() == report.as_bytes(), "at run {run}");
-        assert_eq!(rt; source.failures() + sink.failures(), 0, "at run {run}");
+        checks_log(
+            &rt,
+            rt.alloc(),
+            "FENCE",
+            settings,
+            done(0, 0),
+            report.as_bytes(),
+        );
     }
 }

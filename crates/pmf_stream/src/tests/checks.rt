@@ -1,0 +1,81 @@
+//! What a check of a source answers and writes, held against what is wanted.
+
+ghost use Rattle.std.specs.Prelude.{◌≡◌};
+
+use super::fakes::{ByteSink, PieceSource};
+use crate::checking::{Done, check_stream};
+use crate::device::Device;
+use crate::fault::StreamFault;
+use crate::settings::Settings;
+use pmf_event::Profile;
+use pmf_storelog::{Cause, LogFault};
+use std::alloc::Global;
+use std::fmt::Display;
+use std::process::Abort;
+
+pub const RUN: Settings = Settings {
+    run: 0,
+    profile: Profile::One,
+};
+
+pub fn done(skipped: u64, fails: u128) -> Result<Done, StreamFault<LogFault>> {
+    Ok(Done { skipped, fails })
+}
+
+pub fn refused(at: u64, cause: Cause) -> Result<Done, StreamFault<LogFault>> {
+    Err(StreamFault::Refused(LogFault { at, cause }))
+}
+
+/// How many reads and how many writes have failed where a stream is answered so.
+pub fn failed_calls<T, E>(answer: &Result<T, StreamFault<E>>) -> (u64, u64) {
+    match answer {
+        Err(StreamFault::ReadFault) => (1, 0),
+        Err(StreamFault::WriteFault { .. }) => (0, 1),
+        _ => (0, 0),
+    }
+}
+
+/// The check of the source answers so, and the sink holds these bytes; how many reads and writes failed is told
+/// by the answer.
+pub fn checks<D: Display + Drop>(
+    rt: &impl Abort,
+    alloc: Global,
+    case: D,
+    mut source: PieceSource,
+    mut sink: ByteSink,
+    settings: Settings,
+    want: Result<Done, StreamFault<LogFault>>,
+    text: &[u8],
+)
+    requires read { source.failures ≡ 0 }
+    requires write { sink.failures ≡ 0 }
+{
+    let answer = check_stream(alloc, &mut source, &mut sink, settings);
+    assert_eq!(rt; answer, want, "at {case}");
+    assert!(rt; sink.bytes() == text, "at {case}");
+    let failed = (source.failures(), sink.failures());
+    assert_eq!(rt; failed, failed_calls(&want), "at {case}");
+}
+
+/// The check of the log by the settings answers so, and exactly this text is written.
+pub fn checks_log(
+    rt: &impl Abort,
+    alloc: Global,
+    log: &str,
+    settings: Settings,
+    want: Result<Done, StreamFault<LogFault>>,
+    text: &[u8],
+) {
+    let pieces = [log.as_bytes()];
+    let source = PieceSource::new(&pieces);
+    checks(
+        rt,
+        alloc,
+        log,
+        source,
+        ByteSink::new(alloc),
+        settings,
+        want,
+        text,
+    );
+}
