@@ -194,6 +194,17 @@ unfolding cut_of value_of
 cut-rest es n line cut other cuts torn apart =
     ap (λ v. unwrap_or (if v then Some cut else value_of cuts other) (floor_of es n other)) (ne_eqb line other (λ same. apart (sym same)))
 
+-- one cut more within its bounds leaves every cut within them
+pub within-first : (es : List Event) (n line cut : ℕ) (cuts : List (ℕ × ℕ)) (torn : List ℕ) → floor_of es n line ≤ cut → cut ≤ count_of es n line →
+    ((other : ℕ) → (floor_of es n other ≤ cut_of es n (record { cuts = cuts; torn = torn }) other)
+    × (cut_of es n (record { cuts = cuts; torn = torn }) other ≤ count_of es n other)) → (other : ℕ) →
+    (floor_of es n other ≤ cut_of es n (record { cuts = (line, cut) ∷ cuts; torn = torn }) other)
+    × (cut_of es n (record { cuts = (line, cut) ∷ cuts; torn = torn }) other ≤ count_of es n other)
+within-first es n line cut cuts torn low high within other = elim (cases_eq other line) [
+  | inl same ↦ rw (same, cut-first es n line cut cuts torn) (low, high)
+  | inr apart ↦ rw (cut-rest es n line cut other cuts torn apart) (within other)
+]
+
 pub in-torn : (b other : ℕ) (torn : List ℕ) → is_in (b ∷ torn) other ≡ true → (b ≡ other) ⊎ (is_in torn other ≡ true)
 unfolding is_in
 in-torn b other torn some = elim (or_cases (b == other) (is_in torn other) some) [
@@ -219,10 +230,8 @@ one_cut-elsewhere es n line cut torn other apart = cut-rest es n line cut other 
 
 one_cut-within : (es : List Event) (n line cut : ℕ) (torn : List ℕ) → floor_of es n line ≤ cut → cut ≤ count_of es n line → (other : ℕ) →
     (floor_of es n other ≤ cut_of es n (one_cut line cut torn) other) × (cut_of es n (one_cut line cut torn) other ≤ count_of es n other)
-one_cut-within es n line cut torn low high other = elim (cases_eq other line) [
-  | inl same ↦ rw (same, one_cut-here es n line cut torn) (low, high)
-  | inr apart ↦ rw (one_cut-elsewhere es n line cut torn other apart) (omega arith, floor-below_count es n other)
-]
+unfolding one_cut cut_of value_of
+one_cut-within es n line cut torn low high = within-first es n line cut [] torn low high (λ other. (omega arith, floor-below_count es n other))
 
 pub allows_each_cut : EachCutIsAllowed
 unfolding one_cut
@@ -231,11 +240,7 @@ allows_each_cut es n line cut low high = record {
   untorn = refl;
   here = one_cut-here es n line cut [];
   elsewhere = one_cut-elsewhere es n line cut [];
-  allowed = record {
-    low = λ other. (one_cut-within es n line cut [] low high other).0;
-    high = λ other. (one_cut-within es n line cut [] low high other).1;
-    torn = λ b some. absurd (is_in-empty b some);
-  };
+  allowed = untorn-allowed es n (one_cut line cut []) refl (one_cut-within es n line cut [] low high);
 }
 
 only-torn : (b other : ℕ) → is_in (b ∷ []) other ≡ true → other ≡ b

@@ -13,7 +13,7 @@ use Rattle.pmf_event.specs.Store.{at, stores}
 use Rattle.pmf_event.proofs.PlacesLemmas.{greatest-passes, greatest-bound, greatest-above}
 use Rattle.pmf_image.specs.Image.{Image, IsAllowed, count_of, floor_of, value_of, is_in, cut_of, reach_of, reaches, shows}
 use Rattle.pmf_image.proofs.CertificateLemmas.{greatest-same}
-use Rattle.pmf_image.proofs.ImageLemmas.{floor-below_count, count_of-mono, is_in-empty, untorn-allowed, cut-first, cut-rest, in-torn, torn-first}
+use Rattle.pmf_image.proofs.ImageLemmas.{floor-below_count, count_of-mono, is_in-empty, untorn-allowed, cut-first, cut-rest, within-first, in-torn, torn-first}
 use Rattle.pmf_image.proofs.ExactLemmas.{reach-torn, reach-whole}
 use Rattle.pmf_verdict.proofs.RowsLemmas.{not_in_empty}
 use Rattle.pmf_verdict.specs.Listing.{floors, recut, recuts, with_cuts, all_cuts, tear, is_next, may_tear, if_torn, all_torn, all_images, AreAllowed, ShowAll}
@@ -84,21 +84,11 @@ module _ (es : List Event) (n : ℕ) where
   -- an untorn image with allowed cuts
   record IsUntorn (image : Image) : Type 0 where
     untorn : image.torn ≡ []
-    low : (line : ℕ) → floor_of es n line ≤ cut_of es n image line
-    high : (line : ℕ) → cut_of es n image line ≤ count_of es n line
+    within : (line : ℕ) → (floor_of es n line ≤ cut_of es n image line) × (cut_of es n image line ≤ count_of es n line)
 
   untorn-recut : (line cut : ℕ) (image : Image) → IsUntorn image → floor_of es n line ≤ cut → cut ≤ count_of es n line → IsUntorn (recut line cut image)
-  untorn-recut line cut image is low high = record {
-    untorn = is.untorn;
-    low = λ other. elim (cases_eq other line) [
-      | inl same ↦ rw (same, cut-first es n line cut image.cuts image.torn) low
-      | inr apart ↦ rw (cut-rest es n line cut other image.cuts image.torn apart) (is.low other)
-    ];
-    high = λ other. elim (cases_eq other line) [
-      | inl same ↦ rw (same, cut-first es n line cut image.cuts image.torn) high
-      | inr apart ↦ rw (cut-rest es n line cut other image.cuts image.torn apart) (is.high other)
-    ];
-  }
+  untorn-recut line cut image is low high =
+      record { untorn = is.untorn; within = within-first es n line cut image.cuts image.torn low high is.within }
 
   untorn-with_cuts : (line : ℕ) (image found : Image) → IsUntorn image → Contains (with_cuts es n line image) found → IsUntorn found
   unfolding with_cuts
@@ -363,16 +353,15 @@ unfolding cut_of value_of
 floors-cut es n line = refl
 
 floors-untorn : (es : List Event) (n : ℕ) → IsUntorn es n floors
-floors-untorn es n = record { untorn = refl; low = λ line. rw (floors-cut es n line) (omega arith); high = λ line. rw (floors-cut es n line) (floor-below_count es n line) }
+floors-untorn es n = record { untorn = refl; within = λ line. rw (floors-cut es n line) (omega arith, floor-below_count es n line) }
 
 only-floors : (es : List Event) (n : ℕ) (image : Image) → Contains (floors ∷ []) image → IsUntorn es n image
 only-floors es n image found = subst (IsUntorn es n) (only-single floors image found) (floors-untorn es n)
 
 pub listed-allowed : (es : List Event) (n : ℕ) (lines bytes : List ℕ) → AreAllowed es n (all_images es n lines bytes)
 unfolding all_images
-listed-allowed es n lines bytes = allowed-all_torn es n bytes (all_cuts es n lines (floors ∷ []))
-    (λ image found. let is = untorn-all_cuts es n lines (floors ∷ []) (only-floors es n) image found in
-    untorn-allowed es n image is.untorn (λ line. (is.low line, is.high line)))
+listed-allowed es n lines bytes = allowed-all_torn es n _ (all_cuts es n lines (floors ∷ []))
+    (λ image found. let is = untorn-all_cuts es n lines (floors ∷ []) (only-floors es n) image found in untorn-allowed es n image is.untorn is.within)
 
 pub listed-shows : (es : List Event) (n : ℕ) (lines bytes : List ℕ) → ShowAll es n lines bytes (all_images es n lines bytes)
 unfolding all_images
