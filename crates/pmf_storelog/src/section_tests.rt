@@ -80,6 +80,12 @@ fn sections_stand_in_order_of_their_number(rt: HostRuntime) -> Result<(), Fail> 
     Ok(())
 }
 
+// The text's one record has this fault.
+fn assert_fault(rt: &impl Abort, alloc: Global, text: &str, cause: Cause) {
+    let answer = read_log(alloc, text.as_bytes(), 5).map(|log| log.skipped());
+    assert_eq!(rt; answer, Err(LogFault { at: 1, cause }), "at {text}");
+}
+
 #[test]
 fn a_marker_needs_a_number(rt: HostRuntime) {
     for (text, cause) in [
@@ -89,8 +95,7 @@ fn a_marker_needs_a_number(rt: HostRuntime) {
         ("PMT.SECTION;18446744073709551616", Cause::BadNumber),
         ("PMT.SECTIONS;1", Cause::UnknownMarker),
     ] {
-        let answer = read_log(rt.alloc(), text.as_bytes(), 5).map(|log| log.skipped());
-        assert_eq!(rt; answer, Err(LogFault { at: 1, cause }), "at {text}");
+        assert_fault(&rt, rt.alloc(), text, cause);
     }
 }
 

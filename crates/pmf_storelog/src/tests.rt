@@ -1,6 +1,9 @@
+ghost use Rattle.std.specs.Prelude.{◌≤◌, length};
+
 use super::*;
 use pmf_event::{Event, Name, Span, SpanFault};
 use std::alloc::Global;
+use std::process::Abort;
 use std::test::Fail;
 
 // Eight events; the file, the line of a tracer and the name `FENCE ` are skipped.
@@ -26,6 +29,11 @@ fn refused(at: u64, cause: Cause) -> Result<(usize, u64), LogFault> {
     Err(LogFault { at, cause })
 }
 
+// The text has this answer.
+fn assert_answer(rt: &impl Abort, alloc: Global, text: &str, want: Result<(usize, u64), LogFault>) {
+    assert_eq!(rt; answer(alloc, text.as_bytes()), want, "at {text}");
+}
+
 #[test]
 fn each_record_is_read_as_the_table_says(rt: HostRuntime) {
     let zero = Cause::BadSpan(SpanFault::ZeroSize);
@@ -49,8 +57,17 @@ fn each_record_is_read_as_the_table_says(rt: HostRuntime) {
         ("fence|STORE ;1;2;3|START", Ok((0, 3))),
         ("REGISTER_FILE;a||STORE;1", refused(2, Cause::TooFewFields)),
     ] {
-        assert_eq!(rt; answer(rt.alloc(), text.as_bytes()), want, "at {text}");
+        assert_answer(&rt, rt.alloc(), text, want);
     }
+}
+
+// The text is a number, or is none.
+fn assert_number(rt: &impl Abort, text: &str, good: bool) {
+    assert_eq!(rt;
+        number::read_number(text.as_bytes()).is_some(),
+        good,
+        "at {text}"
+    );
 }
 
 #[test]
@@ -72,8 +89,7 @@ fn a_number_is_hexadecimal_with_a_small_x_or_decimal(rt: HostRuntime) {
         ("18446744073709551616", false),
         ("99999999999999999999", false),
     ] {
-        let bytes = text.as_bytes();
-        assert_eq!(rt; number::read_number(bytes).is_some(), good, "at {text}");
+        assert_number(&rt, text, good);
     }
     assert_eq!(rt; number::read_number(b"0xfFfFfFfFfFfFfFfF"), Some(u64::MAX));
     assert_eq!(rt;
@@ -99,19 +115,34 @@ fn blanks_and_empty_records_are_dropped_and_other_names_counted(
     Ok(())
 }
 
+// The text cut here is the same log.
+fn assert_cut(
+    rt: &impl Abort,
+    alloc: Global,
+    text: &[u8],
+    cut: usize,
+    whole: &Log,
+) -> Result<(), Fail>
+    requires { cut ≤ length text.now }
+{
+    let mut reader = LogReader::new(alloc, 3);
+    reader.feed(&text[..cut])?;
+    reader.feed(&text[cut..])?;
+    let log = reader.finish()?;
+    assert!(rt; events_of(&log) == events_of(whole), "at {cut}");
+    assert_eq!(rt; log.skipped(), whole.skipped(), "at {cut}");
+    Ok(())
+}
+
 #[test]
 fn a_log_cut_in_two_anywhere_is_the_same_log(rt: HostRuntime) -> Result<(), Fail> {
     let alloc = rt.alloc();
     for (text, events, skipped) in [(LONG_TEXT, 8, 3), (SPACED_TEXT, 2, 1)] {
         let whole = read_log(alloc, text, 3)?;
         assert_eq!(rt; events_of(&whole).len(), events);
+        assert_eq!(rt; whole.skipped(), skipped);
         for cut in 0..=text.len() {
-            let mut reader = LogReader::new(alloc, 3);
-            reader.feed(&text[..cut])?;
-            reader.feed(&text[cut..])?;
-            let log = reader.finish()?;
-            assert!(rt; events_of(&log) == events_of(&whole), "at {cut}");
-            assert_eq!(rt; log.skipped(), skipped, "at {cut}");
+            assert_cut(&rt, alloc, text, cut, &whole)?;
         }
     }
     Ok(())
@@ -226,6 +257,13 @@ fn faults_before_the_limit_come_before_too_long(rt: HostRuntime) -> Result<(), F
     Ok(())
 }
 
+// The fault is shown by these words.
+fn assert_shown(rt: &impl Abort, alloc: Global, fault: LogFault, want: &str) -> Result<(), Fail> {
+    let text = format!(in alloc; "{fault}")?;
+    assert_eq!(rt; text.as_str(), want);
+    Ok(())
+}
+
 #[test]
 fn faults_are_shown_with_their_record(rt: HostRuntime) -> Result<(), Fail> {
     for (at, cause, want) in [
@@ -257,8 +295,7 @@ fn faults_are_shown_with_their_record(rt: HostRuntime) -> Result<(), Fail> {
         (0, Cause::OutOfMemory, "out of memory"),
         (0, Cause::Spent, "the reader is spent"),
     ] {
-        let text = format!(in rt.alloc(); "{}", LogFault { at, cause })?;
-        assert_eq!(rt; text.as_str(), want);
+        assert_shown(&rt, rt.alloc(), LogFault { at, cause }, want)?;
     }
     Ok(())
 }
