@@ -127,17 +127,23 @@ fn assert_of_span(rt: &impl Abort, shadow: &Shadow, plain: &Plain, span: Span) {
         "{what:?}"
     );
     if span.first() >= BASE && span.first() < BASE + BYTES {
-        assert_eq!(rt;
-            shadow.pending_lines(span),
-            plain.pending_lines(span),
-            "{what:?}"
-        );
-        assert_eq!(rt;
-            shadow.clean_lines(span),
-            plain.clean_lines(span),
-            "{what:?}"
-        );
+        assert_of_lines(rt, shadow, plain, span);
     }
+}
+
+/// Each question about the lines of the span is answered as the definitions say.
+fn assert_of_lines(rt: &impl Abort, shadow: &Shadow, plain: &Plain, span: Span) {
+    let what = (span.first(), span.size());
+    assert_eq!(rt;
+        shadow.pending_lines(span),
+        plain.pending_lines(span),
+        "{what:?}"
+    );
+    assert_eq!(rt;
+        shadow.clean_lines(span),
+        plain.clean_lines(span),
+        "{what:?}"
+    );
 }
 
 #[test]
@@ -414,6 +420,18 @@ fn lines_are_pending_up_to_the_fence_and_clean_after_it(rt: HostRuntime) -> Resu
     Ok(())
 }
 
+/// The greatest span from this byte on has these clean lines.
+fn assert_clean(
+    rt: &impl Abort,
+    shadow: &Shadow,
+    first: u64,
+    clean: Option<Lines>,
+) -> Result<(), Fail> {
+    let span = Span::make(first, 1 << 32)?;
+    assert_eq!(rt; shadow.clean_lines(span), clean, "from {first}");
+    Ok(())
+}
+
 #[test]
 fn the_greatest_span_is_counted_by_lines(rt: HostRuntime) -> Result<(), Fail> {
     let shadow = shadow_after(&rt, rt.alloc(), [STORE].as_slice())?;
@@ -424,11 +442,7 @@ fn the_greatest_span_is_counted_by_lines(rt: HostRuntime) -> Result<(), Fail> {
         (0, lines(0, 67_108_863)),
         ((1 << 63) - size, lines((1 << 63) - size, 67_108_864)),
     ] {
-        assert_eq!(rt;
-            shadow.clean_lines(Span::make(first, size)?),
-            clean,
-            "from {first}"
-        );
+        assert_clean(&rt, &shadow, first, clean)?;
     }
     Ok(())
 }
