@@ -63,20 +63,26 @@ fn events_before_the_first_marker_are_in_section_0(rt: HostRuntime) -> Result<()
     Ok(())
 }
 
+// The name of the section at this place of the list.
+fn name_at(log: &Log, at: usize) -> Option<Name> {
+    match log.sections().get(at) {
+        Some(section) => Some(section.name()),
+        None => None,
+    }
+}
+
+fn name(number: u64) -> Option<Name> {
+    Some(Name { run: 5, number })
+}
+
 #[test]
 fn sections_stand_in_order_of_their_number(rt: HostRuntime) -> Result<(), Fail> {
     let text = b"PMT.SECTION;18446744073709551615;x|PMT.SECTION;0x2|PMT.SECTION;0|FENCE";
     let log = read_log(rt.alloc(), text, 5)?;
     assert_eq!(rt; log.sections().len(), 3);
-    assert_eq!(rt; log.sections()[0].name(), Name { run: 5, number: 0 });
-    assert_eq!(rt; log.sections()[1].name(), Name { run: 5, number: 2 });
-    assert_eq!(rt;
-        log.sections()[2].name(),
-        Name {
-            run: 5,
-            number: u64::MAX
-        }
-    );
+    assert_eq!(rt; name_at(&log, 0), name(0));
+    assert_eq!(rt; name_at(&log, 1), name(2));
+    assert_eq!(rt; name_at(&log, 2), name(u64::MAX));
     Ok(())
 }
 

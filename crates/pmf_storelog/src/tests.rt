@@ -225,24 +225,25 @@ fn feed_separators(reader: &mut LogReader, count: usize) -> Result<(), LogFault>
     reader.feed(&piece[..count % piece.len()])
 }
 
-#[test]
-fn a_log_may_have_as_many_bytes_as_the_limit_says(rt: HostRuntime) -> Result<(), Fail> {
+// After this many separators the next piece makes the log too long.
+fn assert_too_long(rt: &impl Abort, alloc: Global, count: usize, next: &[u8]) -> Result<(), Fail> {
     let long = Err(LogFault {
         at: 1,
         cause: Cause::TooLong,
     });
+    let mut reader = LogReader::new(alloc, 0);
+    feed_separators(&mut reader, count)?;
+    assert_eq!(rt; reader.feed(next), long);
+    Ok(())
+}
+
+#[test]
+fn a_log_may_have_as_many_bytes_as_the_limit_says(rt: HostRuntime) -> Result<(), Fail> {
     let mut reader = LogReader::new(rt.alloc(), 0);
     feed_separators(&mut reader, LOG_LIMIT)?;
     assert_eq!(rt; reader.finish()?.sections().len(), 0);
-
-    let mut reader = LogReader::new(rt.alloc(), 0);
-    feed_separators(&mut reader, LOG_LIMIT)?;
-    assert_eq!(rt; reader.feed(b"|"), long);
-
-    let mut reader = LogReader::new(rt.alloc(), 0);
-    feed_separators(&mut reader, LOG_LIMIT - 5)?;
-    assert_eq!(rt; reader.feed(b"FENCE|"), long);
-    Ok(())
+    assert_too_long(&rt, rt.alloc(), LOG_LIMIT, b"|")?;
+    assert_too_long(&rt, rt.alloc(), LOG_LIMIT - 5, b"FENCE|")
 }
 
 #[test]
