@@ -3,6 +3,7 @@
 use crate::{Question, Request, Settings, Status, request_of};
 use pmf_event::Profile;
 use std::alloc::{AllocError, Global};
+use std::process::Abort;
 use std::test::Fail;
 
 fn strings(alloc: Global, words: &[&str]) -> Result<Vec<String>, AllocError> {
@@ -11,6 +12,25 @@ fn strings(alloc: Global, words: &[&str]) -> Result<Vec<String>, AllocError> {
         strings.push(String::from_str(alloc, *word)?)?;
     }
     Ok(strings)
+}
+
+// The words ask for this.
+fn asks(rt: &impl Abort, alloc: Global, words: &[&str], want: Request) -> Result<(), Fail> {
+    let owned = strings(alloc, words)?;
+    let request = request_of(alloc, owned.as_slice())?;
+    assert!(rt; request == want, "{words:?}");
+    Ok(())
+}
+
+// The words are no request, and the program ends so.
+fn ends(rt: &impl Abort, alloc: Global, words: &[&str], want: Status) -> Result<(), Fail> {
+    let owned = strings(alloc, words)?;
+    let status = match request_of(alloc, owned.as_slice()) {
+        Ok(_) => None,
+        Err(error) => Some(Status::of_kind(error.kind())),
+    };
+    assert_eq!(rt; status, Some(want), "{words:?}");
+    Ok(())
 }
 
 #[test]
@@ -24,16 +44,13 @@ fn check_takes_a_run_of_64_bits(rt: HostRuntime) -> Result<(), Fail> {
         ),
     ];
     for (words, run) in cases {
-        let words = strings(rt.alloc(), words)?;
-        let request = request_of(rt.alloc(), words.as_slice())?;
-        assert!(rt;
-            request
-                == Request::Check(Settings {
-                    run,
-                    profile: Profile::One
-                }),
-            "at run {run}"
-        );
+        let profile = Profile::One;
+        asks(
+            &rt,
+            rt.alloc(),
+            words,
+            Request::Check(Settings { run, profile }),
+        )?;
     }
     Ok(())
 }
@@ -47,10 +64,12 @@ fn check_takes_profile_1_or_2(rt: HostRuntime) -> Result<(), Fail> {
         (&["pmfarm", "check", "--profile=2"][..], Profile::Two),
     ];
     for (words, profile) in cases {
-        let words = strings(rt.alloc(), words)?;
-        let request = request_of(rt.alloc(), words.as_slice())?;
-        let want = Request::Check(Settings { run: 0, profile });
-        assert!(rt; request == want, "at profile {profile:?}");
+        asks(
+            &rt,
+            rt.alloc(),
+            words,
+            Request::Check(Settings { run: 0, profile }),
+        )?;
     }
     Ok(())
 }
@@ -85,9 +104,7 @@ fn explain_takes_a_section_and_an_event(rt: HostRuntime) -> Result<(), Fail> {
         ),
     ];
     for (words, question) in cases {
-        let words = strings(rt.alloc(), words)?;
-        let request = request_of(rt.alloc(), words.as_slice())?;
-        assert!(rt; request == Request::Explain(question), "{question:?}");
+        asks(&rt, rt.alloc(), words, Request::Explain(question))?;
     }
     Ok(())
 }
@@ -154,8 +171,7 @@ fn words_that_are_no_request_are_refused(rt: HostRuntime) -> Result<(), Fail> {
         ][..],
     ];
     for words in cases {
-        let status = status_at(rt.alloc(), words)?;
-        assert_eq!(rt; status, Some(Status::Refused), "{words:?}");
+        ends(&rt, rt.alloc(), words, Status::Refused)?;
     }
     Ok(())
 }
@@ -170,17 +186,7 @@ fn help_and_the_version_are_no_fault(rt: HostRuntime) -> Result<(), Fail> {
         &["pmfarm", "--version"][..],
     ];
     for words in cases {
-        let status = status_at(rt.alloc(), words)?;
-        assert_eq!(rt; status, Some(Status::NoFail), "{words:?}");
+        ends(&rt, rt.alloc(), words, Status::NoFail)?;
     }
     Ok(())
-}
-
-// The status where the words are no request.
-fn status_at(alloc: Global, words: &[&str]) -> Result<Option<Status>, AllocError> {
-    let words = strings(alloc, words)?;
-    match request_of(alloc, words.as_slice()) {
-        Ok(_) => Ok(None),
-        Err(error) => Ok(Some(Status::of_kind(error.kind()))),
-    }
 }
