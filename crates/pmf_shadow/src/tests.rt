@@ -127,23 +127,17 @@ fn assert_of_span(rt: &impl Abort, shadow: &Shadow, plain: &Plain, span: Span) {
         "{what:?}"
     );
     if span.first() >= BASE && span.first() < BASE + BYTES {
-        assert_of_lines(rt, shadow, plain, span);
+        assert_eq!(rt;
+            shadow.pending_lines(span),
+            plain.pending_lines(span),
+            "{what:?}"
+        );
+        assert_eq!(rt;
+            shadow.clean_lines(span),
+            plain.clean_lines(span),
+            "{what:?}"
+        );
     }
-}
-
-/// Each question about the lines of the span is answered as the definitions say.
-fn assert_of_lines(rt: &impl Abort, shadow: &Shadow, plain: &Plain, span: Span) {
-    let what = (span.first(), span.size());
-    assert_eq!(rt;
-        shadow.pending_lines(span),
-        plain.pending_lines(span),
-        "{what:?}"
-    );
-    assert_eq!(rt;
-        shadow.clean_lines(span),
-        plain.clean_lines(span),
-        "{what:?}"
-    );
 }
 
 #[test]
@@ -170,20 +164,6 @@ fn interval(last: u32, opens: u32, closes: Option<u32>) -> Option<Interval> {
 
 fn lines(least: u64, count: u64) -> Option<Lines> {
     Some(Lines { least, count })
-}
-
-/// After the steps the byte has this interval.
-fn assert_interval(
-    rt: &impl Abort,
-    alloc: Global,
-    steps: &[Step],
-    byte: u64,
-    want: Option<Interval>,
-    what: &str,
-) -> Result<(), Fail> {
-    let shadow = shadow_after(rt, alloc, steps)?;
-    assert_eq!(rt; shadow.interval_at(byte), want, "{what}");
-    Ok(())
 }
 
 #[test]
@@ -257,31 +237,15 @@ fn an_interval_closes_with_the_fence_after_a_write_back(rt: HostRuntime) -> Resu
             "a write-back of the next line",
         ),
     ] {
-        assert_interval(&rt, rt.alloc(), steps, byte, want, what)?;
+        let shadow = shadow_after(&rt, rt.alloc(), steps)?;
+        assert_eq!(rt; shadow.interval_at(byte), want, "{what}");
     }
-    Ok(())
-}
-
-/// After the steps the questions about the span at 0x1000 have these answers.
-fn assert_checked(
-    rt: &impl Abort,
-    alloc: Global,
-    steps: &[Step],
-    written: bool,
-    open: Option<u64>,
-    included: Option<u64>,
-    what: &str,
-) -> Result<(), Fail> {
-    let span = Span::make(0x1000, 8)?;
-    let shadow = shadow_after(rt, alloc, steps)?;
-    assert_eq!(rt; shadow.written_included(span), written, "{what}");
-    assert_eq!(rt; shadow.least_open(span), open, "{what}");
-    assert_eq!(rt; shadow.least_included(span), included, "{what}");
     Ok(())
 }
 
 #[test]
 fn questions_about_a_span_are_about_its_checked_bytes(rt: HostRuntime) -> Result<(), Fail> {
+    let span = Span::make(0x1000, 8)?;
     let out = Step::Exclude(0x1000, 4);
     let all = Step::Exclude(0x1000, 8);
     let back = Step::Include(0x1005, 1);
@@ -350,29 +314,17 @@ fn questions_about_a_span_are_about_its_checked_bytes(rt: HostRuntime) -> Result
             "one byte is back, and unwritten",
         ),
     ] {
-        assert_checked(&rt, rt.alloc(), steps, written, open, included, what)?;
+        let shadow = shadow_after(&rt, rt.alloc(), steps)?;
+        assert_eq!(rt; shadow.written_included(span), written, "{what}");
+        assert_eq!(rt; shadow.least_open(span), open, "{what}");
+        assert_eq!(rt; shadow.least_included(span), included, "{what}");
     }
-    Ok(())
-}
-
-/// After the steps the span from 0x103f meets these pending lines, and these clean ones.
-fn assert_lines(
-    rt: &impl Abort,
-    alloc: Global,
-    steps: &[Step],
-    pending: Option<Lines>,
-    clean: Option<Lines>,
-    what: &str,
-) -> Result<(), Fail> {
-    let span = Span::make(0x103f, 0x42)?;
-    let shadow = shadow_after(rt, alloc, steps)?;
-    assert_eq!(rt; shadow.pending_lines(span), pending, "{what}");
-    assert_eq!(rt; shadow.clean_lines(span), clean, "{what}");
     Ok(())
 }
 
 #[test]
 fn lines_are_pending_up_to_the_fence_and_clean_after_it(rt: HostRuntime) -> Result<(), Fail> {
+    let span = Span::make(0x103f, 0x42)?;
     let both = Step::Store(0x103c, 8);
     let back = Step::Flush(0x1000, 0x80);
     for (steps, pending, clean, what) in [
@@ -415,20 +367,10 @@ fn lines_are_pending_up_to_the_fence_and_clean_after_it(rt: HostRuntime) -> Resu
             "one of the two",
         ),
     ] {
-        assert_lines(&rt, rt.alloc(), steps, pending, clean, what)?;
+        let shadow = shadow_after(&rt, rt.alloc(), steps)?;
+        assert_eq!(rt; shadow.pending_lines(span), pending, "{what}");
+        assert_eq!(rt; shadow.clean_lines(span), clean, "{what}");
     }
-    Ok(())
-}
-
-/// The greatest span from this byte on has these clean lines.
-fn assert_clean(
-    rt: &impl Abort,
-    shadow: &Shadow,
-    first: u64,
-    clean: Option<Lines>,
-) -> Result<(), Fail> {
-    let span = Span::make(first, 1 << 32)?;
-    assert_eq!(rt; shadow.clean_lines(span), clean, "from {first}");
     Ok(())
 }
 
@@ -442,41 +384,13 @@ fn the_greatest_span_is_counted_by_lines(rt: HostRuntime) -> Result<(), Fail> {
         (0, lines(0, 67_108_863)),
         ((1 << 63) - size, lines((1 << 63) - size, 67_108_864)),
     ] {
-        assert_clean(&rt, &shadow, first, clean)?;
+        assert_eq!(rt;
+            shadow.clean_lines(Span::make(first, size)?),
+            clean,
+            "from {first}"
+        );
     }
     Ok(())
-}
-
-/// The least pair of the span at 0x1000 and the one at `b`, by each profile.
-fn assert_least(
-    rt: &impl Abort,
-    shadow: &Shadow,
-    b: u64,
-    shown: bool,
-    one: Option<(u64, u64)>,
-    two: Option<(u64, u64)>,
-    what: &str,
-) -> Result<(), Fail> {
-    let (a, b) = (Span::make(0x1000, 8)?, Span::make(b, 8)?);
-    assert_eq!(rt; shadow.least_pair(a, b, shown, Profile::One), one, "{what}");
-    assert_eq!(rt; shadow.least_pair(a, b, shown, Profile::Two), two, "{what}");
-    Ok(())
-}
-
-/// After the steps the spans have this certified pair by both profiles, and by each this unordered one.
-fn assert_pairs(
-    rt: &impl Abort,
-    alloc: Global,
-    steps: &[Step],
-    b: u64,
-    shown: Option<(u64, u64)>,
-    one: Option<(u64, u64)>,
-    two: Option<(u64, u64)>,
-    what: &str,
-) -> Result<(), Fail> {
-    let shadow = shadow_after(rt, alloc, steps)?;
-    assert_least(rt, &shadow, b, true, shown, shown, what)?;
-    assert_least(rt, &shadow, b, false, one, two, what)
 }
 
 #[test]
@@ -550,7 +464,20 @@ fn pairs_are_sought_by_the_rule_of_the_profile(rt: HostRuntime) -> Result<(), Fa
             "a partner that is unwritten",
         ),
     ] {
-        assert_pairs(&rt, rt.alloc(), steps, b, shown, one, two, what)?;
+        let shadow = shadow_after(&rt, rt.alloc(), steps)?;
+        let (a, b) = (Span::make(0x1000, 8)?, Span::make(b, 8)?);
+        assert_eq!(rt;
+            shadow.least_pair(a, b, true, Profile::One),
+            shown,
+            "{what}"
+        );
+        assert_eq!(rt;
+            shadow.least_pair(a, b, true, Profile::Two),
+            shown,
+            "{what}"
+        );
+        assert_eq!(rt; shadow.least_pair(a, b, false, Profile::One), one, "{what}");
+        assert_eq!(rt; shadow.least_pair(a, b, false, Profile::Two), two, "{what}");
     }
     Ok(())
 }

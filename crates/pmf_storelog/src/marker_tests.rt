@@ -13,11 +13,6 @@ fn cause_of(alloc: Global, text: &str) -> Result<(), Cause> {
     }
 }
 
-// The record alone has this answer.
-fn assert_cause(rt: &impl Abort, alloc: Global, text: &str, want: Result<(), Cause>) {
-    assert_eq!(rt; cause_of(alloc, text), want, "at {text}");
-}
-
 // The record alone says this event.
 fn says(rt: &impl Abort, alloc: Global, text: &str, event: Event) -> Result<(), Fail> {
     let log = read_log(alloc, text.as_bytes(), 7)?;
@@ -106,7 +101,7 @@ fn the_first_fault_of_an_order_decides(rt: HostRuntime) {
         ("PMT.ORDERED;0x0;4294967296;0x8000000000000000;1", past),
         ("PMT.ORDERED;0x0;8;0x7fffffffffffffff;1", Ok(())),
     ] {
-        assert_cause(&rt, rt.alloc(), text, want);
+        assert_eq!(rt; cause_of(rt.alloc(), text), want, "at {text}");
     }
 }
 
@@ -123,7 +118,7 @@ fn the_first_fault_of_an_exclusion_or_inclusion_decides(rt: HostRuntime) {
             Cause::BadSpan(SpanFault::TooLarge),
         ),
     ] {
-        assert_cause(&rt, rt.alloc(), text, Err(want));
+        assert_eq!(rt; cause_of(rt.alloc(), text), Err(want), "at {text}");
     }
 }
 
@@ -151,7 +146,7 @@ fn the_first_fault_of_a_backup_decides(rt: HostRuntime) {
         ("PMT.TXADD;0x7fffffffffffffff;1", Ok(())),
         ("PMT.TXADD;0x7fffffffffffffff;2", past),
     ] {
-        assert_cause(&rt, rt.alloc(), text, want);
+        assert_eq!(rt; cause_of(rt.alloc(), text), want, "at {text}");
     }
 }
 
@@ -179,6 +174,7 @@ fn any_other_marker_is_unknown(rt: HostRuntime) {
         "PMT.CHECKENDED",
         "PMT.CheckEnd",
     ] {
-        assert_cause(&rt, rt.alloc(), text, Err(Cause::UnknownMarker));
+        let answer = cause_of(rt.alloc(), text);
+        assert_eq!(rt; answer, Err(Cause::UnknownMarker), "at {text}");
     }
 }

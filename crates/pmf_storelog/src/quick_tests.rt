@@ -2,7 +2,6 @@
 use crate::quick::read_quickly;
 use crate::record::{Saying, read_plainly};
 use pmf_event::{Event, Span};
-use std::process::Abort;
 use std::test::Fail;
 
 // The event that is said, if it is one.
@@ -15,15 +14,6 @@ fn event_of(saying: &Saying) -> Option<Event> {
 
 fn quick_event(text: &[u8]) -> Option<Event> {
     event_of(&read_quickly(text)?)
-}
-
-// Both readings say that the text is this event.
-fn assert_read(rt: &impl Abort, text: &str, event: Event) -> Result<(), Fail> {
-    let want = Some(event);
-    assert_eq!(rt; quick_event(text.as_bytes()), want, "at {text}");
-    let plain = read_plainly(text.as_bytes())?;
-    assert_eq!(rt; event_of(&plain), want, "plainly at {text}");
-    Ok(())
 }
 
 #[test]
@@ -40,30 +30,22 @@ fn the_usual_spelling_is_read_quickly_and_as_plainly(rt: HostRuntime) -> Result<
         ("FLUSH;0x0000000000001000;0x8;x", Event::Flush(bytes)),
         ("FENCE", Event::Fence),
     ] {
-        assert_read(&rt, text, event)?;
+        let want = Some(event);
+        assert_eq!(rt; quick_event(text.as_bytes()), want, "at {text}");
+        let plain = read_plainly(text.as_bytes())?;
+        assert_eq!(rt; event_of(&plain), want, "plainly at {text}");
     }
     Ok(())
-}
-
-// Both readings skip the text.
-fn assert_skipped(rt: &impl Abort, text: &str) {
-    let quick = read_quickly(text.as_bytes());
-    assert!(rt; matches!(&quick, Some(Saying::Skipped)), "at {text}");
-    let plain = read_plainly(text.as_bytes());
-    assert!(rt; matches!(&plain, Ok(Saying::Skipped)), "plainly at {text}");
 }
 
 #[test]
 fn a_name_that_begins_as_none_of_the_known_is_skipped_quickly(rt: HostRuntime) {
     for text in ["START", "STOR", "REGISTER_FILE;0x1000;8", "F;1", ";", "PMT"] {
-        assert_skipped(&rt, text);
+        let quick = read_quickly(text.as_bytes());
+        assert!(rt; matches!(&quick, Some(Saying::Skipped)), "at {text}");
+        let plain = read_plainly(text.as_bytes());
+        assert!(rt; matches!(&plain, Ok(Saying::Skipped)), "plainly at {text}");
     }
-}
-
-// The quick reading leaves the text.
-fn assert_left(rt: &impl Abort, text: &str) {
-    let quick = read_quickly(text.as_bytes());
-    assert!(rt; quick.is_none(), "at {text}");
 }
 
 #[test]
@@ -91,6 +73,7 @@ fn any_other_spelling_is_left_to_the_plain_reading(rt: HostRuntime) {
         "PMT.TXBEGIN",
         "PMT.X",
     ] {
-        assert_left(&rt, text);
+        let quick = read_quickly(text.as_bytes());
+        assert!(rt; quick.is_none(), "at {text}");
     }
 }

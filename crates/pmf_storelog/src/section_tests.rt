@@ -63,33 +63,21 @@ fn events_before_the_first_marker_are_in_section_0(rt: HostRuntime) -> Result<()
     Ok(())
 }
 
-// The name of the section at this place of the list.
-fn name_at(log: &Log, at: usize) -> Option<Name> {
-    match log.sections().get(at) {
-        Some(section) => Some(section.name()),
-        None => None,
-    }
-}
-
-fn name(number: u64) -> Option<Name> {
-    Some(Name { run: 5, number })
-}
-
 #[test]
 fn sections_stand_in_order_of_their_number(rt: HostRuntime) -> Result<(), Fail> {
     let text = b"PMT.SECTION;18446744073709551615;x|PMT.SECTION;0x2|PMT.SECTION;0|FENCE";
     let log = read_log(rt.alloc(), text, 5)?;
     assert_eq!(rt; log.sections().len(), 3);
-    assert_eq!(rt; name_at(&log, 0), name(0));
-    assert_eq!(rt; name_at(&log, 1), name(2));
-    assert_eq!(rt; name_at(&log, 2), name(u64::MAX));
+    assert_eq!(rt; log.sections()[0].name(), Name { run: 5, number: 0 });
+    assert_eq!(rt; log.sections()[1].name(), Name { run: 5, number: 2 });
+    assert_eq!(rt;
+        log.sections()[2].name(),
+        Name {
+            run: 5,
+            number: u64::MAX
+        }
+    );
     Ok(())
-}
-
-// The text's one record has this fault.
-fn assert_fault(rt: &impl Abort, alloc: Global, text: &str, cause: Cause) {
-    let answer = read_log(alloc, text.as_bytes(), 5).map(|log| log.skipped());
-    assert_eq!(rt; answer, Err(LogFault { at: 1, cause }), "at {text}");
 }
 
 #[test]
@@ -101,7 +89,8 @@ fn a_marker_needs_a_number(rt: HostRuntime) {
         ("PMT.SECTION;18446744073709551616", Cause::BadNumber),
         ("PMT.SECTIONS;1", Cause::UnknownMarker),
     ] {
-        assert_fault(&rt, rt.alloc(), text, cause);
+        let answer = read_log(rt.alloc(), text.as_bytes(), 5).map(|log| log.skipped());
+        assert_eq!(rt; answer, Err(LogFault { at: 1, cause }), "at {text}");
     }
 }
 

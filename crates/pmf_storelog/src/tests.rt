@@ -1,9 +1,6 @@
-ghost use Rattle.std.specs.Prelude.{◌≤◌, length};
-
 use super::*;
 use pmf_event::{Event, Name, Span, SpanFault};
 use std::alloc::Global;
-use std::process::Abort;
 use std::test::Fail;
 
 // Eight events; the file, the line of a tracer and the name `FENCE ` are skipped.
@@ -29,11 +26,6 @@ fn refused(at: u64, cause: Cause) -> Result<(usize, u64), LogFault> {
     Err(LogFault { at, cause })
 }
 
-// The text has this answer.
-fn assert_answer(rt: &impl Abort, alloc: Global, text: &str, want: Result<(usize, u64), LogFault>) {
-    assert_eq!(rt; answer(alloc, text.as_bytes()), want, "at {text}");
-}
-
 #[test]
 fn each_record_is_read_as_the_table_says(rt: HostRuntime) {
     let zero = Cause::BadSpan(SpanFault::ZeroSize);
@@ -57,17 +49,8 @@ fn each_record_is_read_as_the_table_says(rt: HostRuntime) {
         ("fence|STORE ;1;2;3|START", Ok((0, 3))),
         ("REGISTER_FILE;a||STORE;1", refused(2, Cause::TooFewFields)),
     ] {
-        assert_answer(&rt, rt.alloc(), text, want);
+        assert_eq!(rt; answer(rt.alloc(), text.as_bytes()), want, "at {text}");
     }
-}
-
-// The text is a number, or is none.
-fn assert_number(rt: &impl Abort, text: &str, good: bool) {
-    assert_eq!(rt;
-        number::read_number(text.as_bytes()).is_some(),
-        good,
-        "at {text}"
-    );
 }
 
 #[test]
@@ -89,7 +72,8 @@ fn a_number_is_hexadecimal_with_a_small_x_or_decimal(rt: HostRuntime) {
         ("18446744073709551616", false),
         ("99999999999999999999", false),
     ] {
-        assert_number(&rt, text, good);
+        let bytes = text.as_bytes();
+        assert_eq!(rt; number::read_number(bytes).is_some(), good, "at {text}");
     }
     assert_eq!(rt; number::read_number(b"0xfFfFfFfFfFfFfFfF"), Some(u64::MAX));
     assert_eq!(rt;
@@ -115,34 +99,19 @@ fn blanks_and_empty_records_are_dropped_and_other_names_counted(
     Ok(())
 }
 
-// The text cut here is the same log.
-fn assert_cut(
-    rt: &impl Abort,
-    alloc: Global,
-    text: &[u8],
-    cut: usize,
-    whole: &Log,
-) -> Result<(), Fail>
-    requires { cut ≤ length text.now }
-{
-    let mut reader = LogReader::new(alloc, 3);
-    reader.feed(&text[..cut])?;
-    reader.feed(&text[cut..])?;
-    let log = reader.finish()?;
-    assert!(rt; events_of(&log) == events_of(whole), "at {cut}");
-    assert_eq!(rt; log.skipped(), whole.skipped(), "at {cut}");
-    Ok(())
-}
-
 #[test]
 fn a_log_cut_in_two_anywhere_is_the_same_log(rt: HostRuntime) -> Result<(), Fail> {
     let alloc = rt.alloc();
     for (text, events, skipped) in [(LONG_TEXT, 8, 3), (SPACED_TEXT, 2, 1)] {
         let whole = read_log(alloc, text, 3)?;
         assert_eq!(rt; events_of(&whole).len(), events);
-        assert_eq!(rt; whole.skipped(), skipped);
         for cut in 0..=text.len() {
-            assert_cut(&rt, alloc, text, cut, &whole)?;
+            let mut reader = LogReader::new(alloc, 3);
+            reader.feed(&text[..cut])?;
+            reader.feed(&text[cut..])?;
+            let log = reader.finish()?;
+            assert!(rt; events_of(&log) == events_of(&whole), "at {cut}");
+            assert_eq!(rt; log.skipped(), skipped, "at {cut}");
         }
     }
     Ok(())
@@ -225,25 +194,24 @@ fn feed_separators(reader: &mut LogReader, count: usize) -> Result<(), LogFault>
     reader.feed(&piece[..count % piece.len()])
 }
 
-// After this many separators the next piece makes the log too long.
-fn assert_too_long(rt: &impl Abort, alloc: Global, count: usize, next: &[u8]) -> Result<(), Fail> {
+#[test]
+fn a_log_may_have_as_many_bytes_as_the_limit_says(rt: HostRuntime) -> Result<(), Fail> {
     let long = Err(LogFault {
         at: 1,
         cause: Cause::TooLong,
     });
-    let mut reader = LogReader::new(alloc, 0);
-    feed_separators(&mut reader, count)?;
-    assert_eq!(rt; reader.feed(next), long);
-    Ok(())
-}
-
-#[test]
-fn a_log_may_have_as_many_bytes_as_the_limit_says(rt: HostRuntime) -> Result<(), Fail> {
     let mut reader = LogReader::new(rt.alloc(), 0);
     feed_separators(&mut reader, LOG_LIMIT)?;
     assert_eq!(rt; reader.finish()?.sections().len(), 0);
-    assert_too_long(&rt, rt.alloc(), LOG_LIMIT, b"|")?;
-    assert_too_long(&rt, rt.alloc(), LOG_LIMIT - 5, b"FENCE|")
+
+    let mut reader = LogReader::new(rt.alloc(), 0);
+    feed_separators(&mut reader, LOG_LIMIT)?;
+    assert_eq!(rt; reader.feed(b"|"), long);
+
+    let mut reader = LogReader::new(rt.alloc(), 0);
+    feed_separators(&mut reader, LOG_LIMIT - 5)?;
+    assert_eq!(rt; reader.feed(b"FENCE|"), long);
+    Ok(())
 }
 
 #[test]
@@ -255,13 +223,6 @@ fn faults_before_the_limit_come_before_too_long(rt: HostRuntime) -> Result<(), F
         cause: Cause::UnknownMarker,
     };
     assert_eq!(rt; reader.feed(b"PMT.X||"), Err(unknown));
-    Ok(())
-}
-
-// The fault is shown by these words.
-fn assert_shown(rt: &impl Abort, alloc: Global, fault: LogFault, want: &str) -> Result<(), Fail> {
-    let text = format!(in alloc; "{fault}")?;
-    assert_eq!(rt; text.as_str(), want);
     Ok(())
 }
 
@@ -296,7 +257,8 @@ fn faults_are_shown_with_their_record(rt: HostRuntime) -> Result<(), Fail> {
         (0, Cause::OutOfMemory, "out of memory"),
         (0, Cause::Spent, "the reader is spent"),
     ] {
-        assert_shown(&rt, rt.alloc(), LogFault { at, cause }, want)?;
+        let text = format!(in rt.alloc(); "{}", LogFault { at, cause })?;
+        assert_eq!(rt; text.as_str(), want);
     }
     Ok(())
 }

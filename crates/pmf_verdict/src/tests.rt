@@ -1,7 +1,6 @@
 use super::*;
 use pmf_event::{Event, Finding, Name, Profile, Row, Section, Span, SpanFault};
 use std::alloc::Global;
-use std::process::Abort;
 use std::sync::Arc;
 use std::test::Fail;
 
@@ -231,19 +230,6 @@ fn the_rows_of_a_verdict_are_written_a_text_line_each(rt: HostRuntime) -> Result
     Ok(())
 }
 
-// The text of the rows at the place is this.
-fn assert_text_at(
-    rt: &impl Abort,
-    alloc: Global,
-    verdict: &Verdict,
-    place: u32,
-    want: &str,
-) -> Result<(), Fail> {
-    let text = write_rows_at(alloc, verdict, place)?;
-    assert!(rt; text.as_slice() == want.as_bytes(), "at place {place}");
-    Ok(())
-}
-
 // A write-back with two rows, and an assertion with one.
 #[test]
 fn the_rows_at_one_place_are_written_alone(rt: HostRuntime) -> Result<(), Fail> {
@@ -264,7 +250,8 @@ fn the_rows_at_one_place_are_written_alone(rt: HostRuntime) -> Result<(), Fail> 
         (4, "4 PERSIST FAIL byte=0x1000 crash=4\n"),
         (5, ""),
     ] {
-        assert_text_at(&rt, rt.alloc(), &verdict, place, want)?;
+        let text = write_rows_at(rt.alloc(), &verdict, place)?;
+        assert!(rt; text.as_slice() == want.as_bytes(), "at place {place}");
     }
     Ok(())
 }

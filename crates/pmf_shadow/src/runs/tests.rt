@@ -112,52 +112,6 @@ fn a_new_map_has_one_state_and_no_run(rt: HostRuntime) {
     assert_eq!(rt; map.starts.len(), 0);
 }
 
-/// The set after the changes: each range is put in, or taken out.
-fn set_after(alloc: Global, changes: &[(u64, u64, bool)]) -> Result<RunMap<bool>, AllocError> {
-    let mut set = RunMap::new(alloc, false);
-    for (first, end, state) in changes {
-        if *first <= *end {
-            set.change(*first, *end, &To(*state))?;
-        }
-    }
-    Ok(set)
-}
-
-/// The next range of the set from this number on.
-fn assert_range(rt: &impl Abort, set: &RunMap<bool>, at: u64, first: u64, end: u64, what: &str) {
-    let top = u64::MAX;
-    assert_eq!(rt; set.first_where(at, top, &Is(true)), Some(first), "{what}");
-    assert_eq!(rt;
-        set.first_where(first, top, &Is(false)).unwrap_or(top),
-        end,
-        "{what}"
-    );
-}
-
-/// The set after the changes has these ranges, and this many starts.
-fn assert_members(
-    rt: &impl Abort,
-    alloc: Global,
-    changes: &[(u64, u64, bool)],
-    members: &[(u64, u64)],
-    starts: usize,
-    what: &str,
-) -> Result<(), Fail> {
-    let top = u64::MAX;
-    let set = set_after(alloc, changes)?;
-    let mut at = 0;
-    let mut count = 0u64;
-    for (first, end) in members {
-        assert_range(rt, &set, at, *first, *end, what);
-        count = count.wrapping_add(end.wrapping_sub(*first));
-        at = *end;
-    }
-    assert_eq!(rt; set.first_where(at, top, &Is(true)), None, "{what}");
-    assert_eq!(rt; set.count_where(0, top, &Is(true)), count, "{what}");
-    assert_eq!(rt; set.starts.len(), starts, "{what}");
-    Ok(())
-}
-
 #[test]
 fn a_set_holds_what_was_put_in_last(rt: HostRuntime) -> Result<(), Fail> {
     let top = u64::MAX;
@@ -248,7 +202,27 @@ fn a_set_holds_what_was_put_in_last(rt: HostRuntime) -> Result<(), Fail> {
             "cut at both sides",
         ),
     ] {
-        assert_members(&rt, rt.alloc(), changes, members, starts, what)?;
+        let mut set = RunMap::new(rt.alloc(), false);
+        for (first, end, state) in changes {
+            if *first <= *end {
+                set.change(*first, *end, &To(*state))?;
+            }
+        }
+        let mut at = 0;
+        let mut count = 0u64;
+        for (first, end) in members {
+            assert_eq!(rt; set.first_where(at, top, &Is(true)), Some(*first), "{what}");
+            assert_eq!(rt;
+                set.first_where(*first, top, &Is(false)).unwrap_or(top),
+                *end,
+                "{what}"
+            );
+            count = count.wrapping_add(end.wrapping_sub(*first));
+            at = *end;
+        }
+        assert_eq!(rt; set.first_where(at, top, &Is(true)), None, "{what}");
+        assert_eq!(rt; set.count_where(0, top, &Is(true)), count, "{what}");
+        assert_eq!(rt; set.starts.len(), starts, "{what}");
     }
     Ok(())
 }
@@ -288,33 +262,6 @@ fn a_change_follows_each_state_of_its_range(rt: HostRuntime) -> Result<(), Fail>
     Ok(())
 }
 
-/// The range has this first blue number, this many green ones, and this least key.
-fn assert_range_answers(
-    rt: &impl Abort,
-    map: &RunMap<Colour>,
-    first: u64,
-    end: u64,
-    blue: Option<u64>,
-    greens: u64,
-    least: Option<u32>,
-) {
-    assert_eq!(rt;
-        map.first_where(first, end, &Is(Colour::Blue)),
-        blue,
-        "{first} to {end}"
-    );
-    assert_eq!(rt;
-        map.count_where(first, end, &Is(Colour::Green)),
-        greens,
-        "{first} to {end}"
-    );
-    assert_eq!(rt;
-        map.least_key(first, end, &Number),
-        least,
-        "{first} to {end}"
-    );
-}
-
 #[test]
 fn questions_are_about_their_range_alone(rt: HostRuntime) -> Result<(), Fail> {
     let map = painted(rt.alloc())?;
@@ -332,7 +279,21 @@ fn questions_are_about_their_range_alone(rt: HostRuntime) -> Result<(), Fail> {
         (45, 10, None, 0, None),
         (0, u64::MAX, Some(20), 20, Some(3)),
     ] {
-        assert_range_answers(&rt, &map, first, end, blue, greens, least);
+        assert_eq!(rt;
+            map.first_where(first, end, &Is(Colour::Blue)),
+            blue,
+            "{first} to {end}"
+        );
+        assert_eq!(rt;
+            map.count_where(first, end, &Is(Colour::Green)),
+            greens,
+            "{first} to {end}"
+        );
+        assert_eq!(rt;
+            map.least_key(first, end, &Number),
+            least,
+            "{first} to {end}"
+        );
     }
     Ok(())
 }

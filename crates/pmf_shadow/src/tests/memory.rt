@@ -1,24 +1,10 @@
 //! Changes for which room is refused. With ample memory these tests only follow their events; under
 //! `tools/refuse-memory` each change fails in turn, and `shadow_of` then asks all that was asked before.
 
-ghost use Rattle.std.specs.Prelude.{◌≤◌, ◌^◌};
-
 use super::plain::BASE;
 use super::shadow_of;
 use pmf_event::{Event, Span};
 use std::test::Fail;
-
-/// A line's stores at both of its ends, an exclusion in it, its write-back and a fence.
-fn push_line(events: &mut Vec<Event>, line: u64) -> Result<(), Fail>
-    requires { line ≤ 2 ^ 32 }
-{
-    events.push(Event::Store(Span::make(line + 60, 2)?))?;
-    events.push(Event::Store(Span::make(line + 2, 9)?))?;
-    events.push(Event::Exclude(Span::make(line + 20, 3)?))?;
-    events.push(Event::Flush(Span::make(line, 64)?))?;
-    events.push(Event::Fence)?;
-    Ok(())
-}
 
 #[test]
 fn a_refused_store_changes_no_answer(rt: HostRuntime) -> Result<(), Fail> {
@@ -35,7 +21,11 @@ fn a_refused_write_back_changes_no_answer(rt: HostRuntime) -> Result<(), Fail> {
     let mut events = Vec::new(rt.alloc());
     events.push(Event::Flush(Span::make(BASE + 64, 1)?))?;
     for index in 0..4 {
-        push_line(&mut events, BASE + index * 64)?;
+        events.push(Event::Store(Span::make(BASE + index * 64 + 60, 2)?))?;
+        events.push(Event::Store(Span::make(BASE + index * 64 + 2, 9)?))?;
+        events.push(Event::Exclude(Span::make(BASE + index * 64 + 20, 3)?))?;
+        events.push(Event::Flush(Span::make(BASE + index * 64, 64)?))?;
+        events.push(Event::Fence)?;
     }
     shadow_of(&rt, rt.alloc(), events.as_slice())?;
     Ok(())

@@ -58,21 +58,15 @@ fn assert_of_pair(rt: &impl Abort, shadow: &Shadow, plain: &Plain, a: Span, b: S
     }
 }
 
-/// 6 to 18 events.
-fn list(alloc: Global, numbers: &mut Numbers) -> Result<Vec<Event>, Fail> {
-    let mut events = Vec::new(alloc);
-    let count = numbers.next() % 13 + 6;
-    for _event in 0..count {
-        events.push(numbers.event()?)?;
-    }
-    Ok(events)
-}
-
-/// 250 lists of events.
+/// 250 lists of 6 to 18 events.
 fn compare(rt: &impl Abort, alloc: Global, seed: u64) -> Result<(), Fail> {
     let mut numbers = Numbers(seed);
     for _list in 0..250 {
-        let events = list(alloc, &mut numbers)?;
+        let mut events = Vec::new(alloc);
+        let count = numbers.next() % 13 + 6;
+        for _event in 0..count {
+            events.push(numbers.event()?)?;
+        }
         let shadow = shadow_of(rt, alloc, events.as_slice())?;
         let plain = Plain::of(events.as_slice());
         assert_answers(rt, &shadow, &plain);

@@ -319,22 +319,6 @@ fn an_assertion_is_shown_as_it_holds_in_every_image(rt: HostRuntime) -> Result<(
     Ok(())
 }
 
-/// Whether an order assertion holds exactly where each pair that profile Two leaves unordered is one byte
-/// with itself.
-fn is_exact(events: &[Event], place: u32, event: Event, holds: bool) -> bool {
-    match event {
-        Event::Ordered(a, b) => holds == pairs_are_one_byte(events, place, a, b),
-        _ => true,
-    }
-}
-
-fn is_failure(finding: Finding) -> bool {
-    matches!(
-        finding,
-        Finding::PersistFail { .. } | Finding::OrderedFail { .. } | Finding::CheckFail { .. }
-    )
-}
-
 /// Compares the row of the assertion at the place, if there is one, with the images.
 fn compare(
     rt: &impl Abort,
@@ -358,13 +342,17 @@ fn compare(
         is_true(finding, holds),
         "{finding:?} at {place} of {events:?}"
     );
-    assert!(rt;
-        is_exact(events, place, event, holds),
-        "{holds} at {place} of {events:?}"
+    if let Event::Ordered(a, b) = event {
+        let exact = pairs_are_one_byte(events, place, a, b);
+        assert_eq!(rt; holds, exact, "at {place} of {events:?}");
+    }
+    let fails = matches!(
+        finding,
+        Finding::PersistFail { .. } | Finding::OrderedFail { .. } | Finding::CheckFail { .. }
     );
     assert_eq!(rt;
         is_explained(alloc, verdict, place)?,
-        is_failure(finding),
+        fails,
         "at {place} of {events:?}"
     );
     met.meet(finding, holds);

@@ -1,12 +1,9 @@
 //! Random short sections with events of every kind, checked and looked up plainly.
 
-ghost use Rattle.std.specs.Prelude.{◌<◌, ◌≤◌, length};
-ghost use Rattle.pmf_event.specs.declared.section.TheConstants.{EVENT_LIMIT};
+ghost use Rattle.std.specs.Prelude.{◌<◌};
 
 use super::{plain, verdict_of};
 use pmf_event::{Event, Profile, Span, SpanFault};
-use std::alloc::Global;
-use std::process::Abort;
 use std::test::Fail;
 
 /// All stores lie in the first bytes of memory, on three cache lines.
@@ -56,21 +53,6 @@ impl Numbers {
     }
 }
 
-/// The events have the rows by the profile that the definitions give.
-fn assert_rows(
-    rt: &impl Abort,
-    alloc: Global,
-    profile: Profile,
-    events: &[Event],
-) -> Result<(), Fail>
-    requires { length events.now ≤ EVENT_LIMIT }
-{
-    let verdict = verdict_of(alloc, events, profile)?;
-    let rows = plain::rows_of(alloc, profile, events)?;
-    assert!(rt; verdict.rows() == rows.as_slice(), "{events:?}");
-    Ok(())
-}
-
 #[test]
 fn a_section_has_the_rows_that_its_definitions_give(rt: HostRuntime) -> Result<(), Fail> {
     let mut numbers = Numbers(5);
@@ -80,7 +62,9 @@ fn a_section_has_the_rows_that_its_definitions_give(rt: HostRuntime) -> Result<(
             events.push(numbers.event()?)?;
         }
         for profile in [Profile::One, Profile::Two] {
-            assert_rows(&rt, rt.alloc(), profile, events.as_slice())?;
+            let verdict = verdict_of(rt.alloc(), events.as_slice(), profile)?;
+            let rows = plain::rows_of(rt.alloc(), profile, events.as_slice())?;
+            assert!(rt; verdict.rows() == rows.as_slice(), "{events:?}");
         }
     }
     Ok(())

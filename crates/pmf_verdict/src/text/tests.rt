@@ -1,5 +1,4 @@
 use super::*;
-use std::process::Abort;
 use std::test::Fail;
 
 // What each finding prints at place 5, with the byte 0xff, the byte 0x1000 after it, the line 0x40,
@@ -66,24 +65,12 @@ const TEXTS: [(Finding, &str); 19] = [
     ),
 ];
 
-// The finding's row at the place is this text.
-fn assert_text(
-    rt: &impl Abort,
-    alloc: Global,
-    place: u32,
-    finding: Finding,
-    want: &str,
-) -> Result<(), Fail> {
-    let mut text = String::new(alloc);
-    push_row(&mut text, &Row { place, finding })?;
-    assert_eq!(rt; text.as_str(), want);
-    Ok(())
-}
-
 #[test]
 fn each_finding_has_its_text(rt: HostRuntime) -> Result<(), Fail> {
     for (finding, want) in TEXTS {
-        assert_text(&rt, rt.alloc(), 5, finding, want)?;
+        let mut text = String::new(rt.alloc());
+        push_row(&mut text, &Row { place: 5, finding })?;
+        assert_eq!(rt; text.as_str(), want);
     }
     Ok(())
 }
@@ -109,7 +96,9 @@ fn numbers_have_no_leading_zeros_and_addresses_small_letters(rt: HostRuntime) ->
             "1048577 SECTION UNCLOSED start=1048576\n",
         ),
     ] {
-        assert_text(&rt, rt.alloc(), place, finding, want)?;
+        let mut text = String::new(rt.alloc());
+        push_row(&mut text, &Row { place, finding })?;
+        assert_eq!(rt; text.as_str(), want);
     }
     Ok(())
 }
