@@ -67,7 +67,8 @@ fn read_log<R: Source>(
 ) -> Result<Log, StreamFault<LogFault>>
     requires { CanCountOneMore (R.failed_calls reader.old) }
     ensures ok { IfOk result (IsLogOf run (R.left reader.old) (R.left reader.new)) }
-    ensures faults { IfErr result (RefusesReading (IsLogFaultOf run (R.left reader.old) (R.left reader.new))) }
+    ensures faults { IfErr result
+        (RefusesReading (IsLogFaultOf run (R.left reader.old) (R.left reader.new))) }
     ensures reads { R.failed_calls reader.new ≡ R.failed_calls reader.old + failed_reads result }
 {
     let mut log = LogReader::new(alloc, run);

@@ -35,7 +35,8 @@ pub(crate) trait Intake {
     ghost takes_more: { (a b c : Self) (xs ys : List ℕ) → Takes a xs b → Takes b ys c → Takes a (xs ++ ys) c };
 
     // What is refused after some pieces is refused of them all.
-    ghost refuses_after: { (a b : Self) (xs ys : List ℕ) (fault : Self.Fault) → Takes a xs b → Refuses b ys fault → Refuses a (xs ++ ys) fault };
+    ghost refuses_after: { (a b : Self) (xs ys : List ℕ) (fault : Self.Fault)
+        → Takes a xs b → Refuses b ys fault → Refuses a (xs ++ ys) fault };
 }
 
 /// Reads the stream to its end, to one byte past the limit, or to the first piece that the intake
@@ -48,8 +49,10 @@ pub(crate) fn read_into<R: Source, I: Intake>(
     requires read { CanCountOneMore (R.failed_calls reader.old) }
     requires limited { limit < 2 ^ 63 }
     ensures taken { IfOk result (λ answer. MatchResult answer
-        (λ _. (bytes : List ℕ) × HasReadAll limit (R.left reader.old) (R.left reader.new) bytes × I.Takes intake.old bytes intake.new)
-        (λ fault. (bytes : List ℕ) × HasReadBytes limit (R.left reader.old) (R.left reader.new) bytes × I.Refuses intake.old bytes fault)) }
+        (λ _. (bytes : List ℕ) × HasReadAll limit (R.left reader.old) (R.left reader.new) bytes
+        × I.Takes intake.old bytes intake.new)
+        (λ fault. (bytes : List ℕ) × HasReadBytes limit (R.left reader.old) (R.left reader.new) bytes
+        × I.Refuses intake.old bytes fault)) }
     ensures counted { CountsFailure (R.failed_calls reader.old) (R.failed_calls reader.new) result }
 {
     let mut piece = [0u8; PIECE];
