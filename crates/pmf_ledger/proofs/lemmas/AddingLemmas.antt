@@ -1,0 +1,94 @@
+-- What a ledger holds after a section was put where its name belongs.
+use Rattle.std.proofs.Common.{◌≡◌, ℕ, List, [], ◌∷◌, take, drop, refl, sym, ◌∙◌, ap, subst, arith, inl, inr, get_or}
+use Rattle.std.specs.Prelude.{◌⊎◌, Contains}
+use Rattle.std.specs.List.{All, insert}
+use Rattle.std.proofs.lemmas.List.{take-append-drop}
+use Rattle.std.proofs.lemmas.List.Elements.{All-append, All-cons, All-take, All-drop, Contains-append_left, Contains-append_right, Contains-append_cases, Contains-push, Contains-push_cases, Contains-get_or}
+use Rattle.pmf_event.specs.Section.{Trace}
+use Rattle.pmf_verdict.specs.Checked.{Checked, checked_by}
+use Rattle.pmf_ledger.specs.Gathered.{Gains, Gathers, Holds}
+use Rattle.pmf_ledger.specs.LedgerValue.{LedgerValue}
+use Rattle.pmf_ledger.specs.Names.{ComesBefore, Rises}
+use Rattle.pmf_ledger.specs.Places.{IsPlaceOf, LacksName}
+use Rattle.pmf_ledger.proofs.lemmas.NameLemmas.{AllPairs-insert, before-total}
+
+pub Rises-insert : (sections : List Checked) (k : ℕ) (v : Checked) → Rises sections → IsPlaceOf sections v.section.name k → LacksName sections v.section.name → Rises (insert sections k v)
+Rises-insert sections k v rises place absent = AllPairs-insert ComesBefore sections k v place.within rises place.before
+    (λ i d far inside. elim (before-total v.section.name (get_or sections i d).section.name) [
+      | inl before ↦ before
+      | inr other ↦ elim other [
+        | inl same ↦ absurd (absent (get_or sections i d) (Contains-get_or sections i d inside) (sym same))
+        | inr after ↦ absurd (place.from i d far inside after)
+      ]
+    ])
+
+pub All-insert : {X : Type 0} (P : X → Type 0) (xs : List X) (k : ℕ) (y : X) → P y → All P xs → All P (insert xs k y)
+All-insert P xs k y here all = All-append P (take k xs) (y ∷ drop k xs) (All-take P k xs all) (All-cons P y (drop k xs) here (All-drop P k xs all))
+
+module _ {X : Type 0} (xs : List X) (k : ℕ) (y x : X) where
+  pub Contains-insert_cases : Contains (insert xs k y) x → Contains xs x ⊎ (x ≡ y)
+  Contains-insert_cases found =
+      let whole = take-append-drop k xs in
+      elim (Contains-append_cases (take k xs) (y ∷ drop k xs) x found) [
+        | inl front ↦ inl (subst (λ zs. Contains zs x) whole (Contains-append_left (take k xs) (drop k xs) x front))
+        | inr back ↦ elim (Contains-append_cases (y ∷ []) (drop k xs) x back) [
+          | inl here ↦ elim (Contains-push_cases [] y x here) [ inl none ↦ absurd (omega (arith, none.1)) | inr same ↦ inr (sym same) ]
+          | inr behind ↦ inl (subst (λ zs. Contains zs x) whole (Contains-append_right (take k xs) (drop k xs) x behind))
+        ]
+      ]
+
+  pub Contains-insert : Contains xs x ⊎ (x ≡ y) → Contains (insert xs k y) x
+  Contains-insert held = elim held [
+    | inl before ↦ elim (Contains-append_cases (take k xs) (drop k xs) x (subst (λ zs. Contains zs x) (sym (take-append-drop k xs)) before)) [
+      | inl front ↦ Contains-append_left (take k xs) (y ∷ drop k xs) x front
+      | inr behind ↦ Contains-append_right (take k xs) (y ∷ drop k xs) x (Contains-append_right (y ∷ []) (drop k xs) x behind)
+    ]
+    | inr same ↦ Contains-append_right (take k xs) (y ∷ drop k xs) x (Contains-append_left (y ∷ []) (drop k xs) x (subst (Contains (y ∷ [])) (sym same) (Contains-push [] y)))
+  ]
+
+pub Gains-insert : (old new : LedgerValue) (k : ℕ) (v : Checked) → v.profile ≡ old.profile → new.profile ≡ old.profile → new.sections ≡ insert old.sections k v → Gains old v.section new
+Gains-insert old new k v by same is = record {
+  profile_stays = same;
+  holds = λ s.
+      let of_old = checked_by old.profile s in
+      let is_v : checked_by old.profile v.section ≡ v = ap (λ p. checked_by p v.section) (sym by) in (
+        λ found.
+            let inside = subst (λ zs. Contains zs of_old) is (subst (λ p. Contains new.sections (checked_by p s)) same found) in
+            elim (Contains-insert_cases old.sections k v of_old inside) [ inl before ↦ inl before | inr here ↦ inr (ap (λ (c : Checked). c.section) here) ],
+        λ held.
+            let inside = Contains-insert old.sections k v of_old (elim held [ inl before ↦ inl before | inr here ↦ inr (ap (checked_by old.profile) here ∙ is_v) ]) in
+            subst (λ p. Contains new.sections (checked_by p s)) (sym same) (subst (λ zs. Contains zs of_old) (sym is) inside),
+      );
+}
+
+-- a ledger that holds the section gains it as it is
+pub Gains-held : (ledger : LedgerValue) (section : Trace) → Holds ledger section → Gains ledger section ledger
+Gains-held ledger section held = record {
+  profile_stays = refl;
+  holds = λ s. (λ found. inl found, λ either. elim either [ inl found ↦ found | inr same ↦ subst (Holds ledger) (sym same) held ]);
+}
+
+-- of a longer set
+module _ {X : Type 0} (x y : X) (ys : List X) where
+  Contains-cons_cases : Contains (y ∷ ys) x → (x ≡ y) ⊎ Contains ys x
+  Contains-cons_cases found = elim (Contains-append_cases (y ∷ []) ys x found) [
+    | inl here ↦ elim (Contains-push_cases [] y x here) [ inl none ↦ absurd (omega (arith, none.1)) | inr same ↦ inl (sym same) ]
+    | inr behind ↦ inr behind
+  ]
+
+  Contains-cons : (x ≡ y) ⊎ Contains ys x → Contains (y ∷ ys) x
+  Contains-cons held = elim held [
+    | inl same ↦ Contains-append_left (y ∷ []) ys x (subst (Contains (y ∷ [])) (sym same) (Contains-push [] y))
+    | inr behind ↦ Contains-append_right (y ∷ []) ys x behind
+  ]
+
+pub Gathers-gains : (old new : LedgerValue) (section : Trace) → Gains old section new → Rises new.sections → All (λ (c : Checked). c.profile ≡ new.profile) new.sections → Gathers old section new
+Gathers-gains old new section gains rises checked = λ set is. record {
+  profile_is = gains.profile_stays;
+  checked = subst (λ p. All (λ (c : Checked). c.profile ≡ p) new.sections) gains.profile_stays checked;
+  rises = rises;
+  same = λ s. (
+    λ held. Contains-cons s section set (elim ((gains.holds s).0 held) [ inl before ↦ inr ((is.same s).0 before) | inr here ↦ inl here ]),
+    λ found. (gains.holds s).1 (elim (Contains-cons_cases s section set found) [ inl here ↦ inr here | inr before ↦ inl ((is.same s).1 before) ]),
+  );
+}

@@ -1,0 +1,96 @@
+-- What is known of a name from the place where it belongs.
+use Rattle.std.proofs.Common.{◌≡◌, ℕ, ◌+◌, ◌<◌, ◌≤◌, List, [], length, sym, ◌∙◌, ap, subst, arith, inl, inr, get_or}
+use Rattle.std.specs.Prelude.{◌≢◌}
+use Rattle.std.proofs.lemmas.Bool.{cases_order}
+use Rattle.std.proofs.lemmas.List.{get_or_default}
+use Rattle.std.proofs.lemmas.List.Elements.{Contains-get_or}
+use Rattle.pmf_event.specs.declared.name.Name.{Name}
+use Rattle.pmf_verdict.specs.Checked.{Checked}
+use Rattle.pmf_ledger.specs.Names.{IsBefore, Rises}
+use Rattle.pmf_event.specs.declared.profile.Profile.TheVariants.{One}
+use Rattle.pmf_ledger.specs.Places.{HasName, IsPlaceOf, LacksName, StandsAt}
+use Rattle.pmf_ledger.proofs.lemmas.NameLemmas.{before-trans, before-itself}
+
+-- a name that is not that of the section at its place is that of none
+pub LacksName-from_place : (sections : List Checked) (name : Name) (k : ℕ) → Rises sections → IsPlaceOf sections name k →
+    ((d : Checked) → k < length sections → (get_or sections k d).section.name ≢ name) → LacksName sections name
+LacksName-from_place sections name k rises place apart = λ c found same.
+    let i = found.0 in
+    let inside = found.1 in
+    let is : (get_or sections i c).section.name ≡ name = ap (λ (x : Checked). x.section.name) found.2 ∙ same in
+    elim (cases_order i k) [
+      | inl there ↦ apart c (omega (arith, inside, there)) (subst (λ n. (get_or sections n c).section.name ≡ name) there is)
+      | inr aside ↦ elim aside [
+        | inl low ↦ before-itself name (subst (λ n. IsBefore n name) is (place.before i c low))
+        | inr high ↦ place.from k c (omega arith) (omega (arith, high, inside)) (subst (λ n. IsBefore (get_or sections k c).section.name n) is (rises k i c high inside))
+      ]
+    ]
+
+-- the place lies between low and high
+pub record Window (sections : List Checked) (name : Name) (low high : ℕ) : Type 0 where
+  pub ordered : low ≤ high
+  pub within : high ≤ length sections
+  pub before : (i : ℕ) (d : Checked) → i < low → IsBefore (get_or sections i d).section.name name
+  pub from : (i : ℕ) (d : Checked) → high ≤ i → i < length sections → IsBefore (get_or sections i d).section.name name → ⊥
+
+pub Window-whole : (sections : List Checked) (name : Name) → Window sections name 0 (length sections)
+Window-whole sections name = record {
+  ordered = omega arith;
+  within = omega arith;
+  before = λ i d low. absurd (omega (arith, low));
+  from = λ i d high inside. absurd (omega (arith, high, inside));
+}
+
+-- all up to a section whose name comes before are before
+pub Window-up : (sections : List Checked) (name : Name) (low high m : ℕ) (x : Checked) → Rises sections → Window sections name low high → m < high →
+    x ≡ get_or sections m x → IsBefore x.section.name name → Window sections name (m + 1) high
+Window-up sections name low high m x rises window inside is here = record {
+  ordered = omega (arith, inside);
+  within = window.within;
+  before = λ i d small.
+      let all = window.within in
+      let there : get_or sections m d ≡ x = get_or_default sections m d x (omega (arith, inside, all)) ∙ sym is in
+      let before_name : IsBefore (get_or sections m d).section.name name = subst (λ (c : Checked). IsBefore c.section.name name) (sym there) here in
+      elim (cases_order i m) [
+        | inl same ↦ subst (λ n. IsBefore (get_or sections n d).section.name name) (sym same) before_name
+        | inr aside ↦ elim aside [
+          | inl less ↦ before-trans _ _ _ (rises i m d less (omega (arith, inside, all))) before_name
+          | inr more ↦ absurd (omega (arith, small, more))
+        ]
+      ];
+  from = window.from;
+}
+
+-- none from a section on whose name does not come before
+pub Window-down : (sections : List Checked) (name : Name) (low high m : ℕ) (x : Checked) → Rises sections → Window sections name low high → low ≤ m → m < high →
+    x ≡ get_or sections m x → (IsBefore x.section.name name → ⊥) → Window sections name low m
+Window-down sections name low high m x rises window reach inside is here = record {
+  ordered = reach;
+  within = let all = window.within in omega (arith, inside, all);
+  before = window.before;
+  from = λ i d far within before.
+      let all = window.within in
+      let there : get_or sections m d ≡ x = get_or_default sections m d x (omega (arith, inside, all)) ∙ sym is in
+      elim (cases_order m i) [
+        | inl same ↦ here (subst (λ (c : Checked). IsBefore c.section.name name) there (subst (λ n. IsBefore (get_or sections n d).section.name name) (sym same) before))
+        | inr aside ↦ elim aside [
+          | inl less ↦ here (subst (λ (c : Checked). IsBefore c.section.name name) there (before-trans _ _ _ (rises m i d less within) before))
+          | inr more ↦ absurd (omega (arith, far, more))
+        ]
+      ];
+}
+
+pub IsPlaceOf-window : (sections : List Checked) (name : Name) (k high : ℕ) → high ≤ k → Window sections name k high → IsPlaceOf sections name k
+IsPlaceOf-window sections name k high met window =
+    let e : high ≡ k = let o = window.ordered in omega (arith, met, o) in
+    record {
+      within = let w = window.within in let o = window.ordered in omega (arith, w, o);
+      before = window.before;
+      from = λ i d far inside. window.from i d (omega (arith, far, e)) inside;
+    }
+
+-- a section that stands at a place is one of them
+pub HasName-from_place : (sections : List Checked) (name : Name) (k : ℕ) → StandsAt sections name k → HasName sections name
+HasName-from_place sections name k stands =
+    let some : Checked = record { section = record { name = name; events = [] }; profile = One } in
+    (get_or sections k some, Contains-get_or sections k some stands.inside, stands.named some)

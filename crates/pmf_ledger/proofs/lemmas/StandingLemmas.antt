@@ -1,0 +1,58 @@
+-- A section stands to a ledger in one way alone.
+use Rattle.std.proofs.Common.{◌≡◌, ℕ, ◌<◌, List, length, refl, sym, ◌∙◌, ap, subst, inl, inr, get_or}
+use Rattle.std.specs.Prelude.{Contains, Result, Ok, Err, IfErr, IfOk, OnOk}
+use Rattle.std.proofs.lemmas.Bool.{cases_order}
+use Rattle.std.proofs.lemmas.List.{get_or_default}
+use Rattle.pmf_event.specs.Section.{Trace}
+use Rattle.pmf_verdict.specs.Checked.{Checked, checked_by}
+use Rattle.pmf_ledger.specs.Gathered.{Holds, HoldsOther}
+use Rattle.pmf_ledger.specs.LedgerValue.{LedgerValue}
+use Rattle.pmf_ledger.specs.Names.{IsBefore, Rises}
+use Rattle.pmf_ledger.specs.Places.{LacksName}
+use Rattle.pmf_ledger.specs.Taking.{IsRefusedAs}
+use Rattle.pmf_ledger.specs.declared.taking.TakeFault.{TakeFault}
+use Rattle.pmf_ledger.specs.declared.taking.TakeFault.TheVariants.{Conflict, OutOfMemory}
+use Rattle.pmf_ledger.specs.declared.taking.Taken.{Taken}
+use Rattle.pmf_ledger.specs.declared.taking.Taken.TheVariants.{Added}
+use Rattle.pmf_ledger.proofs.lemmas.NameLemmas.{before-itself}
+
+-- where names rise, an earlier section and a later one have different names
+apart-by_place : (sections : List Checked) → Rises sections → (a b : Checked) (i j : ℕ) → i < j → j < length sections →
+    get_or sections i a ≡ a → get_or sections j b ≡ b → a.section.name ≡ b.section.name → ⊥
+apart-by_place sections rises a b i j less inside is_a is_b same =
+    let later : get_or sections j a ≡ b = get_or_default sections j a b inside ∙ is_b in
+    let before = rises i j a less inside in
+    let first = subst (λ (c : Checked). IsBefore c.section.name (get_or sections j a).section.name) is_a before in
+    let both = subst (λ (c : Checked). IsBefore a.section.name c.section.name) later first in
+    before-itself b.section.name (subst (λ n. IsBefore n b.section.name) same both)
+
+pub held-once : (sections : List Checked) → Rises sections → (a b : Checked) → Contains sections a → Contains sections b → a.section.name ≡ b.section.name → a ≡ b
+held-once sections rises a b here there same = elim (cases_order here.0 there.0) [
+  | inl even ↦ sym here.2 ∙ get_or_default sections here.0 a b here.1 ∙ ap (λ n. get_or sections n b) even ∙ there.2
+  | inr aside ↦ elim aside [
+    | inl less ↦ absurd (apart-by_place sections rises a b here.0 there.0 less there.1 here.2 there.2 same)
+    | inr more ↦ absurd (apart-by_place sections rises b a there.0 here.0 more here.1 there.2 here.2 (sym same))
+  ]
+]
+
+pub held-not_other : (ledger : LedgerValue) (s : Trace) → Rises ledger.sections → Holds ledger s → HoldsOther ledger s → ⊥
+held-not_other ledger s rises held other =
+    let t = other.0 in
+    other.3 (ap (λ (c : Checked). c.section) (held-once ledger.sections rises (checked_by ledger.profile t) (checked_by ledger.profile s) other.1 held other.2))
+
+pub absent-not_held : (ledger : LedgerValue) (s : Trace) → LacksName ledger.sections s.name → Holds ledger s → ⊥
+absent-not_held ledger s absent held = absent (checked_by ledger.profile s) held refl
+
+pub absent-not_other : (ledger : LedgerValue) (s : Trace) → LacksName ledger.sections s.name → HoldsOther ledger s → ⊥
+absent-not_other ledger s absent other = absent (checked_by ledger.profile other.0) other.1 other.2
+
+-- what want of memory refused is not refused as a conflict
+pub memory-no_conflict : (result : Result Taken (TakeFault × Checked)) (v : Checked) (Q : Type 0) → IfErr result (λ refused. (refused ≡ (OutOfMemory, v)) × Q) →
+    IsRefusedAs result Conflict → ⊥
+memory-no_conflict (Ok taken) v Q refused bad = bad
+memory-no_conflict (Err found) v Q refused bad = let is : found ≡ (OutOfMemory, v) = refused.0 in let e : OutOfMemory ≡ Conflict = sym (ap (λ (f : TakeFault × Checked). f.0) is) ∙ bad in cc
+
+-- what follows of a section that was added
+pub OnOk-added : (result : Result Taken (TakeFault × Checked)) (P Q : Type 0) → IfOk result (λ taken. (taken ≡ Added) × P) → (P → Q) → OnOk result Q
+OnOk-added (Ok taken) P Q added follows = follows added.1
+OnOk-added (Err refused) P Q added follows = tt

@@ -1,0 +1,32 @@
+-- What a ledger holds, and the ledger of a set of sections. A set is a list in which only membership counts. Defined here.
+use Rattle.std.specs.Prelude.{◌≡◌, ◌≢◌, ◌⊎◌, ◌↔◌, List, ◌∷◌, Contains}
+use Rattle.std.specs.List.{All}
+use Rattle.pmf_event.specs.declared.profile.Profile.{Profile}
+use Rattle.pmf_event.specs.Section.{Trace}
+use Rattle.pmf_verdict.specs.Checked.{Checked, checked_by}
+use Rattle.pmf_ledger.specs.LedgerValue.{LedgerValue}
+use Rattle.pmf_ledger.specs.Names.{Rises}
+
+-- the section is among those of the ledger
+abbrev pub Holds : LedgerValue → Trace → Type 0
+Holds ledger s = Contains ledger.sections (checked_by ledger.profile s)
+
+-- the section's name is held with other events
+abbrev pub HoldsOther : LedgerValue → Trace → Type 0
+HoldsOther ledger s = (t : Trace) × Holds ledger t × (t.name ≡ s.name) × (t ≢ s)
+
+-- the ledger of a set by a profile: each of its sections once, checked by the profile, in the order of their names
+pub record IsLedgerOf (profile : Profile) (set : List Trace) (ledger : LedgerValue) : Type 0 where
+  pub profile_is : ledger.profile ≡ profile
+  pub checked : All (λ (c : Checked). c.profile ≡ profile) ledger.sections
+  pub rises : Rises ledger.sections
+  pub same : (s : Trace) → Holds ledger s ↔ Contains set s
+
+-- the new ledger holds what the old one held and the section, and nothing else
+pub record Gains (old : LedgerValue) (section : Trace) (new : LedgerValue) : Type 0 where
+  pub profile_stays : new.profile ≡ old.profile
+  pub holds : (s : Trace) → Holds new s ↔ (Holds old s ⊎ (s ≡ section))
+
+-- of whatever set the old ledger is, the new one is the ledger of that set with the section
+abbrev pub Gathers : LedgerValue → Trace → LedgerValue → Type 0
+Gathers old section new = (set : List Trace) → IsLedgerOf old.profile set old → IsLedgerOf old.profile (section ∷ set) new

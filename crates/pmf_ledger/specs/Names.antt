@@ -1,0 +1,17 @@
+-- The order of sections' names: by run, then by number. Defined here.
+use Rattle.std.specs.Prelude.{◌≡◌, ◌⊎◌, ◌<◌, List}
+use Rattle.std.specs.List.{AllPairs}
+use Rattle.pmf_event.specs.declared.name.Name.{Name}
+use Rattle.pmf_verdict.specs.Checked.{Checked}
+
+-- the name comes before the other
+abbrev pub IsBefore : Name → Name → Type 0
+IsBefore a b = (a.run < b.run) ⊎ ((a.run ≡ b.run) × (a.number < b.number))
+
+-- the section's name comes before the other's
+abbrev pub ComesBefore : Checked → Checked → Type 0
+ComesBefore a b = IsBefore a.section.name b.section.name
+
+-- each name comes before all that follow
+abbrev pub Rises : List Checked → Type 0
+Rises sections = AllPairs ComesBefore sections

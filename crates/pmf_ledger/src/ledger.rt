@@ -1,0 +1,95 @@
+//! A ledger, and what it tells.
+
+ghost use Rattle.std.specs.Prelude.{◌≡◌, ◌↔◌, [], length, Contains, IsTrue, MatchOption};
+ghost use Rattle.std.specs.List.{All};
+ghost use Rattle.pmf_verdict.specs.Checked.{Checked};
+ghost use Rattle.pmf_ledger.specs.Gathered.{IsLedgerOf};
+ghost use Rattle.pmf_ledger.specs.LedgerValue.{LedgerValue};
+ghost use Rattle.pmf_ledger.specs.Names.{Rises};
+ghost use Rattle.pmf_ledger.specs.Places.{HasName, LacksName};
+
+use pmf_event::{Name, Profile};
+use pmf_verdict::Verdict;
+use std::alloc::Global;
+use std::marker::Model;
+
+/// Verdicts by one profile, at most one of each name, in the order of their names. Contracts see it as the
+/// profile and the list of its checked sections.
+#[derive(Debug, Drop)]
+pub struct Ledger {
+    pub(crate) profile: Profile,
+    pub(crate) verdicts: Vec<Verdict>,
+}
+
+impl Model for Ledger {
+    ghost Value = { LedgerValue };
+
+    ghost view = { λ l. record { profile = l.profile; sections = l.verdicts.items } };
+
+    ghost invariant = { λ l. Rises l.verdicts.items
+        × All (λ (c : Checked). c.profile ≡ l.profile) l.verdicts.items };
+}
+
+impl Ledger {
+    /// The ledger of no section. Takes no memory.
+    pub fn new(alloc: Global, profile: Profile) -> Ledger
+        ensures value { result ≡ record { profile = profile; sections = [] } }
+        ensures gathers { IsLedgerOf profile [] result }
+    {
+        Ledger {
+            profile,
+            verdicts: Vec::new(alloc),
+        }
+    }
+
+    /// The profile by which its sections were checked.
+    pub fn profile(&self) -> Profile
+        ensures { result ≡ self.now.profile }
+    {
+        self.profile
+    }
+
+    /// How many sections it holds.
+    pub fn len(&self) -> usize
+        ensures { result ≡ length self.now.sections }
+    {
+        self.verdicts.len()
+    }
+
+    /// Whether it holds none.
+    pub fn is_empty(&self) -> bool
+        ensures { IsTrue result ↔ (self.now.sections ≡ []) }
+    {
+        self.verdicts.is_empty()
+    }
+
+    /// The verdict of the section of this name, if it is held.
+    pub fn get(&self, name: Name) -> Option<&Verdict>
+        ensures { MatchOption result (LacksName self.now.sections name) (λ verdict.
+            Contains self.now.sections verdict.now × (verdict.now.section.name ≡ name)) }
+    {
+        match self.find(name) {
+            Ok(place) => Some(&self.verdicts[place]),
+            Err(_) => None,
+        }
+    }
+
+    /// Whether a section of this name is held.
+    pub fn has(&self, name: Name) -> bool
+        ensures { IsTrue result ↔ HasName self.now.sections name }
+    {
+        match self.find(name) {
+            Ok(_) => true,
+            Err(_) => false,
+        }
+    }
+
+    /// The verdicts, in the order of their names.
+    pub fn verdicts(&self) -> &[Verdict]
+        ensures value { result.now ≡ self.now.sections }
+        ensures rises { Rises result.now }
+        ensures checked { All (λ (c : Checked). c.profile ≡ self.now.profile) result.now }
+    {
+        self.verdicts.as_slice()
+    }
+}

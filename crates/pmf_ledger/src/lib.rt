@@ -1,0 +1,16 @@
+//! Verdicts gathered: a ledger holds each section that it took once, in the order of their names.
+//!
+//! A [`Ledger`] has a profile, and its type keeps that its verdicts are by that profile and that their names
+//! rise. What it holds is said as a set (`specs/Gathered`): [`Ledger::take`] adds the verdict's section and
+//! nothing else, or refuses it, exactly where the profile is another or the name is held with other events.
+//!
+//! Not promised here: that memory suffices.
+#![tactic(auto)]
+
+mod ledger;
+mod taking;
+#[cfg(test)]
+mod tests;
+
+pub use ledger::Ledger;
+pub use taking::{TakeFault, Taken};
