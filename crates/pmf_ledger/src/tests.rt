@@ -24,12 +24,22 @@ fn verdict(alloc: Global, name: Name, fences: usize, profile: Profile) -> Result
     }
 }
 
+// What became of the verdict.
+fn taken(ledger: &mut Ledger, verdict: Verdict) -> Result<Taken, Fail> {
+    match ledger.take(verdict) {
+        Ok(taken) => Ok(taken),
+        Err((fault, _)) => Err(fault.into()),
+    }
+}
+
 // The ledger of profile One after it took a section of one fence of each name.
 fn ledger_of(rt: &impl Abort, alloc: Global, names: &[Name]) -> Result<Ledger, Fail> {
     let mut ledger = Ledger::new(alloc, Profile::One);
     for name in names {
-        let took = ledger.take(verdict(alloc, *name, 1, Profile::One)?);
-        assert!(rt; matches!(took, Ok(Taken::Added)), "{name:?}");
+        assert_eq!(rt;
+            taken(&mut ledger, verdict(alloc, *name, 1, Profile::One)?)?,
+            Taken::Added
+        );
     }
     Ok(ledger)
 }
@@ -94,8 +104,8 @@ fn a_repeat_and_a_refusal_leave_the_ledger(rt: HostRuntime) -> Result<(), Fail> 
     let alloc = rt.alloc();
     let names = [name(0, 1), name(0, 2)];
     let mut ledger = ledger_of(&rt, alloc, &names)?;
-    let again = ledger.take(verdict(alloc, name(0, 2), 1, Profile::One)?);
-    assert!(rt; matches!(again, Ok(Taken::Repeat)));
+    let again = taken(&mut ledger, verdict(alloc, name(0, 2), 1, Profile::One)?)?;
+    assert_eq!(rt; again, Taken::Repeat);
     for (fences, profile, want) in [
         (2, Profile::One, TakeFault::Conflict),
         (1, Profile::Two, TakeFault::ProfileMismatch),
