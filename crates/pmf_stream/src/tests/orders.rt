@@ -22,7 +22,7 @@ pub(super) fn reports(
         want,
         "section 0.0 {header} {counts}\n{rows}total sections=1 {counts}\n"
     );
-    assert!(rt; written.is_ok(), "no memory for the report of {log}");
+    assert_eq!(rt; written, Ok(()), "the report of {log}");
     let settings = Settings { run: 0, profile };
     checks_log(rt, alloc, log, settings, done(0, fails), want.as_bytes());
 }
@@ -216,7 +216,7 @@ fn stores_by_segments(rt: HostRuntime) {
         }
     }
     written = written.and(write!(log, "FENCE\nPMT.PERSIST;0x0;65536\n"));
-    assert!(rt; written.is_ok(), "no memory for the log");
+    assert_eq!(rt; written, Ok(()), "the log");
     let rows = "8194 PERSIST PASS\n";
     reports(
         &rt,
