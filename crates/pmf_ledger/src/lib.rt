@@ -2,7 +2,8 @@
 //!
 //! A [`Ledger`] has a profile, and its type keeps that its verdicts are by that profile and that their names
 //! rise. What it holds is said as a set (`specs/Gathered`): [`Ledger::take`] adds the verdict's section and
-//! nothing else, or refuses it, exactly where the profile is another or the name is held with other events.
+//! nothing else, or refuses it, want of memory aside exactly where the profile is another or the name is held with
+//! other events.
 //!
 //! Not promised here: that memory suffices.
 #![tactic(auto)]
