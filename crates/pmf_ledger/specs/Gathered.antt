@@ -1,11 +1,12 @@
 -- What a ledger holds, and the ledger of a set of sections. A set is a list in which only membership counts. Defined here.
-use Rattle.std.specs.Prelude.{◌≡◌, ◌≢◌, ◌⊎◌, ◌↔◌, List, ◌∷◌, Contains}
+use Rattle.std.specs.Prelude.{◌≡◌, ◌≢◌, ◌⊎◌, ◌↔◌, List, ◌∷◌, ◌++◌, Contains}
 use Rattle.std.specs.List.{All}
+use Rattle.pmf_event.specs.declared.name.Name.{Name}
 use Rattle.pmf_event.specs.declared.profile.Profile.{Profile}
 use Rattle.pmf_event.specs.Section.{Trace}
 use Rattle.pmf_verdict.specs.Checked.{Checked, checked_by}
 use Rattle.pmf_ledger.specs.LedgerValue.{LedgerValue}
-use Rattle.pmf_ledger.specs.Names.{Rises}
+use Rattle.pmf_ledger.specs.Names.{IsBefore, Rises}
 
 -- the section is among those of the ledger
 abbrev pub Holds : LedgerValue → Trace → Type 0
@@ -27,6 +28,23 @@ pub record Gains (old : LedgerValue) (section : Trace) (new : LedgerValue) : Typ
   pub profile_stays : new.profile ≡ old.profile
   pub holds : (s : Trace) → Holds new s ↔ (Holds old s ⊎ (s ≡ section))
 
+-- the new ledger holds what either of the two held, and nothing else
+pub record Unites (a b new : LedgerValue) : Type 0 where
+  pub profile_stays : new.profile ≡ a.profile
+  pub holds : (s : Trace) → Holds new s ↔ (Holds a s ⊎ Holds b s)
+
 -- of whatever set the old ledger is, the new one is the ledger of that set with the section
 abbrev pub Gathers : LedgerValue → Trace → LedgerValue → Type 0
 Gathers old section new = (set : List Trace) → IsLedgerOf old.profile set old → IsLedgerOf old.profile (section ∷ set) new
+
+-- of whatever sets the two are, by one profile, the new one is the ledger of their union
+abbrev pub GathersBoth : LedgerValue → LedgerValue → LedgerValue → Type 0
+GathersBoth a b new = (xs ys : List Trace) → IsLedgerOf a.profile xs a → IsLedgerOf a.profile ys b → IsLedgerOf a.profile (xs ++ ys) new
+
+-- the name is held by both, with other events
+abbrev pub ClashesAt : LedgerValue → LedgerValue → Name → Type 0
+ClashesAt a b name = (s : Trace) × (t : Trace) × Holds a s × Holds b t × (s.name ≡ name) × (t.name ≡ name) × (s ≢ t)
+
+-- it is the least such name
+abbrev pub IsLeastClash : LedgerValue → LedgerValue → Name → Type 0
+IsLeastClash a b name = ClashesAt a b name × ((other : Name) → ClashesAt a b other → IsBefore other name → ⊥)
