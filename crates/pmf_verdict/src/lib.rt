@@ -21,7 +21,7 @@ mod verdict;
 pub use checking::{CheckFault, check};
 pub use explaining::explain;
 pub use outcome::{Outcome, outcome_of};
-pub use text::{write_rows, write_rows_at};
+pub use text::{push_row, write_rows, write_rows_at};
 pub use verdict::Verdict;
 
 #[cfg(test)]

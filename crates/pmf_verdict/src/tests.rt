@@ -133,6 +133,27 @@ fn a_verdict_tells_its_profile(rt: HostRuntime) -> Result<(), Fail> {
     Ok(())
 }
 
+#[test]
+fn a_copy_is_of_the_same_section_with_the_same_rows(rt: HostRuntime) -> Result<(), Fail> {
+    let verdict = verdict_of(rt.alloc(), events()?.as_slice(), Profile::Two)?;
+    let copy = verdict.copy(rt.alloc())?;
+    assert!(rt; copy.same_section(&verdict));
+    assert_eq!(rt; copy.profile(), Profile::Two);
+    assert!(rt; copy.rows() == verdict.rows());
+    assert_eq!(rt; copy.rows().len(), 3);
+    Ok(())
+}
+
+#[test]
+fn another_event_is_another_section(rt: HostRuntime) -> Result<(), Fail> {
+    let fence = verdict_of(rt.alloc(), &[Event::Fence], Profile::One)?;
+    let again = verdict_of(rt.alloc(), &[Event::Fence], Profile::Two)?;
+    let other = verdict_of(rt.alloc(), &[Event::TxBegin], Profile::One)?;
+    assert!(rt; fence.same_section(&again));
+    assert!(rt; !fence.same_section(&other));
+    Ok(())
+}
+
 // Two lines, of which the second write-back meets one that is pending and two with nothing to write
 // back.
 #[test]

@@ -60,7 +60,8 @@ fn push_finding(text: &mut String, place: u32, finding: Finding) -> Result<(), A
     }
 }
 
-fn push_row(text: &mut String, row: &Row) -> Result<(), AllocError>
+/// Writes the text line of the row behind the text. After an `Err` some of it may stand there.
+pub fn push_row(text: &mut String, row: &Row) -> Result<(), AllocError>
     ensures { OnOk result (string_bytes text.new ≡ string_bytes text.old ++ text_of_row row.now) }
 {
     let place = row.place;

@@ -1,4 +1,6 @@
-ghost use Rattle.std.specs.Prelude.{◌≡◌};
+//! A section with the rows that the checker gives it.
+
+ghost use Rattle.std.specs.Prelude.{◌≡◌, ◌↔◌, IsTrue, IfOk};
 ghost use Rattle.pmf_verdict.specs.Checked.{Checked, rows_in};
 ghost use Rattle.pmf_verdict.specs.Rows.{rows_of};
 ghost use Rattle.pmf_verdict.specs.Explained.{FailuresAreReal};
@@ -6,6 +8,7 @@ ghost use Rattle.pmf_verdict.specs.Sound.{PassesHold, OrdersHold, ScopesHold};
 ghost use Rattle.pmf_verdict.specs.Exact.{IsExact};
 
 use pmf_event::{Name, Profile, Row, Rows, Section};
+use std::alloc::{AllocError, Global};
 use std::marker::Model;
 use std::sync::Arc;
 
@@ -59,6 +62,22 @@ impl Verdict {
         self.profile
     }
 
+    /// Whether both are of one section: the same name and the same events.
+    pub fn same_section(&self, other: &Verdict) -> bool
+        ensures { IsTrue result ↔ (self.now.section ≡ other.now.section) }
+    {
+        self.section.same_as(&other.section)
+    }
+
+    /// The same verdict once more. The section is shared and the rows are copied: takes memory for the rows.
+    pub fn copy(&self, alloc: Global) -> Result<Verdict, AllocError>
+        ensures { IfOk result (λ copy. copy ≡ self.now) }
+    {
+        let rows = copy_rows(alloc, self.rows.as_slice())?;
+        let section = Arc::try_clone(&self.section)?;
+        Ok(Verdict::of_rows(section, self.profile, rows))
+    }
+
     /// The rows of the section, in the order of its events, and then that of its end.
     pub fn rows(&self) -> &[Row]
         ensures value { result.now ≡ rows_in self.now }
@@ -73,4 +92,14 @@ impl Verdict {
     {
         self.rows.as_slice()
     }
+}
+
+fn copy_rows(alloc: Global, rows: &[Row]) -> Result<Rows, AllocError>
+    ensures { IfOk result (λ copy. copy ≡ rows.now) }
+{
+    let mut copy = Rows::new(alloc);
+    for row in rows {
+        copy.push(*row)?;
+    }
+    Ok(copy)
 }
