@@ -2,3 +2,5 @@ pub mod NameLemmas
 pub mod PlaceLemmas
 pub mod AddingLemmas
 pub mod StandingLemmas
+pub mod CountLemmas
+pub mod UpgradeLemmas

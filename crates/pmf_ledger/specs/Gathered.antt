@@ -1,8 +1,9 @@
 -- What a ledger holds, and the ledger of a set of sections. A set is a list in which only membership counts. Defined here.
-use Rattle.std.specs.Prelude.{◌≡◌, ◌≢◌, ◌⊎◌, ◌↔◌, List, ◌∷◌, ◌++◌, Contains}
+use Rattle.std.specs.Prelude.{◌≡◌, ◌≢◌, ◌⊎◌, ◌↔◌, List, ◌∷◌, ◌++◌, map, Contains}
 use Rattle.std.specs.List.{All}
 use Rattle.pmf_event.specs.declared.name.Name.{Name}
 use Rattle.pmf_event.specs.declared.profile.Profile.{Profile}
+use Rattle.pmf_event.specs.declared.profile.Profile.TheVariants.{Two}
 use Rattle.pmf_event.specs.Section.{Trace}
 use Rattle.pmf_verdict.specs.Checked.{Checked, checked_by}
 use Rattle.pmf_ledger.specs.LedgerValue.{LedgerValue}
@@ -48,3 +49,14 @@ ClashesAt a b name = (s : Trace) × (t : Trace) × Holds a s × Holds b t × (s.
 -- it is the least such name
 abbrev pub IsLeastClash : LedgerValue → LedgerValue → Name → Type 0
 IsLeastClash a b name = ClashesAt a b name × ((other : Name) → ClashesAt a b other → IsBefore other name → ⊥)
+
+-- the section, checked by profile Two
+abbrev pub upgraded : Checked → Checked
+upgraded c = checked_by Two c.section
+
+-- the new ledger is that of the same sections by profile Two
+pub record IsUpgradeOf (old new : LedgerValue) : Type 0 where
+  pub profile_is : new.profile ≡ Two
+  pub sections_are : new.sections ≡ map upgraded old.sections
+  pub gathers : (set : List Trace) → IsLedgerOf old.profile set old → IsLedgerOf Two set new
+  pub unchanged : old.profile ≡ Two → new ≡ old

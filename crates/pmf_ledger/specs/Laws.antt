@@ -2,11 +2,11 @@
 use Rattle.std.specs.Prelude.{◌≡◌, List}
 use Rattle.pmf_event.specs.declared.profile.Profile.{Profile}
 use Rattle.pmf_event.specs.Section.{Trace}
-use Rattle.pmf_verdict.specs.Report.{report_of}
 use Rattle.pmf_ledger.specs.Gathered.{IsLedgerOf}
 use Rattle.pmf_ledger.specs.Gathering.{HaveSameMembers}
 use Rattle.pmf_ledger.specs.LedgerText.{text_of_ledger}
 use Rattle.pmf_ledger.specs.LedgerValue.{LedgerValue}
+use Rattle.pmf_ledger.specs.Report.{report_of}
 
 -- sets with the same members have one ledger by a profile, one report and one ledger text
 abbrev pub EqualSetsHaveOneLedger : Type 0

@@ -1,7 +1,7 @@
 pub use Rattle.pmf_event.specs.Section
 pub use Rattle.pmf_verdict.specs.Checked
 pub use Rattle.pmf_verdict.specs.Text
-pub use Rattle.pmf_verdict.specs.Report
+pub use Rattle.pmf_verdict.specs.Outcome
 pub use Rattle.pmf_storelog.specs.Canonical
 pub mod Names
 pub mod LedgerValue
@@ -9,5 +9,6 @@ pub mod Places
 pub mod Gathered
 pub mod Taking
 pub mod Gathering
+pub mod Report
 pub mod LedgerText
 pub mod Laws

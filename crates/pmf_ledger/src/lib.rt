@@ -8,10 +8,15 @@
 //! Not promised here: that memory suffices.
 #![tactic(auto)]
 
+mod copying;
 mod ledger;
+mod reporting;
 mod taking;
 #[cfg(test)]
 mod tests;
+mod totals;
+mod writing;
 
 pub use ledger::Ledger;
 pub use taking::{TakeFault, Taken};
+pub use totals::Totals;

@@ -44,4 +44,4 @@ pub use fault::{Cause, LOG_LIMIT, LogFault, SECTION_LIMIT};
 pub use log::Log;
 pub use reader::LogReader;
 pub use reading::read_log;
-pub use writing::write_section;
+pub use writing::{push_event, write_section};

@@ -18,4 +18,3 @@ pub mod Listing
 pub mod Explained
 pub mod Text
 pub mod Outcome
-pub mod Report

@@ -4,8 +4,8 @@
 //! events, by `specs/Rows`. What a row shows as `PERSIST PASS`, `ORDERED PASS` or
 //! `CHECKEND PASS` holds in every crash image that the rules allow, torn stores included, by
 //! `specs/Sound`, and of what it shows as a FAIL of these [`explain`] gives an image that contradicts the
-//! assertion, by `specs/Explained`: so its rows say exactly which assertions hold, by `specs/Exact`. The text of a row is `specs/Text`, and the
-//! text of a report, which upper crates write, `specs/Report`.
+//! assertion, by `specs/Explained`: so its rows say exactly which assertions hold, by `specs/Exact`. The text of a row is
+//! `specs/Text`.
 //!
 //! Not promised here: that the section holds all of its thread's stores, write-backs and fences on
 //! its lines, that no other thread writes those lines meanwhile, that the hardware keeps the rules

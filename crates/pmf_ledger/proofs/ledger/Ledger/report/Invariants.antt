@@ -1,0 +1,12 @@
+use Rattle.std.proofs.Common.{◌≡◌, take}
+use Rattle.std.specs.List.{flat_map}
+use Rattle.std.specs.String.{string_bytes}
+use Rattle.pmf_ledger.specs.Report.{text_of_section}
+use Rattle.pmf_ledger.proofs.lemmas.CountLemmas.{Sums}
+use Rattle.pmf_ledger.proofs.ledger.Ledger.report.Given as goal
+
+abbrev pub invariant-loop-verdict : goal.invariant-loop-verdict
+invariant-loop-verdict l = record {
+  text : string_bytes l.text ≡ flat_map text_of_section (take l.verdict-index l.verdict-items);
+  sums : Sums l.verdict-items l.verdict-index l.totals;
+}

@@ -1,0 +1,29 @@
+use Rattle.std.proofs.Common.{◌≡◌, List, length, take, refl, sym, ◌∙◌, ap, subst, arith}
+use Rattle.std.proofs.lemmas.List.{take_all}
+use Rattle.pmf_event.specs.declared.row.Row.{Row}
+use Rattle.pmf_ledger.specs.Report.{totals_of, rows_with_in}
+use Rattle.pmf_ledger.proofs.lemmas.CountLemmas.{Counted, Counted-none, Counted-pass, Counted-fail, Counted-warn, Counted-empty, totals_of-one}
+use Rattle.pmf_ledger.proofs.totals.Totals.of.Goals as goal
+use Rattle.pmf_ledger.proofs.totals.Totals.of.Goals.{in-Pass, in-Fail, in-Warn, in-Empty}
+
+pub loop-row-init : goal.loop-row-init
+loop-row-init c = Counted-none c.rows-row-items.result.now
+
+pub loop-row-preserved : goal.loop-row-preserved
+loop-row-preserved c =
+    let rows = c.rows-row-items.result.now in
+    let so_far = c.loop-row.invariant in
+    elim c.match-outcome_of_row.branch [
+      | in-Pass w ↦ rw (w.pass-is, w.fail-is, w.warn-is, w.empty-is) (Counted-pass rows c.loop-row.row-index _ c.loop-row-test.true _ _ _ _ so_far (sym c.outcome_of_row.ensures ∙ w.in-Pass.is))
+      | in-Fail w ↦ rw (w.pass-is, w.fail-is, w.warn-is, w.empty-is) (Counted-fail rows c.loop-row.row-index _ c.loop-row-test.true _ _ _ _ so_far (sym c.outcome_of_row.ensures ∙ w.in-Fail.is))
+      | in-Warn w ↦ rw (w.pass-is, w.fail-is, w.warn-is, w.empty-is) (Counted-warn rows c.loop-row.row-index _ c.loop-row-test.true _ _ _ _ so_far (sym c.outcome_of_row.ensures ∙ w.in-Warn.is))
+      | in-Empty w ↦ rw (w.pass-is, w.fail-is, w.warn-is, w.empty-is) (Counted-empty rows c.loop-row.row-index _ c.loop-row-test.true _ _ _ _ so_far (sym c.outcome_of_row.ensures ∙ w.in-Empty.is))
+    ]
+
+pub returns-clause-value : goal.returns-clause-value
+returns-clause-value c =
+    let rows = c.rows-row-items.result.now in
+    let so_far = c.loop-row.invariant in
+    let all : take c.loop-row.row-index rows ≡ rows = take_all c.loop-row.row-index rows (omega (arith, c.loop-row-test.false)) in
+    let whole = all ∙ c.rows-row-items.ensures.value in
+    rw (so_far.pass_is, so_far.fail_is, so_far.warn_is, so_far.empty_is, whole) (totals_of-one c.args.verdict.now)

@@ -1,0 +1,95 @@
+//! The text of a ledger, from which it can be loaded.
+
+ghost use Rattle.std.specs.Prelude.{◌≡◌, ◌++◌, OnOk, IfOk, length};
+ghost use Rattle.std.specs.List.{All, flat_map};
+ghost use Rattle.std.specs.String.{string_bytes};
+ghost use Rattle.pmf_storelog.specs.Canonical.{line_of_event};
+ghost use Rattle.pmf_storelog.specs.Spelling.{AllValid};
+ghost use Rattle.pmf_verdict.specs.Checked.{rows_in};
+ghost use Rattle.pmf_verdict.specs.Text.{text_of_rows};
+ghost use Rattle.pmf_ledger.specs.LedgerText.{text_of_block, text_of_end, text_of_head, text_of_ledger, version_of};
+
+use crate::ledger::Ledger;
+use pmf_event::{Event, Name, Profile};
+use pmf_storelog::push_event;
+use pmf_verdict::{Verdict, push_row};
+use std::alloc::{AllocError, Global};
+
+impl Ledger {
+    /// The ledger text: the version, for each section in the order of their names its events and rows, and the number
+    /// of sections. Takes memory for the text alone.
+    pub fn write_ledger(&self, alloc: Global) -> Result<Vec<u8>, AllocError>
+        ensures { IfOk result (λ text. text.items ≡ text_of_ledger self.now) }
+    {
+        let mut text = String::new(alloc);
+        text.push_str(version_of(self.profile))?;
+        text.push_str("\n")?;
+        for verdict in &self.verdicts {
+            push_block(&mut text, verdict)?;
+        }
+        push_end(&mut text, self.verdicts.len())?;
+        Ok(text.into_bytes())
+    }
+}
+
+// The first text line of a ledger by the profile.
+pub(crate) fn version_of(profile: Profile) -> &'static str
+    ensures { result.now ≡ version_of profile }
+{
+    match profile {
+        Profile::One => "PMFARM-LEDGER 1",
+        Profile::Two => "PMFARM-LEDGER 2",
+    }
+}
+
+#[tactic(auto, unfolding(crate::specs::LedgerText::text_of_head))]
+fn push_head(text: &mut String, name: Name, events: usize, rows: usize) -> Result<(), AllocError>
+    ensures { OnOk result
+        (string_bytes text.new ≡ string_bytes text.old ++ text_of_head name events rows) }
+{
+    let run = name.run;
+    let number = name.number;
+    write!(text, "section {run}.{number} events={events} rows={rows}\n")
+}
+
+#[tactic(auto, unfolding(crate::specs::LedgerText::text_of_block))]
+fn push_block(text: &mut String, verdict: &Verdict) -> Result<(), AllocError>
+    ensures { OnOk result
+        (string_bytes text.new ≡ string_bytes text.old ++ text_of_block verdict.now) }
+{
+    let events = verdict.section().events();
+    push_head(text, verdict.name(), events.len(), verdict.rows().len())?;
+    push_events(text, events)?;
+    push_rows(text, verdict)?;
+    Ok(())
+}
+
+fn push_events(text: &mut String, events: &[Event]) -> Result<(), AllocError>
+    ensures text { OnOk result (string_bytes text.new
+        ≡ string_bytes text.old ++ flat_map line_of_event events.now) }
+    ensures valid { OnOk result (All AllValid events.now) }
+{
+    for event in events {
+        push_event(text, event)?;
+    }
+    Ok(())
+}
+
+// The rows of the verdict, one text line each.
+pub(crate) fn push_rows(text: &mut String, verdict: &Verdict) -> Result<(), AllocError>
+    ensures { OnOk result
+        (string_bytes text.new ≡ string_bytes text.old ++ text_of_rows (rows_in verdict.now)) }
+{
+    for row in verdict.rows() {
+        push_row(text, row)?;
+    }
+    Ok(())
+}
+
+#[tactic(auto, unfolding(crate::specs::LedgerText::text_of_end))]
+fn push_end(text: &mut String, blocks: usize) -> Result<(), AllocError>
+    ensures { OnOk result
+        (string_bytes text.new ≡ string_bytes text.old ++ text_of_end blocks) }
+{
+    write!(text, "end verdicts={blocks}\n")
+}
