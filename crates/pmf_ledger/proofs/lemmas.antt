@@ -4,3 +4,4 @@ pub mod AddingLemmas
 pub mod StandingLemmas
 pub mod CountLemmas
 pub mod UpgradeLemmas
+pub mod TrueRowsLemmas

@@ -1,10 +1,14 @@
 pub use Rattle.pmf_event.specs.Section
 pub use Rattle.pmf_verdict.specs.Checked
 pub use Rattle.pmf_verdict.specs.Text
+pub use Rattle.pmf_verdict.specs.Sound
+pub use Rattle.pmf_verdict.specs.Exact
+pub use Rattle.pmf_verdict.specs.Explained
 pub use Rattle.pmf_verdict.specs.Outcome
 pub use Rattle.pmf_storelog.specs.Canonical
 pub mod Names
 pub mod LedgerValue
+pub mod TrueRows
 pub mod Places
 pub mod Gathered
 pub mod Taking

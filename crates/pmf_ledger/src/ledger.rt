@@ -1,12 +1,13 @@
 //! A ledger, and what it tells.
 
-ghost use Rattle.std.specs.Prelude.{◌≡◌, ◌↔◌, [], length, Contains, IsTrue, MatchOption};
+ghost use Rattle.std.specs.Prelude.{◌≡◌, ◌↔◌, [], length, Contains, IsTrue, IfSome, MatchOption};
 ghost use Rattle.std.specs.List.{All};
 ghost use Rattle.pmf_verdict.specs.Checked.{Checked};
 ghost use Rattle.pmf_ledger.specs.Gathered.{IsLedgerOf};
 ghost use Rattle.pmf_ledger.specs.LedgerValue.{LedgerValue};
 ghost use Rattle.pmf_ledger.specs.Names.{Rises};
 ghost use Rattle.pmf_ledger.specs.Places.{HasName, LacksName};
+ghost use Rattle.pmf_ledger.specs.TrueRows.{HasTrueRows};
 
 use pmf_event::{Name, Profile};
 use pmf_verdict::Verdict;
@@ -65,8 +66,9 @@ impl Ledger {
 
     /// The verdict of the section of this name, if it is held.
     pub fn get(&self, name: Name) -> Option<&Verdict>
-        ensures { MatchOption result (LacksName self.now.sections name) (λ verdict.
+        ensures value { MatchOption result (LacksName self.now.sections name) (λ verdict.
             Contains self.now.sections verdict.now × (verdict.now.section.name ≡ name)) }
+        ensures true_rows { IfSome result (λ verdict. HasTrueRows verdict.now) }
     {
         match self.find(name) {
             Ok(place) => Some(&self.verdicts[place]),
@@ -89,6 +91,7 @@ impl Ledger {
         ensures value { result.now ≡ self.now.sections }
         ensures rises { Rises result.now }
         ensures checked { All (λ (c : Checked). c.profile ≡ self.now.profile) result.now }
+        ensures true_rows { All HasTrueRows result.now }
     {
         self.verdicts.as_slice()
     }
