@@ -1,5 +1,5 @@
 pub mod TextLemmas
-pub mod ReportLemmas
+pub mod GatherLemmas
 pub mod ReadingLemmas
 pub mod StreamLemmas
 pub mod AnsweringLemmas

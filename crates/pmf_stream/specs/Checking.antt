@@ -1,13 +1,14 @@
 -- What check_stream reads, and the report that it writes. Defined here.
-use Rattle.std.specs.Prelude.{◌≡◌, ◌≢◌, ◌⊎◌, List, ℕ, map, Option, Ok, Err}
+use Rattle.std.specs.Prelude.{◌≡◌, ◌≢◌, ◌⊎◌, Bool, true, false, List, ℕ, Option, Ok, Err}
 use Rattle.std.specs.Io.KnownBytes.{IsAtEnd}
 use Rattle.pmf_storelog.specs.declared.fault.LogFault.{LogFault}
 use Rattle.pmf_storelog.specs.declared.fault.TheConstants.{LOG_LIMIT}
 use Rattle.pmf_storelog.specs.LogValue.{LogValue}
 use Rattle.pmf_storelog.specs.LogText.{log_of, IsFaultOfAll, out_of_memory}
-use Rattle.pmf_verdict.specs.Checked.{checked_by}
-use Rattle.pmf_verdict.specs.Report.{report_of, rows_with_in}
-use Rattle.pmf_verdict.specs.declared.outcome.Outcome.TheVariants.{Fail}
+use Rattle.pmf_ledger.specs.Gathered.{IsLedgerOf}
+use Rattle.pmf_ledger.specs.LedgerText.{text_of_ledger}
+use Rattle.pmf_ledger.specs.LedgerValue.{LedgerValue}
+use Rattle.pmf_ledger.specs.Report.{report_of, totals_of}
 use Rattle.pmf_stream.specs.declared.checking.Done.{Done}
 use Rattle.pmf_stream.specs.declared.settings.Settings.{Settings}
 use Rattle.pmf_stream.specs.Reading.{HasReadBytes}
@@ -26,11 +27,19 @@ pub record IsFaultOf (run : ℕ) (old new : Option (List ℕ)) (found : LogFault
   pub first : log_of run bytes ≡ Err found
   pub for_all : IsAtEnd new ⊎ IsFaultOfAll found bytes
 
--- this is the report of the log's sections by the profile, and what is told of it is so
+-- what is written of a ledger: its report, or the ledger text that is asked for in its place
+abbrev pub text_asked : Bool → LedgerValue → List ℕ
+text_asked false ledger = report_of ledger.sections
+text_asked true ledger = text_of_ledger ledger
+
+-- this is the report, or the ledger text, of the ledger of the log's sections by the profile, and what is told of it
+-- is so
 pub record Reports (settings : Settings) (log : LogValue) (done : Done) (text : List ℕ) : Type 0 where
-  pub report : text ≡ report_of (map (checked_by settings.profile) log.sections)
+  pub ledger : LedgerValue
+  pub gathered : IsLedgerOf settings.profile log.sections ledger
+  pub text_is : text ≡ text_asked settings.ledger ledger
   pub skipped : done.skipped ≡ log.skipped
-  pub fails : done.fails ≡ rows_with_in Fail (map (checked_by settings.profile) log.sections)
+  pub fails : done.fails ≡ (totals_of ledger.sections).fail
 
 -- what was read is a log, and this is its report
 abbrev pub IsReportOf : Settings → Option (List ℕ) → Option (List ℕ) → Done → List ℕ → Type 0

@@ -2,7 +2,9 @@ pub use Rattle.pmf_event.specs.Section
 pub use Rattle.pmf_image.specs.Certificate
 pub use Rattle.pmf_storelog.specs.LogValue
 pub use Rattle.pmf_storelog.specs.LogText
-pub use Rattle.pmf_verdict.specs.Report
+pub use Rattle.pmf_ledger.specs.Report
+pub use Rattle.pmf_ledger.specs.LedgerText
+pub use Rattle.pmf_ledger.specs.Gathered
 pub use Rattle.pmf_verdict.specs.Outcome
 pub use Rattle.pmf_verdict.specs.Explained
 pub use Rattle.pmf_verdict.specs.Text

@@ -3,22 +3,24 @@
 ghost use Rattle.std.specs.Prelude.{◌≡◌, ◌≢◌, ◌++◌, ◌+◌, ℕ, List, [], map, Option, None, IfOk, IfErr, MatchResult};
 ghost use Rattle.pmf_storelog.specs.LogText.{IsFaultOfAll, out_of_memory, shown_fault};
 ghost use Rattle.pmf_storelog.specs.Reader.{HasRead};
+ghost use Rattle.pmf_ledger.specs.Gathered.{IsLedgerOf};
+ghost use Rattle.pmf_ledger.specs.Report.{totals_of};
 ghost use Rattle.pmf_verdict.specs.Checked.{checked_by};
 ghost use Rattle.pmf_stream.specs.Answering.{Answers, RefusesReading, TellsFaults, failed_reads};
-ghost use Rattle.pmf_stream.specs.Checking.{IsLogFaultOf, IsLogOf, IsReportOf, Reports};
+ghost use Rattle.pmf_stream.specs.Checking.{IsLogFaultOf, IsLogOf, IsReportOf, Reports, text_asked};
 ghost use Rattle.pmf_stream.specs.Failures.{CanCountOneMore};
 
 use crate::failed::Failed;
 use crate::fault::StreamFault;
 use crate::reading::{Intake, read_into};
-use crate::reporting::{report, rows_with_in};
 use crate::settings::Settings;
 use crate::sink::Sink;
 use crate::source::Source;
 use crate::writing::write_answer;
 use pmf_event::{Profile, Section};
 use pmf_storelog::{LOG_LIMIT, Log, LogFault, LogReader};
-use pmf_verdict::{Outcome, Verdict, check};
+use pmf_ledger::Ledger;
+use pmf_verdict::{Verdict, check};
 use std::alloc::{AllocError, Global};
 use std::sync::Arc;
 
@@ -83,38 +85,70 @@ fn read_log<R: Source>(
     }
 }
 
-fn check_all(
+// The section's verdict by the profile.
+fn check_section(
+    alloc: Global,
+    section: &Arc<Section>,
+    profile: Profile,
+) -> Result<Verdict, AllocError>
+    ensures { IfOk result (λ verdict. verdict ≡ checked_by profile section.now.value) }
+{
+    match check(alloc, Arc::try_clone(section)?, profile) {
+        Ok(verdict) => Ok(verdict),
+        Err(_) => Err(AllocError),
+    }
+}
+
+// The ledger of the sections of a log by the profile.
+fn gather(
     alloc: Global,
     sections: &[Arc<Section>],
     profile: Profile,
-) -> Result<Vec<Verdict>, AllocError>
-    ensures { IfOk result (λ verdicts. verdicts.items
-        ≡ map (checked_by profile) (map (λ section. section.value) sections.now)) }
+) -> Result<Ledger, AllocError>
+    ensures { IfOk result (IsLedgerOf profile (map (λ section. section.value) sections.now)) }
 {
-    let mut verdicts = Vec::new(alloc);
+    let mut ledger = Ledger::new(alloc, profile);
     for section in sections {
-        match check(alloc, Arc::try_clone(section)?, profile) {
-            Ok(verdict) => verdicts.push(verdict)?,
-            Err(_) => return Err(AllocError),
+        let verdict = check_section(alloc, section, profile)?;
+        // The names of a log's sections differ, so that nothing is refused for another cause.
+        if let Err(_) = ledger.take(verdict) {
+            return Err(AllocError);
         }
     }
-    Ok(verdicts)
+    Ok(ledger)
 }
 
-/// The report of the log by the settings, and what is told of it.
+/// The text of the ledger that is asked for, and how many of its rows count as fail.
+pub(crate) fn write_asked(
+    alloc: Global,
+    ledger: &Ledger,
+    as_ledger: bool,
+) -> Result<(Vec<u8>, u128), AllocError>
+    ensures text { IfOk result (λ made. made.0.items ≡ text_asked as_ledger ledger.now) }
+    ensures fails { IfOk result (λ made. made.1 ≡ (totals_of ledger.now.sections).fail) }
+{
+    if as_ledger {
+        let text = ledger.write_ledger(alloc)?;
+        return Ok((text, ledger.totals().fail));
+    }
+    let (text, totals) = ledger.report(alloc)?;
+    Ok((text, totals.fail))
+}
+
+/// What is written of the log by the settings, and what is told of it.
 fn report_log(alloc: Global, log: &Log, settings: Settings) -> Result<(Vec<u8>, Done), AllocError>
     ensures { IfOk result (λ made. Reports settings log.now made.1 made.0.items) }
 {
-    let verdicts = check_all(alloc, log.sections(), settings.profile)?;
-    let text = report(alloc, &verdicts)?;
+    let ledger = gather(alloc, log.sections(), settings.profile)?;
+    let (text, fails) = write_asked(alloc, &ledger, settings.ledger)?;
     let done = Done {
         skipped: log.skipped(),
-        fails: rows_with_in(&verdicts, Outcome::Fail),
+        fails,
     };
     Ok((text, done))
 }
 
-/// Reads a log, checks its sections by the profile and writes their report. Reads in pieces, at most one byte more
+/// Reads a log, checks its sections by the profile and writes their report, or their ledger text. Reads in pieces, at most one byte more
 /// than a log may have, and stops at the first fault of the log; writes nothing before the whole
 /// log was read and checked.
 ///
@@ -129,7 +163,7 @@ pub fn check_stream<R: Source, W: Sink>(
 ) -> Result<Done, StreamFault<LogFault>>
     requires read { CanCountOneMore (R.failed_calls reader.old) }
     requires write { CanCountOneMore (W.failed_calls writer.old) }
-    // The whole stream was a log without a fault, and exactly the report of its sections was written; or it
+    // The whole stream was a log without a fault, and exactly the text of its sections was written; or it
     // was refused with the first fault of what was read, and of every log that begins so.
     ensures answer { Answers (IsReportOf settings (R.left reader.old) (R.left reader.new))
         (IsLogFaultOf settings.run (R.left reader.old) (R.left reader.new))

@@ -17,7 +17,6 @@ mod explaining;
 mod failed;
 mod fault;
 mod reading;
-mod reporting;
 mod settings;
 mod sink;
 mod source;

@@ -9,6 +9,8 @@ pub struct Settings {
     pub run: u64,
     /// By which rule order assertions judge two bytes of one line.
     pub profile: Profile,
+    /// Whether the ledger text is written in the place of the report.
+    pub ledger: bool,
 }
 
 /// What `explain` is told by its words.
