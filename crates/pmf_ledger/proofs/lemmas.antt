@@ -5,3 +5,5 @@ pub mod StandingLemmas
 pub mod CountLemmas
 pub mod UpgradeLemmas
 pub mod TrueRowsLemmas
+pub mod MergingLemmas
+pub mod ScanLemmas

@@ -12,6 +12,7 @@ pub mod TrueRows
 pub mod Places
 pub mod Gathered
 pub mod Taking
+pub mod Joining
 pub mod Gathering
 pub mod Report
 pub mod LedgerText

@@ -9,6 +9,7 @@
 #![tactic(auto)]
 
 mod copying;
+mod joining;
 mod ledger;
 mod reporting;
 mod taking;
@@ -17,6 +18,7 @@ mod tests;
 mod totals;
 mod writing;
 
+pub use joining::JoinFault;
 pub use ledger::Ledger;
 pub use taking::{TakeFault, Taken};
 pub use totals::Totals;

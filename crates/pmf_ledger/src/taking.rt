@@ -48,7 +48,7 @@ enum Standing {
     Absent(usize),
 }
 
-fn order(a: Name, b: Name) -> Ordering
+pub(crate) fn order(a: Name, b: Name) -> Ordering
     ensures less { (result ≡ Ordering.Less) → IsBefore a b }
     ensures equal { (result ≡ Ordering.Equal) → a ≡ b }
     ensures greater { (result ≡ Ordering.Greater) → IsBefore b a }

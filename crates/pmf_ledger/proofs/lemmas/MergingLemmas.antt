@@ -1,0 +1,199 @@
+-- Two rising lists, while they are merged from their ends, and once they are.
+use Rattle.std.proofs.Common.{◌≡◌, ℕ, ◌+◌, ◌-◌, ◌<◌, ◌≤◌, List, [], ◌∷◌, ◌++◌, length, reverse, refl, sym, ◌∙◌, ap, subst, arith, inl, inr, get_or}
+use Rattle.std.specs.Prelude.{◌⊎◌, Contains}
+use Rattle.std.specs.List.{AllPairs}
+use Rattle.std.proofs.lemmas.Bool.{cases_order}
+use Rattle.std.proofs.lemmas.List.{get_or_append_left, get_or_default, get_or_push, get_or-reverse, length-append, length-reverse, reverse-reverse}
+use Rattle.std.proofs.lemmas.List.Elements.{Contains-append_left, Contains-get_or, Contains-push, Contains-push_cases}
+use Rattle.std.proofs.lemmas.List.Quantifiers.{all_pairs_push}
+use Rattle.std.proofs.lemmas.List.Sorted.{Contains-permutation, IsPermutation-reverse}
+use Rattle.pmf_verdict.specs.Checked.{Checked}
+use Rattle.pmf_ledger.specs.Joining.{Agree, IsMerged, IsMerging}
+use Rattle.pmf_ledger.specs.Names.{ComesBefore, IsBefore, Rises}
+use Rattle.pmf_ledger.proofs.lemmas.NameLemmas.{before-trans}
+
+-- where each pair of a list is related, so is each pair of its front
+AllPairs-front : {X : Type 0} (R : X → X → Type 0) (xs ys : List X) → AllPairs R (xs ++ ys) → AllPairs R xs
+AllPairs-front R xs ys pairs = λ i j d less inside.
+    subst (λ x. R x (get_or xs j d)) (get_or_append_left xs ys d i (omega (arith, less, inside)))
+      (subst (R (get_or (xs ++ ys) i d)) (get_or_append_left xs ys d j inside)
+        (pairs i j d less (let e = length-append xs ys in omega (arith, e, inside))))
+
+-- and each element of the front with the last
+AllPairs-last : {X : Type 0} (R : X → X → Type 0) (xs : List X) (x : X) → AllPairs R (xs ++ x ∷ []) → (c : X) → Contains xs c → R c x
+AllPairs-last R xs x pairs c found =
+    let inside = found.1 in
+    let long : length (xs ++ x ∷ []) ≡ length xs + 1 = length-append xs (x ∷ []) in
+    subst (λ y. R y x) (get_or_append_left xs (x ∷ []) c found.0 inside ∙ found.2)
+      (subst (R (get_or (xs ++ x ∷ []) found.0 c)) (get_or_push xs x c (length xs) refl)
+        (pairs found.0 (length xs) c inside (omega (arith, long))))
+
+-- each pair of the list turned round is a pair of the list
+AllPairs-reverse : {X : Type 0} (R : X → X → Type 0) (xs : List X) → AllPairs (λ a b. R b a) xs → AllPairs R (reverse xs)
+AllPairs-reverse R xs pairs = λ i j d less inside.
+    let long = length-reverse xs in
+    let short : j < length xs = omega (arith, inside, long) in
+    subst (λ x. R x (get_or (reverse xs) j d)) (sym (get_or-reverse xs i d (omega (arith, less, short))))
+      (subst (R (get_or xs (length xs - 1 - i) d)) (sym (get_or-reverse xs j d short))
+        (pairs (length xs - 1 - j) (length xs - 1 - i) d (omega (arith, less, short)) (omega (arith, less, short))))
+
+pub Contains-reverse : {X : Type 0} (xs : List X) (x : X) → Contains (reverse xs) x → Contains xs x
+Contains-reverse xs x found = subst (λ zs. Contains zs x) (reverse-reverse xs) (Contains-permutation (reverse xs) (reverse (reverse xs)) x (IsPermutation-reverse (reverse xs)) found)
+
+pub none_of_empty : {X : Type 0} (xs : List X) (x : X) → length xs ≡ 0 → Contains xs x → ⊥
+none_of_empty xs x empty found = let inside = found.1 in omega (arith, empty, inside)
+
+pub empty_is : {X : Type 0} (xs : List X) → length xs ≡ 0 → xs ≡ []
+empty_is [] none = refl
+empty_is (x ∷ xs) none = absurd (omega (arith, none))
+
+-- the last of a rising list, as it is read
+module _ (xs front : List Checked) (x read : Checked) (is : xs ≡ front ++ x ∷ []) (found : read ≡ get_or xs (length xs - 1) read) where
+  pub last_is : read ≡ x
+  last_is =
+      let long : length xs ≡ length front + 1 = ap (λ zs. length zs) is ∙ length-append front (x ∷ []) in
+      found ∙ ap (λ zs. get_or zs (length xs - 1) read) is ∙ get_or_push front x read (length xs - 1) (omega (arith, long))
+
+-- each of a rising list is the last or comes before it
+pub before_last : (xs : List Checked) (read c : Checked) → Rises xs → read ≡ get_or xs (length xs - 1) read → Contains xs c → (c ≡ read) ⊎ ComesBefore c read
+before_last xs read c rises is found =
+    let inside = found.1 in
+    let at_end : read ≡ get_or xs (length xs - 1) c = is ∙ get_or_default xs (length xs - 1) read c (omega (arith, inside)) in
+    elim (cases_order found.0 (length xs - 1)) [
+      | inl there ↦ inl (sym found.2 ∙ ap (λ n. get_or xs n c) there ∙ sym at_end)
+      | inr aside ↦ elim aside [
+        | inl less ↦ inr (
+            let pair = rises found.0 (length xs - 1) c less (omega (arith, inside)) in
+            subst (λ d. ComesBefore d read) found.2 (subst (ComesBefore (get_or xs found.0 c)) (sym at_end) pair))
+        | inr more ↦ absurd (omega (arith, inside, more))
+      ]
+    ]
+
+pub all_before : (xs : List Checked) (read x : Checked) → Rises xs → read ≡ get_or xs (length xs - 1) read → ComesBefore read x → (c : Checked) → Contains xs c → ComesBefore c x
+all_before xs read x rises is before c found = elim (before_last xs read c rises is found) [
+  | inl same ↦ subst (λ d. ComesBefore d x) (sym same) before
+  | inr less ↦ before-trans c.section.name read.section.name x.section.name less before
+]
+
+pub read_is_held : (xs : List Checked) (read : Checked) → read ≡ get_or xs (length xs - 1) read → length xs - 1 < length xs → Contains xs read
+read_is_held xs read is inside = subst (Contains xs) (sym is) (Contains-get_or xs (length xs - 1) read inside)
+
+pub Merging-starts : (xs ys : List Checked) → Rises xs → Rises ys → Agree xs ys → IsMerging xs ys xs ys []
+Merging-starts xs ys first second agree = record {
+  kept = λ c. (λ has. inl has, λ has. elim has [ inl left ↦ left | inr none ↦ absurd (let n = none.1 in omega (arith, n)) ]);
+  left_rises = first;
+  right_rises = second;
+  agree = agree;
+  falls = λ i j d less inside. absurd (omega (arith, inside));
+  left_before = λ c d in_left none. absurd (let n = none.1 in omega (arith, n));
+  right_before = λ c d in_right none. absurd (let n = none.1 in omega (arith, n));
+}
+
+-- the two lists are on a par
+Merging-turned : (xs ys left right merged : List Checked) → IsMerging xs ys left right merged → IsMerging ys xs right left merged
+Merging-turned xs ys left right merged so_far = record {
+  kept = λ c. (
+    λ has. elim ((so_far.kept c).0 (elim has [ inl y ↦ inr y | inr x ↦ inl x ])) [
+      | inl rest ↦ inl (elim rest [ inl l ↦ inr l | inr r ↦ inl r ])
+      | inr done ↦ inr done
+    ],
+    λ has. elim ((so_far.kept c).1 (elim has [ inl rest ↦ inl (elim rest [ inl r ↦ inr r | inr l ↦ inl l ]) | inr done ↦ inr done ])) [
+      | inl x ↦ inr x
+      | inr y ↦ inl y
+    ]);
+  left_rises = so_far.right_rises;
+  right_rises = so_far.left_rises;
+  agree = λ x y in_right in_left same. sym (so_far.agree y x in_left in_right (sym same));
+  falls = so_far.falls;
+  left_before = so_far.right_before;
+  right_before = so_far.left_before;
+}
+
+module _ (xs ys left right merged : List Checked) (x : Checked) (so_far : IsMerging xs ys (left ++ x ∷ []) right merged) where
+  -- the last of the left is merged, where all of the right come before it
+  Merging-moved : ((c : Checked) → Contains right c → ComesBefore c x) → IsMerging xs ys left right (merged ++ x ∷ [])
+  Merging-moved after = record {
+    kept = λ c. (
+      λ has. elim ((so_far.kept c).0 has) [
+        | inl rest ↦ elim rest [
+          | inl l ↦ elim (Contains-push_cases left x c l) [
+            | inl before ↦ inl (inl before)
+            | inr here ↦ inr (subst (Contains (merged ++ x ∷ [])) here (Contains-push merged x))
+          ]
+          | inr r ↦ inl (inr r)
+        ]
+        | inr done ↦ inr (Contains-append_left merged (x ∷ []) c done)
+      ],
+      λ has. (so_far.kept c).1 (elim has [
+        | inl rest ↦ elim rest [ inl l ↦ inl (inl (Contains-append_left left (x ∷ []) c l)) | inr r ↦ inl (inr r) ]
+        | inr done ↦ elim (Contains-push_cases merged x c done) [
+          | inl before ↦ inr before
+          | inr here ↦ inl (inl (subst (Contains (left ++ x ∷ [])) here (Contains-push left x)))
+        ]
+      ]));
+    left_rises = AllPairs-front ComesBefore left (x ∷ []) so_far.left_rises;
+    right_rises = so_far.right_rises;
+    agree = λ c d in_left in_right same. so_far.agree c d (Contains-append_left left (x ∷ []) c in_left) in_right same;
+    falls = all_pairs_push (λ (later : Checked) (earlier : Checked). ComesBefore earlier later) merged x so_far.falls
+        (λ k d inside. so_far.left_before x (get_or merged k d) (Contains-push left x) (Contains-get_or merged k d inside));
+    left_before = λ c d in_left done. elim (Contains-push_cases merged x d done) [
+      | inl before ↦ so_far.left_before c d (Contains-append_left left (x ∷ []) c in_left) before
+      | inr here ↦ subst (ComesBefore c) here (AllPairs-last ComesBefore left x so_far.left_rises c in_left)
+    ];
+    right_before = λ c d in_right done. elim (Contains-push_cases merged x d done) [
+      | inl before ↦ so_far.right_before c d in_right before
+      | inr here ↦ subst (ComesBefore c) here (after c in_right)
+    ];
+  }
+
+  -- the last of the left is dropped, where the right has it
+  Merging-dropped : Contains right x → IsMerging xs ys left right merged
+  Merging-dropped there = record {
+    kept = λ c. (
+      λ has. elim ((so_far.kept c).0 has) [
+        | inl rest ↦ elim rest [
+          | inl l ↦ elim (Contains-push_cases left x c l) [ inl before ↦ inl (inl before) | inr here ↦ inl (inr (subst (Contains right) here there)) ]
+          | inr r ↦ inl (inr r)
+        ]
+        | inr done ↦ inr done
+      ],
+      λ has. (so_far.kept c).1 (elim has [
+        | inl rest ↦ elim rest [ inl l ↦ inl (inl (Contains-append_left left (x ∷ []) c l)) | inr r ↦ inl (inr r) ]
+        | inr done ↦ inr done
+      ]));
+    left_rises = AllPairs-front ComesBefore left (x ∷ []) so_far.left_rises;
+    right_rises = so_far.right_rises;
+    agree = λ c d in_left in_right same. so_far.agree c d (Contains-append_left left (x ∷ []) c in_left) in_right same;
+    falls = so_far.falls;
+    left_before = λ c d in_left done. so_far.left_before c d (Contains-append_left left (x ∷ []) c in_left) done;
+    right_before = so_far.right_before;
+  }
+
+-- the left's last is merged, where the right is empty or its last comes before
+pub Merging-left : (xs ys old left right merged new : List Checked) (x : Checked) → old ≡ left ++ x ∷ [] → new ≡ merged ++ x ∷ [] →
+    ((c : Checked) → Contains right c → ComesBefore c x) → IsMerging xs ys old right merged → IsMerging xs ys left right new
+Merging-left xs ys old left right merged new x is made after so_far =
+    subst (IsMerging xs ys left right) (sym made) (Merging-moved xs ys left right merged x (subst (λ zs. IsMerging xs ys zs right merged) is so_far) after)
+
+pub Merging-right : (xs ys left old right merged new : List Checked) (x : Checked) → old ≡ right ++ x ∷ [] → new ≡ merged ++ x ∷ [] →
+    ((c : Checked) → Contains left c → ComesBefore c x) → IsMerging xs ys left old merged → IsMerging xs ys left right new
+Merging-right xs ys left old right merged new x is made after so_far =
+    Merging-turned ys xs right left new (Merging-left ys xs old right left merged new x is made after (Merging-turned xs ys left old merged so_far))
+
+-- what both hold is dropped from the left
+pub Merging-drop : (xs ys old left right merged : List Checked) (x y : Checked) → old ≡ left ++ x ∷ [] → Contains right y → x.section.name ≡ y.section.name →
+    IsMerging xs ys old right merged → IsMerging xs ys left right merged
+Merging-drop xs ys old left right merged x y is there same so_far =
+    let now = subst (λ zs. IsMerging xs ys zs right merged) is so_far in
+    Merging-dropped xs ys left right merged x now (subst (Contains right) (sym (now.agree x y (Contains-push left x) there same)) there)
+
+pub Merged-turned : (xs ys merged : List Checked) → IsMerging xs ys [] [] merged → IsMerged xs ys (reverse merged)
+Merged-turned xs ys merged so_far = record {
+  rises = AllPairs-reverse ComesBefore merged so_far.falls;
+  holds = λ c. (
+    λ found. (so_far.kept c).1 (inr (Contains-reverse merged c found)),
+    λ has. elim ((so_far.kept c).0 has) [
+      | inl rest ↦ absurd (elim rest [ inl l ↦ let n = l.1 in omega (arith, n) | inr r ↦ let n = r.1 in omega (arith, n) ])
+      | inr done ↦ Contains-permutation merged (reverse merged) c (IsPermutation-reverse merged) done
+    ]);
+}

@@ -1,0 +1,109 @@
+//! How two ledgers become one.
+
+ghost use Rattle.std.specs.Prelude.{◌≡◌, ◌≢◌, ◌↔◌, ◌+◌, ◌<◌, ◌≤◌, List, [], IfErr, IfOk, MatchOption};
+ghost use Rattle.std.specs.List.{All};
+ghost use Rattle.std.specs.Vec.{vec_len, vec_capacity};
+ghost use Rattle.pmf_verdict.specs.Checked.{Checked};
+ghost use Rattle.pmf_ledger.specs.Gathered.{GathersBoth, IsLeastClash, Unites};
+ghost use Rattle.pmf_ledger.specs.Joining.{Agree, AgreeInNames, AreRefusedAs, IsLeastDiffering, IsMerging, IsMerged};
+ghost use Rattle.pmf_ledger.specs.Names.{Rises};
+
+use crate::ledger::Ledger;
+use crate::taking::order;
+use pmf_event::Name;
+use pmf_verdict::Verdict;
+use std::cmp::Ordering;
+use thiserror::Error;
+
+/// Why two ledgers were not joined: the first that applies, in this order.
+#[derive(Clone, Copy, Debug, PartialEq, Eq, Error)]
+pub enum JoinFault {
+    /// They are by different profiles.
+    #[error("profiles differ")]
+    ProfileMismatch,
+    /// This name, the least of its kind, is held by both with other events.
+    #[error("section {}.{}: held with other events", .name.run, .name.number)]
+    Conflict { name: Name },
+    /// Room for the verdicts of both was refused.
+    #[error("out of memory")]
+    OutOfMemory,
+}
+
+// The least name that two sections have, one of each list, that differ.
+fn least_differing(first: &[Verdict], second: &[Verdict]) -> Option<Name>
+    requires first_rises { Rises first.now }
+    requires second_rises { Rises second.now }
+    ensures { MatchOption result (AgreeInNames first.now second.now)
+        (IsLeastDiffering first.now second.now) }
+{
+    let mut i = 0;
+    let mut j = 0;
+    while i < first.len() && j < second.len() {
+        let mine = &first[i];
+        let other = &second[j];
+        match order(mine.name(), other.name()) {
+            Ordering::Less => i += 1,
+            Ordering::Greater => j += 1,
+            Ordering::Equal => {
+                if !mine.section().same_as(other.section()) {
+                    return Some(mine.name());
+                }
+                i += 1;
+                j += 1;
+            }
+        }
+    }
+    None
+}
+
+// Moves the last verdict, by the order of names, of both lists to the end of the merged one. Of two with one
+// name that of the first list is dropped.
+fn merge_last(first: &mut Vec<Verdict>, second: &mut Vec<Verdict>, merged: &mut Vec<Verdict>)
+    requires some { 0 < vec_len first.old + vec_len second.old }
+    requires room { vec_len first.old + vec_len second.old + vec_len merged.old
+        ≤ vec_capacity merged.old }
+    ensures merging { (xs ys : List Checked) →
+        IsMerging xs ys first.old.items second.old.items merged.old.items →
+        IsMerging xs ys first.new.items second.new.items merged.new.items }
+    ensures room { vec_len first.new + vec_len second.new + vec_len merged.new
+        ≤ vec_capacity merged.new }
+    ensures fewer { vec_len first.new + vec_len second.new
+        < vec_len first.old + vec_len second.old }
+{
+    if second.is_empty() {
+        merged.push_reserved(first.take_last());
+        return;
+    }
+    if first.is_empty() {
+        merged.push_reserved(second.take_last());
+        return;
+    }
+    match order(
+        first[first.len() - 1].name(),
+        second[second.len() - 1].name(),
+    ) {
+        Ordering::Less => merged.push_reserved(second.take_last()),
+        Ordering::Greater => merged.push_reserved(first.take_last()),
+        Ordering::Equal => drop(first.take_last()),
+    }
+}
+
+// The verdicts of both lists, each once, in the order of their names. There is room for all of them.
+fn merge(
+    mut first: Vec<Verdict>,
+    mut second: Vec<Verdict>,
+    mut merged: Vec<Verdict>,
+) -> Vec<Verdict>
+    requires empty { merged.items ≡ [] }
+    requires room { vec_len first + vec_len second + vec_len merged ≤ vec_capacity merged }
+    requires first_rises { Rises first.items }
+    requires second_rises { Rises second.items }
+    requires agree { Agree first.items second.items }
+    ensures { IsMerged first.items second.items result.items }
+{
+    while !first.is_empty() || !second.is_empty() {
+        merge_last(&mut first, &mut second, &mut merged);
+    }
+    merged.reverse();
+    merged
+}
