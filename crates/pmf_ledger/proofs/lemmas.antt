@@ -7,3 +7,4 @@ pub mod UpgradeLemmas
 pub mod TrueRowsLemmas
 pub mod MergingLemmas
 pub mod ScanLemmas
+pub mod JoiningLemmas

@@ -3,7 +3,9 @@ use Rattle.std.specs.Prelude.{◌≡◌, ◌≢◌, ◌⊎◌, ◌↔◌, List, 
 use Rattle.std.specs.List.{AllPairs}
 use Rattle.pmf_event.specs.declared.name.Name.{Name}
 use Rattle.pmf_ledger.specs.declared.joining.JoinFault.{JoinFault}
+use Rattle.pmf_event.specs.Section.{Trace}
 use Rattle.pmf_verdict.specs.Checked.{Checked}
+use Rattle.pmf_ledger.specs.Gathered.{Holds}
 use Rattle.pmf_ledger.specs.LedgerValue.{LedgerValue}
 use Rattle.pmf_ledger.specs.Names.{ComesBefore, IsBefore, Rises}
 
@@ -11,6 +13,10 @@ use Rattle.pmf_ledger.specs.Names.{ComesBefore, IsBefore, Rises}
 abbrev pub AreRefusedAs : Result LedgerValue (JoinFault × LedgerValue × LedgerValue) → JoinFault → Type 0
 AreRefusedAs (Ok joined) fault = ⊥
 AreRefusedAs (Err refused) fault = refused.0 ≡ fault
+
+-- where sections of the two ledgers have one name, they are one section
+abbrev pub AgreeTogether : LedgerValue → LedgerValue → Type 0
+AgreeTogether a b = (s t : Trace) → Holds a s → Holds b t → s.name ≡ t.name → s ≡ t
 
 -- where sections of the two lists have one name, they are one section
 abbrev pub AgreeInNames : List Checked → List Checked → Type 0

@@ -5,7 +5,7 @@ ghost use Rattle.std.specs.List.{All};
 ghost use Rattle.std.specs.Vec.{vec_len, vec_capacity};
 ghost use Rattle.pmf_verdict.specs.Checked.{Checked};
 ghost use Rattle.pmf_ledger.specs.Gathered.{GathersBoth, IsLeastClash, Unites};
-ghost use Rattle.pmf_ledger.specs.Joining.{Agree, AgreeInNames, AreRefusedAs, IsLeastDiffering, IsMerging, IsMerged};
+ghost use Rattle.pmf_ledger.specs.Joining.{Agree, AgreeInNames, AgreeTogether, AreRefusedAs, IsLeastDiffering, IsMerging, IsMerged};
 ghost use Rattle.pmf_ledger.specs.Names.{Rises};
 
 use crate::ledger::Ledger;
@@ -106,4 +106,63 @@ fn merge(
     }
     merged.reverse();
     merged
+}
+
+impl Ledger {
+    /// The ledger of the sections that either of the two holds: those that both hold are held once.
+    ///
+    /// It is linear in the number of sections of both, and in the events of those that both hold. After a
+    /// refusal both ledgers come back as they were. Both refusals for cause come before memory is asked for; the
+    /// new list takes memory, with room for the verdicts of both, before a verdict is moved.
+    pub fn join(self, other: Ledger) -> Result<Ledger, (JoinFault, Ledger, Ledger)>
+
+        // At Ok it holds what either held and nothing else: the ledger of the union of their sets.
+        ensures unites { IfOk result (Unites self other) }
+        ensures gathers { IfOk result (GathersBoth self other) }
+
+        // Each refusal comes exactly where it has to, want of memory aside, and both ledgers come back.
+        ensures mismatch { AreRefusedAs result JoinFault.ProfileMismatch
+            ↔ (self.profile ≢ other.profile) }
+        ensures conflict { (name : Name) → (AreRefusedAs result (JoinFault.Conflict name)
+            ↔ (self.profile ≡ other.profile) × IsLeastClash self other name) }
+        ensures returned { IfErr result (λ refused. (refused.1 ≡ self) × (refused.2 ≡ other)) }
+    {
+        if self.profile != other.profile {
+            return Err((JoinFault::ProfileMismatch, self, other));
+        }
+        if let Some(name) = self.least_clash(&other) {
+            return Err((JoinFault::Conflict { name }, self, other));
+        }
+        self.unite(other)
+    }
+
+    // The least name that both hold with other events.
+    fn least_clash(&self, other: &Ledger) -> Option<Name>
+        ensures { MatchOption result (AgreeTogether self.now other.now)
+            (IsLeastClash self.now other.now) }
+    {
+        least_differing(&self.verdicts, &other.verdicts)
+    }
+
+    // The ledger of both, where no name is held by both with other events.
+    fn unite(self, other: Ledger) -> Result<Ledger, (JoinFault, Ledger, Ledger)>
+        requires profile { self.profile ≡ other.profile }
+        requires agree { AgreeTogether self other }
+        ensures unites { IfOk result (Unites self other) }
+        ensures rises { IfOk result (λ joined. Rises joined.sections) }
+        ensures checked { IfOk result (λ joined.
+            All (λ (c : Checked). c.profile ≡ joined.profile) joined.sections) }
+        ensures refused { IfErr result (λ refused.
+            refused ≡ (JoinFault.OutOfMemory, self, other)) }
+    {
+        let alloc = *self.verdicts.allocator();
+        let room = self.verdicts.len() + other.verdicts.len();
+        let Ok(merged) = Vec::with_capacity(alloc, room) else {
+            return Err((JoinFault::OutOfMemory, self, other));
+        };
+        Ok(Ledger {
+            profile: self.profile,
+            verdicts: merge(self.verdicts, other.verdicts, merged),
+        })
+    }
 }

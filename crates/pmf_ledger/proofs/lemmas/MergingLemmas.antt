@@ -16,8 +16,8 @@ use Rattle.pmf_ledger.proofs.lemmas.NameLemmas.{before-trans}
 AllPairs-front : {X : Type 0} (R : X → X → Type 0) (xs ys : List X) → AllPairs R (xs ++ ys) → AllPairs R xs
 AllPairs-front R xs ys pairs = λ i j d less inside.
     subst (λ x. R x (get_or xs j d)) (get_or_append_left xs ys d i (omega (arith, less, inside)))
-      (subst (R (get_or (xs ++ ys) i d)) (get_or_append_left xs ys d j inside)
-        (pairs i j d less (let e = length-append xs ys in omega (arith, e, inside))))
+    (subst (R (get_or (xs ++ ys) i d)) (get_or_append_left xs ys d j inside)
+    (pairs i j d less (let e = length-append xs ys in omega (arith, e, inside))))
 
 -- and each element of the front with the last
 AllPairs-last : {X : Type 0} (R : X → X → Type 0) (xs : List X) (x : X) → AllPairs R (xs ++ x ∷ []) → (c : X) → Contains xs c → R c x
@@ -25,8 +25,8 @@ AllPairs-last R xs x pairs c found =
     let inside = found.1 in
     let long : length (xs ++ x ∷ []) ≡ length xs + 1 = length-append xs (x ∷ []) in
     subst (λ y. R y x) (get_or_append_left xs (x ∷ []) c found.0 inside ∙ found.2)
-      (subst (R (get_or (xs ++ x ∷ []) found.0 c)) (get_or_push xs x c (length xs) refl)
-        (pairs found.0 (length xs) c inside (omega (arith, long))))
+    (subst (R (get_or (xs ++ x ∷ []) found.0 c)) (get_or_push xs x c (length xs) refl)
+    (pairs found.0 (length xs) c inside (omega (arith, long))))
 
 -- each pair of the list turned round is a pair of the list
 AllPairs-reverse : {X : Type 0} (R : X → X → Type 0) (xs : List X) → AllPairs (λ a b. R b a) xs → AllPairs R (reverse xs)
@@ -34,8 +34,8 @@ AllPairs-reverse R xs pairs = λ i j d less inside.
     let long = length-reverse xs in
     let short : j < length xs = omega (arith, inside, long) in
     subst (λ x. R x (get_or (reverse xs) j d)) (sym (get_or-reverse xs i d (omega (arith, less, short))))
-      (subst (R (get_or xs (length xs - 1 - i) d)) (sym (get_or-reverse xs j d short))
-        (pairs (length xs - 1 - j) (length xs - 1 - i) d (omega (arith, less, short)) (omega (arith, less, short))))
+    (subst (R (get_or xs (length xs - 1 - i) d)) (sym (get_or-reverse xs j d short))
+    (pairs (length xs - 1 - j) (length xs - 1 - i) d (omega (arith, less, short)) (omega (arith, less, short))))
 
 pub Contains-reverse : {X : Type 0} (xs : List X) (x : X) → Contains (reverse xs) x → Contains xs x
 Contains-reverse xs x found = subst (λ zs. Contains zs x) (reverse-reverse xs) (Contains-permutation (reverse xs) (reverse (reverse xs)) x (IsPermutation-reverse (reverse xs)) found)
@@ -100,7 +100,8 @@ Merging-turned xs ys left right merged so_far = record {
     λ has. elim ((so_far.kept c).1 (elim has [ inl rest ↦ inl (elim rest [ inl r ↦ inr r | inr l ↦ inl l ]) | inr done ↦ inr done ])) [
       | inl x ↦ inr x
       | inr y ↦ inl y
-    ]);
+    ],
+  );
   left_rises = so_far.right_rises;
   right_rises = so_far.left_rises;
   agree = λ x y in_right in_left same. sym (so_far.agree y x in_left in_right (sym same));
@@ -130,7 +131,8 @@ module _ (xs ys left right merged : List Checked) (x : Checked) (so_far : IsMerg
           | inl before ↦ inr before
           | inr here ↦ inl (inl (subst (Contains (left ++ x ∷ [])) here (Contains-push left x)))
         ]
-      ]));
+      ]),
+    );
     left_rises = AllPairs-front ComesBefore left (x ∷ []) so_far.left_rises;
     right_rises = so_far.right_rises;
     agree = λ c d in_left in_right same. so_far.agree c d (Contains-append_left left (x ∷ []) c in_left) in_right same;
@@ -160,7 +162,8 @@ module _ (xs ys left right merged : List Checked) (x : Checked) (so_far : IsMerg
       λ has. (so_far.kept c).1 (elim has [
         | inl rest ↦ elim rest [ inl l ↦ inl (inl (Contains-append_left left (x ∷ []) c l)) | inr r ↦ inl (inr r) ]
         | inr done ↦ inr done
-      ]));
+      ]),
+    );
     left_rises = AllPairs-front ComesBefore left (x ∷ []) so_far.left_rises;
     right_rises = so_far.right_rises;
     agree = λ c d in_left in_right same. so_far.agree c d (Contains-append_left left (x ∷ []) c in_left) in_right same;
@@ -195,5 +198,6 @@ Merged-turned xs ys merged so_far = record {
     λ has. elim ((so_far.kept c).0 has) [
       | inl rest ↦ absurd (elim rest [ inl l ↦ let n = l.1 in omega (arith, n) | inr r ↦ let n = r.1 in omega (arith, n) ])
       | inr done ↦ Contains-permutation merged (reverse merged) c (IsPermutation-reverse merged) done
-    ]);
+    ],
+  );
 }

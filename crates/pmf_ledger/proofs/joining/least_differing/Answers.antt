@@ -32,8 +32,8 @@ returns-then-not-same_as c =
     let other : c.deref-in-Equal.result.now ≡ y.section = c.deref-in-Equal.ensures ∙ c.section-in-Equal.ensures in
     let no : c.same_as.result ≡ false = search rules in
     subst (IsLeastDiffering c.args.first.now c.args.second.now) (sym c.name-then-not-same_as.ensures)
-      (least_here c.args.first.now c.args.second.now c.loop-i.i c.loop-i.j x y c.loop-i.invariant.scanned read c.requires.first_rises name
-        (λ same. let wrong : IsTrue false = subst IsTrue no (c.same_as.ensures.1 (mine ∙ same ∙ sym other)) in cc))
+    (least_here c.args.first.now c.args.second.now c.loop-i.i c.loop-i.j x y c.loop-i.invariant.scanned read c.requires.first_rises name
+    (λ same. let wrong : IsTrue false = subst IsTrue no (c.same_as.ensures.1 (mine ∙ same ∙ sym other)) in cc))
 
 pub loop-i-preserved : goal.loop-i-preserved
 loop-i-preserved c =
@@ -43,8 +43,10 @@ loop-i-preserved c =
     let mine : c.deref.result.now ≡ x.section = c.deref.ensures ∙ c.section.ensures in
     let other : c.deref-in-Equal.result.now ≡ y.section = c.deref-in-Equal.ensures ∙ c.section-in-Equal.ensures in
     let yes : IsTrue c.same_as.result = search rules in
-    record { scanned = Scanned-both c.args.first.now c.args.second.now c.loop-i.i c.loop-i.j x y c.loop-i.invariant.scanned read c.requires.first_rises c.requires.second_rises
-        (sym mine ∙ c.same_as.ensures.0 yes ∙ other) }
+    record {
+      scanned = Scanned-both c.args.first.now c.args.second.now c.loop-i.i c.loop-i.j x y c.loop-i.invariant.scanned read c.requires.first_rises c.requires.second_rises
+          (sym mine ∙ c.same_as.ensures.0 yes ∙ other);
+    }
 
 pub returns-else-j-second : goal.returns-else-j-second
 returns-else-j-second c =

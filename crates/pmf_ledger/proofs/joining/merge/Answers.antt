@@ -18,5 +18,5 @@ returns c =
     let ys = c.args.second.items in
     let merged = c.loop-second.merged.items in
     let done : IsMerging xs ys [] [] merged = subst (λ zs. IsMerging xs ys zs [] merged) (empty_is _ first)
-        (subst (λ zs. IsMerging xs ys c.loop-second.first.items zs merged) (empty_is _ second) c.loop-second.invariant.merging) in
+    (subst (λ zs. IsMerging xs ys c.loop-second.first.items zs merged) (empty_is _ second) c.loop-second.invariant.merging) in
     subst (IsMerged xs ys) (sym c.reverse.ensures.items) (Merged-turned xs ys merged done)
