@@ -8,3 +8,5 @@ pub mod TrueRowsLemmas
 pub mod MergingLemmas
 pub mod ScanLemmas
 pub mod JoiningLemmas
+pub mod UniqueLemmas
+pub mod GatheringLemmas

@@ -10,6 +10,7 @@
 
 mod copying;
 mod joining;
+mod laws;
 mod ledger;
 mod reporting;
 mod taking;
@@ -19,6 +20,11 @@ mod totals;
 mod writing;
 
 pub use joining::JoinFault;
+pub use laws::{
+    equal_sets_have_one_ledger, gatherings_are_refused_for_cause_alone,
+    gatherings_give_the_ledger_of_their_set, joining_again_changes_nothing, joining_associates,
+    joining_commutes, only_the_set_counts,
+};
 pub use ledger::Ledger;
 pub use taking::{TakeFault, Taken};
 pub use totals::Totals;

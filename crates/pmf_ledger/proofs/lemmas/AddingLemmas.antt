@@ -70,13 +70,13 @@ Gains-held ledger section held = record {
 
 -- of a longer set
 module _ {X : Type 0} (x y : X) (ys : List X) where
-  Contains-cons_cases : Contains (y ∷ ys) x → (x ≡ y) ⊎ Contains ys x
+  pub Contains-cons_cases : Contains (y ∷ ys) x → (x ≡ y) ⊎ Contains ys x
   Contains-cons_cases found = elim (Contains-append_cases (y ∷ []) ys x found) [
     | inl here ↦ elim (Contains-push_cases [] y x here) [ inl none ↦ absurd (omega (arith, none.1)) | inr same ↦ inl (sym same) ]
     | inr behind ↦ inr behind
   ]
 
-  Contains-cons : (x ≡ y) ⊎ Contains ys x → Contains (y ∷ ys) x
+  pub Contains-cons : (x ≡ y) ⊎ Contains ys x → Contains (y ∷ ys) x
   Contains-cons held = elim held [
     | inl same ↦ Contains-append_left (y ∷ []) ys x (subst (Contains (y ∷ [])) (sym same) (Contains-push [] y))
     | inr behind ↦ Contains-append_right (y ∷ []) ys x behind

@@ -1,0 +1,165 @@
+-- What gatherings give.
+use Rattle.std.proofs.Common.{◌≡◌, List, [], ◌∷◌, ◌++◌, refl, sym, ◌∙◌, ap, subst, append_assoc, arith, inl, inr}
+use Rattle.std.specs.Prelude.{◌≢◌, ◌⊎◌, ◌↔◌, Contains}
+use Rattle.std.specs.List.{All}
+use Rattle.std.proofs.lemmas.List.Elements.{Contains-append_cases, Contains-append_left, Contains-append_right}
+use Rattle.pmf_event.specs.declared.name.Name.{Name}
+use Rattle.pmf_event.specs.declared.profile.Profile.{Profile}
+use Rattle.pmf_event.specs.declared.profile.Profile.TheVariants.{One, Two}
+use Rattle.pmf_event.specs.Section.{Trace}
+use Rattle.pmf_verdict.specs.Checked.{Checked, checked_by}
+use Rattle.pmf_verdict.specs.Report.{report_of}
+use Rattle.pmf_ledger.specs.Gathered.{ClashesAt, Gathers, GathersBoth, Holds, HoldsOther, IsLedgerOf}
+use Rattle.pmf_ledger.specs.Gathering.{Agrees, AreAlike, Begun, Gathering, Gives, GivesItsLedger, HaveSameMembers, IsBy, IsRefused, Joined, JoiningAssociates, JoiningCommutes, JoiningRepeats, OnlyTheSetCounts, RefusesForCause, RefusesJoin, RefusesVerdict, WithVerdict, set_of}
+use Rattle.pmf_ledger.specs.Laws.{EqualSetsHaveOneLedger}
+use Rattle.pmf_ledger.specs.LedgerText.{text_of_ledger}
+use Rattle.pmf_ledger.specs.LedgerValue.{LedgerValue}
+use Rattle.pmf_ledger.specs.Names.{Rises}
+use Rattle.pmf_ledger.proofs.lemmas.AddingLemmas.{Contains-cons, Contains-cons_cases}
+use Rattle.pmf_ledger.proofs.lemmas.MergingLemmas.{none_of_empty}
+use Rattle.pmf_ledger.proofs.lemmas.UniqueLemmas.{Agrees-ledger, ledger_once}
+
+-- profiles that don't differ are one
+profile_same : (p q : Profile) → (p ≢ q → ⊥) → p ≡ q
+profile_same One One even = refl
+profile_same One Two even = absurd (even (λ same. cc))
+profile_same Two One even = absurd (even (λ same. cc))
+profile_same Two Two even = refl
+
+-- the ledger of no section
+empty_ledger : (profile : Profile) → IsLedgerOf profile [] (record { profile = profile; sections = [] })
+empty_ledger profile = record {
+  profile_is = refl;
+  checked = λ k d inside. absurd (omega (arith, inside));
+  rises = λ i j d less inside. absurd (omega (arith, inside));
+  same = λ s. (λ held. absurd (none_of_empty [] _ refl held), λ found. absurd (none_of_empty [] s refl found));
+}
+
+-- a gathering is by one profile at most
+by_one : (gathering : Gathering) (p q : Profile) → IsBy p gathering → IsBy q gathering → p ≡ q
+unfolding IsBy
+by_one (Begun own) p q first second = sym first ∙ second
+by_one (WithVerdict gathering verdict) p q first second = by_one gathering p q first.0 second.0
+by_one (Joined g h) p q first second = by_one g p q first.0 second.0
+
+pub gives_ledger : (gathering : Gathering) (ledger : LedgerValue) → Gives gathering ledger → IsLedgerOf ledger.profile (set_of gathering) ledger × Agrees (set_of gathering) × IsBy ledger.profile gathering
+unfolding Gives set_of IsBy
+gives_ledger (Begun profile) ledger gives =
+    let of_set = subst (λ (l : LedgerValue). IsLedgerOf l.profile [] l) (sym gives) (empty_ledger profile) in
+    (of_set, Agrees-ledger ledger.profile [] ledger of_set, ap (λ (l : LedgerValue). l.profile) (sym gives))
+gives_ledger (WithVerdict gathering verdict) ledger gives =
+    let old = gives.0 in
+    let before = gives_ledger gathering old gives.1 in
+    let set = verdict.section ∷ set_of gathering in
+    let is : IsLedgerOf old.profile set ledger = gives.3 (set_of gathering) before.0 in
+    let stays : old.profile ≡ ledger.profile = sym is.profile_is in
+    let of_set : IsLedgerOf ledger.profile set ledger = subst (λ p. IsLedgerOf p set ledger) stays is in
+    let even : verdict.profile ≡ old.profile = profile_same verdict.profile old.profile (λ differ. gives.2 (inl differ)) in
+    (of_set, Agrees-ledger ledger.profile set ledger of_set, (subst (λ p. IsBy p gathering) stays before.2, even ∙ stays))
+gives_ledger (Joined g h) ledger gives =
+    let a = gives.0 in
+    let b = gives.1 in
+    let first = gives_ledger g a gives.2 in
+    let second = gives_ledger h b gives.3 in
+    let set = set_of g ++ set_of h in
+    let even : a.profile ≡ b.profile = profile_same a.profile b.profile (λ differ. gives.4 (inl differ)) in
+    let is : IsLedgerOf a.profile set ledger = gives.5 (set_of g) (set_of h) first.0 (subst (λ p. IsLedgerOf p (set_of h) b) (sym even) second.0) in
+    let stays : a.profile ≡ ledger.profile = sym is.profile_is in
+    let of_set : IsLedgerOf ledger.profile set ledger = subst (λ p. IsLedgerOf p set ledger) stays is in
+    (of_set, Agrees-ledger ledger.profile set ledger of_set, (subst (λ p. IsBy p g) stays first.2, subst (λ p. IsBy p h) (sym even ∙ stays) second.2))
+
+-- a set agrees with fewer members too
+agrees_within : (xs ys : List Trace) → ((s : Trace) → Contains ys s → Contains xs s) → Agrees xs → Agrees ys
+agrees_within xs ys within agrees = λ s t has_s has_t same. agrees s t (within s has_s) (within t has_t) same
+
+pub refuses_for_cause : (gathering : Gathering) (profile : Profile) → Agrees (set_of gathering) → IsBy profile gathering → IsRefused gathering → ⊥
+unfolding IsRefused set_of IsBy
+refuses_for_cause (Begun own) profile agrees by refused = refused
+refuses_for_cause (WithVerdict gathering verdict) profile agrees by refused = elim refused [
+  | inl before ↦
+      refuses_for_cause gathering profile
+      (agrees_within (verdict.section ∷ set_of gathering) (set_of gathering) (λ s found. Contains-cons s verdict.section (set_of gathering) (inr found)) agrees) by.0 before
+  | inr now ↦
+      let old = now.0 in
+      let is = gives_ledger gathering old now.1 in
+      elim now.2 [
+        | inl differ ↦ differ (by.1 ∙ by_one gathering profile old.profile by.0 is.2)
+        | inr other ↦
+            let t = other.0 in
+            let s = verdict.section in
+            other.3 (agrees t s (Contains-cons t s (set_of gathering) (inr ((is.0.same t).0 other.1))) (Contains-cons s s (set_of gathering) (inl refl)) other.2)
+      ]
+]
+refuses_for_cause (Joined g h) profile agrees by refused =
+    let xs = set_of g in
+    let ys = set_of h in
+    elim refused [
+      | inl before ↦ elim before [
+        | inl first ↦ refuses_for_cause g profile (agrees_within (xs ++ ys) xs (λ s found. Contains-append_left xs ys s found) agrees) by.0 first
+        | inr second ↦ refuses_for_cause h profile (agrees_within (xs ++ ys) ys (λ s found. Contains-append_right xs ys s found) agrees) by.1 second
+      ]
+      | inr now ↦
+          let a = now.0 in
+          let b = now.1 in
+          let first = gives_ledger g a now.2 in
+          let second = gives_ledger h b now.3 in
+          elim now.4 [
+            | inl differ ↦ differ (by_one g a.profile profile first.2 by.0 ∙ by_one h profile b.profile by.1 second.2)
+            | inr some ↦
+                let clash = some.1 in
+                let s = clash.0 in
+                let t = clash.1 in
+                clash.6 (agrees s t (Contains-append_left xs ys s ((first.0.same s).0 clash.2)) (Contains-append_right xs ys t ((second.0.same t).0 clash.3)) (clash.4 ∙ sym clash.5))
+          ]
+    ]
+
+-- gatherings of sets with the same members are alike, where the profiles of the one are those of the other
+alike : (g h : Gathering) → ((p : Profile) → IsBy p g → IsBy p h) → ((p : Profile) → IsBy p h → IsBy p g) → HaveSameMembers (set_of g) (set_of h) → AreAlike g h
+alike g h to from members = (
+  λ a b first second.
+      let of_a = gives_ledger g a first in
+      let of_b = gives_ledger h b second in
+      let even : a.profile ≡ b.profile = by_one h a.profile b.profile (to a.profile of_a.2) of_b.2 in
+      ledger_once b.profile (set_of g) (set_of h) a b (subst (λ p. IsLedgerOf p (set_of g) a) even of_a.0) of_b.0 members,
+  λ a first refused.
+      let of_a = gives_ledger g a first in
+      refuses_for_cause h a.profile (agrees_within (set_of g) (set_of h) (λ s. (members s).1) of_a.1) (to a.profile of_a.2) refused,
+  λ b second refused.
+      let of_b = gives_ledger h b second in
+      refuses_for_cause g b.profile (agrees_within (set_of h) (set_of g) (λ s. (members s).0) of_b.1) (from b.profile of_b.2) refused,
+)
+
+turned : {X : Type 0} (xs ys : List X) (x : X) → Contains (xs ++ ys) x → Contains (ys ++ xs) x
+turned xs ys x found = elim (Contains-append_cases xs ys x found) [
+  | inl first ↦ Contains-append_right ys xs x first
+  | inr second ↦ Contains-append_left ys xs x second
+]
+
+pub joining_commutes : JoiningCommutes
+unfolding IsBy set_of
+joining_commutes = λ g h. alike (Joined g h) (Joined h g) (λ p by. (by.1, by.0)) (λ p by. (by.1, by.0))
+    (λ s. (turned (set_of g) (set_of h) s, turned (set_of h) (set_of g) s))
+
+pub joining_associates : JoiningAssociates
+unfolding IsBy set_of
+joining_associates = λ g h k.
+    let regrouped : (set_of g ++ set_of h) ++ set_of k ≡ set_of g ++ (set_of h ++ set_of k) = append_assoc (set_of g) (set_of h) (set_of k) in
+    alike (Joined (Joined g h) k) (Joined g (Joined h k)) (λ p by. (by.0.0, (by.0.1, by.1))) (λ p by. ((by.0, by.1.0), by.1.1))
+    (λ s. (subst (λ zs. Contains zs s) regrouped, subst (λ zs. Contains zs s) (sym regrouped)))
+
+pub joining_repeats : JoiningRepeats
+unfolding IsBy set_of
+joining_repeats = λ g. alike (Joined g g) g (λ p by. by.0) (λ p by. (by, by))
+    (λ s. (
+      λ found. elim (Contains-append_cases (set_of g) (set_of g) s found) [ inl first ↦ first | inr second ↦ second ],
+      λ found. Contains-append_left (set_of g) (set_of g) s found,
+    ))
+
+pub set_counts : OnlyTheSetCounts
+set_counts = λ g h profile by_g by_h members.
+    alike g h (λ p by. subst (λ q. IsBy q h) (by_one g profile p by_g by) by_h) (λ p by. subst (λ q. IsBy q g) (by_one h profile p by_h by) by_g) members
+
+pub equal_sets : EqualSetsHaveOneLedger
+equal_sets = λ profile xs ys a b of_a of_b members.
+    let same : a ≡ b = ledger_once profile xs ys a b of_a of_b members in
+    (same, ap (λ (l : LedgerValue). report_of l.sections) same, ap text_of_ledger same)

@@ -1,0 +1,86 @@
+-- A set has one ledger by a profile.
+use Rattle.std.proofs.Common.{◌≡◌, ℕ, List, [], ◌∷◌, length, refl, sym, ◌∙◌, ap, subst, arith, inl, inr, get_or, suc}
+use Rattle.std.specs.Prelude.{◌⊎◌, ◌↔◌, Contains}
+use Rattle.std.specs.List.{All}
+use Rattle.std.proofs.lemmas.List.Elements.{All-contains}
+use Rattle.pmf_event.specs.declared.profile.Profile.{Profile}
+use Rattle.pmf_event.specs.Section.{Trace}
+use Rattle.pmf_verdict.specs.Checked.{Checked, checked_by}
+use Rattle.pmf_ledger.specs.Gathered.{Holds, IsLedgerOf}
+use Rattle.pmf_ledger.specs.Gathering.{Agrees, HaveSameMembers}
+use Rattle.pmf_ledger.specs.LedgerValue.{LedgerValue}
+use Rattle.pmf_ledger.specs.Names.{ComesBefore, IsBefore, Rises}
+use Rattle.pmf_ledger.proofs.lemmas.AddingLemmas.{Contains-cons, Contains-cons_cases}
+use Rattle.pmf_ledger.proofs.lemmas.JoiningLemmas.{Holds-section}
+use Rattle.pmf_ledger.proofs.lemmas.MergingLemmas.{none_of_empty}
+use Rattle.pmf_ledger.proofs.lemmas.NameLemmas.{before-itself, before-trans}
+use Rattle.pmf_ledger.proofs.lemmas.StandingLemmas.{held-once}
+
+-- behind the first of a rising list the names rise
+Rises-rest : (x : Checked) (xs : List Checked) → Rises (x ∷ xs) → Rises xs
+Rises-rest x xs rises = λ i j d less inside. rises (suc i) (suc j) d (omega (arith, less)) (omega (arith, inside))
+
+-- and all of them come after it
+Rises-first : (x : Checked) (xs : List Checked) → Rises (x ∷ xs) → (c : Checked) → Contains xs c → ComesBefore x c
+Rises-first x xs rises c found = subst (ComesBefore x) found.2 (rises 0 (suc found.0) c (omega arith) (let inside = found.1 in omega (arith, inside)))
+
+here : (x : Checked) (xs : List Checked) → Contains (x ∷ xs) x
+here x xs = Contains-cons x x xs (inl refl)
+
+behind : (c x : Checked) (xs : List Checked) → Contains xs c → Contains (x ∷ xs) c
+behind c x xs found = Contains-cons c x xs (inr found)
+
+-- two rising lists with the same members have the same first
+first_same : (x y : Checked) (xs ys : List Checked) → Rises (x ∷ xs) → Rises (y ∷ ys) → Contains (y ∷ ys) x → Contains (x ∷ xs) y → x ≡ y
+first_same x y xs ys first second has_x has_y = elim (Contains-cons_cases x y ys has_x) [
+  | inl same ↦ same
+  | inr later ↦ elim (Contains-cons_cases y x xs has_y) [
+    | inl same ↦ sym same
+    | inr after ↦ absurd (before-itself x.section.name (before-trans x.section.name y.section.name x.section.name (Rises-first x xs first y after) (Rises-first y ys second x later)))
+  ]
+]
+
+-- what the one has behind its first the other has behind it too
+rest_has : (x : Checked) (xs ys : List Checked) → Rises (x ∷ xs) → ((c : Checked) → Contains (x ∷ xs) c → Contains (x ∷ ys) c) → (c : Checked) → Contains xs c → Contains ys c
+rest_has x xs ys rises has c found = elim (Contains-cons_cases c x ys (has c (behind c x xs found))) [
+  | inl same ↦ absurd (before-itself x.section.name (subst (ComesBefore x) same (Rises-first x xs rises c found)))
+  | inr later ↦ later
+]
+
+-- rising lists with the same members are one
+pub rising_once : (xs ys : List Checked) → Rises xs → Rises ys → ((c : Checked) → Contains xs c → Contains ys c) → ((c : Checked) → Contains ys c → Contains xs c) → xs ≡ ys
+rising_once [] [] first second to from = refl
+rising_once [] (y ∷ ys) first second to from = absurd (none_of_empty [] y refl (from y (here y ys)))
+rising_once (x ∷ xs) [] first second to from = absurd (none_of_empty [] x refl (to x (here x xs)))
+rising_once (x ∷ xs) (y ∷ ys) first second to from =
+    let same : x ≡ y = first_same x y xs ys first second (to x (here x xs)) (from y (here y ys)) in
+    let to_x : (c : Checked) → Contains (x ∷ xs) c → Contains (x ∷ ys) c = λ c found. subst (λ z. Contains (z ∷ ys) c) (sym same) (to c found) in
+    let from_x : (c : Checked) → Contains (x ∷ ys) c → Contains (x ∷ xs) c = λ c found. from c (subst (λ z. Contains (z ∷ ys) c) same found) in
+    let second_x : Rises (x ∷ ys) = subst (λ z. Rises (z ∷ ys)) (sym same) second in
+    ap (λ z. z ∷ xs) same ∙ ap (λ zs. y ∷ zs) (rising_once xs ys (Rises-rest x xs first) (Rises-rest x ys second_x) (rest_has x xs ys first to_x) (rest_has x ys xs second_x from_x))
+
+-- what the one ledger lists the other lists
+module _ (profile : Profile) (xs ys : List Trace) (a b : LedgerValue) (of_a : IsLedgerOf profile xs a) (of_b : IsLedgerOf profile ys b) (members : (s : Trace) → Contains xs s → Contains ys s) where
+  lists_too : (c : Checked) → Contains a.sections c → Contains b.sections c
+  lists_too c found =
+      let by : c.profile ≡ profile = All-contains (λ (d : Checked). d.profile ≡ profile) a.sections c of_a.checked found in
+      let by_a : c.profile ≡ a.profile = by ∙ sym of_a.profile_is in
+      let by_b : b.profile ≡ c.profile = of_b.profile_is ∙ sym by in
+      let held : Holds a c.section = subst (λ p. Contains a.sections (checked_by p c.section)) by_a found in
+      subst (λ p. Contains b.sections (checked_by p c.section)) by_b ((of_b.same c.section).1 (members c.section ((of_a.same c.section).0 held)))
+
+abbrev ledger_value : Profile → List Checked → LedgerValue
+ledger_value profile sections = record { profile = profile; sections = sections }
+
+-- sets with the same members have one ledger
+pub ledger_once : (profile : Profile) (xs ys : List Trace) (a b : LedgerValue) → IsLedgerOf profile xs a → IsLedgerOf profile ys b → HaveSameMembers xs ys → a ≡ b
+ledger_once profile xs ys a b of_a of_b members =
+    let sections : a.sections ≡ b.sections = rising_once a.sections b.sections of_a.rises of_b.rises
+    (lists_too profile xs ys a b of_a of_b (λ s. (members s).0)) (lists_too profile ys xs b a of_b of_a (λ s. (members s).1)) in
+    ap (λ p. ledger_value p a.sections) (of_a.profile_is ∙ sym of_b.profile_is) ∙ ap (ledger_value b.profile) sections
+
+-- a set that has a ledger agrees
+pub Agrees-ledger : (profile : Profile) (set : List Trace) (ledger : LedgerValue) → IsLedgerOf profile set ledger → Agrees set
+Agrees-ledger profile set ledger of_set = λ s t has_s has_t same.
+    ap (λ (c : Checked). c.section)
+    (held-once ledger.sections of_set.rises (checked_by ledger.profile s) (checked_by ledger.profile t) ((of_set.same s).1 has_s) ((of_set.same t).1 has_t) same)

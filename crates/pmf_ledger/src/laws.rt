@@ -1,0 +1,44 @@
+//! Laws of gatherings and of their ledgers, each the clause of an empty function.
+
+ghost use Rattle.pmf_ledger.specs.Gathering.{GivesItsLedger, JoiningAssociates, JoiningCommutes, JoiningRepeats, OnlyTheSetCounts, RefusesForCause};
+ghost use Rattle.pmf_ledger.specs.Laws.{EqualSetsHaveOneLedger};
+
+/// Whatever ledger a gathering gives, in whatever order it took and joined, it is the ledger of the set that
+/// was gathered: each of its sections once, in the order of their names. That set agrees, and all is by one
+/// profile.
+pub fn gatherings_give_the_ledger_of_their_set()
+    ensures { GivesItsLedger }
+{}
+
+/// A gathering by one profile whose set agrees is refused at no step, want of memory aside.
+pub fn gatherings_are_refused_for_cause_alone()
+    ensures { RefusesForCause }
+{}
+
+/// Joined the one way or the other, two gatherings give one ledger, and neither way is refused where the
+/// other gives one.
+pub fn joining_commutes()
+    ensures { JoiningCommutes }
+{}
+
+/// Three gatherings give one ledger in whichever order the two joins are made, and neither order is refused
+/// where the other gives one.
+pub fn joining_associates()
+    ensures { JoiningAssociates }
+{}
+
+/// A gathering that is joined with itself gives what it gave, and is not refused where it gave a ledger.
+pub fn joining_again_changes_nothing()
+    ensures { JoiningRepeats }
+{}
+
+/// Two gatherings by one profile, of sets with the same members, give one ledger, and neither is refused
+/// where the other gives one: orders, repeats and joins leave no trace.
+pub fn only_the_set_counts()
+    ensures { OnlyTheSetCounts }
+{}
+
+/// Sets with the same members have one ledger by a profile, and so one report and one ledger text.
+pub fn equal_sets_have_one_ledger()
+    ensures { EqualSetsHaveOneLedger }
+{}
