@@ -8,6 +8,8 @@ use std::process::Abort;
 use std::sync::Arc;
 use std::test::Fail;
 
+mod joining;
+
 fn name(run: u64, number: u64) -> Name {
     Name { run, number }
 }
@@ -18,6 +20,10 @@ fn verdict(alloc: Global, name: Name, fences: usize, profile: Profile) -> Result
     for _ in 0..fences {
         section.push(Event::Fence)?;
     }
+    verdict_of(alloc, section, profile)
+}
+
+fn verdict_of(alloc: Global, section: Section, profile: Profile) -> Result<Verdict, Fail> {
     match check(alloc, Arc::new(alloc, section)?, profile) {
         Ok(verdict) => Ok(verdict),
         Err((fault, _)) => Err(fault.into()),
