@@ -8,7 +8,7 @@ use Rattle.pmf_event.specs.declared.profile.Profile.{Profile}
 use Rattle.pmf_event.specs.declared.profile.Profile.TheVariants.{One, Two}
 use Rattle.pmf_event.specs.Section.{Trace}
 use Rattle.pmf_verdict.specs.Checked.{Checked, checked_by}
-use Rattle.pmf_verdict.specs.Report.{report_of}
+use Rattle.pmf_ledger.specs.Report.{report_of}
 use Rattle.pmf_ledger.specs.Gathered.{ClashesAt, Gathers, GathersBoth, Holds, HoldsOther, IsLedgerOf}
 use Rattle.pmf_ledger.specs.Gathering.{Agrees, AreAlike, Begun, Gathering, Gives, GivesItsLedger, HaveSameMembers, IsBy, IsRefused, Joined, JoiningAssociates, JoiningCommutes, JoiningRepeats, OnlyTheSetCounts, RefusesForCause, RefusesJoin, RefusesVerdict, WithVerdict, set_of}
 use Rattle.pmf_ledger.specs.Laws.{EqualSetsHaveOneLedger}
