@@ -5,9 +5,16 @@ use Rattle.clap.specs.declared.error.kind.ErrorKind.TheVariants.{DisplayHelp, Di
 use Rattle.pmf_storelog.specs.declared.fault.Cause.{Cause}
 use Rattle.pmf_storelog.specs.declared.fault.Cause.TheVariants as log
 use Rattle.pmf_storelog.specs.declared.fault.LogFault.{LogFault}
+use Rattle.pmf_ledger.specs.declared.joining.JoinFault.{JoinFault}
+use Rattle.pmf_ledger.specs.declared.joining.JoinFault.TheVariants as joining
+use Rattle.pmf_ledger.specs.declared.loading.LedgerFault.{LedgerFault}
+use Rattle.pmf_ledger.specs.declared.loading.LedgerFault.TheVariants as loading
 use Rattle.pmf_stream.specs.declared.checking.Done.{Done}
 use Rattle.pmf_stream.specs.declared.explaining.ExplainFault.{ExplainFault}
 use Rattle.pmf_stream.specs.declared.explaining.ExplainFault.TheVariants as explaining
+use Rattle.pmf_stream.specs.declared.joining.Joined.{Joined}
+use Rattle.pmf_stream.specs.declared.joining.JoinTextFault.{JoinTextFault}
+use Rattle.pmf_stream.specs.declared.joining.JoinTextFault.TheVariants as texts
 use Rattle.pmf_stream.specs.declared.fault.StreamFault.{StreamFault}
 use Rattle.pmf_stream.specs.declared.fault.StreamFault.TheVariants as stream
 use Rattle.pmf_command.specs.declared.status.Status.{Status}
@@ -56,6 +63,27 @@ status_of_refusal (explaining.Log fault) = status_of_log_fault fault
 status_of_refusal (explaining.NoSection run section) = Refused
 status_of_refusal (explaining.NoEvent run section event) = Refused
 status_of_refusal explaining.OutOfMemory = NoMemory
+
+-- how the program ends where ledgers are joined
+abbrev pub status_of_joined : Joined → Status
+status_of_joined joined = if joined.fails == 0 then NoFail else SomeFail
+
+-- how the program ends where a ledger text is refused
+abbrev pub status_of_ledger_fault : LedgerFault → Status
+status_of_ledger_fault (loading.Log fault) = status_of_log_fault fault
+status_of_ledger_fault loading.OutOfMemory = NoMemory
+status_of_ledger_fault _ = Refused
+
+-- how the program ends where two ledgers are not joined
+abbrev pub status_of_join_fault : JoinFault → Status
+status_of_join_fault joining.OutOfMemory = NoMemory
+status_of_join_fault _ = Refused
+
+-- how the program ends where the texts of ledgers are not joined
+abbrev pub status_of_text_fault : JoinTextFault → Status
+status_of_text_fault (texts.Load index fault) = status_of_ledger_fault fault
+status_of_text_fault (texts.Join fault) = status_of_join_fault fault
+status_of_text_fault texts.OutOfMemory = NoMemory
 
 -- how the program ends where the stream is not answered, from how it ends after a refusal
 abbrev pub status_of_fault : {E : Type 0} → (E → Status) → StreamFault E → Status

@@ -11,20 +11,21 @@ ghost use Rattle.pmf_stream.specs.Failures.{CanCountOneMore};
 ghost use Rattle.pmf_stream.specs.declared.checking.Done.{Done};
 ghost use Rattle.pmf_stream.specs.declared.explaining.ExplainFault.{ExplainFault};
 ghost use Rattle.pmf_stream.specs.declared.fault.StreamFault.{StreamFault};
-ghost use Rattle.pmf_command.specs.Statuses.{IsAnswerTo, status_of, status_of_asked, status_of_done, status_of_log_fault, status_of_refusal};
+ghost use Rattle.pmf_command.specs.Statuses.{IsAnswerTo, status_of, status_of_asked, status_of_done, status_of_joined, status_of_log_fault, status_of_refusal, status_of_text_fault};
 
-use crate::diagnostics::{fail, out_of_memory, refuse_words, say_skipped};
+use crate::diagnostics::{fail, fail_file, out_of_memory, refuse_words, say_skipped};
 use crate::ending::Ending;
-use crate::request::{Request, request_of};
+use crate::request::{Files, Request, request_of};
 use crate::status::Status;
+use pmf_ledger::LEDGER_LIMIT;
 use pmf_stream::{
-    Question, Settings, Sink, Source, StdSink, StdSource, StreamFault, check_stream,
-    explain_stream, write_text,
+    JoinTextFault, Joined, Question, Settings, Sink, Source, StdSink, StdSource, StreamFault,
+    check_stream, explain_stream, join_to, read_all, write_text,
 };
 use std::alloc::Global;
 use std::fmt::Display;
 use std::io::{Eprint, ErrorKind, Input, Print};
-use std::{env, io};
+use std::{env, fs, io};
 
 /// Does what the words of the command line ask for.
 pub fn run(rt: &HostRuntime) -> Status {
@@ -37,6 +38,7 @@ pub fn run(rt: &HostRuntime) -> Status {
     match request_of(alloc, words.as_slice()) {
         Ok(Request::Check(settings)) => run_check(rt, settings),
         Ok(Request::Explain(question)) => run_explain(rt, question),
+        Ok(Request::Join(files)) => run_join(rt, &files),
         Err(error) => answer(rt, alloc, &error),
     }
 }
@@ -120,6 +122,54 @@ fn explain_to<R: Eprint, S: Source, W: Sink>(
         (W.failed_calls sink.old) (W.failed_calls sink.new) sink.old sink.new answer }
 {
     let answer = explain_stream(alloc, source, sink, question);
+    tell(rt, answer)
+}
+
+/// Joins the ledgers of the files, which are read whole before any is loaded, and writes the report of all to
+/// standard output.
+fn run_join(rt: &HostRuntime, files: &Files) -> Status {
+    let alloc = rt.alloc();
+    let mut texts = Vec::new(alloc);
+    for name in files.names.iter() {
+        let text = match read_file(rt, *name) {
+            Ok(text) => text,
+            Err(StreamFault::OutOfMemory) => return out_of_memory(rt),
+            Err(fault) => return fail_file(rt, *name, fault, Status::DeviceFault),
+        };
+        if texts.push(text).is_err() {
+            return out_of_memory(rt);
+        }
+    }
+    let mut sink = StdSink::new(io::writer(rt));
+    let answer = join_to(alloc, &texts, &mut sink, files.ledger);
+    tell_joined(rt, &files.names, answer)
+}
+
+// The bytes of the file, at most one more than a ledger text may have.
+fn read_file(rt: &HostRuntime, name: &str) -> Result<Vec<u8>, StreamFault<JoinTextFault>> {
+    let file = match fs::open(rt, name) {
+        Ok(file) => file,
+        Err(error) if error.kind() == ErrorKind::OutOfMemory => {
+            return Err(StreamFault::OutOfMemory);
+        }
+        Err(_) => return Err(StreamFault::ReadFault),
+    };
+    read_all(rt.alloc(), &mut StdSource::new(file), LEDGER_LIMIT)
+}
+
+/// Says on standard error why the texts of these files are not joined, if they are not, and how the program ends.
+fn tell_joined<R: Eprint>(
+    rt: &R,
+    names: &[&str],
+    answer: Result<Joined, StreamFault<JoinTextFault>>,
+) -> Status
+    ensures { result ≡ status_of status_of_joined status_of_text_fault answer }
+{
+    if let Err(StreamFault::Refused(JoinTextFault::Load { index, fault })) = &answer {
+        if let Some(name) = names.get(*index) {
+            return fail_file(rt, *name, *fault, fault.status());
+        }
+    }
     tell(rt, answer)
 }
 

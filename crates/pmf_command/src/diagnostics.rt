@@ -15,6 +15,19 @@ pub fn fail<R: Eprint, D: Display + Drop>(rt: &R, cause: D, status: Status) -> S
     status
 }
 
+/// The same of one of the program's files.
+pub fn fail_file<R: Eprint, D: Display + Drop>(
+    rt: &R,
+    file: &str,
+    cause: D,
+    status: Status,
+) -> Status
+    ensures { result ≡ status }
+{
+    let _ = eprintln!(rt; "pmfarm: {file}: {cause}");
+    status
+}
+
 /// Says on standard error that memory ran out.
 pub fn out_of_memory<R: Eprint>(rt: &R) -> Status
     ensures { result ≡ Status.NoMemory }

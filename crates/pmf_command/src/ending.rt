@@ -1,12 +1,13 @@
 //! The status of each answer of a command.
 
 ghost use Rattle.std.specs.Prelude.{◌≡◌};
-ghost use Rattle.pmf_command.specs.Statuses.{status_of_asked, status_of_done, status_of_fault, status_of_log_fault, status_of_refusal};
+ghost use Rattle.pmf_command.specs.Statuses.{status_of_asked, status_of_done, status_of_fault, status_of_join_fault, status_of_joined, status_of_ledger_fault, status_of_log_fault, status_of_refusal, status_of_text_fault};
 ghost use Rattle.pmf_command.specs.declared.status.Status.{Status};
 
 use crate::status::Status;
+use pmf_ledger::{JoinFault, LedgerFault};
 use pmf_storelog::{Cause, LogFault};
-use pmf_stream::{Done, ExplainFault, StreamFault};
+use pmf_stream::{Done, ExplainFault, JoinTextFault, Joined, StreamFault};
 
 /// What a command did, or why it refused: the program ends as this says.
 pub trait Ending {
@@ -61,6 +62,59 @@ impl Ending for ExplainFault {
             ExplainFault::NoSection { .. } | ExplainFault::NoEvent { .. } => Status::Refused,
             ExplainFault::OutOfMemory => Status::NoMemory,
             ExplainFault::Log(fault) => fault.status(),
+        }
+    }
+}
+
+/// The ledgers were joined.
+impl Ending for Joined {
+    ghost ends_as = { status_of_joined };
+
+    fn status(&self) -> Status {
+        if self.fails == 0 {
+            Status::NoFail
+        } else {
+            Status::SomeFail
+        }
+    }
+}
+
+/// The text is no ledger's.
+impl Ending for LedgerFault {
+    ghost ends_as = { status_of_ledger_fault };
+
+    fn status(&self) -> Status {
+        match self {
+            LedgerFault::Log(fault) => fault.status(),
+            LedgerFault::OutOfMemory => Status::NoMemory,
+            LedgerFault::NotALedger { .. }
+            | LedgerFault::FalseRows { .. }
+            | LedgerFault::Conflict { .. } => Status::Refused,
+        }
+    }
+}
+
+/// The ledgers don't join.
+impl Ending for JoinFault {
+    ghost ends_as = { status_of_join_fault };
+
+    fn status(&self) -> Status {
+        match self {
+            JoinFault::OutOfMemory => Status::NoMemory,
+            JoinFault::ProfileMismatch | JoinFault::Conflict { .. } => Status::Refused,
+        }
+    }
+}
+
+/// The texts of ledgers are not joined.
+impl Ending for JoinTextFault {
+    ghost ends_as = { status_of_text_fault };
+
+    fn status(&self) -> Status {
+        match self {
+            JoinTextFault::Load { fault, .. } => fault.status(),
+            JoinTextFault::Join(fault) => fault.status(),
+            JoinTextFault::OutOfMemory => Status::NoMemory,
         }
     }
 }

@@ -1,6 +1,6 @@
 //! What the words of the command line ask for.
 
-use clap::{Arg, Command, Error, value_parser};
+use clap::{Arg, ArgAction, Command, Error, value_parser};
 use pmf_event::Profile;
 use pmf_stream::{Question, Settings};
 use std::alloc::Global;
@@ -13,6 +13,9 @@ Examples:
                                     a pair on one line is also ordered by its stores
   pmfarm explain --section 0 --event 6 < store.log
                                     what a crash can leave where event 6 fails
+  pmfarm check --ledger --run 7 < store.log > 7.ledger
+                                    the checked sections themselves, to be joined
+  pmfarm join 7.ledger 8.ledger     the report of both, each section once
 
 Exit status:
   0  no row of the report counts as fail, or the event was explained
@@ -21,20 +24,31 @@ Exit status:
   3  memory ran out
   4  a read or a write failed";
 
+/// Which ledgers are to be joined.
+#[derive(Debug, PartialEq, Drop)]
+pub struct Files<'a> {
+    /// The files of the ledgers, in the order of the words.
+    pub names: Vec<&'a str>,
+    /// Whether the ledger text is written in the place of the report.
+    pub ledger: bool,
+}
+
 /// What the words of a command line ask for.
-#[derive(Clone, Copy, Debug, PartialEq, Eq)]
-pub enum Request {
+#[derive(Debug, PartialEq, Drop)]
+pub enum Request<'a> {
     /// Check the log on standard input, and write its report to standard output.
     Check(Settings),
     /// Read the log on standard input, and write the explanation of one event to standard output.
     Explain(Question),
+    /// Join the ledgers of the files, and write the report of all to standard output.
+    Join(Files<'a>),
 }
 
 /// Reads the words, the first of which is the program's name. Help and the version come as errors
 /// of their own kind, and so does want of memory.
-pub fn request_of<'a>(alloc: Global, words: &'a [String]) -> Result<Request, Error> {
+pub fn request_of<'a>(alloc: Global, words: &'a [String]) -> Result<Request<'a>, Error> {
     let matches = program(alloc)?.try_get_matches_from(words)?;
-    // There are two commands, and the parser lets nothing pass without one.
+    // There are three commands, and the parser lets nothing pass without one.
     if let Some(explain) = matches.subcommand_matches("explain") {
         return Ok(Request::Explain(Question {
             run: explain.get_one::<u64>("run").unwrap_or(0),
@@ -43,14 +57,27 @@ pub fn request_of<'a>(alloc: Global, words: &'a [String]) -> Result<Request, Err
             event: explain.get_one::<u32>("event").unwrap_or(0),
         }));
     }
-    let (run, profile) = match matches.subcommand_matches("check") {
-        Some(check) => (
-            check.get_one::<u64>("run").unwrap_or(0),
-            profile_of(check.get_str("profile")),
-        ),
-        None => (0, Profile::One),
+    if let Some(join) = matches.subcommand_matches("join") {
+        let mut names = Vec::new(alloc);
+        names.extend_from_slice(join.get_strs("file").unwrap_or(&[]))?;
+        return Ok(Request::Join(Files {
+            names,
+            ledger: join.get_flag("ledger"),
+        }));
+    }
+    let settings = match matches.subcommand_matches("check") {
+        Some(check) => Settings {
+            run: check.get_one::<u64>("run").unwrap_or(0),
+            profile: profile_of(check.get_str("profile")),
+            ledger: check.get_flag("ledger"),
+        },
+        None => Settings {
+            run: 0,
+            profile: Profile::One,
+            ledger: false,
+        },
     };
-    Ok(Request::Check(Settings { run, profile }))
+    Ok(Request::Check(settings))
 }
 
 // The parser lets `1` and `2` pass alone.
@@ -69,7 +96,8 @@ fn program<'a>(alloc: Global) -> Result<Command<'a>, Error> {
         .after_help(AFTER_HELP)
         .subcommand_required(true)
         .subcommand(check(alloc)?)?
-        .subcommand(explain(alloc)?)?;
+        .subcommand(explain(alloc)?)?
+        .subcommand(join(alloc)?)?;
     Ok(program)
 }
 
@@ -92,12 +120,21 @@ fn profile<'a>(alloc: Global) -> Arg<'a> {
         .help("The rule for two bytes of one cache line")
 }
 
+// The flag that `check` and `join` take.
+fn ledger<'a>(alloc: Global) -> Arg<'a> {
+    Arg::new(alloc, "ledger")
+        .long("ledger")
+        .action(ArgAction::SetTrue)
+        .help("Write the ledger text instead of the report")
+}
+
 fn check<'a>(alloc: Global) -> Result<Command<'a>, Error> {
     let check = Command::new(alloc, "check")
         .about("Reads a log from standard input and writes its report to standard output")
         .after_help(AFTER_HELP)
         .arg(run(alloc))?
-        .arg(profile(alloc))?;
+        .arg(profile(alloc))?
+        .arg(ledger(alloc))?;
     Ok(check)
 }
 
@@ -122,4 +159,19 @@ fn explain<'a>(alloc: Global) -> Result<Command<'a>, Error> {
         .arg(run(alloc))?
         .arg(profile(alloc))?;
     Ok(explain)
+}
+
+fn join<'a>(alloc: Global) -> Result<Command<'a>, Error> {
+    let file = Arg::new(alloc, "file")
+        .value_name("FILE")
+        .action(ArgAction::Append)
+        .num_args(1..)
+        .required(true)
+        .help("A ledger, as `check --ledger` writes it");
+    let join = Command::new(alloc, "join")
+        .about("Checks ledgers again, joins them, and writes the report of all their sections")
+        .after_help(AFTER_HELP)
+        .arg(ledger(alloc))?
+        .arg(file)?;
+    Ok(join)
 }

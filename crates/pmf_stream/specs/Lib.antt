@@ -5,6 +5,7 @@ pub use Rattle.pmf_storelog.specs.LogText
 pub use Rattle.pmf_ledger.specs.Report
 pub use Rattle.pmf_ledger.specs.LedgerText
 pub use Rattle.pmf_ledger.specs.Gathered
+pub use Rattle.pmf_ledger.specs.Loading
 pub use Rattle.pmf_verdict.specs.Outcome
 pub use Rattle.pmf_verdict.specs.Explained
 pub use Rattle.pmf_verdict.specs.Text
@@ -15,3 +16,4 @@ pub mod Answering
 pub mod Checking
 pub mod Explanation
 pub mod Asking
+pub mod Joining

@@ -94,7 +94,7 @@ impl Intake for Vec<u8> {
 /// Reads the stream to its end, or to one byte past the limit, and keeps what it read.
 ///
 /// Takes memory for the bytes that it reads.
-pub(crate) fn read_all<R: Source, E: Drop>(
+pub fn read_all<R: Source, E: Drop>(
     alloc: Global,
     reader: &mut R,
     limit: usize,

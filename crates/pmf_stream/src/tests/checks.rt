@@ -16,6 +16,7 @@ use std::process::Abort;
 pub const RUN: Settings = Settings {
     run: 0,
     profile: Profile::One,
+    ledger: false,
 };
 
 pub fn done(skipped: u64, fails: u128) -> Result<Done, StreamFault<LogFault>> {

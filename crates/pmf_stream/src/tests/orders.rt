@@ -23,7 +23,11 @@ pub(super) fn reports(
         "section 0.0 {header} {counts}\n{rows}total sections=1 {counts}\n"
     );
     assert_eq!(rt; written, Ok(()), "the report of {log}");
-    let settings = Settings { run: 0, profile };
+    let settings = Settings {
+        run: 0,
+        profile,
+        ledger: false,
+    };
     checks_log(rt, alloc, log, settings, done(0, fails), want.as_bytes());
 }
 

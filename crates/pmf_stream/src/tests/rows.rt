@@ -246,6 +246,7 @@ total sections=1 pass=0 fail=0 warn=0 empty=0
         let settings = Settings {
             run,
             profile: Profile::One,
+            ledger: false,
         };
         checks_log(
             &rt,
@@ -256,4 +257,71 @@ total sections=1 pass=0 fail=0 warn=0 empty=0
             report.as_bytes(),
         );
     }
+}
+
+#[test]
+fn the_ledger_text_has_each_section_its_events_and_its_rows(rt: HostRuntime) {
+    let log = "FENCE|PMT.SECTION;1|STORE;4096;1;8|FLUSH;0x1000;64|FENCE|PMT.PERSIST;0x1000;0x8";
+    for (profile, text) in [
+        (Profile::One, "PMFARM-LEDGER 1\n"),
+        (Profile::Two, "PMFARM-LEDGER 2\n"),
+    ] {
+        let mut want = String::new(rt.alloc());
+        let written = write!(
+            want,
+            "{text}\
+section 9.0 events=1 rows=0
+FENCE
+section 9.1 events=4 rows=1
+STORE;0x1000;0x0;0x8
+FLUSH;0x1000;0x40
+FENCE
+PMT.PERSIST;0x1000;0x8
+4 PERSIST PASS
+end verdicts=2
+"
+        );
+        assert_eq!(rt; written, Ok(()));
+        let settings = Settings {
+            run: 9,
+            profile,
+            ledger: true,
+        };
+        checks_log(
+            &rt,
+            rt.alloc(),
+            log,
+            settings,
+            done(0, 0),
+            want.as_bytes(),
+        );
+    }
+}
+
+#[test]
+fn the_ledger_text_counts_failures_as_the_report_does(rt: HostRuntime) {
+    let log = "STORE;0x1000;1;8|PMT.PERSIST;0x1000;8|REGISTER_FILE;x";
+    let text = "\
+PMFARM-LEDGER 1
+section 0.0 events=2 rows=1
+STORE;0x1000;0x0;0x8
+PMT.PERSIST;0x1000;0x8
+2 PERSIST FAIL byte=0x1000 crash=2
+end verdicts=1
+";
+    let settings = Settings {
+        run: 0,
+        profile: Profile::One,
+        ledger: true,
+    };
+    checks_log(
+        &rt,
+        rt.alloc(),
+        log,
+        settings,
+        done(1, 1),
+        text.as_bytes(),
+    );
+    let none = "PMFARM-LEDGER 1\nend verdicts=0\n";
+    checks_log(&rt, rt.alloc(), "", settings, done(0, 0), none.as_bytes());
 }

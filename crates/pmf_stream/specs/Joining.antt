@@ -1,0 +1,57 @@
+-- What the texts of ledgers give that are joined, text after text. Defined here.
+use Rattle.std.specs.Prelude.{◌≡◌, ◌≢◌, ℕ, ◌<◌, ◌≤◌, Bool, List, [], length, take, slice_index_or, None}
+use Rattle.std.specs.List.{All, flat_map}
+use Rattle.pmf_event.specs.declared.profile.Profile.{Profile}
+use Rattle.pmf_event.specs.declared.profile.Profile.TheVariants.{One}
+use Rattle.pmf_event.specs.Section.{Trace}
+use Rattle.pmf_ledger.specs.declared.joining.JoinFault.{JoinFault}
+use Rattle.pmf_ledger.specs.declared.joining.JoinFault.TheVariants as join
+use Rattle.pmf_ledger.specs.declared.loading.LedgerFault.{LedgerFault}
+use Rattle.pmf_ledger.specs.Gathered.{IsLeastClash, IsLedgerOf}
+use Rattle.pmf_ledger.specs.LedgerValue.{LedgerValue}
+use Rattle.pmf_ledger.specs.Loading.{IsRefusedWith, LoadsAs, fault_of, reading_of}
+use Rattle.pmf_ledger.specs.Report.{totals_of}
+use Rattle.pmf_stream.specs.declared.joining.Joined.{Joined}
+use Rattle.pmf_stream.specs.declared.joining.JoinTextFault.{JoinTextFault}
+use Rattle.pmf_stream.specs.declared.joining.JoinTextFault.TheVariants as fault
+use Rattle.pmf_stream.specs.Checking.{text_asked}
+
+-- the sections of a text's blocks
+unfoldable pub blocks_of : List ℕ → List Trace
+blocks_of text = (reading_of text).blocks
+
+-- the text is that of a ledger by the profile
+unfoldable pub IsOfProfile : Profile → List ℕ → Type 0
+IsOfProfile profile text = (fault_of text ≡ None) × ((reading_of text).profile ≡ profile)
+
+-- the ledger is that of the sections of all texts, which are by one profile; of no text it is by profile One
+pub record IsJoinOf (texts : List (List ℕ)) (ledger : LedgerValue) : Type 0 where
+  pub by_one : All (IsOfProfile ledger.profile) texts
+  pub gathered : IsLedgerOf ledger.profile (flat_map blocks_of texts) ledger
+  pub of_none : texts ≡ [] → ledger.profile ≡ One
+
+-- the texts before the one of this index are joined to this ledger
+pub record IsReached (texts : List (List ℕ)) (index : ℕ) (before : LedgerValue) : Type 0 where
+  pub within : index < length texts
+  pub joined : IsJoinOf (take index texts) before
+
+-- two ledgers are not joined for this reason
+abbrev pub IsJoinFaultOf : LedgerValue → LedgerValue → JoinFault → Type 0
+IsJoinFaultOf a b join.ProfileMismatch = a.profile ≢ b.profile
+IsJoinFaultOf a b (join.Conflict name) = (a.profile ≡ b.profile) × IsLeastClash a b name
+IsJoinFaultOf a b join.OutOfMemory = Unit {0}
+
+-- the texts are refused with this fault, text after text, want of memory aside: those before the one of this index are
+-- joined, and it is refused itself, or its ledger doesn't join theirs
+abbrev pub IsFirstRefusal : List (List ℕ) → JoinTextFault → Type 0
+IsFirstRefusal texts (fault.Load index found) =
+    (before : LedgerValue) × IsReached texts index before × IsRefusedWith (slice_index_or texts index []) found
+IsFirstRefusal texts (fault.Join found) =
+    (index : ℕ) × (before : LedgerValue) × (after : LedgerValue) × (1 ≤ index) × IsReached texts index before
+    × LoadsAs (slice_index_or texts index []) after × IsJoinFaultOf before after found
+IsFirstRefusal texts fault.OutOfMemory = Unit {0}
+
+-- this text is written of the texts' ledger, and what is told of it is so
+abbrev pub IsJoinedText : Bool → List (List ℕ) → Joined → List ℕ → Type 0
+IsJoinedText as_ledger texts joined text =
+    (ledger : LedgerValue) × IsJoinOf texts ledger × (text ≡ text_asked as_ledger ledger) × (joined.fails ≡ (totals_of ledger.sections).fail)

@@ -1,0 +1,115 @@
+//! From the texts of ledgers to the text of the ledger of them all.
+
+ghost use Rattle.std.specs.Prelude.{◌≡◌, ◌+◌, map, IfOk, IfErr, MatchResult};
+ghost use Rattle.pmf_stream.specs.Answering.{Answers, TellsFaults};
+ghost use Rattle.pmf_stream.specs.Failures.{CanCountOneMore};
+ghost use Rattle.pmf_stream.specs.Joining.{IsFirstRefusal, IsJoinOf, IsJoinedText};
+
+use crate::checking::write_asked;
+use crate::fault::StreamFault;
+use crate::sink::Sink;
+use crate::writing::write_answer;
+use pmf_event::Profile;
+use pmf_ledger::{JoinFault, Ledger, LedgerFault, load_ledger};
+use pmf_storelog::{Cause, LogFault};
+use std::alloc::Global;
+use thiserror::Error;
+
+/// What is told of the ledger texts that were joined.
+#[derive(Clone, Copy, Debug, PartialEq, Eq)]
+pub struct Joined {
+    /// How many rows of the report count as fail.
+    pub fails: u128,
+}
+
+/// Why ledger texts were not joined: the first that applies as they are loaded and joined, text after text.
+#[derive(Clone, Copy, Debug, PartialEq, Eq, Error)]
+pub enum JoinTextFault {
+    /// The text of this index is refused.
+    #[error("{fault}")]
+    Load { index: usize, fault: LedgerFault },
+    /// The ledger of a text doesn't join that of the texts before it.
+    #[error("{0}")]
+    Join(JoinFault),
+    /// Room for a ledger was refused.
+    #[error("out of memory")]
+    OutOfMemory,
+}
+
+// Why the text of this index was not loaded.
+fn fault_at(index: usize, fault: LedgerFault) -> JoinTextFault {
+    match fault {
+        LedgerFault::OutOfMemory => JoinTextFault::OutOfMemory,
+        LedgerFault::Log(LogFault {
+            cause: Cause::OutOfMemory,
+            ..
+        }) => JoinTextFault::OutOfMemory,
+        fault => JoinTextFault::Load { index, fault },
+    }
+}
+
+/// The ledger of the sections of all texts. They are loaded and joined text after text, and the first refusal
+/// decides: a text that is no ledger's, or one whose ledger doesn't join that of those before it. Of no text it is
+/// the empty ledger of profile One.
+///
+/// Takes memory for the sections and their verdicts, and while two ledgers are joined for a list of both.
+pub fn join_texts(alloc: Global, texts: &[Vec<u8>]) -> Result<Ledger, JoinTextFault>
+    ensures { MatchResult result (IsJoinOf (map (λ text. text.items) texts.now))
+        (IsFirstRefusal (map (λ text. text.items) texts.now)) }
+{
+    let mut joined = Ledger::new(alloc, Profile::One);
+    for (index, text) in texts.iter().enumerate() {
+        joined = join_text(alloc, joined, index, text)?;
+    }
+    Ok(joined)
+}
+
+// The ledger of the texts before this one, joined with its own; the first begins.
+fn join_text(
+    alloc: Global,
+    before: Ledger,
+    index: usize,
+    text: &[u8],
+) -> Result<Ledger, JoinTextFault>
+{
+    let ledger = match load_ledger(alloc, text) {
+        Ok(ledger) => ledger,
+        Err(fault) => return Err(fault_at(index, fault)),
+    };
+    if index == 0 {
+        return Ok(ledger);
+    }
+    match before.join(ledger) {
+        Ok(joined) => Ok(joined),
+        Err((JoinFault::OutOfMemory, _, _)) => Err(JoinTextFault::OutOfMemory),
+        Err((fault, _, _)) => Err(JoinTextFault::Join(fault)),
+    }
+}
+
+/// Joins the texts of ledgers and writes the report of their ledger, or its text. Nothing is written before all texts
+/// are joined.
+///
+/// Refusals: [`StreamFault::Refused`] and [`StreamFault::OutOfMemory`], then [`StreamFault::WriteFault`]. Takes memory
+/// as [`join_texts`] does, and for the text.
+pub fn join_to<W: Sink>(
+    alloc: Global,
+    texts: &[Vec<u8>],
+    writer: &mut W,
+    as_ledger: bool,
+) -> Result<Joined, StreamFault<JoinTextFault>>
+    requires { CanCountOneMore (W.failed_calls writer.old) }
+    // Exactly the text of the texts' ledger was written, or they were refused.
+    ensures answer { Answers (IsJoinedText as_ledger (map (λ text. text.items) texts.now))
+        (IsFirstRefusal (map (λ text. text.items) texts.now))
+        (W.held writer.old) (W.held writer.new) result }
+    ensures faults { TellsFaults 0 0 (W.failed_calls writer.old) (W.failed_calls writer.new)
+        writer.old writer.new result }
+{
+    let ledger = match join_texts(alloc, texts) {
+        Ok(ledger) => ledger,
+        Err(JoinTextFault::OutOfMemory) => return Err(StreamFault::OutOfMemory),
+        Err(fault) => return Err(StreamFault::Refused(fault)),
+    };
+    let (text, fails) = write_asked(alloc, &ledger, as_ledger)?;
+    write_answer(writer, &text, Joined { fails })
+}
