@@ -9,6 +9,7 @@ pub mod TallyLemmas
 pub mod ProgressLemmas
 pub mod ReaderLemmas
 pub mod CallerLemmas
+pub mod EventLineLemmas
 pub mod CanonicalLemmas
 pub mod QuickLemmas
 pub mod LineLemmas

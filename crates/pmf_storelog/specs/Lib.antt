@@ -16,3 +16,4 @@ pub mod Progress
 pub mod Reader
 pub mod Canonical
 pub mod Spelling
+pub mod Lines

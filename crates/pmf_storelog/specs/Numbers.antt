@@ -1,6 +1,6 @@
 -- How a number is spelled in a log. Defined here.
-use Rattle.std.specs.Prelude.{ℕ, ◌^◌, Bool, nat_lt, nat_le, nat_eq, ◌&&◌, List, length, drop, Option, Some, None, if◌then◌else◌, codes}
-use Rattle.std.specs.List.{list_all, starts_with}
+use Rattle.std.specs.Prelude.{ℕ, ◌^◌, Bool, nat_lt, nat_le, nat_eq, ◌&&◌, List, length, take, drop, Option, Some, None, if◌then◌else◌, codes}
+use Rattle.std.specs.List.{list_all, prefix_len, starts_with}
 use Rattle.std.specs.Char.{digit_value}
 use Rattle.std.specs.Str.Parse.{digits_value}
 
@@ -23,3 +23,17 @@ numeral_of radix most text =
 unfoldable pub number_of : List ℕ → Option ℕ
 number_of text =
     if starts_with nat_eq text (codes "0x") then numeral_of 16 16 (drop 2 text) else numeral_of 10 20 text
+
+-- how many decimal digits the text begins with
+abbrev pub digits_in_front : List ℕ → ℕ
+digits_in_front text = prefix_len (is_digit_in 10) text
+
+-- a number with the text behind it
+abbrev pub number_before : List ℕ → Option ℕ → Option (ℕ × List ℕ)
+number_before rest None = None
+number_before rest (Some number) = Some (number, rest)
+
+-- the number that all decimal digits at the front of the text spell, and the text behind them
+unfoldable pub number_in_front : List ℕ → Option (ℕ × List ℕ)
+number_in_front text =
+    let k = digits_in_front text in number_before (drop k text) (numeral_of 10 20 (take k text))

@@ -18,6 +18,7 @@
 
 mod fault;
 mod fields;
+mod line;
 mod log;
 #[cfg(test)]
 mod marker_tests;
@@ -41,7 +42,9 @@ mod writing;
 mod writing_tests;
 
 pub use fault::{Cause, LOG_LIMIT, LogFault, SECTION_LIMIT};
+pub use line::{LineFault, read_event};
 pub use log::Log;
+pub use number::read_number_in_front;
 pub use reader::LogReader;
 pub use reading::read_log;
 pub use writing::{push_event, write_section};

@@ -1,6 +1,6 @@
-ghost use Rattle.std.specs.Prelude.{◌≡◌, ◌<◌, ◌≤◌};
+ghost use Rattle.std.specs.Prelude.{◌≡◌, ◌<◌, ◌≤◌, None, Some, MatchOption};
 ghost use Rattle.std.specs.Char.{digit_value};
-ghost use Rattle.pmf_storelog.specs.Numbers.{number_of, numeral_of};
+ghost use Rattle.pmf_storelog.specs.Numbers.{digits_in_front, number_in_front, number_of, numeral_of};
 
 /// The number that the text spells, or None where it spells none below 2^64.
 #[tactic(auto, unfolding(crate::specs::Numbers::number_of))]
@@ -12,6 +12,31 @@ pub(crate) fn read_number(text: &[u8]) -> Option<u64>
     } else {
         read_numeral(text, 10, 20)
     }
+}
+
+/// The number below 2^64 that the decimal digits at the front of the text spell, 1 to 20 and all that stand
+/// there, and the text behind them. None where they spell no such number. Takes no memory.
+#[tactic(auto, unfolding(crate::specs::Numbers::number_in_front))]
+pub fn read_number_in_front(text: &[u8]) -> Option<(u64, &[u8])>
+    ensures { MatchOption result (number_in_front text.now ≡ None)
+        (λ found. number_in_front text.now ≡ Some (found.0, found.1.now)) }
+{
+    let (digits, rest) = text.split_at(count_digits(text));
+    match read_numeral(digits, 10, 20) {
+        Some(number) => Some((number, rest)),
+        None => None,
+    }
+}
+
+// How many decimal digits the text begins with.
+fn count_digits(text: &[u8]) -> usize
+    ensures { result ≡ digits_in_front text.now }
+{
+    let mut count = 0;
+    while count < text.len() && digit_of(text[count]) < 10 {
+        count += 1;
+    }
+    count
 }
 
 // The number below 2^64 that 1 to `most` digits spell in this radix.
