@@ -1,12 +1,24 @@
--- Text lines that are one record, and what a canonical one reads as.
-use Rattle.std.proofs.Common.{◌≡◌, ℕ, ◌+◌, ◌<◌, ◌≤◌, true, false, List, ◌++◌, None, Some, length, All, refl, sym, ap, ◌∙◌, arith}
-use Rattle.std.specs.Prelude.{Ok, cond, nat_le}
-use Rattle.std.specs.List.{list_any}
+-- Text lines that are one record, and what an event's canonical text line reads as.
+use Rattle.std.proofs.Common.{◌≡◌, ℕ, ◌≤◌, true, false, List, [], ◌∷◌, ◌++◌, None, Some, Option, length, All, refl, sym, ◌∙◌, arith, length-append}
+use Rattle.std.specs.Prelude.{Ok, nat_le, codes}
+use Rattle.std.specs.Str.{bytes_eq}
+use Rattle.std.proofs.lemmas.Bool.{le-leb}
 use Rattle.std.proofs.lemmas.List.Folds.{list_any_none, list_any_at}
+use Rattle.std.proofs.lemmas.Slice.Eq.{bytes_eq-Decides}
 use Rattle.memchr.specs.Find.{IsFirstByte, is_byte3}
+use Rattle.pmf_event.specs.declared.event.Event.{Event}
 use Rattle.pmf_storelog.specs.declared.fault.TheConstants.{LOG_LIMIT}
+use Rattle.pmf_storelog.specs.declared.record.Saying.TheVariants.{Happens}
 use Rattle.pmf_storelog.specs.Separators.{is_separator}
-use Rattle.pmf_storelog.specs.Lines.{is_one_record}
+use Rattle.pmf_storelog.specs.Records.{fields_of, record_of, saying_of, saying_of_fields, section_of_fields, section_of_number}
+use Rattle.pmf_storelog.specs.Numbers.{number_of}
+use Rattle.pmf_storelog.specs.Canonical.{name_of, fields_of_event}
+use Rattle.pmf_storelog.specs.Lines.{is_one_record, names_a_section, names_a_section_first, event_of_record, event_of_line}
+use Rattle.pmf_storelog.specs.Spelling.{AllValid}
+use Rattle.pmf_storelog.proofs.LineLemmas.{IsPlain, trimmed-plain}
+use Rattle.pmf_storelog.proofs.PlainLemmas.{text_of_event, text_of_event-plain}
+use Rattle.pmf_storelog.proofs.RoundTripLemmas.{line-length}
+use Rattle.pmf_storelog.proofs.SpellingLemmas.{all_fit, record_of-event}
 use Rattle.pmf_storelog.proofs.SplitLemmas.{none_pass}
 
 -- what a search for a separator says of a text line
@@ -17,3 +29,57 @@ one_record-none line none = rw (list_any_none is_separator line (none_pass is_se
 pub one_record-some : (line : List ℕ) (k : ℕ) → IsFirstByte (is_byte3 124 10 13) line (Some k) → false ≡ is_one_record line
 unfolding is_one_record
 one_record-some line k found = rw (list_any_at is_separator line k 0 found.0.high found.1) refl
+
+-- a text line that is a record as it stands
+one_record-plain : (line : List ℕ) → IsPlain line → length line ≤ LOG_LIMIT → is_one_record line ≡ true
+unfolding is_one_record
+one_record-plain line plain short = rw (list_any_none is_separator line plain.whole, le-leb (length line) LOG_LIMIT short) refl
+
+-- a marker with any fields says no event
+number-no_event : (event : Event) (found : Option ℕ) → section_of_number found ≡ Ok (Happens event) → ⊥
+number-no_event event None says = cc
+number-no_event event (Some number) says = cc
+
+marker-no_event : (event : Event) (fields : List (List ℕ)) → section_of_fields fields ≡ Ok (Happens event) → ⊥
+unfolding section_of_fields
+marker-no_event event [] says = cc
+marker-no_event event (number ∷ fields) says = number-no_event event (number_of number) says
+
+marker-says : (name : List ℕ) (fields : List (List ℕ)) → name ≡ codes "PMT.SECTION" → saying_of name fields ≡ section_of_fields fields
+unfolding saying_of
+marker-says name fields is = rw is refl
+
+unmarked : (event : Event) (fields : List (List ℕ)) → saying_of_fields fields ≡ Ok (Happens event) → names_a_section_first fields ≡ false
+unmarked event [] says = refl
+unmarked event (name ∷ fields) says =
+    elim (bytes_eq name (codes "PMT.SECTION")) as (λ v. bytes_eq name (codes "PMT.SECTION") ≡ v → v ≡ false) [
+      | true ↦ λ is. absurd (marker-no_event event fields (sym (marker-says name fields ((bytes_eq-Decides name (codes "PMT.SECTION")).0 is)) ∙ says))
+      | false ↦ λ is. refl
+    ] refl
+
+names-no_section : (event : Event) (text : List ℕ) → record_of text ≡ Ok (Happens event) → names_a_section text ≡ false
+unfolding names_a_section record_of
+names-no_section event text says = unmarked event (fields_of text) says
+
+event_of_record-is : (event : Event) (text : List ℕ) → record_of text ≡ Ok (Happens event) → event_of_record text ≡ Ok event
+unfolding event_of_record
+event_of_record-is event text says = rw (names-no_section event text says, says) refl
+
+event_of_line-plain : (event : Event) (line : List ℕ) → IsPlain line → length line ≤ LOG_LIMIT → record_of line ≡ Ok (Happens event) → event_of_line line ≡ Ok event
+unfolding event_of_line
+event_of_line-plain event line plain short says =
+    rw (one_record-plain line plain short, trimmed-plain line plain) (event_of_record-is event line says)
+
+-- an event's canonical text line, without its end
+pub text-short : (event : Event) → AllValid event → length (text_of_event event) ≤ 91
+text-short event valid =
+    omega (arith, line-length event (all_fit event valid), length-append (name_of event ++ fields_of_event event) (codes "\n"))
+
+-- reads as the event
+pub event_of_line-event : (event : Event) → AllValid event → event_of_line (text_of_event event) ≡ Ok event
+event_of_line-event event valid =
+    event_of_line-plain event (text_of_event event) (text_of_event-plain event (all_fit event valid)) (omega (arith, text-short event valid)) (record_of-event event valid)
+
+-- no separator stands in it
+pub text-one_line : (event : Event) → AllValid event → All (λ c. is_separator c ≡ false) (text_of_event event)
+text-one_line event valid = (text_of_event-plain event (all_fit event valid)).whole

@@ -10,6 +10,7 @@ pub mod ProgressLemmas
 pub mod ReaderLemmas
 pub mod CallerLemmas
 pub mod EventLineLemmas
+pub mod FrontLemmas
 pub mod CanonicalLemmas
 pub mod QuickLemmas
 pub mod LineLemmas

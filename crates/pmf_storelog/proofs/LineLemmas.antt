@@ -25,7 +25,7 @@ end_kept line filled close =
     let none = suffix_len_is is_blank line (length line) 0 (omega arith) (λ k le l. absurd (omega arith)) (λ l. close (length line - 1) 0 (omega arith)) in
     take_all (length line - suffix_len is_blank line) line (omega arith)
 
-trimmed-plain : (line : List ℕ) → IsPlain line → trimmed line ≡ line
+pub trimmed-plain : (line : List ℕ) → IsPlain line → trimmed line ≡ line
 trimmed-plain line plain = ap without_end_blanks (front_kept line plain.close) ∙ end_kept line plain.filled plain.close
 
 records_in-plain : (line : List ℕ) → IsPlain line → records_in (line ∷ []) ≡ line ∷ []

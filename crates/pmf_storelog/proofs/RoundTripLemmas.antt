@@ -85,7 +85,7 @@ name-length TxEnd = omega arith
 name-length CheckStart = omega arith
 name-length CheckEnd = omega arith
 
-line-length : (event : Event) → AllFit event → length (line_of_event event) ≤ 91
+pub line-length : (event : Event) → AllFit event → length (line_of_event event) ≤ 91
 line-length event fit =
     omega (arith, name-length event, fields-length event fit, length-append (name_of event) (fields_of_event event), length-append (name_of event ++ fields_of_event event) (codes "\n"))
 

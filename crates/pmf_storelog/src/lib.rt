@@ -19,6 +19,8 @@
 mod fault;
 mod fields;
 mod line;
+#[cfg(test)]
+mod line_tests;
 mod log;
 #[cfg(test)]
 mod marker_tests;

@@ -74,7 +74,7 @@ fn push_fields(text: &mut String, event: &Event) -> Result<(), AllocError>
     Ok(())
 }
 
-/// Appends the canonical text line of the event. After an `Err` a part of it may stand there.
+/// Writes the canonical text line of the event behind the text. After an `Err` some of it may stand there.
 pub fn push_event(text: &mut String, event: &Event) -> Result<(), AllocError>
     ensures text { OnOk result
         (string_bytes text.new ≡ string_bytes text.old ++ line_of_event event.now) }

@@ -1,5 +1,3 @@
-use Rattle.std.proofs.Common.{ap, ◌∙◌, subst}
-use Rattle.memchr.specs.Find.{IsFirstByte, is_byte3}
 use Rattle.pmf_storelog.proofs.EventLineLemmas.{one_record-none, one_record-some}
 use Rattle.pmf_storelog.proofs.line.is_one_record.Goals as goal
 

@@ -1,0 +1,48 @@
+-- A decimal number at the front of a text.
+use Rattle.std.proofs.Common.{◌≡◌, ℕ, ◌^◌, ◌<◌, ◌≤◌, true, false, List, [], ◌∷◌, ◌++◌, Some, length, refl, ap, ◌∙◌, arith}
+use Rattle.std.specs.Prelude.{⊤}
+use Rattle.std.specs.Char.{digit_value}
+use Rattle.std.specs.Fmt.{decimal}
+use Rattle.std.specs.List.{list_all}
+use Rattle.std.specs.Str.Parse.{digits_value, AllDigits}
+use Rattle.std.proofs.lemmas.Bool.{lt-ltb, le-leb}
+use Rattle.std.proofs.lemmas.Fmt.{decimal_is_IsNumeral, length-decimal-le}
+use Rattle.std.proofs.lemmas.List.{take_at, drop_at}
+use Rattle.pmf_storelog.specs.Numbers.{is_digit_in, is_numeral, numeral_of, digits_in_front, number_before, number_in_front}
+
+-- the text is empty, or begins with a byte that is no decimal digit
+abbrev pub BeginsWithNoDigit : List ℕ → Type 0
+BeginsWithNoDigit [] = ⊤
+BeginsWithNoDigit (c ∷ rest) = is_digit_in 10 c ≡ false
+
+digits_behind : (rest : List ℕ) → BeginsWithNoDigit rest → digits_in_front rest ≡ 0
+digits_behind [] none = refl
+digits_behind (c ∷ rest) none = rw none refl
+
+digits-front : (ds rest : List ℕ) → AllDigits 10 ds → BeginsWithNoDigit rest → digits_in_front (ds ++ rest) ≡ length ds
+digits-front [] rest each none = digits_behind rest none
+digits-front (d ∷ ds) rest each none = rw (lt-ltb (digit_value d) 10 each.0) (let e : digits_in_front (ds ++ rest) ≡ length ds = digits-front ds rest each.1 none in omega (arith, e))
+
+all_decimal : (ds : List ℕ) → AllDigits 10 ds → list_all (is_digit_in 10) ds ≡ true
+all_decimal [] each = refl
+all_decimal (d ∷ ds) each = rw (lt-ltb (digit_value d) 10 each.0) (all_decimal ds each.1)
+
+numeral_of-ten : (ds : List ℕ) (n : ℕ) → 0 < length ds → length ds ≤ 20 → AllDigits 10 ds → digits_value 10 ds ≡ n → n < 2 ^ 64 → numeral_of 10 20 ds ≡ Some n
+unfolding numeral_of is_numeral
+numeral_of-ten ds n some few each value small =
+    rw (lt-ltb 0 (length ds) some, le-leb (length ds) 20 few, all_decimal ds each, value, lt-ltb n (2 ^ 64) small) refl
+
+numeral_of-decimal : (n : ℕ) → n < 2 ^ 64 → numeral_of 10 20 (decimal n) ≡ Some n
+numeral_of-decimal n small =
+    let numeral = decimal_is_IsNumeral n small in
+    numeral_of-ten (decimal n) n numeral.0.0 (length-decimal-le 20 n (omega arith) (omega arith) small) numeral.0.1 numeral.1 small
+
+front : (ds rest : List ℕ) → digits_in_front (ds ++ rest) ≡ length ds → number_in_front (ds ++ rest) ≡ number_before rest (numeral_of 10 20 ds)
+unfolding number_in_front
+front ds rest count = rw (count, take_at ds rest (length ds) refl, drop_at ds rest (length ds) refl) refl
+
+-- what is written of a number reads as the number, whatever follows it that begins with no digit
+pub number_in_front-decimal : (n : ℕ) (rest : List ℕ) → n < 2 ^ 64 → BeginsWithNoDigit rest → number_in_front (decimal n ++ rest) ≡ Some (n, rest)
+number_in_front-decimal n rest small none =
+    let numeral = decimal_is_IsNumeral n small in
+    front (decimal n) rest (digits-front (decimal n) rest numeral.0.1 none) ∙ ap (number_before rest) (numeral_of-decimal n small)
