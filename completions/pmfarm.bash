@@ -3,17 +3,21 @@ _pmfarm() {
     local word=${COMP_WORDS[COMP_CWORD]} before=${COMP_WORDS[COMP_CWORD - 1]} command=${COMP_WORDS[1]}
     COMPREPLY=()
     if [ "$COMP_CWORD" -eq 1 ]; then
-        mapfile -t COMPREPLY < <(compgen -W 'check explain help --help -h --version -V' -- "$word")
+        mapfile -t COMPREPLY < <(compgen -W 'check explain join help --help -h --version -V' -- "$word")
     elif [ "$command" = check ] && [ "$before" = --profile ]; then
         mapfile -t COMPREPLY < <(compgen -W '1 2' -- "$word")
     elif [ "$command" = check ] && [ "$before" != --run ]; then
-        mapfile -t COMPREPLY < <(compgen -W '--run --profile --help -h' -- "$word")
+        mapfile -t COMPREPLY < <(compgen -W '--run --profile --ledger --help -h' -- "$word")
     elif [ "$command" = explain ] && [ "$before" = --profile ]; then
         mapfile -t COMPREPLY < <(compgen -W '1 2' -- "$word")
     elif [ "$command" = explain ] && [[ "$before" != --@(run|section|event) ]]; then
         mapfile -t COMPREPLY < <(compgen -W '--section --event --run --profile --help -h' -- "$word")
+    elif [ "$command" = join ] && [[ "$word" != -* ]]; then
+        mapfile -t COMPREPLY < <(compgen -f -- "$word")
+    elif [ "$command" = join ]; then
+        mapfile -t COMPREPLY < <(compgen -W '--ledger --help -h' -- "$word")
     elif [ "$command" = help ]; then
-        mapfile -t COMPREPLY < <(compgen -W 'check explain' -- "$word")
+        mapfile -t COMPREPLY < <(compgen -W 'check explain join' -- "$word")
     fi
 }
 complete -F _pmfarm pmfarm

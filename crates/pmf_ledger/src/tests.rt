@@ -9,6 +9,7 @@ use std::sync::Arc;
 use std::test::Fail;
 
 mod joining;
+mod texts;
 
 fn name(run: u64, number: u64) -> Name {
     Name { run, number }
