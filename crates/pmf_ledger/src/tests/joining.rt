@@ -35,10 +35,11 @@ fn section_of(alloc: Global, number: u64, events: Events) -> Result<Section, Fai
             section.push(Event::Fence)?;
         }
         Events::Persisted => {
-            section.push(Event::Store(Span::make(0x1000, 8)?))?;
+            let word = Span::make(0x1000, 8)?;
+            section.push(Event::Store(word))?;
             section.push(Event::Flush(Span::make(0x1000, 64)?))?;
             section.push(Event::Fence)?;
-            section.push(Event::Persist(Span::make(0x1000, 8)?))?;
+            section.push(Event::Persist(word))?;
         }
     }
     Ok(section)
