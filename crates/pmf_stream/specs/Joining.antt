@@ -1,13 +1,12 @@
 -- What the texts of ledgers give that are joined, text after text. Defined here.
-use Rattle.std.specs.Prelude.{◌≡◌, ◌≢◌, ℕ, ◌<◌, ◌≤◌, Bool, List, [], length, take, slice_index_or, None}
+use Rattle.std.specs.Prelude.{◌≡◌, ◌≢◌, ℕ, zero, suc, ◌<◌, ◌≤◌, Bool, List, [], length, take, slice_index_or, None}
 use Rattle.std.specs.List.{All, flat_map}
 use Rattle.pmf_event.specs.declared.profile.Profile.{Profile}
 use Rattle.pmf_event.specs.declared.profile.Profile.TheVariants.{One}
 use Rattle.pmf_event.specs.Section.{Trace}
 use Rattle.pmf_ledger.specs.declared.joining.JoinFault.{JoinFault}
 use Rattle.pmf_ledger.specs.declared.joining.JoinFault.TheVariants as join
-use Rattle.pmf_ledger.specs.declared.loading.LedgerFault.{LedgerFault}
-use Rattle.pmf_ledger.specs.Gathered.{IsLeastClash, IsLedgerOf}
+use Rattle.pmf_ledger.specs.Gathered.{GathersBoth, IsLeastClash, IsLedgerOf, Unites}
 use Rattle.pmf_ledger.specs.LedgerValue.{LedgerValue}
 use Rattle.pmf_ledger.specs.Loading.{IsRefusedWith, LoadsAs, fault_of, reading_of}
 use Rattle.pmf_ledger.specs.Report.{totals_of}
@@ -41,15 +40,23 @@ IsJoinFaultOf a b join.ProfileMismatch = a.profile ≢ b.profile
 IsJoinFaultOf a b (join.Conflict name) = (a.profile ≡ b.profile) × IsLeastClash a b name
 IsJoinFaultOf a b join.OutOfMemory = Unit {0}
 
--- the texts are refused with this fault, text after text, want of memory aside: those before the one of this index are
--- joined, and it is refused itself, or its ledger doesn't join theirs
+-- the text of this index is refused with this fault, want of memory aside: it is refused itself, or its ledger does not
+-- join that of the texts before it
+abbrev pub IsRefusedAt : LedgerValue → ℕ → List ℕ → JoinTextFault → Type 0
+IsRefusedAt before index text (fault.Load told found) = (told ≡ index) × IsRefusedWith text found
+IsRefusedAt before index text (fault.Join found) = (1 ≤ index) × (after : LedgerValue) × LoadsAs text after × IsJoinFaultOf before after found
+IsRefusedAt before index text fault.OutOfMemory = Unit {0}
+
+-- text after text, those before one of them are joined, and that one is refused with this fault
 abbrev pub IsFirstRefusal : List (List ℕ) → JoinTextFault → Type 0
-IsFirstRefusal texts (fault.Load index found) =
-    (before : LedgerValue) × IsReached texts index before × IsRefusedWith (slice_index_or texts index []) found
-IsFirstRefusal texts (fault.Join found) =
-    (index : ℕ) × (before : LedgerValue) × (after : LedgerValue) × (1 ≤ index) × IsReached texts index before
-    × LoadsAs (slice_index_or texts index []) after × IsJoinFaultOf before after found
-IsFirstRefusal texts fault.OutOfMemory = Unit {0}
+IsFirstRefusal texts found =
+    (index : ℕ) × (before : LedgerValue) × IsReached texts index before × IsRefusedAt before index (slice_index_or texts index []) found
+
+-- the text of this index begins, or its ledger joins that of the texts before it
+abbrev pub IsJoinedAt : LedgerValue → ℕ → List ℕ → LedgerValue → Type 0
+IsJoinedAt before zero text new = LoadsAs text new
+IsJoinedAt before (suc index) text new =
+    (after : LedgerValue) × LoadsAs text after × (before.profile ≡ after.profile) × Unites before after new × GathersBoth before after new
 
 -- this text is written of the texts' ledger, and what is told of it is so
 abbrev pub IsJoinedText : Bool → List (List ℕ) → Joined → List ℕ → Type 0

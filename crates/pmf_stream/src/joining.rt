@@ -1,9 +1,11 @@
 //! From the texts of ledgers to the text of the ledger of them all.
 
-ghost use Rattle.std.specs.Prelude.{◌≡◌, ◌+◌, map, IfOk, IfErr, MatchResult};
+ghost use Rattle.std.specs.Prelude.{◌≡◌, ◌+◌, ℕ, List, map, IfOk, IfErr, MatchResult};
+ghost use Rattle.pmf_ledger.specs.LedgerValue.{LedgerValue};
+ghost use Rattle.pmf_ledger.specs.Loading.{IsOfText, IsRefusedWith};
 ghost use Rattle.pmf_stream.specs.Answering.{Answers, TellsFaults};
 ghost use Rattle.pmf_stream.specs.Failures.{CanCountOneMore};
-ghost use Rattle.pmf_stream.specs.Joining.{IsFirstRefusal, IsJoinOf, IsJoinedText};
+ghost use Rattle.pmf_stream.specs.Joining.{IsFirstRefusal, IsJoinOf, IsJoinedAt, IsJoinedText, IsRefusedAt};
 
 use crate::checking::write_asked;
 use crate::fault::StreamFault;
@@ -37,7 +39,10 @@ pub enum JoinTextFault {
 }
 
 // Why the text of this index was not loaded.
-fn fault_at(index: usize, fault: LedgerFault) -> JoinTextFault {
+fn fault_at(index: usize, fault: LedgerFault) -> JoinTextFault
+    ensures { (before : LedgerValue) (text : List ℕ)
+        → (IsOfText fault → IsRefusedWith text fault) → IsRefusedAt before index text result }
+{
     match fault {
         LedgerFault::OutOfMemory => JoinTextFault::OutOfMemory,
         LedgerFault::Log(LogFault {
@@ -71,6 +76,8 @@ fn join_text(
     index: usize,
     text: &[u8],
 ) -> Result<Ledger, JoinTextFault>
+    ensures joined { IfOk result (IsJoinedAt before index text.now) }
+    ensures refused { IfErr result (IsRefusedAt before index text.now) }
 {
     let ledger = match load_ledger(alloc, text) {
         Ok(ledger) => ledger,

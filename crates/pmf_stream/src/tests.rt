@@ -4,6 +4,7 @@ mod checks;
 mod explaining;
 mod failing;
 mod fakes;
+mod joining;
 mod limits;
 mod orders;
 mod rows;

@@ -1,0 +1,59 @@
+-- Ledger texts joined one after another.
+use Rattle.std.proofs.Common.{◌≡◌, ℕ, zero, suc, ◌≤◌, List, [], ◌∷◌, ◌++◌, length, flat_map, refl, sym, ◌∙◌, ap, subst}
+use Rattle.std.specs.Prelude.{◌≢◌}
+use Rattle.std.specs.List.{All}
+use Rattle.std.proofs.lemmas.Grind.{flat_map-append}
+use Rattle.std.proofs.lemmas.List.{append-nil}
+use Rattle.std.proofs.lemmas.List.Elements.{All-cons, All-nil, All-push}
+use Rattle.pmf_event.specs.declared.profile.Profile.{Profile}
+use Rattle.pmf_event.specs.declared.profile.Profile.TheVariants.{One, Two}
+use Rattle.pmf_event.specs.Section.{Trace}
+use Rattle.pmf_ledger.specs.Gathered.{GathersBoth, IsLedgerOf, Unites}
+use Rattle.pmf_ledger.specs.LedgerValue.{LedgerValue}
+use Rattle.pmf_ledger.specs.Loading.{LoadsAs}
+use Rattle.pmf_stream.specs.Joining.{IsJoinOf, IsJoinedAt, IsOfProfile, blocks_of}
+
+-- profiles that don't differ are the same
+pub same_unless : (a b : Profile) → (a ≢ b → ⊥) → a ≡ b
+same_unless One One apart = refl
+same_unless One Two apart = absurd (apart (λ e. cc))
+same_unless Two One apart = absurd (apart (λ e. cc))
+same_unless Two Two apart = refl
+
+pub IsOfProfile-loaded : (text : List ℕ) (ledger : LedgerValue) → LoadsAs text ledger → IsOfProfile ledger.profile text
+unfolding IsOfProfile
+IsOfProfile-loaded text ledger loads = (loads.faultless, sym loads.gathered.profile_is)
+
+gathered-loaded : (text : List ℕ) (ledger : LedgerValue) → LoadsAs text ledger → IsLedgerOf ledger.profile (blocks_of text) ledger
+unfolding blocks_of
+gathered-loaded text ledger loads = subst (λ p. IsLedgerOf p _ ledger) (sym loads.gathered.profile_is) loads.gathered
+
+blocks_of-push : (texts : List (List ℕ)) (text : List ℕ) → flat_map blocks_of (texts ++ text ∷ []) ≡ flat_map blocks_of texts ++ blocks_of text
+blocks_of-push texts text = flat_map-append blocks_of texts (text ∷ []) ∙ ap (λ s. flat_map blocks_of texts ++ s) (append-nil (blocks_of text))
+
+-- the text after some others: it begins where there is none
+pub IsJoinOf-more : (texts : List (List ℕ)) (before new : LedgerValue) (text : List ℕ) → IsJoinOf texts before → IsJoinedAt before (length texts) text new → IsJoinOf (texts ++ text ∷ []) new
+IsJoinOf-more [] before new text is loads = record {
+  by_one = All-cons (IsOfProfile new.profile) text [] (IsOfProfile-loaded text new loads) (All-nil (IsOfProfile new.profile));
+  gathered = subst (λ set. IsLedgerOf new.profile set new) (sym (blocks_of-push [] text)) (gathered-loaded text new loads);
+  of_none = λ e. cc;
+}
+IsJoinOf-more (first ∷ texts) before new text is (after, loads, same, unites, gathers) =
+    let by : new.profile ≡ before.profile = unites.profile_stays in
+    let ours = is.gathered in
+    let other = subst (λ p. IsLedgerOf p (blocks_of text) after) (sym same) (gathered-loaded text after loads) in
+    let both = gathers (flat_map blocks_of (first ∷ texts)) (blocks_of text) ours other in
+    record {
+      by_one = subst (λ p. All (IsOfProfile p) (first ∷ texts ++ text ∷ [])) (sym by)
+          (All-push (IsOfProfile before.profile) (first ∷ texts) text is.by_one (subst (λ p. IsOfProfile p text) (sym same) (IsOfProfile-loaded text after loads)));
+      gathered = subst (λ p. IsLedgerOf p (flat_map blocks_of (first ∷ texts ++ text ∷ [])) new) (sym by)
+          (subst (λ set. IsLedgerOf before.profile set new) (sym (blocks_of-push (first ∷ texts) text)) both);
+      of_none = λ e. cc;
+    }
+
+pub IsJoinOf-none : (ledger : LedgerValue) → ledger ≡ record { profile = One; sections = [] } → IsLedgerOf One [] ledger → IsJoinOf [] ledger
+IsJoinOf-none ledger is gathered = record {
+  by_one = All-nil (IsOfProfile ledger.profile);
+  gathered = subst (λ p. IsLedgerOf p [] ledger) (sym gathered.profile_is) gathered;
+  of_none = λ _. gathered.profile_is;
+}
