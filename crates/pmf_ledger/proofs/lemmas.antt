@@ -10,3 +10,5 @@ pub mod ScanLemmas
 pub mod JoiningLemmas
 pub mod UniqueLemmas
 pub mod GatheringLemmas
+pub mod ReadingLemmas
+pub mod LinesLemmas

@@ -6,6 +6,8 @@ pub use Rattle.pmf_verdict.specs.Exact
 pub use Rattle.pmf_verdict.specs.Explained
 pub use Rattle.pmf_verdict.specs.Outcome
 pub use Rattle.pmf_storelog.specs.Canonical
+pub use Rattle.pmf_storelog.specs.Numbers
+pub use Rattle.pmf_storelog.specs.Lines
 pub mod Names
 pub mod LedgerValue
 pub mod TrueRows
@@ -16,4 +18,7 @@ pub mod Joining
 pub mod Gathering
 pub mod Report
 pub mod LedgerText
+pub mod Loading
+pub mod FaultText
+pub mod Following
 pub mod Laws

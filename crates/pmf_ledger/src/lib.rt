@@ -13,6 +13,10 @@ mod joining;
 mod laws;
 mod ledger;
 mod reporting;
+mod blocks;
+mod head;
+mod ledger;
+mod loading;
 mod taking;
 #[cfg(test)]
 mod tests;
@@ -26,5 +30,6 @@ pub use laws::{
     joining_commutes, only_the_set_counts,
 };
 pub use ledger::Ledger;
+pub use loading::{LEDGER_LIMIT, LedgerFault, load_ledger};
 pub use taking::{TakeFault, Taken};
 pub use totals::Totals;

@@ -1,0 +1,17 @@
+use Rattle.std.proofs.Common.{◌≡◌, ◌∷◌, [], ◌++◌, true, false, refl, sym, ◌∙◌, ap, subst}
+use Rattle.std.specs.Str.{bytes_eq}
+use Rattle.std.proofs.lemmas.Bool.Decides.{Decides-eqb}
+use Rattle.std.proofs.lemmas.Slice.Eq.{bytes_eq-Decides, strip_suffix_is}
+use Rattle.pmf_ledger.proofs.lemmas.ReadingLemmas.{ended-same, ended-other}
+use Rattle.pmf_ledger.proofs.blocks.is_line.Goals as goal
+
+pub returns-in-Some : goal.returns-in-Some
+returns-in-Some c =
+    let whole = strip_suffix_is Decides-eqb c.args.spelled.now c.as_slice.result.now (Rattle.std.specs.Prelude.Some c.in-Some.line) c.in-Some.ensures.cases in
+    c.eq.ensures ∙ ended-same c.args.text.now c.in-Some.line.now
+    ∙ ap (bytes_eq (c.args.text.now ++ 10 ∷ [])) (sym (whole ∙ ap (λ xs. c.in-Some.line.now ++ xs) c.as_slice.ensures))
+
+pub returns-in-None : goal.returns-in-None
+returns-in-None c =
+    let none = strip_suffix_is Decides-eqb c.args.spelled.now c.as_slice.result.now Rattle.std.specs.Prelude.None c.in-None.ensures.cases in
+    ended-other c.args.text.now c.args.spelled.now (λ front is. none front (is ∙ ap (λ xs. front ++ xs) (sym c.as_slice.ensures)))

@@ -1,0 +1,25 @@
+-- How the fault of a ledger text is told. ASCII. Defined here.
+use Rattle.std.specs.Prelude.{ℕ, List, ◌++◌, ◌==◌, if◌then◌else◌, codes}
+use Rattle.std.specs.Fmt.{decimal}
+use Rattle.pmf_storelog.specs.FaultText.{words_of_cause}
+use Rattle.pmf_storelog.specs.declared.fault.LogFault.{LogFault}
+use Rattle.pmf_ledger.specs.declared.loading.LedgerFault.{LedgerFault}
+use Rattle.pmf_ledger.specs.declared.loading.LedgerFault.TheVariants.{NotALedger, FalseRows, Conflict, Log, OutOfMemory}
+
+-- what is told of an event: its text line, if the fault is of one, and the words of the cause
+abbrev pub text_of_log : LogFault → List ℕ
+text_of_log fault =
+    if fault.at == 0 then words_of_cause fault.cause
+    else codes "line " ++ decimal fault.at ++ codes ": " ++ words_of_cause fault.cause
+
+-- the words of a conflict
+unfoldable pub words_of_conflict : List ℕ
+words_of_conflict = codes "held with other events"
+
+-- the text of a fault
+abbrev pub text_of_fault : LedgerFault → List ℕ
+text_of_fault (NotALedger line) = codes "line " ++ decimal line ++ codes ": not a ledger"
+text_of_fault (FalseRows name) = codes "section " ++ decimal name.run ++ codes "." ++ decimal name.number ++ codes ": rows are false"
+text_of_fault (Conflict name) = codes "section " ++ decimal name.run ++ codes "." ++ decimal name.number ++ codes ": " ++ words_of_conflict
+text_of_fault (Log fault) = text_of_log fault
+text_of_fault OutOfMemory = codes "out of memory"

@@ -1,0 +1,300 @@
+//! The blocks of a ledger text, as far as it was read.
+
+ghost use Rattle.std.specs.Prelude.{◌≡◌, ◌+◌, ◌<◌, ◌^◌, [], ◌++◌, drop, length, codes, IfOk, Ok, Err};
+ghost use Rattle.std.specs.Str.{bytes_eq};
+ghost use Rattle.pmf_verdict.specs.Checked.{rows_in};
+ghost use Rattle.pmf_verdict.specs.Text.{text_of_row};
+ghost use Rattle.pmf_ledger.specs.Following.{HasRead, Reaches, StandsFor};
+ghost use Rattle.pmf_ledger.specs.Loading.{Reading, AtVersion, AtBlock, after_end, after_event, after_head, after_line, after_row, after_version, end_of, fault_at, head_of, profile_of, with_events, with_rows, with_section};
+ghost use Rattle.pmf_storelog.specs.Lines.{event_of_line};
+
+use crate::head::{read_end, read_head, read_version};
+use crate::ledger::Ledger;
+use crate::loading::LedgerFault;
+use crate::taking::TakeFault;
+use pmf_event::{Profile, Row, Section, SectionFault};
+use pmf_storelog::{Cause, LineFault, LogFault, read_event};
+use pmf_verdict::{Verdict, check, push_row};
+use std::alloc::{AllocError, Global};
+use std::sync::Arc;
+
+// The want of memory of an event, which is no text line's fault.
+const OUT_OF_MEMORY: LogFault = LogFault {
+    at: 0,
+    cause: Cause::OutOfMemory,
+};
+
+/// What comes next in the text.
+#[derive(Drop)]
+pub(crate) enum Next {
+    /// The version.
+    Version,
+    /// A block, or the end of the text.
+    Block,
+    /// So many more events of the section, which is told to have so many rows.
+    Events {
+        section: Section,
+        more: u64,
+        told: u64,
+    },
+    /// The rows of the verdict from this one on.
+    Rows { verdict: Verdict, row: usize },
+    /// Nothing.
+    End,
+}
+
+/// The ledger of the blocks that were read, and how many they were, repeats counted.
+#[derive(Drop)]
+pub(crate) struct Blocks {
+    pub(crate) ledger: Ledger,
+    pub(crate) count: u64,
+    spelled: String,
+}
+
+// Why a text line that is no event is refused.
+fn fault_at(line: u64, refusal: LineFault) -> LedgerFault
+    ensures { result ≡ fault_at line refusal }
+{
+    match refusal {
+        LineFault::NoEvent => LedgerFault::NotALedger { line },
+        LineFault::Refused(cause) => LedgerFault::Log(LogFault { at: line, cause }),
+    }
+}
+
+// Whether the text with a line end is what is spelled.
+fn is_line(text: &[u8], spelled: &[u8]) -> bool
+    ensures { result ≡ bytes_eq (text.now ++ codes "\n") spelled.now }
+{
+    match spelled.strip_suffix(b"\n".as_slice()) {
+        Some(line) => text == line,
+        None => false,
+    }
+}
+
+impl Blocks {
+    /// No blocks. Takes no memory.
+    pub(crate) fn new(alloc: Global) -> Blocks
+        ensures { HasRead Rattle.pmf_ledger.specs.Loading.unread result }
+    {
+        Blocks {
+            ledger: Ledger::new(alloc, Profile::One),
+            count: 0,
+            spelled: String::new(alloc),
+        }
+    }
+
+    /// Reads the text line of this number, without its end.
+    #[tactic(auto, unfolding(crate::specs::Loading::after_line))]
+    pub(crate) fn follow(
+        &mut self,
+        alloc: Global,
+        next: Next,
+        line: u64,
+        text: &[u8],
+    ) -> Result<Next, LedgerFault>
+        requires count { self.old.count < 2 ^ 63 }
+        requires stands { (r : Reading) × StandsFor r self.old next }
+        ensures { (r : Reading) → StandsFor r self.old next
+            → Reaches (after_line r line text.now) result self.new }
+    {
+        match next {
+            Next::Version => self.version(alloc, line, text),
+            Next::Block => self.block(alloc, line, text),
+            Next::Events {
+                section,
+                more,
+                told,
+            } => self.event(alloc, section, more, told, line, text),
+            Next::Rows { verdict, row } => self.row(verdict, row, line, text),
+            Next::End => Err(LedgerFault::NotALedger { line }),
+        }
+    }
+
+    fn version(&mut self, alloc: Global, line: u64, text: &[u8]) -> Result<Next, LedgerFault>
+        ensures { (r : Reading) → HasRead r self.old → r.blocks ≡ [] → Reaches (after_version r line (profile_of text.now)) result self.new }
+    {
+        match read_version(text) {
+            Some(profile) => {
+                self.ledger = Ledger::new(alloc, profile);
+                Ok(Next::Block)
+            }
+            None => Err(LedgerFault::NotALedger { line }),
+        }
+    }
+
+    fn block(&mut self, alloc: Global, line: u64, text: &[u8]) -> Result<Next, LedgerFault>
+        requires { self.old.count < 2 ^ 63 }
+        ensures { (r : Reading) → HasRead r self.old
+            → Reaches (after_head r line text.now (head_of text.now)) result self.new }
+    {
+        match read_head(text) {
+            Some(head) => {
+                let section = Section::new(alloc, head.name);
+                self.with_events(alloc, section, head.events, head.rows)
+            }
+            None => self.end(line, text),
+        }
+    }
+
+    fn end(&mut self, line: u64, text: &[u8]) -> Result<Next, LedgerFault>
+        ensures { (r : Reading) → HasRead r self.old
+            → Reaches (after_end r line (end_of text.now)) result self.new }
+    {
+        match read_end(text) {
+            Some(blocks) => {
+                if blocks == self.count {
+                    Ok(Next::End)
+                } else {
+                    Err(LedgerFault::NotALedger { line })
+                }
+            }
+            None => Err(LedgerFault::NotALedger { line }),
+        }
+    }
+
+    fn event(
+        &mut self,
+        alloc: Global,
+        section: Section,
+        more: u64,
+        told: u64,
+        line: u64,
+        text: &[u8],
+    ) -> Result<Next, LedgerFault>
+        requires count { self.old.count < 2 ^ 63 }
+        requires some { 0 < more }
+        ensures { (r : Reading) → HasRead r self.old
+            → Reaches (after_event r line section more told (event_of_line text.now)) result self.new }
+    {
+        let mut section = section;
+        let event = match read_event(text) {
+            Ok(event) => event,
+            Err(refusal) => return Err(fault_at(line, refusal)),
+        };
+        match section.push(event) {
+            Ok(()) => {}
+            Err(SectionFault::TooManyEvents) => {
+                return Err(LedgerFault::Log(LogFault {
+                    at: line,
+                    cause: Cause::TooManyEvents,
+                }));
+            }
+            Err(SectionFault::OutOfMemory) => return Err(LedgerFault::Log(OUT_OF_MEMORY)),
+        }
+        self.with_events(alloc, section, more - 1, told)
+    }
+
+    // So many events of the section are still to come.
+    fn with_events(
+        &mut self,
+        alloc: Global,
+        section: Section,
+        more: u64,
+        told: u64,
+    ) -> Result<Next, LedgerFault>
+        requires { self.old.count < 2 ^ 63 }
+        ensures { (r : Reading) → HasRead r self.old
+            → Reaches (with_events r section more told) result self.new }
+    {
+        if more > 0 {
+            return Ok(Next::Events {
+                section,
+                more,
+                told,
+            });
+        }
+        self.with_section(alloc, section, told)
+    }
+
+    // All events of the section have come: it is checked.
+    fn with_section(
+        &mut self,
+        alloc: Global,
+        section: Section,
+        told: u64,
+    ) -> Result<Next, LedgerFault>
+        requires { self.old.count < 2 ^ 63 }
+        ensures { (r : Reading) → HasRead r self.old
+            → Reaches (with_section r section told) result self.new }
+    {
+        let name = section.name();
+        let Ok(section) = Arc::new(alloc, section) else {
+            return Err(LedgerFault::OutOfMemory);
+        };
+        let Ok(verdict) = check(alloc, section, self.ledger.profile()) else {
+            return Err(LedgerFault::OutOfMemory);
+        };
+        if verdict.rows().len() as u64 == told {
+            self.with_rows(verdict, 0)
+        } else {
+            Err(LedgerFault::FalseRows { name })
+        }
+    }
+
+    fn row(
+        &mut self,
+        verdict: Verdict,
+        row: usize,
+        line: u64,
+        text: &[u8],
+    ) -> Result<Next, LedgerFault>
+        requires count { self.old.count < 2 ^ 63 }
+        requires within { row < length (rows_in verdict) }
+        requires profile { verdict.profile ≡ self.old.ledger.profile }
+        ensures { (r : Reading) → HasRead r self.old
+            → Reaches (after_row r line text.now verdict.section (drop row (rows_in verdict))) result self.new }
+    {
+        let wanted = &verdict.rows()[row];
+        match self.is_row(wanted, text) {
+            Ok(true) => self.with_rows(verdict, row + 1),
+            Ok(false) => Err(LedgerFault::FalseRows {
+                name: verdict.name(),
+            }),
+            Err(AllocError) => Err(LedgerFault::OutOfMemory),
+        }
+    }
+
+    // Whether the text is the row's.
+    fn is_row(&mut self, row: &Row, text: &[u8]) -> Result<bool, AllocError>
+        ensures same { IfOk result (λ same.
+            same ≡ bytes_eq (text.now ++ codes "\n") (text_of_row row.now)) }
+        ensures ledger { self.new.ledger ≡ self.old.ledger }
+        ensures count { self.new.count ≡ self.old.count }
+    {
+        self.spelled.clear();
+        push_row(&mut self.spelled, row)?;
+        Ok(is_line(text, self.spelled.as_bytes()))
+    }
+
+    // The rows of the verdict from this one on are still to come. Where there are none, it is taken.
+    fn with_rows(&mut self, verdict: Verdict, row: usize) -> Result<Next, LedgerFault>
+        requires count { self.old.count < 2 ^ 63 }
+        requires profile { verdict.profile ≡ self.old.ledger.profile }
+        ensures { (r : Reading) → HasRead r self.old
+            → Reaches (with_rows r verdict.section (drop row (rows_in verdict))) result self.new }
+    {
+        if row < verdict.rows().len() {
+            return Ok(Next::Rows { verdict, row });
+        }
+        self.take(verdict)
+    }
+
+    // One block more.
+    fn take(&mut self, verdict: Verdict) -> Result<Next, LedgerFault>
+        requires count { self.old.count < 2 ^ 63 }
+        requires profile { verdict.profile ≡ self.old.ledger.profile }
+        ensures { (r : Reading) → HasRead r self.old
+            → Reaches (with_rows r verdict.section []) result self.new }
+    {
+        let name = verdict.name();
+        match self.ledger.take(verdict) {
+            Ok(_) => {
+                self.count += 1;
+                Ok(Next::Block)
+            }
+            Err((TakeFault::Conflict, _)) => Err(LedgerFault::Conflict { name }),
+            Err((TakeFault::OutOfMemory, _)) => Err(LedgerFault::OutOfMemory),
+            Err((TakeFault::ProfileMismatch, _)) => unreachable!(),
+        }
+    }
+}
