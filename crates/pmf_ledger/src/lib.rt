@@ -2,21 +2,24 @@
 //!
 //! A [`Ledger`] has a profile, and its type keeps that its verdicts are by that profile and that their names
 //! rise. What it holds is said as a set (`specs/Gathered`): [`Ledger::take`] adds the verdict's section and
-//! nothing else, or refuses it, want of memory aside exactly where the profile is another or the name is held with
-//! other events.
+//! nothing else, [`Ledger::join`] unites two; each refuses, want of memory aside, exactly where profiles differ or a
+//! name is held with other events, and gives back what it was handed. So a ledger is that of the set of sections that
+//! were gathered, whatever was repeated and in whatever order: the laws of `specs/Gathering` and `specs/Laws`.
+//!
+//! Its report is `specs/Report`. Its own text, `specs/LedgerText`, is read by [`load_ledger`] as `specs/Loading` says:
+//! no row of a text is believed, and each section is checked again.
 //!
 //! Not promised here: that memory suffices.
 #![tactic(auto)]
 
+mod blocks;
 mod copying;
+mod head;
 mod joining;
 mod laws;
 mod ledger;
-mod reporting;
-mod blocks;
-mod head;
-mod ledger;
 mod loading;
+mod reporting;
 mod taking;
 #[cfg(test)]
 mod tests;
