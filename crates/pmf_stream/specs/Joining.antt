@@ -52,11 +52,17 @@ abbrev pub IsFirstRefusal : List (List ℕ) → JoinTextFault → Type 0
 IsFirstRefusal texts found =
     (index : ℕ) × (before : LedgerValue) × IsReached texts index before × IsRefusedAt before index (slice_index_or texts index []) found
 
+-- the new ledger is that of both, which are by one profile
+pub record IsJoinOfTwo (before after new : LedgerValue) : Type 0 where
+  pub same : before.profile ≡ after.profile
+  pub unites : Unites before after new
+  pub gathers : GathersBoth before after new
+
 -- the text of this index begins, or its ledger joins that of the texts before it
 abbrev pub IsJoinedAt : LedgerValue → ℕ → List ℕ → LedgerValue → Type 0
 IsJoinedAt before zero text new = LoadsAs text new
 IsJoinedAt before (suc index) text new =
-    (after : LedgerValue) × LoadsAs text after × (before.profile ≡ after.profile) × Unites before after new × GathersBoth before after new
+    (after : LedgerValue) × LoadsAs text after × IsJoinOfTwo before after new
 
 -- this text is written of the texts' ledger, and what is told of it is so
 abbrev pub IsJoinedText : Bool → List (List ℕ) → Joined → List ℕ → Type 0

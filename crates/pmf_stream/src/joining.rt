@@ -1,11 +1,11 @@
 //! From the texts of ledgers to the text of the ledger of them all.
 
-ghost use Rattle.std.specs.Prelude.{◌≡◌, ◌+◌, ℕ, List, map, IfOk, IfErr, MatchResult};
+ghost use Rattle.std.specs.Prelude.{◌≡◌, ◌+◌, ◌≤◌, ℕ, List, map, IfOk, IfErr, MatchResult};
 ghost use Rattle.pmf_ledger.specs.LedgerValue.{LedgerValue};
-ghost use Rattle.pmf_ledger.specs.Loading.{IsOfText, IsRefusedWith};
+ghost use Rattle.pmf_ledger.specs.Loading.{IsOfText, IsRefusedWith, LoadsAs};
 ghost use Rattle.pmf_stream.specs.Answering.{Answers, TellsFaults};
 ghost use Rattle.pmf_stream.specs.Failures.{CanCountOneMore};
-ghost use Rattle.pmf_stream.specs.Joining.{IsFirstRefusal, IsJoinOf, IsJoinedAt, IsJoinedText, IsRefusedAt};
+ghost use Rattle.pmf_stream.specs.Joining.{IsFirstRefusal, IsJoinFaultOf, IsJoinOf, IsJoinOfTwo, IsJoinedAt, IsJoinedText, IsRefusedAt};
 
 use crate::checking::write_asked;
 use crate::fault::StreamFault;
@@ -53,6 +53,17 @@ fn fault_at(index: usize, fault: LedgerFault) -> JoinTextFault
     }
 }
 
+// Why the ledger of a text doesn't join that of the texts before it.
+fn fault_of_join(fault: JoinFault) -> JoinTextFault
+    ensures { (before after : LedgerValue) (index : ℕ) (text : List ℕ) → 1 ≤ index → LoadsAs text after
+        → IsJoinFaultOf before after fault → IsRefusedAt before index text result }
+{
+    match fault {
+        JoinFault::OutOfMemory => JoinTextFault::OutOfMemory,
+        fault => JoinTextFault::Join(fault),
+    }
+}
+
 /// The ledger of the sections of all texts. They are loaded and joined text after text, and the first refusal
 /// decides: a text that is no ledger's, or one whose ledger doesn't join that of those before it. Of no text it is
 /// the empty ledger of profile One.
@@ -86,10 +97,20 @@ fn join_text(
     if index == 0 {
         return Ok(ledger);
     }
-    match before.join(ledger) {
+    match join_two(before, ledger) {
         Ok(joined) => Ok(joined),
-        Err((JoinFault::OutOfMemory, _, _)) => Err(JoinTextFault::OutOfMemory),
-        Err((fault, _, _)) => Err(JoinTextFault::Join(fault)),
+        Err(fault) => Err(fault_of_join(fault)),
+    }
+}
+
+// The ledger of both.
+fn join_two(before: Ledger, after: Ledger) -> Result<Ledger, JoinFault>
+    ensures joined { IfOk result (IsJoinOfTwo before after) }
+    ensures refused { IfErr result (IsJoinFaultOf before after) }
+{
+    match before.join(after) {
+        Ok(joined) => Ok(joined),
+        Err((fault, _, _)) => Err(fault),
     }
 }
 

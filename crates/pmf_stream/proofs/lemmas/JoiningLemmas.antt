@@ -1,6 +1,6 @@
 -- Ledger texts joined one after another.
-use Rattle.std.proofs.Common.{◌≡◌, ℕ, zero, suc, ◌≤◌, List, [], ◌∷◌, ◌++◌, length, flat_map, refl, sym, ◌∙◌, ap, subst}
-use Rattle.std.specs.Prelude.{◌≢◌}
+use Rattle.std.proofs.Common.{◌≡◌, ℕ, zero, suc, List, [], ◌∷◌, ◌++◌, length, flat_map, refl, sym, ◌∙◌, ap, subst}
+use Rattle.std.specs.Prelude.{◌≢◌, ◌↔◌}
 use Rattle.std.specs.List.{All}
 use Rattle.std.proofs.lemmas.Grind.{flat_map-append}
 use Rattle.std.proofs.lemmas.List.{append-nil}
@@ -8,10 +8,13 @@ use Rattle.std.proofs.lemmas.List.Elements.{All-cons, All-nil, All-push}
 use Rattle.pmf_event.specs.declared.profile.Profile.{Profile}
 use Rattle.pmf_event.specs.declared.profile.Profile.TheVariants.{One, Two}
 use Rattle.pmf_event.specs.Section.{Trace}
-use Rattle.pmf_ledger.specs.Gathered.{GathersBoth, IsLedgerOf, Unites}
+use Rattle.pmf_event.specs.declared.name.Name.{Name}
+use Rattle.pmf_ledger.specs.declared.joining.JoinFault.{JoinFault}
+use Rattle.pmf_ledger.specs.declared.joining.JoinFault.TheVariants.{ProfileMismatch, Conflict, OutOfMemory}
+use Rattle.pmf_ledger.specs.Gathered.{IsLeastClash, IsLedgerOf}
 use Rattle.pmf_ledger.specs.LedgerValue.{LedgerValue}
-use Rattle.pmf_ledger.specs.Loading.{LoadsAs}
-use Rattle.pmf_stream.specs.Joining.{IsJoinOf, IsJoinedAt, IsOfProfile, blocks_of}
+use Rattle.pmf_ledger.specs.Loading.{LoadsAs, reading_of}
+use Rattle.pmf_stream.specs.Joining.{IsJoinFaultOf, IsJoinOf, IsJoinedAt, IsOfProfile, blocks_of}
 
 -- profiles that don't differ are the same
 pub same_unless : (a b : Profile) → (a ≢ b → ⊥) → a ≡ b
@@ -26,7 +29,7 @@ IsOfProfile-loaded text ledger loads = (loads.faultless, sym loads.gathered.prof
 
 gathered-loaded : (text : List ℕ) (ledger : LedgerValue) → LoadsAs text ledger → IsLedgerOf ledger.profile (blocks_of text) ledger
 unfolding blocks_of
-gathered-loaded text ledger loads = subst (λ p. IsLedgerOf p _ ledger) (sym loads.gathered.profile_is) loads.gathered
+gathered-loaded text ledger loads = subst (λ p. IsLedgerOf p (reading_of text).blocks ledger) (sym loads.gathered.profile_is) loads.gathered
 
 blocks_of-push : (texts : List (List ℕ)) (text : List ℕ) → flat_map blocks_of (texts ++ text ∷ []) ≡ flat_map blocks_of texts ++ blocks_of text
 blocks_of-push texts text = flat_map-append blocks_of texts (text ∷ []) ∙ ap (λ s. flat_map blocks_of texts ++ s) (append-nil (blocks_of text))
@@ -38,11 +41,12 @@ IsJoinOf-more [] before new text is loads = record {
   gathered = subst (λ set. IsLedgerOf new.profile set new) (sym (blocks_of-push [] text)) (gathered-loaded text new loads);
   of_none = λ e. cc;
 }
-IsJoinOf-more (first ∷ texts) before new text is (after, loads, same, unites, gathers) =
-    let by : new.profile ≡ before.profile = unites.profile_stays in
+IsJoinOf-more (first ∷ texts) before new text is (after, loads, joined) =
+    let same = joined.same in
+    let by : new.profile ≡ before.profile = joined.unites.profile_stays in
     let ours = is.gathered in
     let other = subst (λ p. IsLedgerOf p (blocks_of text) after) (sym same) (gathered-loaded text after loads) in
-    let both = gathers (flat_map blocks_of (first ∷ texts)) (blocks_of text) ours other in
+    let both = joined.gathers (flat_map blocks_of (first ∷ texts)) (blocks_of text) ours other in
     record {
       by_one = subst (λ p. All (IsOfProfile p) (first ∷ texts ++ text ∷ [])) (sym by)
           (All-push (IsOfProfile before.profile) (first ∷ texts) text is.by_one (subst (λ p. IsOfProfile p text) (sym same) (IsOfProfile-loaded text after loads)));
@@ -57,3 +61,10 @@ IsJoinOf-none ledger is gathered = record {
   gathered = subst (λ p. IsLedgerOf p [] ledger) (sym gathered.profile_is) gathered;
   of_none = λ _. gathered.profile_is;
 }
+
+-- why two ledgers were refused, from what `join` says of each cause
+pub IsJoinFaultOf-refused : (a b : LedgerValue) (found : JoinFault) → ((found ≡ ProfileMismatch) ↔ (a.profile ≢ b.profile)) →
+    ((name : Name) → (found ≡ Conflict name) ↔ ((a.profile ≡ b.profile) × IsLeastClash a b name)) → IsJoinFaultOf a b found
+IsJoinFaultOf-refused a b ProfileMismatch mismatch conflict = mismatch.0 refl
+IsJoinFaultOf-refused a b (Conflict name) mismatch conflict = (conflict name).0 refl
+IsJoinFaultOf-refused a b OutOfMemory mismatch conflict = tt
