@@ -109,11 +109,11 @@ fn merge(
 }
 
 impl Ledger {
-    /// The ledger of the sections that either of the two holds: those that both hold are held once.
+    /// The ledger of the sections that either of the two holds. A section that both hold is held once.
     ///
-    /// It is linear in the number of sections of both, and in the events of those that both hold. After a
-    /// refusal both ledgers come back as they were. Both refusals for cause come before memory is asked for; the
-    /// new list takes memory, with room for the verdicts of both, before a verdict is moved.
+    /// After a refusal both ledgers come back as they were. The first two refusals come before memory is asked
+    /// for. The new list takes memory, with room for the verdicts of both, before a verdict is moved. The time is
+    /// linear in the sections of both and in the events of those that both hold.
     pub fn join(self, other: Ledger) -> Result<Ledger, (JoinFault, Ledger, Ledger)>
 
         // At Ok it holds what either held and nothing else: the ledger of the union of their sets.

@@ -8,6 +8,13 @@
 //!
 //! Its report is `specs/Report`. Its own text, `specs/LedgerText`, is read by [`load_ledger`] as `specs/Loading` says:
 //! no row of a text is believed, and each section is checked again.
+//! nothing else, or refuses it, want of memory aside exactly where the profile is another or the name is held with
+//! other events. [`Ledger::join`] makes of two ledgers the one that holds what either held, and refuses them,
+//! want of memory aside, exactly where their profiles differ or both hold a name with other events.
+//!
+//! Takes and joins, in whatever order, are a gathering (`specs/Gathering`). Its ledger is that of the set that was
+//! gathered ([`gatherings_give_the_ledger_of_their_set`]), it is refused for cause alone, and nothing but the set
+//! and the profile counts: orders, repeats and joins leave no trace ([`only_the_set_counts`]).
 //!
 //! Not promised here: that memory suffices.
 #![tactic(auto)]
