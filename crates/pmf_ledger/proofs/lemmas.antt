@@ -12,3 +12,4 @@ pub mod UniqueLemmas
 pub mod GatheringLemmas
 pub mod ReadingLemmas
 pub mod LinesLemmas
+pub mod GivingLemmas

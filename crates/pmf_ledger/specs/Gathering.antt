@@ -65,6 +65,10 @@ GivesItsLedger = (gathering : Gathering) (ledger : LedgerValue) → Gives gather
 abbrev pub RefusesForCause : Type 0
 RefusesForCause = (gathering : Gathering) (profile : Profile) → Agrees (set_of gathering) → IsBy profile gathering → IsRefused gathering → ⊥
 
+-- and one whose set agrees and that has one profile gives a ledger
+abbrev pub GivesWhereItMay : Type 0
+GivesWhereItMay = (gathering : Gathering) (profile : Profile) → Agrees (set_of gathering) → IsBy profile gathering → (ledger : LedgerValue) × Gives gathering ledger
+
 -- two gatherings by one profile with equal sets are the same in all: in the ledger that they give, and in whether
 -- they are refused
 abbrev pub AreAlike : Gathering → Gathering → Type 0

@@ -1,6 +1,6 @@
 //! Laws of gatherings and of their ledgers, each the clause of an empty function.
 
-ghost use Rattle.pmf_ledger.specs.Gathering.{GivesItsLedger, JoiningAssociates, JoiningCommutes, JoiningRepeats, OnlyTheSetCounts, RefusesForCause};
+ghost use Rattle.pmf_ledger.specs.Gathering.{GivesItsLedger, GivesWhereItMay, JoiningAssociates, JoiningCommutes, JoiningRepeats, OnlyTheSetCounts, RefusesForCause};
 ghost use Rattle.pmf_ledger.specs.Laws.{EqualSetsHaveOneLedger};
 
 /// Whatever ledger a gathering gives, in whatever order it took and joined, it is the ledger of the set that
@@ -13,6 +13,12 @@ pub fn gatherings_give_the_ledger_of_their_set()
 /// A gathering by one profile whose set agrees is refused at no step, want of memory aside.
 pub fn gatherings_are_refused_for_cause_alone()
     ensures { RefusesForCause }
+{}
+
+/// A gathering by one profile whose set agrees can give a ledger, so that what is said of given ledgers is
+/// said of some.
+pub fn gatherings_that_agree_give_a_ledger()
+    ensures { GivesWhereItMay }
 {}
 
 /// Joined the one way or the other, two gatherings give one ledger, and neither way is refused where the

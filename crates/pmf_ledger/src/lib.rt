@@ -36,8 +36,8 @@ mod writing;
 pub use joining::JoinFault;
 pub use laws::{
     equal_sets_have_one_ledger, gatherings_are_refused_for_cause_alone,
-    gatherings_give_the_ledger_of_their_set, joining_again_changes_nothing, joining_associates,
-    joining_commutes, only_the_set_counts,
+    gatherings_give_the_ledger_of_their_set, gatherings_that_agree_give_a_ledger,
+    joining_again_changes_nothing, joining_associates, joining_commutes, only_the_set_counts,
 };
 pub use ledger::Ledger;
 pub use loading::{LEDGER_LIMIT, LedgerFault, load_ledger};

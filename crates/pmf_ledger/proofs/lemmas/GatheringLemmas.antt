@@ -1,21 +1,17 @@
 -- What gatherings give.
 use Rattle.std.proofs.Common.{◌≡◌, List, [], ◌∷◌, ◌++◌, refl, sym, ◌∙◌, ap, subst, append_assoc, arith, inl, inr}
-use Rattle.std.specs.Prelude.{◌≢◌, ◌⊎◌, ◌↔◌, Contains}
-use Rattle.std.specs.List.{All}
+use Rattle.std.specs.Prelude.{◌≢◌, Contains}
 use Rattle.std.proofs.lemmas.List.Elements.{Contains-append_cases, Contains-append_left, Contains-append_right}
-use Rattle.pmf_event.specs.declared.name.Name.{Name}
 use Rattle.pmf_event.specs.declared.profile.Profile.{Profile}
 use Rattle.pmf_event.specs.declared.profile.Profile.TheVariants.{One, Two}
 use Rattle.pmf_event.specs.Section.{Trace}
-use Rattle.pmf_verdict.specs.Checked.{Checked, checked_by}
 use Rattle.pmf_ledger.specs.Report.{report_of}
-use Rattle.pmf_ledger.specs.Gathered.{ClashesAt, Gathers, GathersBoth, Holds, HoldsOther, IsLedgerOf}
-use Rattle.pmf_ledger.specs.Gathering.{Agrees, AreAlike, Begun, Gathering, Gives, GivesItsLedger, HaveSameMembers, IsBy, IsRefused, Joined, JoiningAssociates, JoiningCommutes, JoiningRepeats, OnlyTheSetCounts, RefusesForCause, RefusesJoin, RefusesVerdict, WithVerdict, set_of}
+use Rattle.pmf_ledger.specs.Gathered.{IsLedgerOf}
+use Rattle.pmf_ledger.specs.Gathering.{Agrees, AreAlike, Begun, Gathering, Gives, HaveSameMembers, IsBy, IsRefused, Joined, JoiningAssociates, JoiningCommutes, JoiningRepeats, OnlyTheSetCounts, WithVerdict, set_of}
 use Rattle.pmf_ledger.specs.Laws.{EqualSetsHaveOneLedger}
 use Rattle.pmf_ledger.specs.LedgerText.{text_of_ledger}
 use Rattle.pmf_ledger.specs.LedgerValue.{LedgerValue}
-use Rattle.pmf_ledger.specs.Names.{Rises}
-use Rattle.pmf_ledger.proofs.lemmas.AddingLemmas.{Contains-cons, Contains-cons_cases}
+use Rattle.pmf_ledger.proofs.lemmas.AddingLemmas.{Contains-cons}
 use Rattle.pmf_ledger.proofs.lemmas.MergingLemmas.{none_of_empty}
 use Rattle.pmf_ledger.proofs.lemmas.UniqueLemmas.{Agrees-ledger, ledger_once}
 
@@ -27,7 +23,7 @@ profile_same Two One even = absurd (even (λ same. cc))
 profile_same Two Two even = refl
 
 -- the ledger of no section
-empty_ledger : (profile : Profile) → IsLedgerOf profile [] (record { profile = profile; sections = [] })
+pub empty_ledger : (profile : Profile) → IsLedgerOf profile [] (record { profile = profile; sections = [] })
 empty_ledger profile = record {
   profile_is = refl;
   checked = λ k d inside. absurd (omega (arith, inside));
@@ -36,7 +32,7 @@ empty_ledger profile = record {
 }
 
 -- a gathering is by one profile at most
-by_one : (gathering : Gathering) (p q : Profile) → IsBy p gathering → IsBy q gathering → p ≡ q
+pub by_one : (gathering : Gathering) (p q : Profile) → IsBy p gathering → IsBy q gathering → p ≡ q
 unfolding IsBy
 by_one (Begun own) p q first second = sym first ∙ second
 by_one (WithVerdict gathering verdict) p q first second = by_one gathering p q first.0 second.0
@@ -69,7 +65,7 @@ gives_ledger (Joined g h) ledger gives =
     (of_set, Agrees-ledger ledger.profile set ledger of_set, (subst (λ p. IsBy p g) stays first.2, subst (λ p. IsBy p h) (sym even ∙ stays) second.2))
 
 -- a set agrees with fewer members too
-agrees_within : (xs ys : List Trace) → ((s : Trace) → Contains ys s → Contains xs s) → Agrees xs → Agrees ys
+pub agrees_within : (xs ys : List Trace) → ((s : Trace) → Contains ys s → Contains xs s) → Agrees xs → Agrees ys
 agrees_within xs ys within agrees = λ s t has_s has_t same. agrees s t (within s has_s) (within t has_t) same
 
 pub refuses_for_cause : (gathering : Gathering) (profile : Profile) → Agrees (set_of gathering) → IsBy profile gathering → IsRefused gathering → ⊥

@@ -1,5 +1,5 @@
 -- Two rising lists, while they are merged from their ends, and once they are.
-use Rattle.std.proofs.Common.{◌≡◌, ℕ, ◌+◌, ◌-◌, ◌<◌, ◌≤◌, List, [], ◌∷◌, ◌++◌, length, reverse, refl, sym, ◌∙◌, ap, subst, arith, inl, inr, get_or}
+use Rattle.std.proofs.Common.{◌≡◌, ◌+◌, ◌-◌, ◌<◌, List, [], ◌∷◌, ◌++◌, length, reverse, refl, sym, ◌∙◌, ap, subst, arith, inl, inr, get_or}
 use Rattle.std.specs.Prelude.{◌⊎◌, Contains}
 use Rattle.std.specs.List.{AllPairs}
 use Rattle.std.proofs.lemmas.Bool.{cases_order}
@@ -9,7 +9,7 @@ use Rattle.std.proofs.lemmas.List.Quantifiers.{all_pairs_push}
 use Rattle.std.proofs.lemmas.List.Sorted.{Contains-permutation, IsPermutation-reverse}
 use Rattle.pmf_verdict.specs.Checked.{Checked}
 use Rattle.pmf_ledger.specs.Joining.{Agree, IsMerged, IsMerging}
-use Rattle.pmf_ledger.specs.Names.{ComesBefore, IsBefore, Rises}
+use Rattle.pmf_ledger.specs.Names.{ComesBefore, Rises}
 use Rattle.pmf_ledger.proofs.lemmas.NameLemmas.{before-trans}
 
 -- where each pair of a list is related, so is each pair of its front

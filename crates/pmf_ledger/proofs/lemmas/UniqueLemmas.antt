@@ -1,7 +1,6 @@
 -- A set has one ledger by a profile.
-use Rattle.std.proofs.Common.{◌≡◌, ℕ, List, [], ◌∷◌, length, refl, sym, ◌∙◌, ap, subst, arith, inl, inr, get_or, suc}
-use Rattle.std.specs.Prelude.{◌⊎◌, ◌↔◌, Contains}
-use Rattle.std.specs.List.{All}
+use Rattle.std.proofs.Common.{◌≡◌, List, [], ◌∷◌, refl, sym, ◌∙◌, ap, subst, arith, inl, inr, suc}
+use Rattle.std.specs.Prelude.{Contains}
 use Rattle.std.proofs.lemmas.List.Elements.{All-contains}
 use Rattle.pmf_event.specs.declared.profile.Profile.{Profile}
 use Rattle.pmf_event.specs.Section.{Trace}
@@ -9,19 +8,18 @@ use Rattle.pmf_verdict.specs.Checked.{Checked, checked_by}
 use Rattle.pmf_ledger.specs.Gathered.{Holds, IsLedgerOf}
 use Rattle.pmf_ledger.specs.Gathering.{Agrees, HaveSameMembers}
 use Rattle.pmf_ledger.specs.LedgerValue.{LedgerValue}
-use Rattle.pmf_ledger.specs.Names.{ComesBefore, IsBefore, Rises}
+use Rattle.pmf_ledger.specs.Names.{ComesBefore, Rises}
 use Rattle.pmf_ledger.proofs.lemmas.AddingLemmas.{Contains-cons, Contains-cons_cases}
-use Rattle.pmf_ledger.proofs.lemmas.JoiningLemmas.{Holds-section}
 use Rattle.pmf_ledger.proofs.lemmas.MergingLemmas.{none_of_empty}
 use Rattle.pmf_ledger.proofs.lemmas.NameLemmas.{before-itself, before-trans}
 use Rattle.pmf_ledger.proofs.lemmas.StandingLemmas.{held-once}
 
 -- behind the first of a rising list the names rise
-Rises-rest : (x : Checked) (xs : List Checked) → Rises (x ∷ xs) → Rises xs
+pub Rises-rest : (x : Checked) (xs : List Checked) → Rises (x ∷ xs) → Rises xs
 Rises-rest x xs rises = λ i j d less inside. rises (suc i) (suc j) d (omega (arith, less)) (omega (arith, inside))
 
 -- and all of them come after it
-Rises-first : (x : Checked) (xs : List Checked) → Rises (x ∷ xs) → (c : Checked) → Contains xs c → ComesBefore x c
+pub Rises-first : (x : Checked) (xs : List Checked) → Rises (x ∷ xs) → (c : Checked) → Contains xs c → ComesBefore x c
 Rises-first x xs rises c found = subst (ComesBefore x) found.2 (rises 0 (suc found.0) c (omega arith) (let inside = found.1 in omega (arith, inside)))
 
 here : (x : Checked) (xs : List Checked) → Contains (x ∷ xs) x

@@ -1,5 +1,4 @@
-use Rattle.std.proofs.Common.{rules, ◌≡◌, [], length, ◌∙◌, sym, subst}
-use Rattle.pmf_verdict.specs.Checked.{Checked}
+use Rattle.std.proofs.Common.{rules, ◌≡◌, [], length, sym, subst}
 use Rattle.pmf_ledger.specs.Joining.{IsMerged, IsMerging}
 use Rattle.pmf_ledger.proofs.lemmas.MergingLemmas.{Merged-turned, empty_is}
 use Rattle.pmf_ledger.proofs.joining.merge.Goals as goal

@@ -1,8 +1,5 @@
-use Rattle.std.proofs.Common.{rules, ◌≡◌, ◌-◌, ◌<◌, List, length, sym, ◌∙◌, ap, subst, arith, inl, inr, get_or}
-use Rattle.std.specs.Prelude.{Contains}
-use Rattle.std.proofs.lemmas.List.Elements.{Contains-get_or}
+use Rattle.std.proofs.Common.{rules, ◌≡◌, ◌-◌, ◌<◌, length, sym, ◌∙◌, ap, subst, get_or}
 use Rattle.pmf_verdict.specs.Checked.{Checked}
-use Rattle.pmf_ledger.specs.Joining.{IsMerging}
 use Rattle.pmf_ledger.specs.Names.{ComesBefore, IsBefore}
 use Rattle.pmf_ledger.proofs.lemmas.MergingLemmas.{Merging-left, Merging-right, Merging-drop, all_before, read_is_held, last_is, none_of_empty}
 use Rattle.pmf_ledger.proofs.joining.merge_last.Goals as goal

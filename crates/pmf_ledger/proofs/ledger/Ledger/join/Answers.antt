@@ -1,4 +1,4 @@
-use Rattle.std.proofs.Common.{rules, ◌≡◌, sym, ◌∙◌, ap, subst}
+use Rattle.std.proofs.Common.{rules, ◌≡◌, ap, subst}
 use Rattle.pmf_ledger.specs.Gathered.{IsLeastClash}
 use Rattle.pmf_ledger.specs.declared.joining.JoinFault.TheVariants.{Conflict}
 use Rattle.pmf_ledger.proofs.lemmas.JoiningLemmas.{IfOk-gathers, least_clash_once}

@@ -1,4 +1,4 @@
-use Rattle.std.proofs.Common.{◌≡◌, sym, ◌∙◌, ap, subst}
+use Rattle.std.proofs.Common.{◌≡◌, ◌∙◌, ap, subst}
 use Rattle.std.specs.Prelude.{MatchOption}
 use Rattle.pmf_ledger.specs.Joining.{AgreeInNames, IsLeastDiffering}
 use Rattle.pmf_ledger.specs.LedgerValue.{LedgerValue}

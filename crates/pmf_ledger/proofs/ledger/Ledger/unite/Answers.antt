@@ -1,4 +1,4 @@
-use Rattle.std.proofs.Common.{◌≡◌, refl, sym, ◌∙◌, ap, subst}
+use Rattle.std.proofs.Common.{◌≡◌, sym, ◌∙◌, ap, subst}
 use Rattle.pmf_ledger.specs.Joining.{Agree, IsMerged}
 use Rattle.pmf_ledger.specs.LedgerValue.{LedgerValue}
 use Rattle.pmf_ledger.proofs.lemmas.JoiningLemmas.{AreBy, AreBy-merged, Unites-merged, agree_checked}
