@@ -13,10 +13,11 @@ ghost use Rattle.pmf_command.specs.Statuses.{exit_code_of};
 #[cfg(test)]
 mod words_tests;
 
-pub use pmf_command::{Request, Status, request_of};
+pub use pmf_command::{Files, Request, Status, request_of};
 pub use pmf_stream::{
-    Counted, Cut, Device, Done, ExplainFault, Failed, Question, Settings, Sink, Source, StdSink,
-    StdSource, StreamFault, check_stream, explain_stream, explain_text, write_text,
+    Counted, Cut, Device, Done, ExplainFault, Failed, JoinTextFault, Joined, Question, Settings,
+    Sink, Source, StdSink, StdSource, StreamFault, check_stream, explain_stream, explain_text,
+    join_texts, join_to, read_all, write_text,
 };
 use std::process::ExitCode;
 

@@ -49,7 +49,11 @@ fn check_takes_a_run_of_64_bits(rt: HostRuntime) -> Result<(), Fail> {
             &rt,
             rt.alloc(),
             words,
-            Request::Check(Settings { run, profile }),
+            Request::Check(Settings {
+                run,
+                profile,
+                ledger: false,
+            }),
         )?;
     }
     Ok(())
@@ -68,7 +72,11 @@ fn check_takes_profile_1_or_2(rt: HostRuntime) -> Result<(), Fail> {
             &rt,
             rt.alloc(),
             words,
-            Request::Check(Settings { run: 0, profile }),
+            Request::Check(Settings {
+                run: 0,
+                profile,
+                ledger: false,
+            }),
         )?;
     }
     Ok(())
