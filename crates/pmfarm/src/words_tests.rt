@@ -1,6 +1,6 @@
 //! What the words of the command line ask for, and the status where they are refused.
 
-use crate::{Question, Request, Settings, Status, request_of};
+use crate::{Files, Question, Request, Settings, Status, request_of};
 use pmf_event::Profile;
 use std::alloc::{AllocError, Global};
 use std::process::Abort;
@@ -118,6 +118,54 @@ fn explain_takes_a_section_and_an_event(rt: HostRuntime) -> Result<(), Fail> {
 }
 
 #[test]
+fn check_takes_the_flag_for_the_ledger_text(rt: HostRuntime) -> Result<(), Fail> {
+    asks(
+        &rt,
+        rt.alloc(),
+        &["pmfarm", "check", "--ledger", "--run", "3"],
+        Request::Check(Settings {
+            run: 3,
+            profile: Profile::One,
+            ledger: true,
+        }),
+    )
+}
+
+#[test]
+fn join_takes_files_in_their_order(rt: HostRuntime) -> Result<(), Fail> {
+    let cases = [
+        (&["pmfarm", "join", "a"][..], &["a"][..], false),
+        (
+            &["pmfarm", "join", "b", "a", "b"][..],
+            &["b", "a", "b"][..],
+            false,
+        ),
+        (
+            &["pmfarm", "join", "--ledger", "a", "b"][..],
+            &["a", "b"][..],
+            true,
+        ),
+        (
+            &["pmfarm", "join", "a", "--ledger", "b"][..],
+            &["a", "b"][..],
+            true,
+        ),
+        (
+            &["pmfarm", "join", "--", "--ledger"][..],
+            &["--ledger"][..],
+            false,
+        ),
+    ];
+    for (words, files, ledger) in cases {
+        let mut names = Vec::new(rt.alloc());
+        names.extend_from_slice(files)?;
+        let want = Request::Join(Files { names, ledger });
+        asks(&rt, rt.alloc(), words, want)?;
+    }
+    Ok(())
+}
+
+#[test]
 fn words_that_are_no_request_are_refused(rt: HostRuntime) -> Result<(), Fail> {
     let cases = [
         &["pmfarm"][..],
@@ -136,6 +184,12 @@ fn words_that_are_no_request_are_refused(rt: HostRuntime) -> Result<(), Fail> {
         &["pmfarm", "check", "--profile", ""][..],
         &["pmfarm", "check", "--profile", "1", "--profile", "2"][..],
         &["pmfarm", "check", "--section", "1"][..],
+        &["pmfarm", "check", "--ledger", "--ledger"][..],
+        &["pmfarm", "check", "--ledger=1"][..],
+        &["pmfarm", "join"][..],
+        &["pmfarm", "join", "--ledger"][..],
+        &["pmfarm", "join", "--run", "1", "a"][..],
+        &["pmfarm", "explain", "--ledger", "--section", "0", "--event", "1"][..],
         &["pmfarm", "explain"][..],
         &["pmfarm", "explain", "--section", "0"][..],
         &["pmfarm", "explain", "--event", "1"][..],
@@ -191,6 +245,7 @@ fn help_and_the_version_are_no_fault(rt: HostRuntime) -> Result<(), Fail> {
         &["pmfarm", "help"][..],
         &["pmfarm", "check", "--help"][..],
         &["pmfarm", "explain", "--help"][..],
+        &["pmfarm", "join", "--help"][..],
         &["pmfarm", "--version"][..],
     ];
     for words in cases {
