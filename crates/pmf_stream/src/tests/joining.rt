@@ -1,5 +1,7 @@
 //! Ledger texts that are joined, and what is written of them.
 
+ghost use Rattle.std.specs.Prelude.{◌≡◌};
+
 use super::fakes::ByteSink;
 use crate::device::Device;
 use crate::fault::StreamFault;
