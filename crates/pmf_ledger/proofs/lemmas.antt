@@ -13,3 +13,5 @@ pub mod GatheringLemmas
 pub mod ReadingLemmas
 pub mod LinesLemmas
 pub mod GivingLemmas
+pub mod SpelledLemmas
+pub mod RoundTripLemmas

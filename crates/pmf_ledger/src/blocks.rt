@@ -38,7 +38,10 @@ pub(crate) enum Next {
         told: u64,
     },
     /// The rows of the verdict from this one on.
-    Rows { verdict: Verdict, row: usize },
+    Rows {
+        verdict: Verdict,
+        row: usize,
+    },
     /// Nothing.
     End,
 }

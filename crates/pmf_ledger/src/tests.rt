@@ -10,6 +10,7 @@ use std::test::Fail;
 
 mod joining;
 mod texts;
+mod loading;
 
 fn name(run: u64, number: u64) -> Name {
     Name { run, number }

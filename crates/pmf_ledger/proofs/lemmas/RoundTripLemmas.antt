@@ -1,0 +1,441 @@
+-- The text of a ledger loads as that ledger.
+use Rattle.std.proofs.Common.{◌≡◌, ℕ, zero, suc, ◌+◌, ◌-◌, ◌^◌, ◌<◌, ◌≤◌, Bool, true, false, ◌==◌, List, [], ◌∷◌, ◌++◌, length, map, take, drop, get_or, Option, Some, None, refl, sym, ◌∙◌, ap, subst, arith, rules, inl, inr, append_assoc, length-append}
+use Rattle.std.specs.Prelude.{codes, nat_lt, nat_eq, if◌then◌else◌, ⊤, Contains, Ok, ◌↔◌}
+use Rattle.std.specs.Fmt.{decimal}
+use Rattle.std.specs.List.{All, flat_map, AllByRecursion}
+use Rattle.std.specs.Str.{bytes_eq}
+use Rattle.std.proofs.lemmas.Bool.{le-ltb}
+use Rattle.std.proofs.lemmas.Bool.Decides.{Decides-eqb}
+use Rattle.std.proofs.lemmas.List.{append-nil, length_push, length-map, take_at, drop_at}
+use Rattle.std.proofs.lemmas.List.Elements.{recursion_from_All}
+use Rattle.std.proofs.lemmas.Slice.Eq.{bytes_eq-Decides}
+use Rattle.pmf_event.specs.Section.{Trace}
+use Rattle.pmf_event.specs.declared.event.Event.{Event}
+use Rattle.pmf_event.specs.declared.name.Name.{Name}
+use Rattle.pmf_event.specs.declared.profile.Profile.{Profile}
+use Rattle.pmf_event.specs.declared.profile.Profile.TheVariants.{One, Two}
+use Rattle.pmf_event.specs.declared.row.Row.{Row}
+use Rattle.pmf_event.specs.declared.section.TheConstants.{EVENT_LIMIT}
+use Rattle.pmf_storelog.specs.Canonical.{line_of_event}
+use Rattle.pmf_storelog.specs.Lines.{event_of_line}
+use Rattle.pmf_storelog.specs.Numbers.{number_in_front}
+use Rattle.pmf_storelog.specs.Spelling.{AllValid}
+use Rattle.pmf_storelog.proofs.EventLineLemmas.{event_of_line-event}
+use Rattle.pmf_storelog.proofs.FrontLemmas.{BeginsWithNoDigit, number_in_front-decimal}
+use Rattle.pmf_storelog.proofs.LineLemmas.{text_of_lines}
+use Rattle.pmf_storelog.proofs.PlainLemmas.{text_of_event}
+use Rattle.pmf_verdict.specs.Checked.{Checked, checked_by, rows_in}
+use Rattle.pmf_verdict.specs.Rows.{rows_of}
+use Rattle.pmf_verdict.specs.Text.{text_of_row, text_of_rows}
+use Rattle.pmf_ledger.specs.declared.head.Head.{Head}
+use Rattle.pmf_ledger.specs.declared.loading.LedgerFault.TheVariants.{FalseRows}
+use Rattle.pmf_ledger.specs.declared.loading.TheConstants.{LEDGER_LIMIT}
+use Rattle.pmf_ledger.specs.Gathered.{Holds, IsLedgerOf}
+use Rattle.pmf_ledger.specs.LedgerText.{version_of, text_of_head, text_of_block, text_of_end, text_of_ledger}
+use Rattle.pmf_ledger.specs.LedgerValue.{LedgerValue}
+use Rattle.pmf_ledger.specs.Loading.{Reading, Stage, AtVersion, AtBlock, AtEvents, AtRows, AtEnd, AtFault, at, unread, alone, number_behind, profile_of, head_of, head_of_run, head_of_number, head_of_events, head_of_rows, end_of, after_version, after_head, after_end, after_event, after_row, after_line, after_lines, with_events, with_section, with_rows, lines_of, left_of, parts_of, reading_of, fault_at_end, fault_of, LoadsAs}
+use Rattle.pmf_ledger.specs.Names.{Rises}
+use Rattle.pmf_ledger.proofs.lemmas.AddingLemmas.{Contains-cons, Contains-cons_cases}
+use Rattle.pmf_ledger.proofs.lemmas.ReadingLemmas.{event-added, rows-told, end-here, line-version, line-block, line-event, line-row}
+use Rattle.pmf_ledger.proofs.lemmas.SpelledLemmas.{OneLine, one-append, decimal-one, text_without_end, row-one, event-one, parts_of-lines, lines_of-lines, left_of-lines, lines-append, each-append}
+
+-- a section's events and name can be spelled
+pub record IsSpelled (s : Checked) : Type 0 where
+  pub run : s.section.name.run < 2 ^ 64
+  pub number : s.section.name.number < 2 ^ 64
+  pub few : length s.section.events ≤ EVENT_LIMIT
+  pub valid : All AllValid s.section.events
+
+-- the text lines of a ledger
+unfoldable head_line : Name → ℕ → ℕ → List ℕ
+head_line name events rows = codes "section " ++ decimal name.run ++ codes "." ++ decimal name.number ++ codes " events=" ++ decimal events ++ codes " rows=" ++ decimal rows
+
+unfoldable end_line : ℕ → List ℕ
+end_line blocks = codes "end verdicts=" ++ decimal blocks
+
+body_lines : List Event → List Row → List (List ℕ)
+body_lines events rows = map text_of_event events ++ map text_without_end rows
+
+block_lines : Checked → List (List ℕ)
+unfolding body_lines
+block_lines s = head_line s.section.name (length s.section.events) (length (rows_in s)) ∷ body_lines s.section.events (rows_in s)
+
+abbrev ledger_lines : LedgerValue → List (List ℕ)
+ledger_lines l = version_of l.profile ∷ (flat_map block_lines l.sections ++ end_line (length l.sections) ∷ [])
+
+event_lines : (events : List Event) → flat_map line_of_event events ≡ text_of_lines (map text_of_event events)
+event_lines [] = refl
+event_lines (event ∷ events) = ap (λ rest. line_of_event event ++ rest) (event_lines events)
+
+row_lines : (rows : List Row) → text_of_rows rows ≡ text_of_lines (map text_without_end rows)
+row_lines [] = refl
+row_lines (row ∷ rows) = ap (λ rest. text_of_row row ++ rest) (row_lines rows)
+
+block-text : (s : Checked) → text_of_block s ≡ text_of_lines (block_lines s)
+unfolding text_of_block text_of_head head_line block_lines body_lines
+block-text s =
+    let head = head_line s.section.name (length s.section.events) (length (rows_in s)) ++ 10 ∷ [] in
+    append_assoc head (flat_map line_of_event s.section.events) (text_of_rows (rows_in s))
+    ∙ ap (λ rest. head ++ rest)
+    (ap (λ rest. rest ++ text_of_rows (rows_in s)) (event_lines s.section.events)
+    ∙ ap (λ rest. text_of_lines (map text_of_event s.section.events) ++ rest) (row_lines (rows_in s))
+    ∙ sym (lines-append (map text_of_event s.section.events) (map text_without_end (rows_in s))))
+
+blocks-text : (sections : List Checked) → flat_map text_of_block sections ≡ text_of_lines (flat_map block_lines sections)
+blocks-text [] = refl
+blocks-text (s ∷ sections) =
+    ap (λ front. front ++ flat_map text_of_block sections) (block-text s)
+    ∙ ap (λ rest. text_of_lines (block_lines s) ++ rest) (blocks-text sections)
+    ∙ sym (lines-append (block_lines s) (flat_map block_lines sections))
+
+ledger-text : (l : LedgerValue) → text_of_ledger l ≡ text_of_lines (ledger_lines l)
+unfolding text_of_end end_line
+ledger-text l =
+    let version = version_of l.profile ++ 10 ∷ [] in
+    let end = end_line (length l.sections) ++ 10 ∷ [] in
+    let blocks = text_of_lines (flat_map block_lines l.sections) in
+    append_assoc version (flat_map text_of_block l.sections) end
+    ∙ ap (λ rest. version ++ rest)
+    (ap (λ rest. rest ++ end) (blocks-text l.sections)
+    ∙ ap (λ rest. blocks ++ rest) (sym (append-nil end))
+    ∙ sym (lines-append (flat_map block_lines l.sections) (end_line (length l.sections) ∷ [])))
+
+-- no line end stands in them
+head-one : (name : Name) (events rows : ℕ) → OneLine (head_line name events rows)
+unfolding head_line
+head-one name events rows =
+    let a = codes "section " in let b = decimal name.run in let c = codes "." in let d = decimal name.number in
+    let e = codes " events=" in let f = decimal events in let g = codes " rows=" in let h = decimal rows in
+    one-append (a ++ b ++ c ++ d ++ e ++ f ++ g) h
+    (one-append (a ++ b ++ c ++ d ++ e ++ f) g
+    (one-append (a ++ b ++ c ++ d ++ e) f
+    (one-append (a ++ b ++ c ++ d) e
+    (one-append (a ++ b ++ c) d
+    (one-append (a ++ b) c (one-append a b (search rules) (decimal-one name.run)) (search rules))
+    (decimal-one name.number))
+    (search rules))
+    (decimal-one events))
+    (search rules))
+    (decimal-one rows)
+
+events-one : (events : List Event) → AllByRecursion AllValid events → AllByRecursion OneLine (map text_of_event events)
+events-one [] valid = tt
+events-one (event ∷ events) valid = (event-one event valid.0, events-one events valid.1)
+
+rows-one : (rows : List Row) → AllByRecursion OneLine (map text_without_end rows)
+rows-one [] = tt
+rows-one (row ∷ rows) = (row-one row, rows-one rows)
+
+block-one : (s : Checked) → IsSpelled s → AllByRecursion OneLine (block_lines s)
+unfolding block_lines body_lines
+block-one s spelled = (
+  head-one s.section.name (length s.section.events) (length (rows_in s)),
+  each-append (map text_of_event s.section.events) (map text_without_end (rows_in s)) (events-one s.section.events (recursion_from_All AllValid s.section.events spelled.valid)) (rows-one (rows_in s)),
+)
+
+blocks-one : (sections : List Checked) → AllByRecursion IsSpelled sections → AllByRecursion OneLine (flat_map block_lines sections)
+blocks-one [] spelled = tt
+blocks-one (s ∷ sections) spelled = each-append (block_lines s) (flat_map block_lines sections) (block-one s spelled.0) (blocks-one sections spelled.1)
+
+version-one : (profile : Profile) → OneLine (version_of profile)
+version-one One = search rules
+version-one Two = search rules
+
+end-one : (blocks : ℕ) → OneLine (end_line blocks)
+unfolding end_line
+end-one blocks = one-append (codes "end verdicts=") (decimal blocks) (search rules) (decimal-one blocks)
+
+ledger-one : (l : LedgerValue) → AllByRecursion IsSpelled l.sections → AllByRecursion OneLine (ledger_lines l)
+ledger-one l spelled = (version-one l.profile, each-append (flat_map block_lines l.sections) (end_line (length l.sections) ∷ []) (blocks-one l.sections spelled) (end-one (length l.sections), tt))
+
+-- numbers behind words
+number_behind-word : (word : List ℕ) (n : ℕ) (rest : List ℕ) → n < 2 ^ 64 → BeginsWithNoDigit rest → number_behind word (word ++ (decimal n ++ rest)) ≡ Some (n, rest)
+unfolding number_behind
+number_behind-word word n rest small none =
+    rw (take_at word (decimal n ++ rest) (length word) refl, (bytes_eq-Decides word word).1 refl, drop_at word (decimal n ++ rest) (length word) refl)
+    (number_in_front-decimal n rest small none)
+
+regroup : (a b c d e f g h : List ℕ) → a ++ b ++ c ++ d ++ e ++ f ++ g ++ h ≡ a ++ (b ++ (c ++ (d ++ (e ++ (f ++ (g ++ (h ++ [])))))))
+regroup a b c d e f g h =
+    ap (λ last. a ++ b ++ c ++ d ++ e ++ f ++ g ++ last) (sym (append-nil h))
+    ∙ append_assoc (a ++ b ++ c ++ d ++ e ++ f) g (h ++ [])
+    ∙ append_assoc (a ++ b ++ c ++ d ++ e) f (g ++ (h ++ []))
+    ∙ append_assoc (a ++ b ++ c ++ d) e (f ++ (g ++ (h ++ [])))
+    ∙ append_assoc (a ++ b ++ c) d (e ++ (f ++ (g ++ (h ++ []))))
+    ∙ append_assoc (a ++ b) c (d ++ (e ++ (f ++ (g ++ (h ++ [])))))
+    ∙ append_assoc a b (c ++ (d ++ (e ++ (f ++ (g ++ (h ++ []))))))
+
+head_told : Name → ℕ → ℕ → Head
+head_told name events rows = record { name = name; events = events; rows = rows }
+
+head_of-line : (name : Name) (events rows : ℕ) → name.run < 2 ^ 64 → name.number < 2 ^ 64 → events < 2 ^ 64 → rows < 2 ^ 64 →
+    head_of (head_line name events rows) ≡ Some (head_told name events rows)
+unfolding head_of head_line head_told
+head_of-line name events rows run number few short =
+    let last = decimal rows ++ [] in
+    let third = decimal events ++ (codes " rows=" ++ last) in
+    let second = decimal name.number ++ (codes " events=" ++ third) in
+    ap head_of (regroup (codes "section ") (decimal name.run) (codes ".") (decimal name.number) (codes " events=") (decimal events) (codes " rows=") (decimal rows))
+    ∙ ap head_of_run (number_behind-word (codes "section ") name.run (codes "." ++ second) run refl)
+    ∙ ap (head_of_number name.run) (number_behind-word (codes ".") name.number (codes " events=" ++ third) number refl)
+    ∙ ap (head_of_events name) (number_behind-word (codes " events=") events (codes " rows=" ++ last) few refl)
+    ∙ ap (λ found. head_of_rows name events (alone found)) (number_behind-word (codes " rows=") rows [] short tt)
+
+head_of-end : (blocks : ℕ) → head_of (end_line blocks) ≡ None
+unfolding head_of number_behind end_line
+head_of-end blocks = refl
+
+end_of-line : (blocks : ℕ) → blocks < 2 ^ 64 → end_of (end_line blocks) ≡ Some blocks
+unfolding end_of end_line
+end_of-line blocks small =
+    ap (λ digits. end_of (codes "end verdicts=" ++ digits)) (sym (append-nil (decimal blocks)))
+    ∙ ap alone (number_behind-word (codes "end verdicts=") blocks [] small tt)
+
+-- the reading after more text lines
+lines-after : (r : Reading) (n : ℕ) (xs ys : List (List ℕ)) → after_lines r n (xs ++ ys) ≡ after_lines (after_lines r n xs) (n + length xs) ys
+unfolding after_lines
+lines-after r n [] ys = let e : n ≡ n + 0 = omega arith in ap (λ k. after_lines r k ys) e
+lines-after r n (x ∷ xs) ys =
+    let e : suc n + length xs ≡ n + length (x ∷ xs) = omega arith in
+    lines-after (after_line r n x) (suc n) xs ys ∙ ap (λ k. after_lines (after_lines (after_line r n x) (suc n) xs) k ys) e
+
+-- the text lines lead from one reading to the other, wherever they stand
+Leads : Reading → List (List ℕ) → Reading → Type 0
+Leads r lines e = (n : ℕ) → after_lines r n lines ≡ e
+
+leads-none : (r : Reading) → Leads r [] r
+unfolding Leads after_lines
+leads-none r = λ n. refl
+
+leads-cons : (r e f : Reading) (x : List ℕ) (xs : List (List ℕ)) → ((n : ℕ) → after_line r n x ≡ e) → Leads e xs f → Leads r (x ∷ xs) f
+unfolding Leads after_lines
+leads-cons r e f x xs step rest = λ n. ap (λ o. after_lines o (suc n) xs) (step n) ∙ rest (suc n)
+
+leads-append : (r e f : Reading) (xs ys : List (List ℕ)) → Leads r xs e → Leads e ys f → Leads r (xs ++ ys) f
+unfolding Leads
+leads-append r e f xs ys first second = λ n. lines-after r n xs ys ∙ ap (λ o. after_lines o (n + length xs) ys) (first n) ∙ second (n + length xs)
+
+-- what comes next doesn't matter to a step
+rows-at : (r : Reading) (stage : Stage) (section : Trace) (rows : List Row) → with_rows (at r stage) section rows ≡ with_rows r section rows
+unfolding with_rows
+rows-at r stage section [] = refl
+rows-at r stage section (row ∷ rows) = refl
+
+section-at : (r : Reading) (stage : Stage) (section : Trace) (told : ℕ) → with_section (at r stage) section told ≡ with_section r section told
+unfolding with_section
+section-at r stage section told =
+    ap (λ o. if length (rows_of r.profile section.events) == told then o else at r (AtFault (FalseRows section.name))) (rows-at r stage section (rows_of r.profile section.events))
+
+events-at : (r : Reading) (stage : Stage) (section : Trace) (more told : ℕ) → with_events (at r stage) section more told ≡ with_events r section more told
+unfolding with_events
+events-at r stage section zero told = section-at r stage section told
+events-at r stage section (suc more) told = refl
+
+-- rows
+row-step : (r : Reading) (section : Trace) (row : Row) (rows : List Row) (n : ℕ) → after_line (with_rows r section (row ∷ rows)) n (text_without_end row) ≡ with_rows r section rows
+unfolding with_rows after_row
+row-step r section row rows n =
+    let here = at r (AtRows section (row ∷ rows)) in
+    line-row here n (text_without_end row) section (row ∷ rows) refl
+    ∙ ap (λ same. if same then with_rows here section rows else at here (AtFault (FalseRows section.name))) ((bytes_eq-Decides (text_of_row row) (text_of_row row)).1 refl)
+    ∙ rows-at r (AtRows section (row ∷ rows)) section rows
+
+leads-rows : (r : Reading) (section : Trace) (rows : List Row) → Leads (with_rows r section rows) (map text_without_end rows) (with_rows r section [])
+leads-rows r section [] = leads-none (with_rows r section [])
+leads-rows r section (row ∷ rows) =
+    leads-cons (with_rows r section (row ∷ rows)) (with_rows r section rows) (with_rows r section []) (text_without_end row) (map text_without_end rows)
+    (row-step r section row rows) (leads-rows r section rows)
+
+-- events
+module _ (r : Reading) (name : Name) (told : ℕ) where
+  of_events : List Event → Trace
+  of_events events = record { name = name; events = events }
+
+  event-step : (done left : List Event) (event : Event) (n : ℕ) → AllValid event → length done < EVENT_LIMIT →
+      after_line (with_events r (of_events done) (length (event ∷ left)) told) n (text_of_event event) ≡ with_events r (of_events (done ++ event ∷ [])) (length left) told
+  unfolding with_events of_events
+  event-step done left event n valid few =
+      let stage = AtEvents (of_events done) (length (event ∷ left)) told in
+      let here = at r stage in
+      let one_less : length (event ∷ left) - 1 ≡ length left = omega arith in
+      line-event here n (text_of_event event) (of_events done) (length (event ∷ left)) told refl
+      ∙ ap (after_event here n (of_events done) (length (event ∷ left)) told) (event_of_line-event event valid)
+      ∙ event-added here n (of_events done) (length (event ∷ left)) told event (λ full. omega (arith, full, few))
+      ∙ events-at r stage (of_events (done ++ event ∷ [])) (length (event ∷ left) - 1) told
+      ∙ ap (λ k. with_events r (of_events (done ++ event ∷ [])) k told) one_less
+
+  leads-events : (done left : List Event) → AllByRecursion AllValid left → length done + length left ≤ EVENT_LIMIT →
+      Leads (with_events r (of_events done) (length left) told) (map text_of_event left) (with_section r (of_events (done ++ left)) told)
+  unfolding with_events
+  leads-events done [] valid few = rw (append-nil done) (leads-none (with_section r (of_events done) told))
+  leads-events done (event ∷ left) valid few =
+      let more : length (done ++ event ∷ []) + length left ≤ EVENT_LIMIT = let long = length_push done event in omega (arith, long, few) in
+      let rest = subst (λ events. Leads (with_events r (of_events (done ++ event ∷ [])) (length left) told) (map text_of_event left) (with_section r (of_events events) told)) (append_assoc done (event ∷ []) left) (leads-events (done ++ event ∷ []) left valid.1 more) in
+      leads-cons (with_events r (of_events done) (length (event ∷ left)) told) (with_events r (of_events (done ++ event ∷ [])) (length left) told) (with_section r (of_events (done ++ event ∷ left)) told)
+      (text_of_event event) (map text_of_event left) (λ n. event-step done left event n valid.0 (omega (arith, few))) rest
+
+-- a block
+after_blocks : Profile → List Trace → Reading
+after_blocks profile blocks = record { profile = profile; blocks = blocks; stage = AtBlock }
+
+module _ (profile : Profile) (blocks : List Trace) (section : Trace) (spelled : IsSpelled (checked_by profile section)) (short : length (rows_of profile section.events) < 2 ^ 64) where
+  abbrev r : Reading
+  r = after_blocks profile blocks
+
+  abbrev rows : List Row
+  rows = rows_of profile section.events
+
+  head-step : (n : ℕ) → after_line r n (head_line section.name (length section.events) (length rows)) ≡ with_events r (record { name = section.name; events = [] }) (length section.events) (length rows)
+  unfolding after_blocks head_told
+  head-step n =
+      let text = head_line section.name (length section.events) (length rows) in
+      line-block r n text refl
+      ∙ ap (after_head r n text) (head_of-line section.name (length section.events) (length rows) spelled.run spelled.number (let few = spelled.few in omega (arith, few)) short)
+
+  leads-block : Leads r (block_lines (checked_by profile section)) (after_blocks profile (blocks ++ section ∷ []))
+  unfolding block_lines body_lines after_blocks with_rows of_events
+  leads-block =
+      leads-cons r (with_events r (record { name = section.name; events = [] }) (length section.events) (length rows)) (after_blocks profile (blocks ++ section ∷ []))
+      (head_line section.name (length section.events) (length rows)) (map text_of_event section.events ++ map text_without_end rows) head-step
+      (leads-append _ (with_section r section (length rows)) _ (map text_of_event section.events) (map text_without_end rows)
+      (leads-events r section.name (length rows) [] section.events (recursion_from_All AllValid section.events spelled.valid) (let few = spelled.few in omega (arith, few)))
+      (subst (λ e. Leads e (map text_without_end rows) (with_rows r section [])) (sym (rows-told r section (length rows) refl)) (leads-rows r section rows)))
+
+-- all blocks
+AllBy : Profile → List Checked → Type 0
+AllBy profile sections = AllByRecursion (λ (s : Checked). s.profile ≡ profile) sections
+
+abbrev traces : List Checked → List Trace
+traces sections = map (λ (s : Checked). s.section) sections
+
+rows-few : (s : Checked) → length (rows_in s) < length (block_lines s)
+unfolding block_lines body_lines
+rows-few s =
+    let long = length-append (map text_of_event s.section.events) (map text_without_end (rows_in s)) in
+    let same = length-map (rows_in s) text_without_end in
+    omega (arith, long, same)
+
+leads-blocks : (profile : Profile) (done : List Trace) (sections : List Checked) → AllBy profile sections → AllByRecursion IsSpelled sections → length (flat_map block_lines sections) < 2 ^ 64 →
+    Leads (after_blocks profile done) (flat_map block_lines sections) (after_blocks profile (done ++ traces sections))
+unfolding AllBy
+leads-blocks profile done [] by spelled few = rw (append-nil done) (leads-none (after_blocks profile done))
+leads-blocks profile done (s ∷ sections) by spelled few =
+    let long = length-append (block_lines s) (flat_map block_lines sections) in
+    let less = rows-few s in
+    let is : s ≡ checked_by profile s.section = ap (λ own. checked_by own s.section) by.0 in
+    let short : length (rows_in s) < 2 ^ 64 = omega (arith, few, long, less) in
+    let block = subst (λ c. Leads (after_blocks profile done) (block_lines c) (after_blocks profile (done ++ s.section ∷ []))) (sym is)
+    (leads-block profile done s.section (subst IsSpelled is spelled.0) (subst (λ c. length (rows_in c) < 2 ^ 64) is short)) in
+    let rest = leads-blocks profile (done ++ s.section ∷ []) sections by.1 spelled.1 (omega (arith, few, long)) in
+    leads-append (after_blocks profile done) (after_blocks profile (done ++ s.section ∷ [])) (after_blocks profile (done ++ traces (s ∷ sections)))
+    (block_lines s) (flat_map block_lines sections) block
+    (subst (λ blocks. Leads (after_blocks profile (done ++ s.section ∷ [])) (flat_map block_lines sections) (after_blocks profile blocks)) (append_assoc done (s.section ∷ []) (traces sections)) rest)
+
+sections-few : (sections : List Checked) → length sections ≤ length (flat_map block_lines sections)
+sections-few [] = omega arith
+sections-few (s ∷ sections) =
+    let long = length-append (block_lines s) (flat_map block_lines sections) in
+    let less = rows-few s in
+    let rest = sections-few sections in
+    omega (arith, long, less, rest)
+
+lines-long : (lines : List (List ℕ)) → length lines ≤ length (text_of_lines lines)
+lines-long [] = omega arith
+lines-long (line ∷ lines) =
+    let one = length-append line (10 ∷ []) in
+    let all = length-append (line ++ 10 ∷ []) (text_of_lines lines) in
+    let rest = lines-long lines in
+    omega (arith, one, all, rest)
+
+-- the text of some lines
+reading-lines : (text : List ℕ) (lines : List (List ℕ)) → text ≡ text_of_lines lines → AllByRecursion OneLine lines → length text ≤ LEDGER_LIMIT → reading_of text ≡ after_lines unread 1 lines
+unfolding reading_of
+reading-lines text lines is each short = rw (le-ltb LEDGER_LIMIT (length text) short) (ap (after_lines unread 1) (ap lines_of is ∙ lines_of-lines lines each))
+
+no_fault : (text : List ℕ) → (reading_of text).stage ≡ AtEnd → left_of text ≡ [] → fault_of text ≡ None
+unfolding fault_of
+no_fault text is none = rw (none, is) refl
+
+-- the sections as a set
+held-trace : (profile : Profile) (sections : List Checked) → AllBy profile sections → (s : Trace) → Contains sections (checked_by profile s) → Contains (traces sections) s
+unfolding AllBy
+held-trace profile [] by s found = absurd (omega (arith, found.1))
+held-trace profile (c ∷ sections) by s found = elim (Contains-cons_cases (checked_by profile s) c sections found) [
+  | inl same ↦ Contains-cons s c.section (traces sections) (inl (ap (λ (v : Checked). v.section) same))
+  | inr behind ↦ Contains-cons s c.section (traces sections) (inr (held-trace profile sections by.1 s behind))
+]
+
+trace-held : (profile : Profile) (sections : List Checked) → AllBy profile sections → (s : Trace) → Contains (traces sections) s → Contains sections (checked_by profile s)
+unfolding AllBy
+trace-held profile [] by s found = absurd (omega (arith, found.1))
+trace-held profile (c ∷ sections) by s found = elim (Contains-cons_cases s c.section (traces sections) found) [
+  | inl same ↦ Contains-cons (checked_by profile s) c sections (inl (ap (checked_by profile) same ∙ sym (ap (λ own. checked_by own c.section) by.0)))
+  | inr behind ↦ Contains-cons (checked_by profile s) c sections (inr (trace-held profile sections by.1 s behind))
+]
+
+profile_of-version : (profile : Profile) → profile_of (version_of profile) ≡ Some profile
+unfolding profile_of
+profile_of-version One = refl
+profile_of-version Two = refl
+
+module _ (l : LedgerValue) (rises : Rises l.sections) (checked : All (λ (c : Checked). c.profile ≡ l.profile) l.sections) (spelled : All IsSpelled l.sections) (short : length (text_of_ledger l) ≤ LEDGER_LIMIT) where
+  by_profile : AllBy l.profile l.sections
+  unfolding AllBy
+  by_profile = recursion_from_All (λ (c : Checked). c.profile ≡ l.profile) l.sections checked
+
+  each_spelled : AllByRecursion IsSpelled l.sections
+  each_spelled = recursion_from_All IsSpelled l.sections spelled
+
+  whole : Reading
+  whole = record { profile = l.profile; blocks = traces l.sections; stage = AtEnd }
+
+  few_lines : length (flat_map block_lines l.sections) + 2 ≤ LEDGER_LIMIT
+  few_lines =
+      let same = ap (λ (text : List ℕ). length text) (ledger-text l) in
+      let long = lines-long (ledger_lines l) in
+      let all = length-append (flat_map block_lines l.sections) (end_line (length l.sections) ∷ []) in
+      omega (arith, short, same, long, all)
+
+  end-step : (n : ℕ) → after_line (after_blocks l.profile (traces l.sections)) n (end_line (length l.sections)) ≡ whole
+  unfolding whole after_blocks
+  end-step n =
+      let r = after_blocks l.profile (traces l.sections) in
+      let few = sections-few l.sections in
+      let small : length l.sections < 2 ^ 64 = omega (arith, few, few_lines) in
+      line-block r n (end_line (length l.sections)) refl
+      ∙ ap (after_head r n (end_line (length l.sections))) (head_of-end (length l.sections))
+      ∙ ap (after_end r n) (end_of-line (length l.sections) small)
+      ∙ end-here r n (length l.sections) (length l.sections) (sym (length-map l.sections (λ (s : Checked). s.section))) refl
+
+  version-step : (n : ℕ) → after_line unread n (version_of l.profile) ≡ after_blocks l.profile []
+  unfolding after_blocks
+  version-step n = line-version unread n (version_of l.profile) refl ∙ ap (after_version unread n) (profile_of-version l.profile)
+
+  leads-ledger : Leads unread (ledger_lines l) whole
+  leads-ledger =
+      leads-cons unread (after_blocks l.profile []) whole (version_of l.profile) (flat_map block_lines l.sections ++ end_line (length l.sections) ∷ []) version-step
+      (leads-append (after_blocks l.profile []) (after_blocks l.profile (traces l.sections)) whole (flat_map block_lines l.sections) (end_line (length l.sections) ∷ [])
+      (leads-blocks l.profile [] l.sections by_profile each_spelled (omega (arith, few_lines)))
+      (leads-cons (after_blocks l.profile (traces l.sections)) whole whole (end_line (length l.sections)) [] end-step (leads-none whole)))
+
+  reading_is : reading_of (text_of_ledger l) ≡ whole
+  unfolding Leads
+  reading_is = reading-lines (text_of_ledger l) (ledger_lines l) (ledger-text l) (ledger-one l each_spelled) short ∙ leads-ledger 1
+
+  of_ledger : IsLedgerOf l.profile (traces l.sections) l
+  of_ledger = record {
+    profile_is = refl;
+    checked = checked;
+    rises = rises;
+    same = λ s. (held-trace l.profile l.sections by_profile s, trace-held l.profile l.sections by_profile s);
+  }
+
+  -- what is written of a ledger loads as the ledger
+  pub loads-written : LoadsAs (text_of_ledger l) l
+  unfolding whole
+  loads-written = record {
+    faultless =
+        no_fault (text_of_ledger l) (ap (λ (o : Reading). o.stage) reading_is)
+        (ap left_of (ledger-text l) ∙ left_of-lines (ledger_lines l) (ledger-one l each_spelled));
+    gathered = subst (λ (o : Reading). IsLedgerOf o.profile o.blocks l) (sym reading_is) of_ledger;
+  }
