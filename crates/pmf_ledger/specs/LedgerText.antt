@@ -1,12 +1,14 @@
 -- The ledger text: a text line for the version, which tells the profile; for each section a block of its header, its
 -- events in canonical spelling and its rows; and a last text line with the number of blocks. Defined here.
-use Rattle.std.specs.Prelude.{ℕ, List, ◌++◌, length, codes}
-use Rattle.std.specs.List.{flat_map}
+use Rattle.std.specs.Prelude.{ℕ, ◌+◌, ◌^◌, ◌<◌, ◌≤◌, List, ◌++◌, length, codes}
+use Rattle.std.specs.List.{All, flat_map}
 use Rattle.std.specs.Fmt.{decimal}
 use Rattle.pmf_event.specs.declared.name.Name.{Name}
 use Rattle.pmf_event.specs.declared.profile.Profile.{Profile}
 use Rattle.pmf_event.specs.declared.profile.Profile.TheVariants.{One, Two}
+use Rattle.pmf_event.specs.declared.section.TheConstants.{EVENT_LIMIT}
 use Rattle.pmf_storelog.specs.Canonical.{line_of_event}
+use Rattle.pmf_storelog.specs.Spelling.{AllValid}
 use Rattle.pmf_verdict.specs.Checked.{Checked, rows_in}
 use Rattle.pmf_verdict.specs.Text.{text_of_rows}
 use Rattle.pmf_ledger.specs.LedgerValue.{LedgerValue}
@@ -15,6 +17,13 @@ use Rattle.pmf_ledger.specs.LedgerValue.{LedgerValue}
 abbrev pub version_of : Profile → List ℕ
 version_of One = codes "PMFARM-LEDGER 1"
 version_of Two = codes "PMFARM-LEDGER 2"
+
+-- the section can be spelled: its name in 64 bits, and events within their number whose spans keep the limits
+pub record IsSpelled (s : Checked) : Type 0 where
+  pub run : s.section.name.run < 2 ^ 64
+  pub number : s.section.name.number < 2 ^ 64
+  pub few : length s.section.events ≤ EVENT_LIMIT
+  pub valid : All AllValid s.section.events
 
 -- `section R.N events=E rows=M`
 unfoldable pub text_of_head : Name → ℕ → ℕ → List ℕ

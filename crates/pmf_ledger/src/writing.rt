@@ -1,13 +1,16 @@
 //! The text of a ledger, from which it can be loaded.
 
-ghost use Rattle.std.specs.Prelude.{◌≡◌, ◌++◌, OnOk, IfOk, length};
+ghost use Rattle.std.specs.Prelude.{◌≡◌, ◌≤◌, ◌++◌, OnOk, IfOk, length};
 ghost use Rattle.std.specs.List.{All, flat_map};
 ghost use Rattle.std.specs.String.{string_bytes};
 ghost use Rattle.pmf_storelog.specs.Canonical.{line_of_event};
 ghost use Rattle.pmf_storelog.specs.Spelling.{AllValid};
-ghost use Rattle.pmf_verdict.specs.Checked.{rows_in};
+ghost use Rattle.pmf_verdict.specs.Checked.{Checked, rows_in};
 ghost use Rattle.pmf_verdict.specs.Text.{text_of_rows};
-ghost use Rattle.pmf_ledger.specs.LedgerText.{text_of_block, text_of_end, text_of_head, text_of_ledger, version_of};
+ghost use Rattle.pmf_ledger.specs.Loading.{LoadsAs};
+ghost use Rattle.pmf_ledger.specs.Names.{Rises};
+ghost use Rattle.pmf_ledger.specs.declared.loading.TheConstants.{LEDGER_LIMIT};
+ghost use Rattle.pmf_ledger.specs.LedgerText.{IsSpelled, text_of_block, text_of_end, text_of_head, text_of_ledger, version_of};
 
 use crate::ledger::Ledger;
 use pmf_event::{Event, Name, Profile};
@@ -19,14 +22,26 @@ impl Ledger {
     /// The ledger text: the version, for each section in the order of their names its events and rows, and the number
     /// of sections. Takes memory for the text alone.
     pub fn write_ledger(&self, alloc: Global) -> Result<Vec<u8>, AllocError>
-        ensures { IfOk result (λ text. text.items ≡ text_of_ledger self.now) }
+        ensures text { IfOk result (λ text. text.items ≡ text_of_ledger self.now) }
+        // Loaded, it is this ledger, unless it is longer than such a text may be.
+        ensures loads_back { IfOk result (λ text. length text.items ≤ LEDGER_LIMIT
+            → LoadsAs text.items self.now) }
+    {
+        let text = self.spell(alloc)?;
+        Ok(text)
+    }
+
+    // The same, and that each section can be spelled.
+    fn spell(&self, alloc: Global) -> Result<Vec<u8>, AllocError>
+        ensures text { IfOk result (λ text. text.items ≡ text_of_ledger self.now) }
+        ensures spelled { OnOk result (All IsSpelled self.now.sections) }
+        ensures rises { Rises self.now.sections }
+        ensures checked { All (λ (c : Checked). c.profile ≡ self.now.profile) self.now.sections }
     {
         let mut text = String::new(alloc);
         text.push_str(version_of(self.profile))?;
         text.push_str("\n")?;
-        for verdict in &self.verdicts {
-            push_block(&mut text, verdict)?;
-        }
+        push_blocks(&mut text, &self.verdicts)?;
         push_end(&mut text, self.verdicts.len())?;
         Ok(text.into_bytes())
     }
@@ -54,13 +69,25 @@ fn push_head(text: &mut String, name: Name, events: usize, rows: usize) -> Resul
 
 #[tactic(auto, unfolding(crate::specs::LedgerText::text_of_block))]
 fn push_block(text: &mut String, verdict: &Verdict) -> Result<(), AllocError>
-    ensures { OnOk result
+    ensures text { OnOk result
         (string_bytes text.new ≡ string_bytes text.old ++ text_of_block verdict.now) }
+    ensures spelled { OnOk result (IsSpelled verdict.now) }
 {
     let events = verdict.section().events();
     push_head(text, verdict.name(), events.len(), verdict.rows().len())?;
     push_events(text, events)?;
     push_rows(text, verdict)?;
+    Ok(())
+}
+
+fn push_blocks(text: &mut String, verdicts: &[Verdict]) -> Result<(), AllocError>
+    ensures text { OnOk result (string_bytes text.new
+        ≡ string_bytes text.old ++ flat_map text_of_block verdicts.now) }
+    ensures spelled { OnOk result (All IsSpelled verdicts.now) }
+{
+    for verdict in verdicts {
+        push_block(text, verdict)?;
+    }
     Ok(())
 }
 

@@ -31,20 +31,13 @@ use Rattle.pmf_ledger.specs.declared.head.Head.{Head}
 use Rattle.pmf_ledger.specs.declared.loading.LedgerFault.TheVariants.{FalseRows}
 use Rattle.pmf_ledger.specs.declared.loading.TheConstants.{LEDGER_LIMIT}
 use Rattle.pmf_ledger.specs.Gathered.{Holds, IsLedgerOf}
-use Rattle.pmf_ledger.specs.LedgerText.{version_of, text_of_head, text_of_block, text_of_end, text_of_ledger}
+use Rattle.pmf_ledger.specs.LedgerText.{IsSpelled, version_of, text_of_head, text_of_block, text_of_end, text_of_ledger}
 use Rattle.pmf_ledger.specs.LedgerValue.{LedgerValue}
 use Rattle.pmf_ledger.specs.Loading.{Reading, Stage, AtVersion, AtBlock, AtEvents, AtRows, AtEnd, AtFault, at, unread, alone, number_behind, profile_of, head_of, head_of_run, head_of_number, head_of_events, head_of_rows, end_of, after_version, after_head, after_end, after_event, after_row, after_line, after_lines, with_events, with_section, with_rows, lines_of, left_of, parts_of, reading_of, fault_at_end, fault_of, LoadsAs}
 use Rattle.pmf_ledger.specs.Names.{Rises}
 use Rattle.pmf_ledger.proofs.lemmas.AddingLemmas.{Contains-cons, Contains-cons_cases}
 use Rattle.pmf_ledger.proofs.lemmas.ReadingLemmas.{event-added, rows-told, end-here, line-version, line-block, line-event, line-row}
 use Rattle.pmf_ledger.proofs.lemmas.SpelledLemmas.{OneLine, one-append, decimal-one, text_without_end, row-one, event-one, parts_of-lines, lines_of-lines, left_of-lines, lines-append, each-append}
-
--- a section's events and name can be spelled
-pub record IsSpelled (s : Checked) : Type 0 where
-  pub run : s.section.name.run < 2 ^ 64
-  pub number : s.section.name.number < 2 ^ 64
-  pub few : length s.section.events ≤ EVENT_LIMIT
-  pub valid : All AllValid s.section.events
 
 -- the text lines of a ledger
 unfoldable head_line : Name → ℕ → ℕ → List ℕ
