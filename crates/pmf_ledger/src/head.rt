@@ -3,6 +3,7 @@
 ghost use Rattle.std.specs.Prelude.{◌≡◌, ℕ, None, Some, MatchOption};
 ghost use Rattle.pmf_ledger.specs.Loading.{alone, end_of, head_of, number_behind, profile_of};
 
+use crate::writing::version_of;
 use pmf_event::{Name, Profile};
 use pmf_storelog::read_number_in_front;
 
@@ -18,9 +19,9 @@ pub(crate) struct Head {
 pub(crate) fn read_version(text: &[u8]) -> Option<Profile>
     ensures { result ≡ profile_of text.now }
 {
-    if text == b"PMFARM-LEDGER 1".as_slice() {
+    if text == version_of(Profile::One).as_bytes() {
         Some(Profile::One)
-    } else if text == b"PMFARM-LEDGER 2".as_slice() {
+    } else if text == version_of(Profile::Two).as_bytes() {
         Some(Profile::Two)
     } else {
         None
