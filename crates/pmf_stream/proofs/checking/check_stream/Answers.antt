@@ -1,0 +1,12 @@
+use Rattle.pmf_stream.specs.Checking.{IsLogFaultOf, IsReportOf}
+use Rattle.pmf_stream.proofs.lemmas.AnsweringLemmas.{Answers-written}
+use Rattle.pmf_stream.proofs.checking.check_stream.Goals as goal
+
+pub returns-clause-answer : goal.returns-clause-answer
+returns-clause-answer g c =
+    let settings = c.args.settings in
+    let left = g.R.Source.left c.args.reader.now in
+    let rest = g.R.Source.left c.read_log.new.reader in
+    Answers-written (IsReportOf settings left rest) (IsLogFaultOf settings.run left rest) _ _ c.in_ok-text.done c.in_ok-text.text.items c.write_answer.result
+    (c.in-Ok.log, c.in-Ok.ensures.ok, c.in_ok-text.ensures)
+    (rw c.deref.ensures.value at c.write_answer.ensures.written)
