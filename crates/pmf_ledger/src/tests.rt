@@ -9,8 +9,9 @@ use std::sync::Arc;
 use std::test::Fail;
 
 mod joining;
-mod texts;
 mod loading;
+mod memory;
+mod texts;
 
 fn name(run: u64, number: u64) -> Name {
     Name { run, number }
