@@ -1,5 +1,5 @@
 -- What is kept of a ledger text that was read so far stands for: its reading. Defined here.
-use Rattle.std.specs.Prelude.{◌≡◌, ◌==◌, Bool, false, ℕ, ◌<◌, List, [], length, drop, Result, Ok, Err, Some}
+use Rattle.std.specs.Prelude.{◌≡◌, ◌==◌, Bool, false, ℕ, ◌<◌, List, [], length, drop, Result, Ok, Err}
 use Rattle.pmf_ledger.specs.declared.loading.LedgerFault.{LedgerFault}
 use Rattle.pmf_ledger.specs.declared.loading.LedgerFault.TheVariants.{Conflict}
 use Rattle.pmf_ledger.specs.declared.blocks.Blocks.{Blocks}

@@ -1,11 +1,11 @@
 //! The blocks of a ledger text, as far as it was read.
 
-ghost use Rattle.std.specs.Prelude.{◌≡◌, ◌+◌, ◌<◌, ◌^◌, [], ◌++◌, drop, length, codes, IfOk, Ok, Err};
+ghost use Rattle.std.specs.Prelude.{◌≡◌, ◌+◌, ◌<◌, ◌^◌, [], ◌++◌, drop, length, codes, IfOk};
 ghost use Rattle.std.specs.Str.{bytes_eq};
 ghost use Rattle.pmf_verdict.specs.Checked.{rows_in};
 ghost use Rattle.pmf_verdict.specs.Text.{text_of_row};
 ghost use Rattle.pmf_ledger.specs.Following.{HasRead, Reaches, StandsFor};
-ghost use Rattle.pmf_ledger.specs.Loading.{Reading, AtVersion, AtBlock, after_end, after_event, after_head, after_line, after_row, after_version, end_of, fault_at, head_of, profile_of, with_events, with_rows, with_section};
+ghost use Rattle.pmf_ledger.specs.Loading.{Reading, after_end, after_event, after_head, after_line, after_row, after_version, end_of, fault_at, head_of, profile_of, unread, with_events, with_rows, with_section};
 ghost use Rattle.pmf_storelog.specs.Lines.{event_of_line};
 
 use crate::head::{read_end, read_head, read_version};
@@ -77,7 +77,7 @@ fn is_line(text: &[u8], spelled: &[u8]) -> bool
 impl Blocks {
     /// No blocks. Takes no memory.
     pub(crate) fn new(alloc: Global) -> Blocks
-        ensures { HasRead Rattle.pmf_ledger.specs.Loading.unread result }
+        ensures { HasRead unread result }
     {
         Blocks {
             ledger: Ledger::new(alloc, Profile::One),
@@ -114,7 +114,8 @@ impl Blocks {
     }
 
     fn version(&mut self, alloc: Global, line: u64, text: &[u8]) -> Result<Next, LedgerFault>
-        ensures { (r : Reading) → HasRead r self.old → r.blocks ≡ [] → Reaches (after_version r line (profile_of text.now)) result self.new }
+        ensures { (r : Reading) → HasRead r self.old → r.blocks ≡ []
+            → Reaches (after_version r line (profile_of text.now)) result self.new }
     {
         match read_version(text) {
             Some(profile) => {
@@ -167,7 +168,8 @@ impl Blocks {
         requires count { self.old.count < 2 ^ 63 }
         requires some { 0 < more }
         ensures { (r : Reading) → HasRead r self.old
-            → Reaches (after_event r line section more told (event_of_line text.now)) result self.new }
+            → Reaches (after_event r line section more told (event_of_line text.now))
+            result self.new }
     {
         let mut section = section;
         let event = match read_event(text) {
@@ -245,7 +247,8 @@ impl Blocks {
         requires within { row < length (rows_in verdict) }
         requires profile { verdict.profile ≡ self.old.ledger.profile }
         ensures { (r : Reading) → HasRead r self.old
-            → Reaches (after_row r line text.now verdict.section (drop row (rows_in verdict))) result self.new }
+            → Reaches (after_row r line text.now verdict.section (drop row (rows_in verdict)))
+            result self.new }
     {
         let wanted = &verdict.rows()[row];
         match self.is_row(wanted, text) {
@@ -269,7 +272,7 @@ impl Blocks {
         Ok(is_line(text, self.spelled.as_bytes()))
     }
 
-    // The rows of the verdict from this one on are still to come. Where there are none, it is taken.
+    // The rows of the verdict from this one on are still to come. With none left it is taken.
     fn with_rows(&mut self, verdict: Verdict, row: usize) -> Result<Next, LedgerFault>
         requires count { self.old.count < 2 ^ 63 }
         requires profile { verdict.profile ≡ self.old.ledger.profile }

@@ -20,8 +20,8 @@ pub const LEDGER_LIMIT: usize = 1 << 31;
 /// Why a text was not loaded as a ledger. The first fault in the text decides.
 #[derive(Clone, Copy, Debug, PartialEq, Eq)]
 pub enum LedgerFault {
-    /// The text line of this number, counted from 1, is not what has to stand there, or is missing, or no
-    /// line end follows it. It is 0 where the text has more than [`LEDGER_LIMIT`] bytes.
+    /// The text line of this number, counted from 1, is not what has to stand there, or is missing, or
+    /// no line end follows it. It is 0 where the text has more than [`LEDGER_LIMIT`] bytes.
     NotALedger {
         /// The number of the text line.
         line: u64,
@@ -36,8 +36,8 @@ pub enum LedgerFault {
         /// The section.
         name: Name,
     },
-    /// The event at this text line is refused, as a log would refuse it, or is one too many in its section.
-    /// Where room for it was refused, the number is 0.
+    /// The event at this text line is refused, as a log would refuse it, or is one too many in its
+    /// section. Where room for it was refused, the number is 0.
     Log(LogFault),
     /// Room for anything else was refused.
     OutOfMemory,
@@ -80,8 +80,9 @@ fn words_of_conflict() -> &'static str
     "held with other events"
 }
 
-/// The ledger that the text says. Its rows aren't believed: each section is checked again, by the profile that the
-/// first text line tells. Takes memory for the sections as they are read, and never by a number in the text.
+/// The ledger that the text says. Its rows aren't believed: each section is checked again, by the
+/// profile that the first text line tells. Takes memory for the sections as they are read, and never
+/// by a number in the text.
 pub fn load_ledger(alloc: Global, text: &[u8]) -> Result<Ledger, LedgerFault>
     ensures { MatchResult result (LoadsAs text.now)
         (λ found. IsOfText found → IsRefusedWith text.now found) }

@@ -13,6 +13,9 @@
 //! [`write_section`] writes a section as such a text (`Canonical`), and the text reads as that section
 //! and nothing else.
 //!
+//! [`read_event`] reads a single text line as one event (`Lines`), and [`read_number_in_front`] a number
+//! at the front of a text (`Numbers`): with [`push_event`] they serve other texts that hold events.
+//!
 //! Not promised here: that memory suffices, or that a log is what the program did.
 #![tactic(auto)]
 

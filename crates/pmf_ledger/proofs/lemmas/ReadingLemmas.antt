@@ -1,9 +1,9 @@
 -- A reading after one step, where what is kept stood for it.
-use Rattle.std.proofs.Common.{◌≡◌, ℕ, zero, suc, ◌+◌, ◌-◌, ◌<◌, ◌≤◌, true, false, ◌==◌, List, [], ◌∷◌, ◌++◌, length, drop, get_or, Option, Some, None, refl, sym, ◌∙◌, ap, subst, arith, inl, inr}
-use Rattle.std.specs.Prelude.{◌⊎◌, ◌↔◌, Contains, Result, Ok, Err, codes, if◌then◌else◌}
+use Rattle.std.proofs.Common.{◌≡◌, ℕ, zero, suc, ◌+◌, ◌-◌, ◌<◌, ◌≤◌, true, false, ◌==◌, List, [], ◌∷◌, ◌++◌, length, drop, get_or, Some, refl, sym, ◌∙◌, ap, subst, arith, inl, inr}
+use Rattle.std.specs.Prelude.{Contains, Ok, codes}
 use Rattle.std.specs.Str.{bytes_eq}
 use Rattle.std.proofs.lemmas.List.{drop_more, length_push, append_cancel_right}
-use Rattle.std.proofs.lemmas.List.Elements.{Contains-append_left, Contains-append_right, Contains-append_cases, Contains-push, Contains-push_cases}
+use Rattle.std.proofs.lemmas.List.Elements.{Contains-append_left, Contains-push, Contains-push_cases}
 use Rattle.std.proofs.lemmas.Slice.Eq.{bytes_eq-Decides}
 use Rattle.std.proofs.lemmas.Bool.Decides.{Decides-eqb}
 use Rattle.pmf_event.specs.declared.event.Event.{Event}
@@ -16,17 +16,17 @@ use Rattle.pmf_storelog.specs.declared.fault.Cause.TheVariants.{TooManyEvents}
 use Rattle.pmf_storelog.specs.declared.line.LineFault.{LineFault}
 use Rattle.pmf_storelog.specs.declared.line.LineFault.TheVariants.{NoEvent, Refused}
 use Rattle.pmf_storelog.specs.Lines.{event_of_line}
-use Rattle.pmf_verdict.specs.Checked.{Checked, checked_by, rows_in}
+use Rattle.pmf_verdict.specs.Checked.{Checked, checked_by}
 use Rattle.pmf_verdict.specs.Rows.{rows_of}
 use Rattle.pmf_verdict.specs.Text.{text_of_row}
 use Rattle.pmf_ledger.specs.declared.blocks.Blocks.{Blocks}
 use Rattle.pmf_ledger.specs.declared.loading.LedgerFault.{LedgerFault}
 use Rattle.pmf_ledger.specs.declared.loading.LedgerFault.TheVariants.{NotALedger, FalseRows, Log}
 use Rattle.pmf_ledger.specs.Following.{HasRead, IsStoppedBy}
-use Rattle.pmf_ledger.specs.Gathered.{Gathers, Holds, HoldsOther, IsLedgerOf}
+use Rattle.pmf_ledger.specs.Gathered.{Gathers, HoldsOther, IsLedgerOf}
 use Rattle.pmf_ledger.specs.Gathering.{Agrees, HaveSameMembers}
 use Rattle.pmf_ledger.specs.LedgerValue.{LedgerValue}
-use Rattle.pmf_ledger.specs.Loading.{Reading, Stage, AtVersion, AtBlock, AtEvents, AtRows, AtEnd, AtFault, at, profile_of, head_of, after_version, after_head, after_end, fault_at, after_event, after_row, after_line, after_line_at, with_events, with_section, with_rows, IsFirstOther, IsOther}
+use Rattle.pmf_ledger.specs.Loading.{Reading, Stage, AtVersion, AtBlock, AtEvents, AtRows, AtEnd, AtFault, at, profile_of, head_of, after_version, after_head, after_end, fault_at, after_event, after_row, after_line, after_line_at, with_events, with_section, with_rows, IsFirstOther}
 use Rattle.pmf_ledger.proofs.lemmas.AddingLemmas.{Contains-cons, Contains-cons_cases}
 use Rattle.pmf_ledger.proofs.lemmas.StandingLemmas.{held-once}
 

@@ -1,7 +1,7 @@
-use Rattle.std.proofs.Common.{◌≡◌, ◌∷◌, [], ◌++◌, true, false, refl, sym, ◌∙◌, ap, subst}
+use Rattle.std.proofs.Common.{◌∷◌, [], ◌++◌, sym, ◌∙◌, ap}
 use Rattle.std.specs.Str.{bytes_eq}
 use Rattle.std.proofs.lemmas.Bool.Decides.{Decides-eqb}
-use Rattle.std.proofs.lemmas.Slice.Eq.{bytes_eq-Decides, strip_suffix_is}
+use Rattle.std.proofs.lemmas.Slice.Eq.{strip_suffix_is}
 use Rattle.pmf_ledger.proofs.lemmas.ReadingLemmas.{ended-same, ended-other}
 use Rattle.pmf_ledger.proofs.blocks.is_line.Goals as goal
 

@@ -1,7 +1,6 @@
-use Rattle.std.proofs.Common.{◌≡◌, true, false, None, Some, take, drop, ◌+◌, refl, sym, ◌∙◌, ap, subst}
-use Rattle.std.specs.Prelude.{Ok, Err}
+use Rattle.std.proofs.Common.{take, drop, ◌+◌, refl, sym, ◌∙◌, subst}
 use Rattle.memchr.specs.Find.{IsFirstByte, is_byte}
-use Rattle.pmf_ledger.specs.Following.{StandsFor, Reaches, is_over}
+use Rattle.pmf_ledger.specs.Following.{Reaches}
 use Rattle.pmf_ledger.specs.Loading.{unread, after_line}
 use Rattle.pmf_ledger.proofs.lemmas.LinesLemmas.{IsAt, IsAt-start, IsAt-next, refused-long, refused-at, loads-at, refused-end}
 use Rattle.pmf_ledger.proofs.loading.load_ledger.Goals as goal

@@ -1,4 +1,4 @@
-use Rattle.std.proofs.Common.{◌≡◌, sym, ◌∙◌, ap}
+use Rattle.std.proofs.Common.{sym, ◌∙◌, ap}
 use Rattle.pmf_ledger.specs.Loading.{after_end}
 use Rattle.pmf_ledger.proofs.lemmas.ReadingLemmas.{stopped, end-otherwise}
 use Rattle.pmf_ledger.proofs.blocks.Blocks.end.Goals as goal

@@ -1,4 +1,4 @@
-use Rattle.std.proofs.Common.{◌≡◌, refl}
+use Rattle.std.proofs.Common.{refl}
 use Rattle.pmf_ledger.proofs.lemmas.ReadingLemmas.{HasRead-taken, first_other, taken_stage}
 use Rattle.pmf_ledger.proofs.blocks.Blocks.take.Goals as goal
 

@@ -1,4 +1,4 @@
-use Rattle.std.proofs.Common.{◌≡◌, ◌<◌, length, refl, ◌∙◌, subst, drop}
+use Rattle.std.proofs.Common.{◌<◌, length, refl, ◌∙◌, subst}
 use Rattle.pmf_event.specs.declared.row.Row.{Row}
 use Rattle.std.specs.Prelude.{List}
 use Rattle.pmf_verdict.specs.Checked.{rows_in}

@@ -1,8 +1,6 @@
-use Rattle.std.proofs.Common.{◌≡◌, ℕ, length, refl, sym, ◌∙◌, ap, subst, drop, List}
+use Rattle.std.proofs.Common.{◌≡◌, length, sym, ◌∙◌, ap, subst, List}
 use Rattle.pmf_event.specs.declared.row.Row.{Row}
-use Rattle.pmf_event.specs.Section.{Trace}
-use Rattle.pmf_event.specs.declared.profile.Profile.{Profile}
-use Rattle.pmf_verdict.specs.Checked.{Checked, checked_by, rows_in}
+use Rattle.pmf_verdict.specs.Checked.{Checked, rows_in}
 use Rattle.pmf_verdict.specs.Rows.{rows_of}
 use Rattle.pmf_ledger.specs.Following.{Reaches}
 use Rattle.pmf_ledger.specs.Loading.{with_rows}
