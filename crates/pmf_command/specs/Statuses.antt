@@ -40,9 +40,13 @@ abbrev pub IsAnswerTo : ErrorKind → Status → Type 0
 IsAnswerTo kind status =
     (status ≡ status_of_kind kind) ⊎ ((status ≡ NoMemory) ⊎ ((status_of_kind kind ≡ NoFail) × (status ≡ DeviceFault)))
 
+-- how the program ends where so many rows count as fail
+abbrev pub status_of_fails : ℕ → Status
+status_of_fails fails = if fails == 0 then NoFail else SomeFail
+
 -- how the program ends where the log is reported
 abbrev pub status_of_done : Done → Status
-status_of_done done = if done.fails == 0 then NoFail else SomeFail
+status_of_done done = status_of_fails done.fails
 
 -- how the program ends where a log is refused for this cause
 abbrev pub status_of_cause : Cause → Status
@@ -66,7 +70,7 @@ status_of_refusal explaining.OutOfMemory = NoMemory
 
 -- how the program ends where ledgers are joined
 abbrev pub status_of_joined : Joined → Status
-status_of_joined joined = if joined.fails == 0 then NoFail else SomeFail
+status_of_joined joined = status_of_fails joined.fails
 
 -- how the program ends where a ledger text is refused
 abbrev pub status_of_ledger_fault : LedgerFault → Status

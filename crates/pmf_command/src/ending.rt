@@ -1,7 +1,7 @@
 //! The status of each answer of a command.
 
 ghost use Rattle.std.specs.Prelude.{◌≡◌};
-ghost use Rattle.pmf_command.specs.Statuses.{status_of_asked, status_of_done, status_of_fault, status_of_join_fault, status_of_joined, status_of_ledger_fault, status_of_log_fault, status_of_refusal, status_of_text_fault};
+ghost use Rattle.pmf_command.specs.Statuses.{status_of_asked, status_of_done, status_of_fails, status_of_fault, status_of_join_fault, status_of_joined, status_of_ledger_fault, status_of_log_fault, status_of_refusal, status_of_text_fault};
 ghost use Rattle.pmf_command.specs.declared.status.Status.{Status};
 
 use crate::status::Status;
@@ -19,16 +19,22 @@ pub trait Ending {
         ensures { result ≡ ends_as self.now };
 }
 
+fn status_of_fails(fails: u128) -> Status
+    ensures { result ≡ status_of_fails fails }
+{
+    if fails == 0 {
+        Status::NoFail
+    } else {
+        Status::SomeFail
+    }
+}
+
 /// The log was reported.
 impl Ending for Done {
     ghost ends_as = { status_of_done };
 
     fn status(&self) -> Status {
-        if self.fails == 0 {
-            Status::NoFail
-        } else {
-            Status::SomeFail
-        }
+        status_of_fails(self.fails)
     }
 }
 
@@ -71,11 +77,7 @@ impl Ending for Joined {
     ghost ends_as = { status_of_joined };
 
     fn status(&self) -> Status {
-        if self.fails == 0 {
-            Status::NoFail
-        } else {
-            Status::SomeFail
-        }
+        status_of_fails(self.fails)
     }
 }
 

@@ -1,6 +1,6 @@
 -- The ledger text: a text line for the version, which tells the profile; for each section a block of its header, its
 -- events in canonical spelling and its rows; and a last text line with the number of blocks. Defined here.
-use Rattle.std.specs.Prelude.{ℕ, ◌+◌, ◌^◌, ◌<◌, ◌≤◌, List, ◌++◌, length, codes}
+use Rattle.std.specs.Prelude.{ℕ, ◌^◌, ◌<◌, ◌≤◌, List, ◌++◌, length, codes}
 use Rattle.std.specs.List.{All, flat_map}
 use Rattle.std.specs.Fmt.{decimal}
 use Rattle.pmf_event.specs.declared.name.Name.{Name}

@@ -18,8 +18,8 @@ use crate::sink::Sink;
 use crate::source::Source;
 use crate::writing::write_answer;
 use pmf_event::{Profile, Section};
-use pmf_storelog::{LOG_LIMIT, Log, LogFault, LogReader};
 use pmf_ledger::Ledger;
+use pmf_storelog::{LOG_LIMIT, Log, LogFault, LogReader};
 use pmf_verdict::{Verdict, check};
 use std::alloc::{AllocError, Global};
 use std::sync::Arc;
@@ -100,11 +100,7 @@ fn check_section(
 }
 
 // The ledger of the sections of a log by the profile.
-fn gather(
-    alloc: Global,
-    sections: &[Arc<Section>],
-    profile: Profile,
-) -> Result<Ledger, AllocError>
+fn gather(alloc: Global, sections: &[Arc<Section>], profile: Profile) -> Result<Ledger, AllocError>
     ensures { IfOk result (IsLedgerOf profile (map (λ section. section.value) sections.now)) }
 {
     let mut ledger = Ledger::new(alloc, profile);

@@ -45,10 +45,12 @@ fn fault_at(index: usize, fault: LedgerFault) -> JoinTextFault
 {
     match fault {
         LedgerFault::OutOfMemory => JoinTextFault::OutOfMemory,
-        LedgerFault::Log(LogFault {
-            cause: Cause::OutOfMemory,
-            ..
-        }) => JoinTextFault::OutOfMemory,
+        LedgerFault::Log(
+            LogFault {
+                cause: Cause::OutOfMemory,
+                ..
+            },
+        ) => JoinTextFault::OutOfMemory,
         fault => JoinTextFault::Load { index, fault },
     }
 }

@@ -1,11 +1,9 @@
 -- The text of a ledger loads as that ledger.
-use Rattle.std.proofs.Common.{◌≡◌, ℕ, zero, suc, ◌+◌, ◌-◌, ◌^◌, ◌<◌, ◌≤◌, Bool, true, false, ◌==◌, List, [], ◌∷◌, ◌++◌, length, map, take, drop, get_or, Option, Some, None, refl, sym, ◌∙◌, ap, subst, arith, rules, inl, inr, append_assoc, length-append}
-use Rattle.std.specs.Prelude.{codes, nat_lt, nat_eq, if◌then◌else◌, ⊤, Contains, Ok, ◌↔◌}
+use Rattle.std.proofs.Common.{◌≡◌, ℕ, zero, suc, ◌+◌, ◌-◌, ◌^◌, ◌<◌, ◌≤◌, ◌==◌, List, [], ◌∷◌, ◌++◌, length, map, Some, None, refl, sym, ◌∙◌, ap, subst, arith, rules, inl, inr, append_assoc, length-append}
+use Rattle.std.specs.Prelude.{codes, if◌then◌else◌, Contains}
 use Rattle.std.specs.Fmt.{decimal}
 use Rattle.std.specs.List.{All, flat_map, AllByRecursion}
-use Rattle.std.specs.Str.{bytes_eq}
 use Rattle.std.proofs.lemmas.Bool.{le-ltb}
-use Rattle.std.proofs.lemmas.Bool.Decides.{Decides-eqb}
 use Rattle.std.proofs.lemmas.List.{append-nil, length_push, length-map, take_at, drop_at}
 use Rattle.std.proofs.lemmas.List.Elements.{recursion_from_All}
 use Rattle.std.proofs.lemmas.Slice.Eq.{bytes_eq-Decides}
@@ -17,8 +15,6 @@ use Rattle.pmf_event.specs.declared.profile.Profile.TheVariants.{One, Two}
 use Rattle.pmf_event.specs.declared.row.Row.{Row}
 use Rattle.pmf_event.specs.declared.section.TheConstants.{EVENT_LIMIT}
 use Rattle.pmf_storelog.specs.Canonical.{line_of_event}
-use Rattle.pmf_storelog.specs.Lines.{event_of_line}
-use Rattle.pmf_storelog.specs.Numbers.{number_in_front}
 use Rattle.pmf_storelog.specs.Spelling.{AllValid}
 use Rattle.pmf_storelog.proofs.EventLineLemmas.{event_of_line-event}
 use Rattle.pmf_storelog.proofs.FrontLemmas.{BeginsWithNoDigit, number_in_front-decimal}
@@ -30,14 +26,14 @@ use Rattle.pmf_verdict.specs.Text.{text_of_row, text_of_rows}
 use Rattle.pmf_ledger.specs.declared.head.Head.{Head}
 use Rattle.pmf_ledger.specs.declared.loading.LedgerFault.TheVariants.{FalseRows}
 use Rattle.pmf_ledger.specs.declared.loading.TheConstants.{LEDGER_LIMIT}
-use Rattle.pmf_ledger.specs.Gathered.{Holds, IsLedgerOf}
+use Rattle.pmf_ledger.specs.Gathered.{IsLedgerOf}
 use Rattle.pmf_ledger.specs.LedgerText.{IsSpelled, version_of, text_of_head, text_of_block, text_of_end, text_of_ledger}
 use Rattle.pmf_ledger.specs.LedgerValue.{LedgerValue}
-use Rattle.pmf_ledger.specs.Loading.{Reading, Stage, AtVersion, AtBlock, AtEvents, AtRows, AtEnd, AtFault, at, unread, alone, number_behind, profile_of, head_of, head_of_run, head_of_number, head_of_events, head_of_rows, end_of, after_version, after_head, after_end, after_event, after_row, after_line, after_lines, with_events, with_section, with_rows, lines_of, left_of, parts_of, reading_of, fault_at_end, fault_of, LoadsAs}
+use Rattle.pmf_ledger.specs.Loading.{Reading, Stage, AtBlock, AtEvents, AtRows, AtEnd, AtFault, at, unread, alone, number_behind, profile_of, head_of, head_of_run, head_of_number, head_of_events, head_of_rows, end_of, after_version, after_head, after_end, after_event, after_row, after_line, after_lines, with_events, with_section, with_rows, lines_of, left_of, reading_of, fault_of, LoadsAs}
 use Rattle.pmf_ledger.specs.Names.{Rises}
 use Rattle.pmf_ledger.proofs.lemmas.AddingLemmas.{Contains-cons, Contains-cons_cases}
 use Rattle.pmf_ledger.proofs.lemmas.ReadingLemmas.{event-added, rows-told, end-here, line-version, line-block, line-event, line-row}
-use Rattle.pmf_ledger.proofs.lemmas.SpelledLemmas.{OneLine, one-append, decimal-one, text_without_end, row-one, event-one, parts_of-lines, lines_of-lines, left_of-lines, lines-append, each-append}
+use Rattle.pmf_ledger.proofs.lemmas.SpelledLemmas.{OneLine, one-append, decimal-one, text_without_end, row-one, event-one, lines_of-lines, left_of-lines, lines-append, each-append}
 
 -- the text lines of a ledger
 unfoldable head_line : Name → ℕ → ℕ → List ℕ

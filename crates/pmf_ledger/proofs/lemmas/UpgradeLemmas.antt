@@ -1,17 +1,15 @@
 -- The sections of a ledger, checked by profile Two.
-use Rattle.std.proofs.Common.{◌≡◌, ℕ, ◌<◌, List, length, map, refl, sym, ◌∙◌, ap, subst, arith, get_or}
+use Rattle.std.proofs.Common.{◌≡◌, ◌<◌, List, length, map, refl, sym, ◌∙◌, ap, subst, arith, get_or}
 use Rattle.std.specs.Prelude.{Contains}
 use Rattle.std.specs.List.{All}
 use Rattle.std.proofs.lemmas.List.{get_or-map, length-map}
 use Rattle.std.proofs.lemmas.List.Elements.{All-map, All-contains, All-weaker, Contains-get_or}
 use Rattle.std.proofs.lemmas.List.Folds.{map_fixed}
-use Rattle.pmf_event.specs.declared.profile.Profile.{Profile}
 use Rattle.pmf_event.specs.declared.profile.Profile.TheVariants.{Two}
-use Rattle.pmf_event.specs.Section.{Trace}
 use Rattle.pmf_verdict.specs.Checked.{Checked, checked_by}
-use Rattle.pmf_ledger.specs.Gathered.{Holds, IsLedgerOf, IsUpgradeOf, upgraded}
+use Rattle.pmf_ledger.specs.Gathered.{IsUpgradeOf, upgraded}
 use Rattle.pmf_ledger.specs.LedgerValue.{LedgerValue}
-use Rattle.pmf_ledger.specs.Names.{ComesBefore, Rises}
+use Rattle.pmf_ledger.specs.Names.{Rises}
 
 Contains-upgraded : (sections : List Checked) (c : Checked) → Contains sections c → Contains (map upgraded sections) (upgraded c)
 Contains-upgraded sections c found =

@@ -1,5 +1,5 @@
 -- Ledger texts joined one after another.
-use Rattle.std.proofs.Common.{◌≡◌, ℕ, zero, suc, List, [], ◌∷◌, ◌++◌, length, flat_map, refl, sym, ◌∙◌, ap, subst}
+use Rattle.std.proofs.Common.{◌≡◌, ℕ, List, [], ◌∷◌, ◌++◌, length, flat_map, refl, sym, ◌∙◌, ap, subst}
 use Rattle.std.specs.Prelude.{◌≢◌, ◌↔◌}
 use Rattle.std.specs.List.{All}
 use Rattle.std.proofs.lemmas.Grind.{flat_map-append}
@@ -7,7 +7,6 @@ use Rattle.std.proofs.lemmas.List.{append-nil}
 use Rattle.std.proofs.lemmas.List.Elements.{All-cons, All-nil, All-push}
 use Rattle.pmf_event.specs.declared.profile.Profile.{Profile}
 use Rattle.pmf_event.specs.declared.profile.Profile.TheVariants.{One, Two}
-use Rattle.pmf_event.specs.Section.{Trace}
 use Rattle.pmf_event.specs.declared.name.Name.{Name}
 use Rattle.pmf_ledger.specs.declared.joining.JoinFault.{JoinFault}
 use Rattle.pmf_ledger.specs.declared.joining.JoinFault.TheVariants.{ProfileMismatch, Conflict, OutOfMemory}

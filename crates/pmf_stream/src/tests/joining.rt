@@ -206,7 +206,15 @@ fn the_report_or_the_text_of_all_is_written(rt: HostRuntime) -> Result<(), Fail>
     let alloc = rt.alloc();
     let texts = bytes_of(alloc, &[FIRST, FAILING])?;
     let sink = ByteSink::new(alloc);
-    writes(&rt, &texts, alloc, sink, false, Ok(Joined { fails: 1 }), REPORT);
+    writes(
+        &rt,
+        &texts,
+        alloc,
+        sink,
+        false,
+        Ok(Joined { fails: 1 }),
+        REPORT,
+    );
     let texts = bytes_of(alloc, &[FIRST, SECOND])?;
     let sink = ByteSink::new(alloc);
     writes(

@@ -287,14 +287,7 @@ end verdicts=2
             profile,
             ledger: true,
         };
-        checks_log(
-            &rt,
-            rt.alloc(),
-            log,
-            settings,
-            done(0, 0),
-            want.as_bytes(),
-        );
+        checks_log(&rt, rt.alloc(), log, settings, done(0, 0), want.as_bytes());
     }
 }
 
@@ -314,14 +307,7 @@ end verdicts=1
         profile: Profile::One,
         ledger: true,
     };
-    checks_log(
-        &rt,
-        rt.alloc(),
-        log,
-        settings,
-        done(1, 1),
-        text.as_bytes(),
-    );
+    checks_log(&rt, rt.alloc(), log, settings, done(1, 1), text.as_bytes());
     let none = "PMFARM-LEDGER 1\nend verdicts=0\n";
     checks_log(&rt, rt.alloc(), "", settings, done(0, 0), none.as_bytes());
 }

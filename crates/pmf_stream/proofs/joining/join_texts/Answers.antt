@@ -1,4 +1,4 @@
-use Rattle.std.proofs.Common.{◌≡◌, ◌+◌, ◌<◌, ◌≤◌, List, ℕ, ◌++◌, ◌∷◌, [], length, map, take, sym, ◌∙◌, ap, subst, arith}
+use Rattle.std.proofs.Common.{◌≡◌, ◌<◌, ◌++◌, ◌∷◌, [], length, map, take, sym, ◌∙◌, ap, subst, arith}
 use Rattle.std.proofs.lemmas.List.{get_or-map, length-map, length-take-le, take_more}
 use Rattle.pmf_stream.specs.Joining.{IsJoinOf, IsJoinedAt}
 use Rattle.pmf_stream.proofs.lemmas.JoiningLemmas.{IsJoinOf-more}
@@ -17,4 +17,4 @@ loop-index-preserved c =
     let joined = rw c.deref.ensures.value at c.in_ok-joined.ensures.joined in
     subst (λ ts. IsJoinOf ts new) (sym (take_more items index text.items within ∙ ap (λ t. take index items ++ t ∷ []) (sym is)))
     (IsJoinOf-more (take index items) c.loop-index.joined new text.items c.loop-index.invariant
-        (subst (λ n. IsJoinedAt c.loop-index.joined n text.items new) (sym count) joined))
+    (subst (λ n. IsJoinedAt c.loop-index.joined n text.items new) (sym count) joined))

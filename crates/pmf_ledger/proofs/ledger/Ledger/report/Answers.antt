@@ -1,4 +1,4 @@
-use Rattle.std.proofs.Common.{◌≡◌, ◌+◌, ◌<◌, ◌^◌, ◌++◌, ◌∷◌, [], take, sym, ◌∙◌, ap, subst, rules}
+use Rattle.std.proofs.Common.{◌+◌, ◌<◌, ◌^◌, ◌++◌, ◌∷◌, [], take, sym, ◌∙◌, ap, subst, rules}
 use Rattle.std.specs.List.{flat_map}
 use Rattle.std.proofs.lemmas.List.{flat_map_more, take_more}
 use Rattle.pmf_ledger.specs.Report.{IsWithin, both, text_of_section}
@@ -15,7 +15,7 @@ pub add-requires : goal.add-requires
 add-requires c =
     let sections = c.deref-verdict-items.result.now in
     let more = Sums-more sections c.loop-verdict.verdict-index c.loop-verdict.totals c.verdict-item.result c.loop-verdict-test.true c.verdict-item.is
-        (subst (IsWithin 1 (2 ^ 64)) c.of-counts.ensures.value c.of-counts.ensures.small) c.loop-verdict.invariant.sums in
+    (subst (IsWithin 1 (2 ^ 64)) c.of-counts.ensures.value c.of-counts.ensures.small) c.loop-verdict.invariant.sums in
     let few : c.loop-verdict.verdict-index + 1 < 2 ^ 64 = search rules in
     rw c.of-counts.ensures.value (IsWithin-all (c.loop-verdict.verdict-index + 1) _ few more.small)
 
@@ -25,7 +25,7 @@ loop-verdict-preserved c =
     let index = c.loop-verdict.verdict-index in
     let verdict = c.verdict-item.result in
     let more = Sums-more sections index c.loop-verdict.totals verdict c.loop-verdict-test.true c.verdict-item.is
-        (subst (IsWithin 1 (2 ^ 64)) c.of-counts.ensures.value c.of-counts.ensures.small) c.loop-verdict.invariant.sums in
+    (subst (IsWithin 1 (2 ^ 64)) c.of-counts.ensures.value c.of-counts.ensures.small) c.loop-verdict.invariant.sums in
     record {
       text = c.in_ok-push_section.ensures ∙ ap (λ text. text ++ text_of_section verdict) c.loop-verdict.invariant.text ∙ flat_map_more text_of_section [] (take index sections) verdict
           ∙ ap (flat_map text_of_section) (ap (λ v. take index sections ++ v ∷ []) c.verdict-item.is ∙ sym (take_more sections index verdict c.loop-verdict-test.true));

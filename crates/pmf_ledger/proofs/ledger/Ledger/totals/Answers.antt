@@ -1,5 +1,4 @@
-use Rattle.std.proofs.Common.{◌≡◌, ◌+◌, ◌<◌, ◌^◌, sym, ◌∙◌, ap, subst, rules}
-use Rattle.pmf_ledger.specs.declared.totals.Totals.{Totals}
+use Rattle.std.proofs.Common.{◌+◌, ◌<◌, ◌^◌, sym, ◌∙◌, ap, subst, rules}
 use Rattle.pmf_ledger.specs.Report.{IsWithin, both}
 use Rattle.pmf_ledger.proofs.lemmas.CountLemmas.{IsWithin-all, Sums, Sums-more, Sums-none}
 use Rattle.pmf_ledger.proofs.ledger.Ledger.totals.Goals as goal
@@ -12,7 +11,7 @@ add-requires c =
     let sections = c.deref-verdict-items.result.now in
     let so_far = c.loop-verdict.invariant in
     let more = Sums-more sections c.loop-verdict.verdict-index c.loop-verdict.totals c.verdict-item.result c.loop-verdict-test.true c.verdict-item.is
-        (subst (IsWithin 1 (2 ^ 64)) c.of.ensures.value c.of.ensures.small) so_far in
+    (subst (IsWithin 1 (2 ^ 64)) c.of.ensures.value c.of.ensures.small) so_far in
     let few : c.loop-verdict.verdict-index + 1 < 2 ^ 64 = search rules in
     rw c.of.ensures.value (IsWithin-all (c.loop-verdict.verdict-index + 1) _ few more.small)
 
@@ -20,5 +19,5 @@ pub loop-verdict-preserved : goal.loop-verdict-preserved
 loop-verdict-preserved c =
     let sections = c.deref-verdict-items.result.now in
     let more = Sums-more sections c.loop-verdict.verdict-index c.loop-verdict.totals c.verdict-item.result c.loop-verdict-test.true c.verdict-item.is
-        (subst (IsWithin 1 (2 ^ 64)) c.of.ensures.value c.of.ensures.small) c.loop-verdict.invariant in
+    (subst (IsWithin 1 (2 ^ 64)) c.of.ensures.value c.of.ensures.small) c.loop-verdict.invariant in
     subst (Sums sections (c.loop-verdict.verdict-index + 1)) (sym (c.add.ensures ∙ ap (both c.loop-verdict.totals) c.of.ensures.value)) more

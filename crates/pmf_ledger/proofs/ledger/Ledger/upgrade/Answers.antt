@@ -25,4 +25,4 @@ returns-in-Ok c =
     let rises = subst (λ (l : LedgerValue). Rises l.sections) c.self.view_is c.self.invariant.0 in
     let checked = subst (λ (l : LedgerValue). All (λ (v : Checked). v.profile ≡ l.profile) l.sections) c.self.view_is c.self.invariant.1 in
     IsUpgradeOf-upgraded c.args.self _ refl (c.in-Ok.ensures ∙ ap (map upgraded) (c.deref.ensures.value ∙ ap (λ (l : LedgerValue). l.sections) c.self.view_is)) rises checked
-        (λ by. let own : c.self.inside.profile ≡ Two = ap (λ (l : LedgerValue). l.profile) c.self.view_is ∙ by in absurd (c.in_default.not-Two own))
+    (λ by. let own : c.self.inside.profile ≡ Two = ap (λ (l : LedgerValue). l.profile) c.self.view_is ∙ by in absurd (c.in_default.not-Two own))

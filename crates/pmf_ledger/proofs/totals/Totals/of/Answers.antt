@@ -1,8 +1,6 @@
-use Rattle.std.proofs.Common.{◌≡◌, List, length, take, refl, sym, ◌∙◌, ap, subst, arith}
+use Rattle.std.proofs.Common.{◌≡◌, take, sym, ◌∙◌, arith}
 use Rattle.std.proofs.lemmas.List.{take_all}
-use Rattle.pmf_event.specs.declared.row.Row.{Row}
-use Rattle.pmf_ledger.specs.Report.{totals_of, rows_with_in}
-use Rattle.pmf_ledger.proofs.lemmas.CountLemmas.{Counted, Counted-none, Counted-pass, Counted-fail, Counted-warn, Counted-empty, totals_of-one}
+use Rattle.pmf_ledger.proofs.lemmas.CountLemmas.{Counted-none, Counted-pass, Counted-fail, Counted-warn, Counted-empty, totals_of-one}
 use Rattle.pmf_ledger.proofs.totals.Totals.of.Goals as goal
 use Rattle.pmf_ledger.proofs.totals.Totals.of.Goals.{in-Pass, in-Fail, in-Warn, in-Empty}
 
