@@ -13,5 +13,6 @@ pub mod GatheringLemmas
 pub mod ReadingLemmas
 pub mod LinesLemmas
 pub mod GivingLemmas
+pub mod AlikeLemmas
 pub mod SpelledLemmas
 pub mod RoundTripLemmas

@@ -69,10 +69,12 @@ RefusesForCause = (gathering : Gathering) (profile : Profile) → Agrees (set_of
 abbrev pub GivesWhereItMay : Type 0
 GivesWhereItMay = (gathering : Gathering) (profile : Profile) → Agrees (set_of gathering) → IsBy profile gathering → (ledger : LedgerValue) × Gives gathering ledger
 
--- two gatherings by one profile with equal sets are the same in all: in the ledger that they give, and in whether
--- they are refused
-abbrev pub AreAlike : Gathering → Gathering → Type 0
-AreAlike g h = ((a b : LedgerValue) → Gives g a → Gives h b → a ≡ b) × ((a : LedgerValue) → Gives g a → IsRefused h → ⊥) × ((b : LedgerValue) → Gives h b → IsRefused g → ⊥)
+-- two gatherings are the same in all: they give one ledger, what the one gives the other gives, and then neither is
+-- refused
+pub record AreAlike (g h : Gathering) : Type 0 where
+  pub same : (a b : LedgerValue) → Gives g a → Gives h b → a ≡ b
+  pub gives : (a : LedgerValue) → Gives g a ↔ Gives h a
+  pub unrefused : (a : LedgerValue) → Gives g a → IsRefused g ⊎ IsRefused h → ⊥
 
 -- joining commutes
 abbrev pub JoiningCommutes : Type 0

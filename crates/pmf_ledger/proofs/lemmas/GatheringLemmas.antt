@@ -1,19 +1,16 @@
 -- What gatherings give.
-use Rattle.std.proofs.Common.{◌≡◌, List, [], ◌∷◌, ◌++◌, refl, sym, ◌∙◌, ap, subst, append_assoc, arith, inl, inr}
+use Rattle.std.proofs.Common.{◌≡◌, List, [], ◌∷◌, ◌++◌, refl, sym, ◌∙◌, ap, subst, arith, inl, inr}
 use Rattle.std.specs.Prelude.{◌≢◌, Contains}
-use Rattle.std.proofs.lemmas.List.Elements.{Contains-append_cases, Contains-append_left, Contains-append_right}
+use Rattle.std.proofs.lemmas.List.Elements.{Contains-append_left, Contains-append_right}
 use Rattle.pmf_event.specs.declared.profile.Profile.{Profile}
 use Rattle.pmf_event.specs.declared.profile.Profile.TheVariants.{One, Two}
 use Rattle.pmf_event.specs.Section.{Trace}
-use Rattle.pmf_ledger.specs.Report.{report_of}
 use Rattle.pmf_ledger.specs.Gathered.{IsLedgerOf}
-use Rattle.pmf_ledger.specs.Gathering.{Agrees, AreAlike, Begun, Gathering, Gives, HaveSameMembers, IsBy, IsRefused, Joined, JoiningAssociates, JoiningCommutes, JoiningRepeats, OnlyTheSetCounts, WithVerdict, set_of}
-use Rattle.pmf_ledger.specs.Laws.{EqualSetsHaveOneLedger}
-use Rattle.pmf_ledger.specs.LedgerText.{text_of_ledger}
+use Rattle.pmf_ledger.specs.Gathering.{Agrees, Begun, Gathering, Gives, IsBy, IsRefused, Joined, WithVerdict, set_of}
 use Rattle.pmf_ledger.specs.LedgerValue.{LedgerValue}
 use Rattle.pmf_ledger.proofs.lemmas.AddingLemmas.{Contains-cons}
 use Rattle.pmf_ledger.proofs.lemmas.MergingLemmas.{none_of_empty}
-use Rattle.pmf_ledger.proofs.lemmas.UniqueLemmas.{Agrees-ledger, ledger_once}
+use Rattle.pmf_ledger.proofs.lemmas.UniqueLemmas.{Agrees-ledger}
 
 -- profiles that don't differ are one
 profile_same : (p q : Profile) → (p ≢ q → ⊥) → p ≡ q
@@ -108,54 +105,3 @@ refuses_for_cause (Joined g h) profile agrees by refused =
                 clash.6 (agrees s t (Contains-append_left xs ys s ((first.0.same s).0 clash.2)) (Contains-append_right xs ys t ((second.0.same t).0 clash.3)) (clash.4 ∙ sym clash.5))
           ]
     ]
-
--- gatherings of sets with the same members are alike, where the profiles of the one are those of the other
-alike : (g h : Gathering) → ((p : Profile) → IsBy p g → IsBy p h) → ((p : Profile) → IsBy p h → IsBy p g) → HaveSameMembers (set_of g) (set_of h) → AreAlike g h
-alike g h to from members = (
-  λ a b first second.
-      let of_a = gives_ledger g a first in
-      let of_b = gives_ledger h b second in
-      let even : a.profile ≡ b.profile = by_one h a.profile b.profile (to a.profile of_a.2) of_b.2 in
-      ledger_once b.profile (set_of g) (set_of h) a b (subst (λ p. IsLedgerOf p (set_of g) a) even of_a.0) of_b.0 members,
-  λ a first refused.
-      let of_a = gives_ledger g a first in
-      refuses_for_cause h a.profile (agrees_within (set_of g) (set_of h) (λ s. (members s).1) of_a.1) (to a.profile of_a.2) refused,
-  λ b second refused.
-      let of_b = gives_ledger h b second in
-      refuses_for_cause g b.profile (agrees_within (set_of h) (set_of g) (λ s. (members s).0) of_b.1) (from b.profile of_b.2) refused,
-)
-
-turned : {X : Type 0} (xs ys : List X) (x : X) → Contains (xs ++ ys) x → Contains (ys ++ xs) x
-turned xs ys x found = elim (Contains-append_cases xs ys x found) [
-  | inl first ↦ Contains-append_right ys xs x first
-  | inr second ↦ Contains-append_left ys xs x second
-]
-
-pub joining_commutes : JoiningCommutes
-unfolding IsBy set_of
-joining_commutes = λ g h. alike (Joined g h) (Joined h g) (λ p by. (by.1, by.0)) (λ p by. (by.1, by.0))
-    (λ s. (turned (set_of g) (set_of h) s, turned (set_of h) (set_of g) s))
-
-pub joining_associates : JoiningAssociates
-unfolding IsBy set_of
-joining_associates = λ g h k.
-    let regrouped : (set_of g ++ set_of h) ++ set_of k ≡ set_of g ++ (set_of h ++ set_of k) = append_assoc (set_of g) (set_of h) (set_of k) in
-    alike (Joined (Joined g h) k) (Joined g (Joined h k)) (λ p by. (by.0.0, (by.0.1, by.1))) (λ p by. ((by.0, by.1.0), by.1.1))
-    (λ s. (subst (λ zs. Contains zs s) regrouped, subst (λ zs. Contains zs s) (sym regrouped)))
-
-pub joining_repeats : JoiningRepeats
-unfolding IsBy set_of
-joining_repeats = λ g. alike (Joined g g) g (λ p by. by.0) (λ p by. (by, by))
-    (λ s. (
-      λ found. elim (Contains-append_cases (set_of g) (set_of g) s found) [ inl first ↦ first | inr second ↦ second ],
-      λ found. Contains-append_left (set_of g) (set_of g) s found,
-    ))
-
-pub set_counts : OnlyTheSetCounts
-set_counts = λ g h profile by_g by_h members.
-    alike g h (λ p by. subst (λ q. IsBy q h) (by_one g profile p by_g by) by_h) (λ p by. subst (λ q. IsBy q g) (by_one h profile p by_h by) by_g) members
-
-pub equal_sets : EqualSetsHaveOneLedger
-equal_sets = λ profile xs ys a b of_a of_b members.
-    let same : a ≡ b = ledger_once profile xs ys a b of_a of_b members in
-    (same, ap (λ (l : LedgerValue). report_of l.sections) same, ap text_of_ledger same)

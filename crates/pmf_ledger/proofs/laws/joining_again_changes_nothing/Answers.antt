@@ -1,4 +1,4 @@
-use Rattle.pmf_ledger.proofs.lemmas.GatheringLemmas.{joining_repeats}
+use Rattle.pmf_ledger.proofs.lemmas.AlikeLemmas.{joining_repeats}
 use Rattle.pmf_ledger.proofs.laws.joining_again_changes_nothing.Goals as goal
 
 pub returns : goal.returns

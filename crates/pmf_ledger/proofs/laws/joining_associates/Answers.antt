@@ -1,4 +1,4 @@
-use Rattle.pmf_ledger.proofs.lemmas.GatheringLemmas.{joining_associates}
+use Rattle.pmf_ledger.proofs.lemmas.AlikeLemmas.{joining_associates}
 use Rattle.pmf_ledger.proofs.laws.joining_associates.Goals as goal
 
 pub returns : goal.returns

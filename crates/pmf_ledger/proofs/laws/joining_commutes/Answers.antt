@@ -1,4 +1,4 @@
-use Rattle.pmf_ledger.proofs.lemmas.GatheringLemmas.{joining_commutes}
+use Rattle.pmf_ledger.proofs.lemmas.AlikeLemmas.{joining_commutes}
 use Rattle.pmf_ledger.proofs.laws.joining_commutes.Goals as goal
 
 pub returns : goal.returns
