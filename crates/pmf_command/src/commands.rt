@@ -1,6 +1,6 @@
 //! What the program does.
 
-ghost use Rattle.std.specs.Prelude.{◌≡◌, ◌⊎◌, ◌↔◌, ◌+◌, Result};
+ghost use Rattle.std.specs.Prelude.{◌≡◌, ◌⊎◌, ◌↔◌, ◌+◌, map, Result};
 ghost use Rattle.std.specs.Io.KnownBytes.{Appends};
 ghost use Rattle.clap.specs.Words.{kind_of};
 ghost use Rattle.pmf_storelog.specs.declared.fault.LogFault.{LogFault};
@@ -8,9 +8,12 @@ ghost use Rattle.pmf_stream.specs.Answering.{Answers, TellsFaults};
 ghost use Rattle.pmf_stream.specs.Asking.{IsExplanationOf, IsRefusalOf};
 ghost use Rattle.pmf_stream.specs.Checking.{IsLogFaultOf, IsReportOf};
 ghost use Rattle.pmf_stream.specs.Failures.{CanCountOneMore};
+ghost use Rattle.pmf_stream.specs.Joining.{IsFirstRefusal, IsJoinedText};
 ghost use Rattle.pmf_stream.specs.declared.checking.Done.{Done};
 ghost use Rattle.pmf_stream.specs.declared.explaining.ExplainFault.{ExplainFault};
 ghost use Rattle.pmf_stream.specs.declared.fault.StreamFault.{StreamFault};
+ghost use Rattle.pmf_stream.specs.declared.joining.Joined.{Joined};
+ghost use Rattle.pmf_stream.specs.declared.joining.JoinTextFault.{JoinTextFault};
 ghost use Rattle.pmf_command.specs.Statuses.{IsAnswerTo, status_of, status_of_asked, status_of_done, status_of_joined, status_of_log_fault, status_of_refusal, status_of_text_fault};
 
 use crate::diagnostics::{fail, fail_file, out_of_memory, refuse_words, say_skipped};
@@ -141,8 +144,29 @@ fn run_join(rt: &HostRuntime, files: &Files) -> Status {
         }
     }
     let mut sink = StdSink::new(io::writer(rt));
-    let answer = join_to(alloc, &texts, &mut sink, files.ledger);
-    tell_joined(rt, &files.names, answer)
+    join_all(rt, alloc, &files.names, &texts, &mut sink, files.ledger)
+}
+
+/// Joins the texts of the files with these names and writes the report of all, or their ledger text, to the sink.
+fn join_all<R: Eprint, W: Sink>(
+    rt: &R,
+    alloc: Global,
+    names: &[&str],
+    texts: &[Vec<u8>],
+    sink: &mut W,
+    as_ledger: bool,
+) -> Status
+    requires { CanCountOneMore (W.failed_calls sink.old) }
+    ensures { (answer : Result Joined (StreamFault JoinTextFault))
+        × (result ≡ status_of status_of_joined status_of_text_fault answer)
+        × Answers (IsJoinedText as_ledger (map (λ text. text.items) texts.now))
+        (IsFirstRefusal (map (λ text. text.items) texts.now))
+        (W.held sink.old) (W.held sink.new) answer
+        × TellsFaults 0 0 (W.failed_calls sink.old) (W.failed_calls sink.new)
+        sink.old sink.new answer }
+{
+    let answer = join_to(alloc, texts, sink, as_ledger);
+    tell_joined(rt, names, answer)
 }
 
 // The bytes of the file, at most one more than a ledger text may have.

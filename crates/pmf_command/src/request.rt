@@ -36,11 +36,11 @@ pub struct Files<'a> {
 /// What the words of a command line ask for.
 #[derive(Debug, PartialEq, Drop)]
 pub enum Request<'a> {
-    /// Check the log on standard input, and write its report to standard output.
+    /// Check the log on standard input, and write its report, or its ledger text, to standard output.
     Check(Settings),
     /// Read the log on standard input, and write the explanation of one event to standard output.
     Explain(Question),
-    /// Join the ledgers of the files, and write the report of all to standard output.
+    /// Join the ledgers of the files, and write the report of all, or their ledger text, to standard output.
     Join(Files<'a>),
 }
 
@@ -101,7 +101,7 @@ fn program<'a>(alloc: Global) -> Result<Command<'a>, Error> {
     Ok(program)
 }
 
-// The run and the profile, which both commands take.
+// The run and the profile, which `check` and `explain` take.
 fn run<'a>(alloc: Global) -> Arg<'a> {
     Arg::new(alloc, "run")
         .long("run")

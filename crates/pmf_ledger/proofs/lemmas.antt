@@ -16,3 +16,4 @@ pub mod GivingLemmas
 pub mod AlikeLemmas
 pub mod SpelledLemmas
 pub mod RoundTripLemmas
+pub mod LoadedLemmas

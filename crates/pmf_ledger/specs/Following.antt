@@ -1,4 +1,4 @@
--- What is kept of a ledger text that was read so far stands for: its reading. Defined here.
+-- What the loader keeps stands for a reading of the text lines so far. Defined here.
 use Rattle.std.specs.Prelude.{◌≡◌, ◌==◌, Bool, false, ℕ, ◌<◌, List, [], length, drop, Result, Ok, Err}
 use Rattle.pmf_ledger.specs.declared.loading.LedgerFault.{LedgerFault}
 use Rattle.pmf_ledger.specs.declared.loading.LedgerFault.TheVariants.{Conflict}

@@ -1,6 +1,6 @@
 //! The same ledger once more, and the same sections by the other profile.
 
-ghost use Rattle.std.specs.Prelude.{◌≡◌, map, IfOk, MatchResult};
+ghost use Rattle.std.specs.Prelude.{◌≡◌, ◌≢◌, map, IfOk, MatchResult};
 ghost use Rattle.pmf_event.specs.declared.profile.Profile.TheVariants.{Two};
 ghost use Rattle.pmf_ledger.specs.Gathered.{IsUpgradeOf, upgraded};
 
@@ -33,7 +33,7 @@ impl Ledger {
     /// beside the old ones.
     pub fn upgrade(self, alloc: Global) -> Result<Ledger, (AllocError, Ledger)>
         ensures { MatchResult result (λ ledger. IsUpgradeOf self ledger)
-            (λ refused. refused.1 ≡ self) }
+            (λ refused. (refused.1 ≡ self) × (self.profile ≢ Two)) }
     {
         if let Profile::Two = self.profile {
             return Ok(self);

@@ -23,7 +23,10 @@ pub enum JoinFault {
     ProfileMismatch,
     /// This name, the least of its kind, is held by both with other events.
     #[error("section {}.{}: held with other events", .name.run, .name.number)]
-    Conflict { name: Name },
+    Conflict {
+        /// The name.
+        name: Name,
+    },
     /// Room for the verdicts of both was refused.
     #[error("out of memory")]
     OutOfMemory,

@@ -1,7 +1,7 @@
-//! Laws of gatherings and of their ledgers, each the clause of an empty function.
+//! Laws of gatherings, of their ledgers and of ledger texts, each the clause of an empty function.
 
 ghost use Rattle.pmf_ledger.specs.Gathering.{GivesItsLedger, GivesWhereItMay, JoiningAssociates, JoiningCommutes, JoiningRepeats, OnlyTheSetCounts, RefusesForCause};
-ghost use Rattle.pmf_ledger.specs.Laws.{EqualSetsHaveOneLedger};
+ghost use Rattle.pmf_ledger.specs.Laws.{EqualSetsHaveOneLedger, TextsLoadAsOneLedger, WhatLoadsIsNotRefused};
 
 /// Whatever ledger a gathering gives, in whatever order it took and joined, it is the ledger of the set that
 /// was gathered: each of its sections once, in the order of their names. That set agrees, and all is by one
@@ -47,4 +47,14 @@ pub fn only_the_set_counts()
 /// Sets with the same members have one ledger by a profile, and so one report and one ledger text.
 pub fn equal_sets_have_one_ledger()
     ensures { EqualSetsHaveOneLedger }
+{}
+
+/// A text loads as one ledger at most.
+pub fn texts_load_as_one_ledger()
+    ensures { TextsLoadAsOneLedger }
+{}
+
+/// A text that loads as a ledger is not refused, memory aside.
+pub fn what_loads_is_not_refused()
+    ensures { WhatLoadsIsNotRefused }
 {}

@@ -8,13 +8,6 @@
 //!
 //! Its report is `specs/Report`. Its own text, `specs/LedgerText`, is read by [`load_ledger`] as `specs/Loading` says:
 //! no row of a text is believed, and each section is checked again.
-//! nothing else, or refuses it, want of memory aside exactly where the profile is another or the name is held with
-//! other events. [`Ledger::join`] makes of two ledgers the one that holds what either held, and refuses them,
-//! want of memory aside, exactly where their profiles differ or both hold a name with other events.
-//!
-//! Takes and joins, in whatever order, are a gathering (`specs/Gathering`). Its ledger is that of the set that was
-//! gathered ([`gatherings_give_the_ledger_of_their_set`]), it is refused for cause alone, and nothing but the set
-//! and the profile counts: orders, repeats and joins leave no trace ([`only_the_set_counts`]).
 //!
 //! Not promised here: that memory suffices.
 #![tactic(auto)]
@@ -38,6 +31,7 @@ pub use laws::{
     equal_sets_have_one_ledger, gatherings_are_refused_for_cause_alone,
     gatherings_give_the_ledger_of_their_set, gatherings_that_agree_give_a_ledger,
     joining_again_changes_nothing, joining_associates, joining_commutes, only_the_set_counts,
+    texts_load_as_one_ledger, what_loads_is_not_refused,
 };
 pub use ledger::Ledger;
 pub use loading::{LEDGER_LIMIT, LedgerFault, load_ledger};

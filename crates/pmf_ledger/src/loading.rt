@@ -83,6 +83,9 @@ fn words_of_conflict() -> &'static str
 /// The ledger that the text says. Its rows aren't believed: each section is checked again, by the
 /// profile that the first text line tells. Takes memory for the sections as they are read, and never
 /// by a number in the text.
+///
+/// Blocks in the order of their names, as they are written, are loaded in the time that their checks take; a block before
+/// others costs what [`Ledger::take`] says.
 pub fn load_ledger(alloc: Global, text: &[u8]) -> Result<Ledger, LedgerFault>
     ensures { MatchResult result (LoadsAs text.now)
         (λ found. IsOfText found → IsRefusedWith text.now found) }

@@ -127,7 +127,9 @@ impl Ledger {
 
     /// Takes the verdict: its section is held from then on, once, whether it was before or not.
     ///
-    /// After a refusal the ledger is unchanged, and the verdict comes back. A verdict that is added takes memory.
+    /// After a refusal the ledger is unchanged, and the verdict comes back. A verdict that is added takes memory. A name
+    /// behind all others is appended at once; one before others moves their verdicts, so that sections taken in falling
+    /// order of names cost the square of their number.
     pub fn take(&mut self, verdict: Verdict) -> Result<Taken, (TakeFault, Verdict)>
 
         // At Ok its section is held, and nothing else is new: the ledger is that of its set with the section.

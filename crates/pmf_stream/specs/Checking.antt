@@ -1,4 +1,4 @@
--- What check_stream reads, and the report that it writes. Defined here.
+-- What check_stream reads, and the report or ledger text that it writes. Defined here.
 use Rattle.std.specs.Prelude.{◌≡◌, ◌≢◌, ◌⊎◌, Bool, true, false, List, ℕ, Option, Ok, Err}
 use Rattle.std.specs.Io.KnownBytes.{IsAtEnd}
 use Rattle.pmf_storelog.specs.declared.fault.LogFault.{LogFault}

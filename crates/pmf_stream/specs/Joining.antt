@@ -44,6 +44,7 @@ IsJoinFaultOf a b join.OutOfMemory = Unit {0}
 -- join that of the texts before it
 abbrev pub IsRefusedAt : LedgerValue → ℕ → List ℕ → JoinTextFault → Type 0
 IsRefusedAt before index text (fault.Load told found) = (told ≡ index) × IsRefusedWith text found
+IsRefusedAt before index text (fault.Join join.OutOfMemory) = ⊥
 IsRefusedAt before index text (fault.Join found) = (1 ≤ index) × (after : LedgerValue) × LoadsAs text after × IsJoinFaultOf before after found
 IsRefusedAt before index text fault.OutOfMemory = Unit {0}
 

@@ -1,4 +1,4 @@
-//! From a stream of bytes to its report.
+//! From a stream of bytes to its report, or its ledger text.
 
 ghost use Rattle.std.specs.Prelude.{◌≡◌, ◌≢◌, ◌++◌, ◌+◌, ℕ, List, [], map, Option, None, IfOk, IfErr, MatchResult};
 ghost use Rattle.pmf_storelog.specs.LogText.{IsFaultOfAll, out_of_memory, shown_fault};
@@ -144,7 +144,8 @@ fn report_log(alloc: Global, log: &Log, settings: Settings) -> Result<(Vec<u8>, 
     Ok((text, done))
 }
 
-/// Reads a log, checks its sections by the profile and writes their report, or their ledger text. Reads in pieces, at most one byte more
+/// Reads a log, checks its sections by the profile and writes their report, or their ledger text. Reads in pieces, at
+/// most one byte more
 /// than a log may have, and stops at the first fault of the log; writes nothing before the whole
 /// log was read and checked.
 ///

@@ -27,9 +27,14 @@ pub struct Joined {
 /// Why ledger texts were not joined: the first that applies as they are loaded and joined, text after text.
 #[derive(Clone, Copy, Debug, PartialEq, Eq, Error)]
 pub enum JoinTextFault {
-    /// The text of this index is refused.
+    /// A text is refused.
     #[error("{fault}")]
-    Load { index: usize, fault: LedgerFault },
+    Load {
+        /// The index of the text, counted from 0.
+        index: usize,
+        /// Why it is refused.
+        fault: LedgerFault,
+    },
     /// The ledger of a text doesn't join that of the texts before it.
     #[error("{0}")]
     Join(JoinFault),
