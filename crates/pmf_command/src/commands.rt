@@ -8,7 +8,7 @@ ghost use Rattle.pmf_stream.specs.Answering.{Answers, TellsFaults};
 ghost use Rattle.pmf_stream.specs.Asking.{IsExplanationOf, IsRefusalOf};
 ghost use Rattle.pmf_stream.specs.Checking.{IsLogFaultOf, IsReportOf};
 ghost use Rattle.pmf_stream.specs.Failures.{CanCountOneMore};
-ghost use Rattle.pmf_stream.specs.Joining.{IsFirstRefusal, IsJoinedText};
+ghost use Rattle.pmf_stream.specs.Joining.{IsJoinedText, IsRefusalOfTexts};
 ghost use Rattle.pmf_stream.specs.declared.checking.Done.{Done};
 ghost use Rattle.pmf_stream.specs.declared.explaining.ExplainFault.{ExplainFault};
 ghost use Rattle.pmf_stream.specs.declared.fault.StreamFault.{StreamFault};
@@ -160,7 +160,7 @@ fn join_all<R: Eprint, W: Sink>(
     ensures { (answer : Result Joined (StreamFault JoinTextFault))
         × (result ≡ status_of status_of_joined status_of_text_fault answer)
         × Answers (IsJoinedText as_ledger (map (λ text. text.items) texts.now))
-        (IsFirstRefusal (map (λ text. text.items) texts.now))
+        (IsRefusalOfTexts (map (λ text. text.items) texts.now))
         (W.held sink.old) (W.held sink.new) answer
         × TellsFaults 0 0 (W.failed_calls sink.old) (W.failed_calls sink.new)
         sink.old sink.new answer }

@@ -53,6 +53,10 @@ abbrev pub IsFirstRefusal : List (List ℕ) → JoinTextFault → Type 0
 IsFirstRefusal texts found =
     (index : ℕ) × (before : LedgerValue) × IsReached texts index before × IsRefusedAt before index (slice_index_or texts index []) found
 
+-- the same, and it is no want of memory, which a command answers otherwise
+abbrev pub IsRefusalOfTexts : List (List ℕ) → JoinTextFault → Type 0
+IsRefusalOfTexts texts found = (found ≢ fault.OutOfMemory) × IsFirstRefusal texts found
+
 -- the new ledger is that of both, which are by one profile
 pub record IsJoinOfTwo (before after new : LedgerValue) : Type 0 where
   pub same : before.profile ≡ after.profile

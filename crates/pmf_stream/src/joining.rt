@@ -5,7 +5,7 @@ ghost use Rattle.pmf_ledger.specs.LedgerValue.{LedgerValue};
 ghost use Rattle.pmf_ledger.specs.Loading.{IsOfText, IsRefusedWith, LoadsAs};
 ghost use Rattle.pmf_stream.specs.Answering.{Answers, TellsFaults};
 ghost use Rattle.pmf_stream.specs.Failures.{CanCountOneMore};
-ghost use Rattle.pmf_stream.specs.Joining.{IsFirstRefusal, IsJoinFaultOf, IsJoinOf, IsJoinOfTwo, IsJoinedAt, IsJoinedText, IsRefusedAt};
+ghost use Rattle.pmf_stream.specs.Joining.{IsFirstRefusal, IsJoinFaultOf, IsJoinOf, IsJoinOfTwo, IsJoinedAt, IsJoinedText, IsRefusalOfTexts, IsRefusedAt};
 
 use crate::checking::write_asked;
 use crate::fault::StreamFault;
@@ -135,7 +135,7 @@ pub fn join_to<W: Sink>(
     requires { CanCountOneMore (W.failed_calls writer.old) }
     // Exactly the text of the texts' ledger was written, or they were refused.
     ensures answer { Answers (IsJoinedText as_ledger (map (λ text. text.items) texts.now))
-        (IsFirstRefusal (map (λ text. text.items) texts.now))
+        (IsRefusalOfTexts (map (λ text. text.items) texts.now))
         (W.held writer.old) (W.held writer.new) result }
     ensures faults { TellsFaults 0 0 (W.failed_calls writer.old) (W.failed_calls writer.new)
         writer.old writer.new result }
