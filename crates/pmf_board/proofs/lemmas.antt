@@ -1,0 +1,4 @@
+pub mod TotalLemmas
+pub mod WordLemmas
+pub mod SightLemmas
+pub mod KeepLemmas

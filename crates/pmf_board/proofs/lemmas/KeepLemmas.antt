@@ -1,0 +1,124 @@
+-- Each kind of change of the board and of the views keeps the rule.
+use Rattle.std.proofs.Common.{◌≡◌, ℕ, zero, suc, ◌+◌, ◌-◌, ◌<◌, ◌≤◌, ◌≢◌, Bool, true, false, cond, not, ◌&&◌, eqb, leb, ltb, ◌⊎◌, inl, inr, ⊎_elim, ◌↔◌, List, [], ◌∷◌, ◌++◌, length, set, sum_by, count_by, refl, sym, ◌∙◌, ap, subst, arith}
+use Rattle.std.proofs.lemmas.Bool.{eqb-true, eqb-false, eq-eqb, ne_eqb, cases_eq, leb-true, true≢false}
+use Rattle.std.proofs.lemmas.Bool.Decides.{nat_tests}
+use Rattle.std.proofs.lemmas.List.Sums.{sum_by-append, sum_by-cons}
+use mathlib.Core.Option.{some, some-injective}
+use lib.ListN.{get_elem?}
+use Rattle.atomic_table.proofs.Lists.{at_set, at_snoc, set_here}
+use Rattle.pmf_board.specs.declared.entry.Entry.{Entry}
+use Rattle.pmf_board.specs.declared.view.View.{View}
+use Rattle.pmf_board.specs.Machine.{entry, entry_at, opening, handed_out, finished, hand_out, mark}
+use Rattle.pmf_board.specs.Views.{task, times, marks, dones, most_seen, HasSeenDone, HasMarked, seen, took, marked, kept, given, both, spent, first_view, is_hand_out}
+use Rattle.pmf_board.specs.Rule.{Fits, IsKept, Agrees, due}
+use Rattle.pmf_board.proofs.lemmas.TotalLemmas.{total-set, total-at, total-snoc, total-none, total-alone}
+use Rattle.pmf_board.proofs.lemmas.WordLemmas.{opening-at}
+use Rattle.pmf_board.proofs.lemmas.SightLemmas.{entry-set, most-le, dones-cons, most-append_le}
+
+abbrev bit : Bool → ℕ
+bit b = cond b 1 0
+
+-- the shares of a view
+abbrev shares_of : View → ℕ
+shares_of v = v.shares
+
+-- what a step has to show of the board after it and of the view of the pass that made it
+pub record Moves (board board' : List Entry) (v w : View) : Type 0 where
+  pub up : (s : ℕ) → (entry_at board s).handouts ≤ (entry_at board' s).handouts
+  pub stays : (s : ℕ) → (entry_at board s).done ≡ true → (entry_at board' s).done ≡ true
+  pub few : (s : ℕ) → (entry_at board' s).handouts ≤ 8
+  pub fits : Fits board' w
+  pub shares_are : w.shares ≡ v.shares
+  pub once : (s k : ℕ) → due board' s k + times s k v ≡ due board s k + times s k w
+  pub more : (s : ℕ) → marks s v ≤ marks s w
+  pub done : (s : ℕ) → (entry_at board' s).done ≡ true → ((entry_at board s).done ≡ true) ⊎ (0 < marks s w)
+  pub back : (s : ℕ) → marks s v < marks s w → (entry_at board' s).done ≡ true
+
+-- a view that fits still fits when the board rises
+Fits-up : (board board' : List Entry) (v : View) → ((s : ℕ) → (entry_at board s).handouts ≤ (entry_at board' s).handouts) → ((s : ℕ) → (entry_at board s).done ≡ true → (entry_at board' s).done ≡ true) → Fits board v → Fits board' v
+Fits-up board board' v up stays fits = record { most = λ s. omega (arith, up s, fits.most s); done = λ s d. stays s (fits.done s d); idle = fits.idle }
+
+-- such a step keeps the rule
+pub IsKept-moves : (board board' : List Entry) (views : List View) (id : ℕ) (v w : View) → IsKept board views → get_elem? views id ≡ some v → Moves board board' v w → IsKept board' (set views id w)
+IsKept-moves board board' views id v w is at m = record {
+  few = m.few;
+  shares_are = omega (arith, total-set shares_of views id v w at, is.shares_are, m.shares_are);
+  fits = λ port u there. ⊎_elim
+      (λ t. subst (Fits board') t.1 m.fits)
+      (λ t. Fits-up board board' u m.up m.stays (is.fits port u t.1))
+      (at_set views id port w u there);
+  once = λ s k. omega (arith, total-set (times s k) views id v w at, is.once s k, m.once s k);
+  done_is = λ s. (
+    (λ d. ⊎_elim
+        (λ was. omega (arith, total-set (marks s) views id v w at, (is.done_is s).0 was, m.more s))
+        (λ now. omega (arith, total-set (marks s) views id v w at, total-at (marks s) views id v at, now))
+        (m.done s d)),
+    (λ some. by_marks s some (cases_eq (marks s v) (marks s w))),
+  );
+}
+  where
+    by_marks : (s : ℕ) → 0 < sum_by (marks s) (set views id w) → (marks s v ≡ marks s w) ⊎ (marks s v ≢ marks s w) → (entry_at board' s).done ≡ true
+    by_marks s held (inl same) = m.stays s ((is.done_is s).1 (omega (arith, total-set (marks s) views id v w at, held, same)))
+    by_marks s held (inr other) = m.back s (omega (arith, m.more s, other))
+
+-- a pass that saw a section
+pub Moves-seen : (board : List Entry) (v : View) (s : ℕ) → ((t : ℕ) → (entry_at board t).handouts ≤ 8) → Fits board v → 0 < v.shares → Moves board board v (seen v s (entry_at board s))
+Moves-seen board v s few fits holds = record {
+  up = λ t. omega arith;
+  stays = λ t d. d;
+  few = few;
+  fits = record {
+    most = λ t. most-le s t (entry_at board t).handouts (entry_at board s) v.saw (λ same. subst (λ (k : ℕ). (entry_at board s).handouts ≤ (entry_at board k).handouts) same (omega arith)) (fits.most t);
+    done = λ t d. ⊎_elim (λ h. subst (λ (k : ℕ). (entry_at board k).done ≡ true) h.0 h.1) (λ h. fits.done t h) (dones-cons s (entry_at board s) v.saw t d);
+    idle = λ none. absurd (omega (arith, none, holds));
+  };
+  shares_are = refl;
+  once = λ t k. omega arith;
+  more = λ t. omega arith;
+  done = λ t d. inl d;
+  back = λ t less. absurd (omega (arith, less));
+}
+
+-- what a view saw and marked agrees with what stands
+pub Agrees-at : (board : List Entry) (views : List View) (id : ℕ) (v : View) (s : ℕ) → IsKept board views → get_elem? views id ≡ some v → Agrees v s (entry_at board s)
+Agrees-at board views id v s is at =
+    let fits = is.fits id v at in
+    record { few = is.few s; most = fits.most s; done = fits.done s; marked = λ some. (is.done_is s).1 (omega (arith, total-at (marks s) views id v at, some)) }
+
+-- one hand-out more is due
+due-more : (h k : ℕ) → cond (leb 1 k && leb k (h + 1)) 1 0 ≡ cond (leb 1 k && leb k h) 1 0 + cond (eqb (h + 1) k) 1 0
+due-more h k = grind (arith, nat_tests)
+
+-- how often a hand-out was taken after one more
+times-took : (v : View) (s n t k : ℕ) → times t k (took v (task s n)) ≡ times t k v + cond (eqb s t && eqb n k) 1 0
+times-took v s n t k = total-snoc (λ x. cond (is_hand_out t k x) 1 0) v.took (task s n)
+
+-- a pass that took a section on offer
+pub Moves-took : (board : List Entry) (v : View) (s : ℕ) → ((t : ℕ) → (entry_at board t).handouts ≤ 8) → Fits board v → 0 < v.shares → s < length board → (entry_at board s).handouts < 8 → (entry_at board s).done ≡ false
+    → Moves board (hand_out board s) v (took v (task s ((entry_at board s).handouts + 1)))
+Moves-took board v s few fits holds within less not_done = record {
+  up = λ t. entry-set board s (handed_out e) (λ k x. (entry_at board k).handouts ≤ x.handouts) within (omega arith) (λ k other. omega arith) t;
+  stays = λ t. entry-set board s (handed_out e) (λ k x. (entry_at board k).done ≡ true → x.done ≡ true) within (λ d. d) (λ k other d. d) t;
+  few = λ t. entry-set board s (handed_out e) (λ k x. x.handouts ≤ 8) within (omega (arith, less)) (λ k other. few k) t;
+  fits = record {
+    most = λ t. entry-set board s (handed_out e) (λ k x. most_seen k w ≤ x.handouts) within
+        (most-le s s (e.handouts + 1) (entry (e.handouts + 1) false) v.saw (λ same. omega arith) (omega (arith, fits.most s)))
+        (λ k other. most-le s k (entry_at board k).handouts (entry (e.handouts + 1) false) v.saw (λ same. absurd (other (sym same))) (fits.most k)) t;
+    done = λ t. entry-set board s (handed_out e) (λ k x. HasSeenDone w k → x.done ≡ true) within
+        (λ d. ⊎_elim (λ h. absurd (true≢false (sym h.1))) (λ h. fits.done s h) (dones-cons s (entry (e.handouts + 1) false) v.saw s d))
+        (λ k other d. ⊎_elim (λ h. absurd (true≢false (sym h.1))) (λ h. fits.done k h) (dones-cons s (entry (e.handouts + 1) false) v.saw k d)) t;
+    idle = λ none. absurd (omega (arith, none, holds));
+  };
+  shares_are = refl;
+  once = λ t k. entry-set board s (handed_out e) (λ j x. cond (leb 1 k && leb k x.handouts) 1 0 + times j k v ≡ due board j k + times j k w) within
+      (let one = ap (λ b. bit (b && eqb (e.handouts + 1) k)) (eq-eqb s s refl) in omega (arith, due-more e.handouts k, times-took v s (e.handouts + 1) s k, one))
+      (λ j other. let none = ap (λ b. bit (b && eqb (e.handouts + 1) k)) (ne_eqb s j (λ same. other (sym same))) in omega (arith, times-took v s (e.handouts + 1) j k, none)) t;
+  more = λ t. omega arith;
+  done = λ t. entry-set board s (handed_out e) (λ k x. x.done ≡ true → ((entry_at board k).done ≡ true) ⊎ (0 < marks k w)) within (λ d. inl d) (λ k other d. inl d) t;
+  back = λ t more. absurd (omega (arith, more));
+}
+  where
+    e : Entry
+    e = entry_at board s
+    w : View
+    w = took v (task s ((entry_at board s).handouts + 1))

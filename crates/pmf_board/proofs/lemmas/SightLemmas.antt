@@ -1,0 +1,65 @@
+-- What a view saw, and what stands.
+use Rattle.std.proofs.Common.{◌≡◌, ℕ, zero, suc, ◌+◌, ◌<◌, ◌≤◌, ◌≢◌, max, Bool, true, false, cond, ◌&&◌, eqb, ◌⊎◌, inl, inr, ⊎_elim, List, [], ◌∷◌, ◌++◌, length, get_or, set, sum_by, count_by, refl, sym, ◌∙◌, ap, subst, arith, get_or-set_same}
+use Rattle.std.proofs.lemmas.List.{get_or-set_other}
+use Rattle.std.proofs.lemmas.List.Sums.{sum_by-cons, sum_by-append}
+use Rattle.std.proofs.lemmas.Bool.{eqb-true, eqb-false, eq-eqb, cases_eq}
+use Rattle.pmf_board.specs.declared.entry.Entry.{Entry}
+use Rattle.pmf_board.specs.declared.view.Sight.{Sight}
+use Rattle.pmf_board.specs.Machine.{untouched, entry_at}
+use Rattle.pmf_board.specs.Views.{most_in, tells_done, sight}
+
+abbrev bit : Bool → ℕ
+bit b = cond b 1 0
+
+module _ (board : List Entry) (s : ℕ) (x : Entry) where
+  -- what is true of the entry set and of all others before is true of all
+  pub entry-set : (P : ℕ → Entry → Type 0) → s < length board → P s x → ((t : ℕ) → t ≢ s → P t (entry_at board t)) → (t : ℕ) → P t (entry_at (set board s x) t)
+  entry-set P within here other t = ⊎_elim
+      (λ (same : t ≡ s). subst (λ (k : ℕ). P k (entry_at (set board s x) k)) (sym same) (subst (P s) (sym (get_or-set_same board s x untouched within)) here))
+      (λ (else : t ≢ s). subst (P t) (sym (get_or-set_other board s t x untouched else)) (other t else))
+      (cases_eq t s)
+
+module _ (s t n : ℕ) (x : Entry) (xs : List Sight) where
+  pub most-le : (s ≡ t → x.handouts ≤ n) → most_in t xs ≤ n → most_in t (sight s x ∷ xs) ≤ n
+  most-le here rest = by (eqb s t) refl
+    where
+      by : (b : Bool) → eqb s t ≡ b → max (cond b x.handouts 0) (most_in t xs) ≤ n
+      by true e = let h = here (eqb-true s t e) in omega (arith, h, rest)
+      by false e = omega (arith, rest)
+
+module _ (s : ℕ) (x : Entry) (xs : List Sight) where
+  pub most-more : (t : ℕ) → most_in t xs ≤ most_in t (sight s x ∷ xs)
+  most-more t = omega arith
+
+  pub most-here : most_in s xs ≤ x.handouts → most_in s (sight s x ∷ xs) ≡ x.handouts
+  most-here le = ap (λ b. max (cond b x.handouts 0) (most_in s xs)) (eq-eqb s s refl) ∙ omega (arith, le)
+
+  pub dones-more : (t : ℕ) → count_by (tells_done t) xs ≤ count_by (tells_done t) (sight s x ∷ xs)
+  dones-more t = omega (arith, sum_by-cons (λ y. cond (tells_done t y) 1 0) (sight s x) xs)
+
+  pub dones-here : x.done ≡ true → 0 < count_by (tells_done s) (sight s x ∷ xs)
+  dones-here done =
+      let one : bit (eqb s s && x.done) ≡ 1 = (λ i. bit (eq-eqb s s refl i && done i)) in
+      omega (arith, one, sum_by-cons (λ y. cond (tells_done s y) 1 0) (sight s x) xs)
+
+  pub dones-cons : (t : ℕ) → 0 < count_by (tells_done t) (sight s x ∷ xs) → ((s ≡ t) × (x.done ≡ true)) ⊎ (0 < count_by (tells_done t) xs)
+  dones-cons t some = by (eqb s t) x.done refl refl
+    where
+      by : (b d : Bool) → eqb s t ≡ b → x.done ≡ d → ((s ≡ t) × (x.done ≡ true)) ⊎ (0 < count_by (tells_done t) xs)
+      by true true e d = inl (eqb-true s t e, d)
+      by true false e d = let none : bit (eqb s t && x.done) ≡ 0 = (λ i. bit (e i && d i)) in inr (omega (arith, some, none, sum_by-cons (λ y. cond (tells_done t y) 1 0) (sight s x) xs))
+      by false d' e d = let none : bit (eqb s t && x.done) ≡ 0 = (λ i. bit (e i && x.done)) in inr (omega (arith, some, none, sum_by-cons (λ y. cond (tells_done t y) 1 0) (sight s x) xs))
+
+-- the most of two lists
+module _ (s : ℕ) where
+  pub most-append_le : (xs ys : List Sight) (n : ℕ) → most_in s xs ≤ n → most_in s ys ≤ n → most_in s (xs ++ ys) ≤ n
+  most-append_le [] ys n a b = b
+  most-append_le (x ∷ xs) ys n a b = let r = most-append_le xs ys n (omega (arith, a)) b in omega (arith, r, a)
+
+  pub most-append_left : (xs ys : List Sight) → most_in s xs ≤ most_in s (xs ++ ys)
+  most-append_left [] ys = omega arith
+  most-append_left (x ∷ xs) ys = let r = most-append_left xs ys in omega (arith, r)
+
+  pub most-append_right : (xs ys : List Sight) → most_in s ys ≤ most_in s (xs ++ ys)
+  most-append_right [] ys = omega arith
+  most-append_right (x ∷ xs) ys = let r = most-append_right xs ys in omega (arith, r)

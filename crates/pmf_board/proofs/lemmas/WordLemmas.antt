@@ -1,0 +1,71 @@
+-- Entries as numbers.
+use Rattle.std.proofs.Common.{◌≡◌, ℕ, zero, suc, ◌+◌, ◌%◌, ◌<◌, ◌≤◌, Bool, true, false, cond, leb, bit_or, List, [], ◌∷◌, map, get_or, replicate, refl, sym, ◌∙◌, ap, subst, arith}
+use Rattle.std.proofs.lemmas.Bool.{le-leb, lt-leb}
+use Rattle.pmf_board.specs.declared.entry.Entry.{Entry}
+use Rattle.pmf_board.specs.Machine.{entry, untouched, entry_at, opening, handed_out, finished}
+use Rattle.pmf_board.specs.Rule.{word_of, entry_of}
+
+entry-is : (h h' : ℕ) (d d' : Bool) → h ≡ h' → d ≡ d' → entry h d ≡ entry h' d'
+entry-is h h' d d' p q = λ i. entry (p i) (q i)
+
+by_done : (h : ℕ) (d : Bool) → h ≤ 8 → entry_of (h + cond d 16 0) ≡ entry h d
+by_done h true few = entry-is ((h + 16) % 16) h (leb 16 (h + 16)) true (omega arith) (le-leb 16 (h + 16) (omega arith))
+by_done h false few = entry-is ((h + 0) % 16) h (leb 16 (h + 0)) false (omega arith) (lt-leb 16 (h + 0) (omega arith))
+
+-- the entry that a word was made of
+pub entry_of-word : (e : Entry) → e.handouts ≤ 8 → entry_of (word_of e) ≡ e
+entry_of-word e few = by_done e.handouts e.done few
+
+-- a word is at most 24
+pub word-le : (e : Entry) → e.handouts ≤ 8 → word_of e ≤ 24
+word-le e few = by e.done
+  where
+    by : (d : Bool) → e.handouts + cond d 16 0 ≤ 24
+    by true = omega arith
+    by false = omega arith
+
+-- one hand-out more is one more
+pub word-handed_out : (e : Entry) → word_of (handed_out e) ≡ word_of e + 1
+word-handed_out e = omega arith
+
+or_16 : (h : ℕ) (d : Bool) → h ≤ 8 → bit_or (h + cond d 16 0) 16 ≡ h + 16
+or_16 zero false few = refl
+or_16 (suc zero) false few = refl
+or_16 (suc (suc zero)) false few = refl
+or_16 (suc (suc (suc zero))) false few = refl
+or_16 (suc (suc (suc (suc zero)))) false few = refl
+or_16 (suc (suc (suc (suc (suc zero))))) false few = refl
+or_16 (suc (suc (suc (suc (suc (suc zero)))))) false few = refl
+or_16 (suc (suc (suc (suc (suc (suc (suc zero))))))) false few = refl
+or_16 (suc (suc (suc (suc (suc (suc (suc (suc zero)))))))) false few = refl
+or_16 zero true few = refl
+or_16 (suc zero) true few = refl
+or_16 (suc (suc zero)) true few = refl
+or_16 (suc (suc (suc zero))) true few = refl
+or_16 (suc (suc (suc (suc zero)))) true few = refl
+or_16 (suc (suc (suc (suc (suc zero))))) true few = refl
+or_16 (suc (suc (suc (suc (suc (suc zero)))))) true few = refl
+or_16 (suc (suc (suc (suc (suc (suc (suc zero))))))) true few = refl
+or_16 (suc (suc (suc (suc (suc (suc (suc (suc zero)))))))) true few = refl
+or_16 (suc (suc (suc (suc (suc (suc (suc (suc (suc h))))))))) d few = absurd (omega arith)
+
+-- a mark sets one bit
+pub word-finished : (e : Entry) → e.handouts ≤ 8 → bit_or (word_of e) 16 ≡ word_of (finished e)
+word-finished e few = or_16 e.handouts e.done few
+
+-- the word of a section
+pub word-at : (board : List Entry) (s : ℕ) → get_or (map word_of board) s 0 ≡ word_of (entry_at board s)
+word-at [] s = refl
+word-at (x ∷ xs) zero = refl
+word-at (x ∷ xs) (suc s) = word-at xs s
+
+-- the words at first
+pub words-opening : (n : ℕ) → replicate n 0 ≡ map word_of (opening n)
+words-opening zero = refl
+words-opening (suc n) = ap (λ ns. 0 ∷ ns) (words-opening n)
+
+-- at first every entry is untouched
+pub opening-at : (n s : ℕ) → entry_at (opening n) s ≡ untouched
+opening-at zero s = refl
+opening-at (suc n) zero = refl
+opening-at (suc n) (suc s) = opening-at n s
