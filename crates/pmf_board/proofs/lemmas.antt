@@ -2,3 +2,4 @@ pub mod TotalLemmas
 pub mod WordLemmas
 pub mod SightLemmas
 pub mod KeepLemmas
+pub mod StepLemmas

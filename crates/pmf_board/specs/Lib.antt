@@ -1,3 +1,4 @@
 pub mod Machine
 pub mod Views
 pub mod Rule
+pub mod Steps

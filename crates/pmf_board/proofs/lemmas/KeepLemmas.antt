@@ -1,15 +1,15 @@
 -- Each kind of change of the board and of the views keeps the rule.
 use Rattle.std.proofs.Common.{◌≡◌, ℕ, zero, suc, ◌+◌, ◌-◌, ◌<◌, ◌≤◌, ◌≢◌, Bool, true, false, cond, not, ◌&&◌, eqb, leb, ltb, ◌⊎◌, inl, inr, ⊎_elim, ◌↔◌, List, [], ◌∷◌, ◌++◌, length, set, sum_by, count_by, refl, sym, ◌∙◌, ap, subst, arith}
-use Rattle.std.proofs.lemmas.Bool.{eqb-true, eqb-false, eq-eqb, ne_eqb, cases_eq, leb-true, true≢false}
+use Rattle.std.proofs.lemmas.Bool.{eqb-true, eqb-false, eq-eqb, ne_eqb, cases_eq, cases_lt, true≢false}
 use Rattle.std.proofs.lemmas.Bool.Decides.{nat_tests}
 use Rattle.std.proofs.lemmas.List.Sums.{sum_by-append, sum_by-cons}
-use mathlib.Core.Option.{some, some-injective}
+use mathlib.Core.Option.{some, some-injective, some-ne-none}
 use lib.ListN.{get_elem?}
-use Rattle.atomic_table.proofs.Lists.{at_set, at_snoc, set_here}
+use Rattle.atomic_table.proofs.Lists.{at_set, at_snoc, set_else}
 use Rattle.pmf_board.specs.declared.entry.Entry.{Entry}
 use Rattle.pmf_board.specs.declared.view.View.{View}
 use Rattle.pmf_board.specs.Machine.{entry, entry_at, opening, handed_out, finished, hand_out, mark}
-use Rattle.pmf_board.specs.Views.{task, times, marks, dones, most_seen, HasSeenDone, HasMarked, seen, took, marked, kept, given, both, spent, first_view, is_hand_out}
+use Rattle.pmf_board.specs.Views.{task, times, marks, dones, most_seen, HasSeenDone, HasMarked, seen, took, marked, kept, given, both, spent, first_view, is_hand_out, tells_done}
 use Rattle.pmf_board.specs.Rule.{Fits, IsKept, Agrees, due}
 use Rattle.pmf_board.proofs.lemmas.TotalLemmas.{total-set, total-at, total-snoc, total-none, total-alone}
 use Rattle.pmf_board.proofs.lemmas.WordLemmas.{opening-at}
@@ -122,3 +122,144 @@ Moves-took board v s few fits holds within less not_done = record {
     e = entry_at board s
     w : View
     w = took v (task s ((entry_at board s).handouts + 1))
+
+-- how often a section was marked after one more mark
+marks-marked : (v : View) (s h t : ℕ) → marks t (marked v s h) ≡ marks t v + bit (eqb s t)
+marks-marked v s h t = total-snoc (λ m. cond (eqb m t) 1 0) v.marked s
+
+-- a pass that marked a section
+pub Moves-marked : (board : List Entry) (v : View) (s : ℕ) → ((t : ℕ) → (entry_at board t).handouts ≤ 8) → Fits board v → 0 < v.shares → s < length board
+    → Moves board (mark board s) v (marked v s (entry_at board s).handouts)
+Moves-marked board v s few fits holds within = record {
+  up = λ t. entry-set board s (finished e) (λ k x. (entry_at board k).handouts ≤ x.handouts) within (omega arith) (λ k other. omega arith) t;
+  stays = λ t. entry-set board s (finished e) (λ k x. (entry_at board k).done ≡ true → x.done ≡ true) within (λ d. refl) (λ k other d. d) t;
+  few = λ t. entry-set board s (finished e) (λ k x. x.handouts ≤ 8) within (few s) (λ k other. few k) t;
+  fits = record {
+    most = λ t. entry-set board s (finished e) (λ k x. most_seen k w ≤ x.handouts) within
+        (most-le s s e.handouts (entry e.handouts true) v.saw (λ same. omega arith) (fits.most s))
+        (λ k other. most-le s k (entry_at board k).handouts (entry e.handouts true) v.saw (λ same. absurd (other (sym same))) (fits.most k)) t;
+    done = λ t. entry-set board s (finished e) (λ k x. HasSeenDone w k → x.done ≡ true) within
+        (λ d. refl)
+        (λ k other d. ⊎_elim (λ h. absurd (other (sym h.0))) (λ h. fits.done k h) (dones-cons s (entry e.handouts true) v.saw k d)) t;
+    idle = λ none. absurd (omega (arith, none, holds));
+  };
+  shares_are = refl;
+  once = λ t k. entry-set board s (finished e) (λ j x. cond (leb 1 k && leb k x.handouts) 1 0 + times j k v ≡ due board j k + times j k w) within refl (λ j other. refl) t;
+  more = λ t. omega (arith, marks-marked v s e.handouts t);
+  done = λ t. entry-set board s (finished e) (λ k x. x.done ≡ true → ((entry_at board k).done ≡ true) ⊎ (0 < marks k w)) within
+      (λ d. let one = ap bit (eq-eqb s s refl) in inr (omega (arith, marks-marked v s e.handouts s, one)))
+      (λ k other d. inl d) t;
+  back = λ t. entry-set board s (finished e) (λ k x. marks k v < marks k w → x.done ≡ true) within
+      (λ less. refl)
+      (λ k other less. let none = ap bit (ne_eqb s k (λ same. other (sym same))) in absurd (omega (arith, marks-marked v s e.handouts k, less, none))) t;
+}
+  where
+    e : Entry
+    e = entry_at board s
+    w : View
+    w = marked v s (entry_at board s).handouts
+
+-- a cut in two keeps the rule
+pub IsKept-split : (board : List Entry) (views : List View) (id : ℕ) (v : View) → IsKept board views → get_elem? views id ≡ some v → 1 < v.shares → IsKept board (set views id (kept v) ++ given v ∷ [])
+IsKept-split board views id v is at two = record {
+  few = is.few;
+  shares_are = omega (arith, total-set shares_of views id v (kept v) at, is.shares_are, total-snoc shares_of (set views id (kept v)) (given v), two);
+  fits = λ port u there. ⊎_elim
+      (λ before. ⊎_elim (λ t. subst (Fits board) t.1 left) (λ t. is.fits port u t.1) (at_set views id port (kept v) u before))
+      (λ last. subst (Fits board) last right)
+      (at_snoc (set views id (kept v)) (given v) u port there);
+  once = λ s k. omega (arith, total-set (times s k) views id v (kept v) at, is.once s k, total-snoc (times s k) (set views id (kept v)) (given v));
+  done_is = λ s.
+      let same : sum_by (marks s) (set views id (kept v) ++ given v ∷ []) ≡ sum_by (marks s) views = omega (arith, total-set (marks s) views id v (kept v) at, total-snoc (marks s) (set views id (kept v)) (given v)) in
+      ((λ d. omega (arith, same, (is.done_is s).0 d)), (λ m. (is.done_is s).1 (omega (arith, same, m))));
+}
+  where
+    fit : Fits board v
+    fit = is.fits id v at
+    left : Fits board (kept v)
+    left = record { most = fit.most; done = fit.done; idle = λ none. absurd (omega (arith, none, two)) }
+    right : Fits board (given v)
+    right = record { most = fit.most; done = fit.done; idle = λ none. absurd (omega (arith, none)) }
+
+-- the lists of two views in one
+times-both : (v w : View) (s k : ℕ) → times s k (both v w) ≡ times s k v + times s k w
+times-both v w s k = sum_by-append (λ x. cond (is_hand_out s k x) 1 0) v.took w.took
+
+marks-both : (v w : View) (s : ℕ) → marks s (both v w) ≡ marks s v + marks s w
+marks-both v w s = sum_by-append (λ m. cond (eqb m s) 1 0) v.marked w.marked
+
+pub dones-both : (v w : View) (s : ℕ) → dones s (both v w) ≡ dones s v + dones s w
+dones-both v w s = sum_by-append (λ x. cond (tells_done s x) 1 0) v.saw w.saw
+
+-- two joined keep the rule
+pub IsKept-join : (board : List Entry) (views : List View) (id other : ℕ) (v w : View) → IsKept board views → get_elem? views id ≡ some v → ¬ (other ≡ id)
+    → get_elem? (set views id (both v w)) other ≡ some w → 0 < v.shares → IsKept board (set (set views id (both v w)) other spent)
+IsKept-join board views id other v w is at apart there holds = record {
+  few = is.few;
+  shares_are = omega (arith, total-set shares_of views id v (both v w) at, is.shares_are, total-set shares_of (set views id (both v w)) other w spent there);
+  fits = λ port u found. ⊎_elim
+      (λ t. subst (Fits board) t.1 nothing)
+      (λ t. ⊎_elim (λ h. subst (Fits board) h.1 joined) (λ h. is.fits port u h.1) (at_set views id port (both v w) u t.1))
+      (at_set (set views id (both v w)) other port spent u found);
+  once = λ s k. omega (arith, total-set (times s k) views id v (both v w) at, is.once s k, total-set (times s k) (set views id (both v w)) other w spent there, times-both v w s k);
+  done_is = λ s.
+      let same : sum_by (marks s) (set (set views id (both v w)) other spent) ≡ sum_by (marks s) views =
+          omega (arith, total-set (marks s) views id v (both v w) at, total-set (marks s) (set views id (both v w)) other w spent there, marks-both v w s) in
+      ((λ d. omega (arith, same, (is.done_is s).0 d)), (λ m. (is.done_is s).1 (omega (arith, same, m))));
+}
+  where
+    fit : Fits board v
+    fit = is.fits id v at
+    fit' : Fits board w
+    fit' = is.fits other w (sym (set_else views id other (both v w) apart) ∙ there)
+    joined : Fits board (both v w)
+    joined = record {
+      most = λ s. most-append_le s v.saw w.saw (entry_at board s).handouts (fit.most s) (fit'.most s);
+      done = λ s d. by_dones s (cases_lt 0 (dones s v)) d;
+      idle = λ none. absurd (omega (arith, none, holds));
+    }
+      where
+        by_dones : (s : ℕ) → (0 < dones s v) ⊎ (dones s v ≤ 0) → HasSeenDone (both v w) s → (entry_at board s).done ≡ true
+        by_dones s (inl yes_v) d = fit.done s yes_v
+        by_dones s (inr no_v) d = fit'.done s (omega (arith, dones-both v w s, no_v, d))
+    nothing : Fits board spent
+    nothing = record { most = λ s. omega arith; done = λ s d. absurd (omega (arith, d)); idle = λ none. refl }
+
+-- at first the rule is kept
+pub IsKept-first : (n : ℕ) → IsKept (opening n) (first_view ∷ [])
+IsKept-first n = record {
+  few = λ s. omega (arith, ap (λ e. e.handouts) (opening-at n s));
+  shares_are = refl;
+  fits = λ port v there. at_first port v there;
+  once = λ s k. sym (ap (λ e. bit (leb 1 k && leb k e.handouts)) (opening-at n s) ∙ none k);
+  done_is = λ s. ((λ d. absurd (true≢false (sym d ∙ ap (λ e. e.done) (opening-at n s)))), (λ m. absurd (omega (arith, m))));
+}
+  where
+    none : (k : ℕ) → bit (leb 1 k && leb k 0) ≡ 0
+    none k = grind (arith, nat_tests)
+    first_fits : Fits (opening n) first_view
+    first_fits = record { most = λ s. omega arith; done = λ s d. absurd (omega (arith, d)); idle = λ no. absurd (omega (arith, no)) }
+    at_first : (port : ℕ) (v : View) → get_elem? (first_view ∷ []) port ≡ some v → Fits (opening n) v
+    at_first zero v there = subst (Fits (opening n)) (some-injective first_view v there) first_fits
+    at_first (suc port) v there = absurd (some-ne-none v (sym there))
+
+-- no view has more than all shares, nor a hand-out twice
+pub shares-le : (board : List Entry) (views : List View) (id : ℕ) (v : View) → IsKept board views → get_elem? views id ≡ some v → v.shares ≤ 65
+shares-le board views id v is at = omega (arith, total-at shares_of views id v at, is.shares_are)
+
+due-le : (b : Bool) → bit b ≤ 1
+due-le true = omega arith
+due-le false = omega arith
+
+pub times-le : (board : List Entry) (views : List View) (id : ℕ) (v : View) → IsKept board views → get_elem? views id ≡ some v → (s k : ℕ) → times s k v ≤ 1
+times-le board views id v is at s k = omega (arith, total-at (times s k) views id v at, is.once s k, due-le (leb 1 k && leb k (entry_at board s).handouts))
+
+-- beside a view with all shares no other took or marked anything
+module _ (board : List Entry) (views : List View) (id : ℕ) (v : View) (is : IsKept board views) (at : get_elem? views id ≡ some v) (all : v.shares ≡ 65) where
+  pub alone-times : (s k : ℕ) → times s k v ≡ due board s k
+  alone-times s k = sym (total-alone shares_of (times s k) views id v (λ i u there none. ap (times s k) ((is.fits i u there).idle none)) at (is.shares_are ∙ sym all)) ∙ is.once s k
+
+  pub alone-done : (s : ℕ) → ((entry_at board s).done ≡ true) ↔ HasMarked v s
+  alone-done s =
+      let same = total-alone shares_of (marks s) views id v (λ i u there none. ap (marks s) ((is.fits i u there).idle none)) at (is.shares_are ∙ sym all) in
+      ((λ d. omega (arith, same, (is.done_is s).0 d)), (λ m. (is.done_is s).1 (omega (arith, same, m))))
