@@ -3,3 +3,4 @@ pub mod WordLemmas
 pub mod SightLemmas
 pub mod KeepLemmas
 pub mod StepLemmas
+pub mod PassLemmas

@@ -2,3 +2,4 @@ pub mod Machine
 pub mod Views
 pub mod Rule
 pub mod Steps
+pub mod Passes

@@ -1,10 +1,18 @@
 //! The board: which sections were handed out, and which are done, for workers on threads of their own.
 #![tactic(auto)]
 
+mod board;
 mod entry;
+mod fault;
+mod pass;
+mod rule;
+mod steps;
 mod task;
 mod view;
 
+pub use board::{Board, MOST_SECTIONS};
 pub use entry::Entry;
+pub use fault::BoardFault;
+pub use pass::Pass;
 pub use task::Task;
 pub use view::{Sight, View};

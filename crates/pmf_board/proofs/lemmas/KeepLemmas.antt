@@ -15,7 +15,7 @@ use Rattle.pmf_board.proofs.lemmas.TotalLemmas.{total-set, total-at, total-snoc,
 use Rattle.pmf_board.proofs.lemmas.WordLemmas.{opening-at}
 use Rattle.pmf_board.proofs.lemmas.SightLemmas.{entry-set, most-le, dones-cons, most-append_le}
 
-abbrev bit : Bool → ℕ
+abbrev pub bit : Bool → ℕ
 bit b = cond b 1 0
 
 -- the shares of a view
@@ -90,7 +90,7 @@ due-more : (h k : ℕ) → cond (leb 1 k && leb k (h + 1)) 1 0 ≡ cond (leb 1 k
 due-more h k = grind (arith, nat_tests)
 
 -- how often a hand-out was taken after one more
-times-took : (v : View) (s n t k : ℕ) → times t k (took v (task s n)) ≡ times t k v + cond (eqb s t && eqb n k) 1 0
+pub times-took : (v : View) (s n t k : ℕ) → times t k (took v (task s n)) ≡ times t k v + cond (eqb s t && eqb n k) 1 0
 times-took v s n t k = total-snoc (λ x. cond (is_hand_out t k x) 1 0) v.took (task s n)
 
 -- a pass that took a section on offer
@@ -124,7 +124,7 @@ Moves-took board v s few fits holds within less not_done = record {
     w = took v (task s ((entry_at board s).handouts + 1))
 
 -- how often a section was marked after one more mark
-marks-marked : (v : View) (s h t : ℕ) → marks t (marked v s h) ≡ marks t v + bit (eqb s t)
+pub marks-marked : (v : View) (s h t : ℕ) → marks t (marked v s h) ≡ marks t v + bit (eqb s t)
 marks-marked v s h t = total-snoc (λ m. cond (eqb m t) 1 0) v.marked s
 
 -- a pass that marked a section
@@ -182,10 +182,10 @@ IsKept-split board views id v is at two = record {
     right = record { most = fit.most; done = fit.done; idle = λ none. absurd (omega (arith, none)) }
 
 -- the lists of two views in one
-times-both : (v w : View) (s k : ℕ) → times s k (both v w) ≡ times s k v + times s k w
+pub times-both : (v w : View) (s k : ℕ) → times s k (both v w) ≡ times s k v + times s k w
 times-both v w s k = sum_by-append (λ x. cond (is_hand_out s k x) 1 0) v.took w.took
 
-marks-both : (v w : View) (s : ℕ) → marks s (both v w) ≡ marks s v + marks s w
+pub marks-both : (v w : View) (s : ℕ) → marks s (both v w) ≡ marks s v + marks s w
 marks-both v w s = sum_by-append (λ m. cond (eqb m s) 1 0) v.marked w.marked
 
 pub dones-both : (v w : View) (s : ℕ) → dones s (both v w) ≡ dones s v + dones s w
