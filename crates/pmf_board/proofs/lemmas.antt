@@ -4,3 +4,4 @@ pub mod SightLemmas
 pub mod KeepLemmas
 pub mod StepLemmas
 pub mod PassLemmas
+pub mod CallLemmas

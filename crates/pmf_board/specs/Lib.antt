@@ -2,4 +2,5 @@ pub mod Machine
 pub mod Views
 pub mod Rule
 pub mod Steps
+pub mod Calls
 pub mod Passes

@@ -20,6 +20,7 @@ pub const MOST_SECTIONS: u32 = 65_536;
 /// its own. Contracts see it as which board it is; its words are its sections.
 pub struct Board {
     pub(crate) table: Table<(), View, u32, Law, Global>,
+    pub(crate) sections: u32,
     // Room for the tally: no entry yet, and place for all.
     pub(crate) room: Vec<Entry>,
 }
@@ -31,6 +32,7 @@ impl Model for Board {
 
     ghost invariant = { λ b. (b.table.shared.key ≡ b.table.shared.table_id.words)
         × (0 < b.table.shared.table_id.words) × (b.table.shared.table_id.words ≤ 65536)
+        × (b.sections ≡ b.table.shared.table_id.words)
         × (b.room.items ≡ []) × (b.table.shared.table_id.words ≤ vec_capacity b.room) };
 }
 
@@ -62,6 +64,19 @@ impl Board {
         let Ok((table, seat)) = Table::of_words(alloc, words.as_slice(), &sections) else {
             return Err(BoardFault::OutOfMemory);
         };
-        Ok((Board { table, room }, Pass { seat, shares: 65 }))
+        let board = Board {
+            table,
+            sections,
+            room,
+        };
+        Ok((board, Pass { seat, shares: 65 }))
+    }
+
+    /// How many sections it has.
+    pub fn sections(&self) -> u32
+        ensures value { result ≡ self.now.words }
+        ensures few { result ≤ 65536 }
+    {
+        self.sections
     }
 }

@@ -4,7 +4,9 @@
 mod board;
 mod entry;
 mod fault;
+mod marking;
 mod pass;
+mod passing;
 mod rule;
 mod steps;
 mod task;

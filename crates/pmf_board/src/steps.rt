@@ -2,11 +2,11 @@
 
 ghost use Rattle.std.specs.Prelude.{◌≡◌, ◌≢◌, ◌+◌, ◌<◌, ◌≤◌, false};
 ghost use Rattle.pmf_board.specs.Rule.{Agrees, entry_of};
-ghost use Rattle.pmf_board.specs.Views.{marked, seen, task, times, took};
+ghost use Rattle.pmf_board.specs.Views.{seen, task, took};
 
 use crate::board::Board;
 use crate::pass::Pass;
-use crate::rule::{Count, Exchange, Look, Raise};
+use crate::rule::{Exchange, Look};
 
 impl Board {
     // Reads the section's word.
@@ -36,18 +36,5 @@ impl Board {
         self.table
             .shared
             .compare_exchange::<Exchange>(&mut pass.seat, section as usize, word, word + 1)
-    }
-
-    // Sets the section's mark. Answers what was found.
-    pub(crate) fn raise(&self, pass: &mut Pass, section: u32) -> u64
-        requires own { pass.old.board ≡ self.now }
-        requires there { section < self.now.words }
-        ensures same { pass.new.board ≡ pass.old.board }
-        ensures agrees { Agrees pass.old.view section (entry_of result) }
-        ensures marked { pass.new.view ≡ marked pass.old.view section (entry_of result).handouts }
-    {
-        self.table
-            .shared
-            .fetch_or::<Raise>(&mut pass.seat, section as usize, 16)
     }
 }

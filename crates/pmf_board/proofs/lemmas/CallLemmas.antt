@@ -1,0 +1,72 @@
+-- What the calls do to what a pass knows, of one step and of several.
+use Rattle.std.proofs.Common.{◌≡◌, ℕ, ◌+◌, ◌-◌, ◌%◌, ◌<◌, ◌≤◌, Bool, true, false, cond, ◌&&◌, eqb, leb, count_by, ◌⊎◌, inl, inr, ⊎_elim, List, [], ◌∷◌, ◌++◌, refl, sym, ◌∙◌, ap, subst, arith}
+use Rattle.std.proofs.lemmas.Bool.{le-leb, lt-leb, leb-true, true≢false}
+use Rattle.pmf_board.specs.declared.entry.Entry.{Entry}
+use Rattle.pmf_board.specs.declared.task.Task.{Task}
+use Rattle.pmf_board.specs.declared.view.View.{View}
+use Rattle.pmf_board.specs.Machine.{entry}
+use Rattle.pmf_board.specs.Views.{task, most_seen, seen, took, marked, HasMarked, HasSeenDone, HasSeenClosed, NeverFalls}
+use Rattle.pmf_board.specs.Rule.{Agrees, entry_of}
+use Rattle.pmf_board.specs.Calls.{Stays, Marks, Takes, round_from}
+use Rattle.pmf_board.proofs.lemmas.SightLemmas.{most-more, most-here, dones-more, dones-here, dones-cons}
+
+NeverFalls-step : (v w : View) (s : ℕ) (e : Entry) → w.saw ≡ (seen v s e).saw → NeverFalls v w
+NeverFalls-step v w s e is = subst (λ saw. NeverFalls v (record { took = w.took; marked = w.marked; saw = saw; shares = w.shares })) (sym is)
+    (record { most = λ t. most-more s e v.saw t; done = λ t d. omega (arith, d, dones-more s e v.saw t) })
+
+pub NeverFalls-both : (u v w : View) → NeverFalls u v → NeverFalls v w → NeverFalls u w
+NeverFalls-both u v w a b = record { most = λ s. omega (arith, a.most s, b.most s); done = λ s d. b.done s (a.done s d) }
+
+pub Stays-none : (v : View) → Stays v v
+Stays-none v = record { took = refl; marked = refl; shares = refl; never_falls = record { most = λ s. omega arith; done = λ s d. d } }
+
+pub Stays-seen : (v w : View) (s : ℕ) (e : Entry) → w ≡ seen v s e → Stays v w
+Stays-seen v w s e is = record { took = ap (λ u. u.took) is; marked = ap (λ u. u.marked) is; shares = ap (λ u. u.shares) is; never_falls = NeverFalls-step v w s e (ap (λ u. u.saw) is) }
+
+pub Stays-both : (u v w : View) → Stays u v → Stays v w → Stays u w
+Stays-both u v w a b = record { took = b.took ∙ a.took; marked = b.marked ∙ a.marked; shares = b.shares ∙ a.shares; never_falls = NeverFalls-both u v w a.never_falls b.never_falls }
+
+pub Marks-marked : (v w : View) (s h : ℕ) → w ≡ marked v s h → Marks v s w
+Marks-marked v w s h is = subst (Marks v s) (sym is) (record {
+  took = refl;
+  marked = refl;
+  shares = refl;
+  done = dones-here s (entry h true) v.saw refl;
+  never_falls = NeverFalls-step v (marked v s h) s (entry h true) refl;
+})
+
+-- a section that was seen done
+pub seen-done : (v w : View) (s : ℕ) (e : Entry) → w ≡ seen v s e → e.done ≡ true → HasSeenDone w s
+seen-done v w s e is d = subst (λ u. HasSeenDone u s) (sym is) (dones-here s e v.saw d)
+
+-- a section that was seen with so many hand-outs
+pub seen-most : (v w : View) (s : ℕ) (e : Entry) → w ≡ seen v s e → most_seen s v ≤ e.handouts → most_seen s w ≡ e.handouts
+seen-most v w s e is le = ap (most_seen s) is ∙ most-here s e v.saw le
+
+pub Takes-took : (limit : ℕ) (v w : View) (s : ℕ) (e : Entry) → Agrees v s e → e.done ≡ false → e.handouts < limit → w ≡ took v (task s (e.handouts + 1)) → Takes limit v (task s (e.handouts + 1)) w
+Takes-took limit v w s e agrees not_done less is = subst (Takes limit v (task s (e.handouts + 1))) (sym is) (record {
+  took = refl;
+  marked = refl;
+  shares = refl;
+  number = (omega arith, omega (arith, less));
+  above = omega (arith, agrees.most);
+  open_before = ((λ d. true≢false (sym (agrees.done d) ∙ not_done)), (λ m. true≢false (sym (agrees.marked m) ∙ not_done)));
+  seen = (most-here s (entry (e.handouts + 1) false) v.saw (omega (arith, agrees.most)), (λ d. ⊎_elim (λ h. true≢false (sym h.1)) (λ h. true≢false (sym (agrees.done h) ∙ not_done)) (dones-cons s (entry (e.handouts + 1) false) v.saw s d)));
+  never_falls = NeverFalls-step v (took v (task s (e.handouts + 1))) s (entry (e.handouts + 1) false) refl;
+})
+
+pub Takes-after : (limit : ℕ) (u v w : View) (t : Task) → Stays u v → Takes limit v t w → Takes limit u t w
+Takes-after limit u v w t a b = record {
+  took = b.took ∙ ap (λ ts. ts ++ t ∷ []) a.took;
+  marked = b.marked ∙ a.marked;
+  shares = b.shares ∙ a.shares;
+  number = b.number;
+  above = omega (arith, a.never_falls.most t.section, b.above);
+  open_before = ((λ d. b.open_before.0 (a.never_falls.done t.section d)), (λ m. b.open_before.1 (subst (λ ms. 0 < count_by (λ k. eqb k t.section) ms) (sym a.marked) m)));
+  seen = b.seen;
+  never_falls = NeverFalls-both u v w a.never_falls b.never_falls;
+}
+
+pub closed-later : (limit : ℕ) (v w : View) (s : ℕ) → NeverFalls v w → HasSeenClosed limit v s → HasSeenClosed limit w s
+closed-later limit v w s falls (inl d) = inl (falls.done s d)
+closed-later limit v w s falls (inr m) = inr (omega (arith, falls.most s, m))

@@ -1,0 +1,35 @@
+-- What a call on a board does to what its pass knows. Defined here.
+use Rattle.std.specs.Prelude.{◌≡◌, ℕ, ◌+◌, ◌-◌, ◌<◌, ◌≤◌, leb, if◌then◌else◌, List, [], ◌∷◌, ◌++◌}
+use Rattle.pmf_board.specs.declared.task.Task.{Task}
+use Rattle.pmf_board.specs.declared.view.View.{View}
+use Rattle.pmf_board.specs.Views.{most_seen, HasMarked, HasSeenDone, NeverFalls}
+
+-- the pass took and marked nothing more, its shares are the same, and what it saw never falls
+pub record Stays (old new : View) : Type 0 where
+  pub took : new.took ≡ old.took
+  pub marked : new.marked ≡ old.marked
+  pub shares : new.shares ≡ old.shares
+  pub never_falls : NeverFalls old new
+
+-- the section joins what the pass marked, and was seen done; nothing else changes, and what was seen never falls
+pub record Marks (old : View) (s : ℕ) (new : View) : Type 0 where
+  pub took : new.took ≡ old.took
+  pub marked : new.marked ≡ old.marked ++ s ∷ []
+  pub shares : new.shares ≡ old.shares
+  pub done : HasSeenDone new s
+  pub never_falls : NeverFalls old new
+
+-- the task joins what the pass took: its section was found on offer below the limit, its number is above all that the pass had seen, and the pass has seen the section with that number and not done
+pub record Takes (limit : ℕ) (old : View) (t : Task) (new : View) : Type 0 where
+  pub took : new.took ≡ old.took ++ t ∷ []
+  pub marked : new.marked ≡ old.marked
+  pub shares : new.shares ≡ old.shares
+  pub number : (0 < t.number) × (t.number ≤ limit)
+  pub above : most_seen t.section old < t.number
+  pub open_before : (HasSeenDone old t.section → ⊥) × (HasMarked old t.section → ⊥)
+  pub seen : (most_seen t.section new ≡ t.number) × (HasSeenDone new t.section → ⊥)
+  pub never_falls : NeverFalls old new
+
+-- how far a section lies from the first, going upwards and round
+abbrev pub round_from : ℕ → ℕ → ℕ → ℕ
+round_from sections first s = if leb first s then s - first else s + sections - first
