@@ -1,8 +1,11 @@
 -- What a call on a board does to what its pass knows. Defined here.
-use Rattle.std.specs.Prelude.{◌≡◌, ℕ, ◌+◌, ◌-◌, ◌<◌, ◌≤◌, leb, if◌then◌else◌, List, [], ◌∷◌, ◌++◌}
+use Rattle.std.specs.Prelude.{◌≡◌, ℕ, ◌+◌, ◌-◌, ◌%◌, ◌<◌, ◌≤◌, ◌↔◌, true, leb, if◌then◌else◌, List, [], ◌∷◌, ◌++◌}
+use Rattle.pmf_board.specs.declared.entry.Entry.{Entry}
 use Rattle.pmf_board.specs.declared.task.Task.{Task}
 use Rattle.pmf_board.specs.declared.view.View.{View}
-use Rattle.pmf_board.specs.Views.{most_seen, HasMarked, HasSeenDone, NeverFalls}
+use Rattle.pmf_board.specs.Machine.{entry_at}
+use Rattle.pmf_board.specs.Rule.{due}
+use Rattle.pmf_board.specs.Views.{times, most_seen, HasMarked, HasSeenDone, HasSeenClosed, NeverFalls}
 
 -- the pass took and marked nothing more, its shares are the same, and what it saw never falls
 pub record Stays (old new : View) : Type 0 where
@@ -33,3 +36,16 @@ pub record Takes (limit : ℕ) (old : View) (t : Task) (new : View) : Type 0 whe
 -- how far a section lies from the first, going upwards and round
 abbrev pub round_from : ℕ → ℕ → ℕ → ℕ
 round_from sections first s = if leb first s then s - first else s + sections - first
+
+-- of so many sections, each that comes before this one, from the start on and round, was seen done or with as many hand-outs as the limit
+abbrev pub PassesOver : ℕ → ℕ → ℕ → ℕ → View → Type 0
+PassesOver limit sections start t v = (s : ℕ) → s < sections → round_from sections (start % sections) s < round_from sections (start % sections) t → HasSeenClosed limit v s
+
+-- of so many sections, each was seen done or with as many hand-outs as the limit
+abbrev pub PassesOverAll : ℕ → ℕ → View → Type 0
+PassesOverAll limit sections v = (s : ℕ) → s < sections → HasSeenClosed limit v s
+
+-- the tally has each hand-out that the view took, each once and no others, and as done just what it marked
+pub record IsTallied (v : View) (tally : List Entry) : Type 0 where
+  pub once : (s k : ℕ) → times s k v ≡ due tally s k
+  pub done : (s : ℕ) → ((entry_at tally s).done ≡ true) ↔ HasMarked v s

@@ -9,6 +9,7 @@ mod pass;
 mod passing;
 mod rule;
 mod steps;
+mod taking;
 mod task;
 mod view;
 

@@ -1,6 +1,6 @@
 -- What the calls do to what a pass knows, of one step and of several.
-use Rattle.std.proofs.Common.{◌≡◌, ℕ, ◌+◌, ◌-◌, ◌%◌, ◌<◌, ◌≤◌, Bool, true, false, cond, ◌&&◌, eqb, leb, count_by, ◌⊎◌, inl, inr, ⊎_elim, List, [], ◌∷◌, ◌++◌, refl, sym, ◌∙◌, ap, subst, arith}
-use Rattle.std.proofs.lemmas.Bool.{le-leb, lt-leb, leb-true, true≢false}
+use Rattle.std.proofs.Common.{◌≡◌, ℕ, ◌+◌, ◌-◌, ◌%◌, ◌<◌, ◌≤◌, Bool, true, false, cond, ◌&&◌, eqb, leb, count_by, ◌⊎◌, inl, inr, ⊎_elim, List, [], ◌∷◌, ◌++◌, refl, sym, ◌∙◌, ap, subst, arith, Option, Some, None, is_some, IfSome, IfNone}
+use Rattle.std.proofs.lemmas.Bool.{le-leb, lt-leb, cases_lt, true≢false}
 use Rattle.pmf_board.specs.declared.entry.Entry.{Entry}
 use Rattle.pmf_board.specs.declared.task.Task.{Task}
 use Rattle.pmf_board.specs.declared.view.View.{View}
@@ -70,3 +70,80 @@ Takes-after limit u v w t a b = record {
 pub closed-later : (limit : ℕ) (v w : View) (s : ℕ) → NeverFalls v w → HasSeenClosed limit v s → HasSeenClosed limit w s
 closed-later limit v w s falls (inl d) = inl (falls.done s d)
 closed-later limit v w s falls (inr m) = inr (omega (arith, falls.most s, m))
+
+-- the word is not above what the pass saw of its section
+pub record Known (v : View) (s word : ℕ) : Type 0 where
+  pub most : word % 16 ≤ most_seen s v
+  pub done : 16 ≤ word → HasSeenDone v s
+
+pub Known-seen : (v w : View) (s word : ℕ) → w ≡ seen v s (entry_of word) → Agrees v s (entry_of word) → Known w s word
+Known-seen v w s word is agrees = record {
+  most = omega (arith, seen-most v w s (entry_of word) is agrees.most);
+  done = λ high. seen-done v w s (entry_of word) is (le-leb 16 word high);
+}
+
+-- a word other than expected is greater
+pub rises : (v : View) (s word other : ℕ) → word < 8 → Known v s word → Agrees v s (entry_of other) → (other ≡ word → ⊥) → word < other
+rises v s word other low known agrees differ =
+    let same : word % 16 ≡ word = omega (arith, low) in
+    let down : other % 16 ≤ other = omega arith in
+    omega (arith, known.most, agrees.most, same, down, differ)
+
+-- a word that is not below the limit is of a section that isn't on offer
+pub closed-known : (limit : ℕ) (v : View) (s word : ℕ) → limit ≤ 8 → Known v s word → limit ≤ word → HasSeenClosed limit v s
+closed-known limit v s word few known high = by (cases_lt word 16)
+  where
+    by : (word < 16) ⊎ (16 ≤ word) → HasSeenClosed limit v s
+    by (inl below) = let same : word % 16 ≡ word = omega (arith, below) in inr (omega (arith, known.most, same, high))
+    by (inr done) = inl (known.done done)
+
+-- a word below 8 is that of a section that isn't done
+pub low-not_done : (word : ℕ) → word < 8 → (entry_of word).done ≡ false
+low-not_done word low = lt-leb 16 word (omega (arith, low))
+
+-- one step further
+pub closed-more : (limit first section : ℕ) (v w : View) → NeverFalls v w → ((s : ℕ) → first ≤ s → s < section → HasSeenClosed limit v s) → HasSeenClosed limit w section
+    → (s : ℕ) → first ≤ s → s < section + 1 → HasSeenClosed limit w s
+closed-more limit first section v w falls before here s from below = by (cases_lt s section)
+  where
+    by : (s < section) ⊎ (section ≤ s) → HasSeenClosed limit w s
+    by (inl less) = closed-later limit v w s falls (before s from less)
+    by (inr more) = let same : section ≡ s = omega (arith, more, below) in subst (HasSeenClosed limit w) same here
+
+-- how far a section lies from the first
+pub round-up : (n first s : ℕ) → first ≤ s → round_from n first s ≡ s - first
+round-up n first s le = ap (λ b. cond b (s - first) (s + n - first)) (le-leb first s le)
+
+pub round-round : (n first s : ℕ) → s < first → round_from n first s ≡ s + n - first
+round-round n first s lt = ap (λ b. cond b (s - first) (s + n - first)) (lt-leb first s lt)
+
+pub passes-round : (limit n first t : ℕ) (u v : View) → NeverFalls u v → t < first → ((s : ℕ) → first ≤ s → s < n → HasSeenClosed limit u s) → ((s : ℕ) → 0 ≤ s → s < t → HasSeenClosed limit v s)
+    → (s : ℕ) → s < n → round_from n first s < round_from n first t → HasSeenClosed limit v s
+passes-round limit n first t u v falls back up round s there before = by (cases_lt s first)
+  where
+    by : (s < first) ⊎ (first ≤ s) → HasSeenClosed limit v s
+    by (inl less) = round s (omega arith) (omega (arith, before, round-round n first s less, round-round n first t back))
+    by (inr more) = closed-later limit u v s falls (up s more there)
+
+pub all-round : (limit n first : ℕ) (u v : View) → NeverFalls u v → ((s : ℕ) → first ≤ s → s < n → HasSeenClosed limit u s) → ((s : ℕ) → 0 ≤ s → s < first → HasSeenClosed limit v s)
+    → (s : ℕ) → s < n → HasSeenClosed limit v s
+all-round limit n first u v falls up round s there = by (cases_lt s first)
+  where
+    by : (s < first) ⊎ (first ≤ s) → HasSeenClosed limit v s
+    by (inl less) = round s (omega arith) less
+    by (inr more) = closed-later limit u v s falls (up s more there)
+
+module _ {A P : Type 0} where
+  pub IfNone-of : (r : Option A) → is_some r ≡ false → IfNone r P → P
+  IfNone-of None e p = p
+  IfNone-of (Some x) e p = absurd (true≢false e)
+
+module _ {A P Q : Type 0} where
+  pub IfNone-then : (r : Option A) → (P → Q) → IfNone r P → IfNone r Q
+  IfNone-then None f p = f p
+  IfNone-then (Some x) f p = p
+
+module _ {A : Type 0} {P Q : A → Type 0} where
+  pub IfSome-then : (r : Option A) → ((x : A) → P x → Q x) → IfSome r P → IfSome r Q
+  IfSome-then None f p = p
+  IfSome-then (Some x) f p = f x p

@@ -1,0 +1,110 @@
+//! Sections are taken.
+
+ghost use Rattle.std.specs.Prelude.{◌≡◌, ◌<◌, ◌≤◌, ℕ, IfNone, IfSome};
+ghost use Rattle.pmf_board.specs.Calls.{PassesOver, PassesOverAll, Stays, Takes};
+ghost use Rattle.pmf_board.specs.Views.{HasSeenClosed};
+
+use crate::board::Board;
+use crate::pass::Pass;
+use crate::task::Task;
+
+impl Board {
+    // Takes the section where it is on offer below the limit.
+    fn take_at(&self, pass: &mut Pass, section: u32, limit: u32) -> Option<Task>
+        requires own { pass.old.board ≡ self.now }
+        requires there { section < self.now.words }
+        requires limit { limit ≤ 8 }
+        ensures same { pass.new.board ≡ pass.old.board }
+        ensures some { IfSome result (λ t. (t.section ≡ section)
+            × Takes limit pass.old.view t pass.new.view) }
+        ensures none { IfNone result (Stays pass.old.view pass.new.view
+            × HasSeenClosed limit pass.new.view section) }
+    {
+        let mut word = self.look(pass, section);
+        while word < limit as u64 {
+            let found = self.exchange(pass, section, word);
+            if found == word {
+                let number = word as u32 + 1;
+                return Some(Task { section, number });
+            }
+            word = found;
+        }
+        None
+    }
+
+    // Takes the first section on offer below the limit of those from the first up to the end.
+    fn take_between(&self, pass: &mut Pass, first: u32, end: u32, limit: u32) -> Option<Task>
+        requires own { pass.old.board ≡ self.now }
+        requires there { end ≤ self.now.words }
+        requires limit { limit ≤ 8 }
+        ensures same { pass.new.board ≡ pass.old.board }
+        ensures some { IfSome result (λ t. Takes limit pass.old.view t pass.new.view
+            × (first ≤ t.section) × (t.section < end)
+            × ((s : ℕ) → first ≤ s → s < t.section → HasSeenClosed limit pass.new.view s)) }
+        ensures none { IfNone result (Stays pass.old.view pass.new.view
+            × ((s : ℕ) → first ≤ s → s < end → HasSeenClosed limit pass.new.view s)) }
+    {
+        let mut section = first;
+        while section < end {
+            let taken = self.take_at(pass, section, limit);
+            if taken.is_some() {
+                return taken;
+            }
+            section += 1;
+        }
+        None
+    }
+
+    // Takes the first section on offer below the limit, from the start on and round.
+    fn take_from(&self, pass: &mut Pass, start: u32, limit: u32) -> Option<Task>
+        requires own { pass.old.board ≡ self.now }
+        requires limit { limit ≤ 8 }
+        ensures same { pass.new.board ≡ pass.old.board }
+        ensures some { IfSome result (λ t. Takes limit pass.old.view t pass.new.view) }
+        ensures passed { IfSome result (λ t. PassesOver limit self.now.words start t.section pass.new.view) }
+        ensures none { IfNone result (Stays pass.old.view pass.new.view) }
+        ensures all { IfNone result (PassesOverAll limit self.now.words pass.new.view) }
+    {
+        let first = start % self.sections;
+        let taken = self.take_between(pass, first, self.sections, limit);
+        if taken.is_some() {
+            return taken;
+        }
+        self.take_between(pass, 0, first, limit)
+    }
+
+    /// Takes the first section that was never handed out and isn't done, going through all once, from `start`
+    /// modulo their number upwards and round.
+    pub fn take_fresh(&self, pass: &mut Pass, start: u32) -> Option<Task>
+        requires own { pass.old.board ≡ self.now }
+        ensures same { pass.new.board ≡ pass.old.board }
+
+        // The task is the section's first hand-out, and each section passed over was seen handed out or done.
+        ensures some { IfSome result (λ t. Takes 1 pass.old.view t pass.new.view) }
+        ensures first { IfSome result (λ t. t.number ≡ 1) }
+        ensures passed { IfSome result (λ t. PassesOver 1 self.now.words start t.section pass.new.view) }
+
+        // At None every section was seen so.
+        ensures none { IfNone result (Stays pass.old.view pass.new.view) }
+        ensures all { IfNone result (PassesOverAll 1 self.now.words pass.new.view) }
+    {
+        self.take_from(pass, start, 1)
+    }
+
+    /// Takes the first section that was handed out fewer than 8 times and isn't done, going through all once, from
+    /// `start` modulo their number upwards and round.
+    pub fn take_again(&self, pass: &mut Pass, start: u32) -> Option<Task>
+        requires own { pass.old.board ≡ self.now }
+        ensures same { pass.new.board ≡ pass.old.board }
+
+        // Each section passed over was seen with 8 hand-outs or done.
+        ensures some { IfSome result (λ t. Takes 8 pass.old.view t pass.new.view) }
+        ensures passed { IfSome result (λ t. PassesOver 8 self.now.words start t.section pass.new.view) }
+
+        // At None every section was seen so.
+        ensures none { IfNone result (Stays pass.old.view pass.new.view) }
+        ensures all { IfNone result (PassesOverAll 8 self.now.words pass.new.view) }
+    {
+        self.take_from(pass, start, 8)
+    }
+}
