@@ -5,3 +5,4 @@ pub mod KeepLemmas
 pub mod StepLemmas
 pub mod PassLemmas
 pub mod CallLemmas
+pub mod CloseLemmas

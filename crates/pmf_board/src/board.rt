@@ -18,6 +18,7 @@ pub const MOST_SECTIONS: u32 = 65_536;
 
 /// Which sections were handed out, how often, and which are done. Threads share it by reference, each with a pass of
 /// its own. Contracts see it as which board it is; its words are its sections.
+#[derive(Drop)]
 pub struct Board {
     pub(crate) table: Table<(), View, u32, Law, Global>,
     pub(crate) sections: u32,
@@ -32,7 +33,7 @@ impl Model for Board {
 
     ghost invariant = { λ b. (b.table.shared.key ≡ b.table.shared.table_id.words)
         × (0 < b.table.shared.table_id.words) × (b.table.shared.table_id.words ≤ 65536)
-        × (b.sections ≡ b.table.shared.table_id.words)
+        × (b.table.shared.table_id.slots ≡ 0) × (b.sections ≡ b.table.shared.table_id.words)
         × (b.room.items ≡ []) × (b.table.shared.table_id.words ≤ vec_capacity b.room) };
 }
 

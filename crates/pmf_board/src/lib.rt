@@ -2,6 +2,7 @@
 #![tactic(auto)]
 
 mod board;
+mod closing;
 mod entry;
 mod fault;
 mod marking;
@@ -10,6 +11,7 @@ mod passing;
 mod rule;
 mod steps;
 mod taking;
+mod tally;
 mod task;
 mod view;
 
@@ -17,5 +19,6 @@ pub use board::{Board, MOST_SECTIONS};
 pub use entry::Entry;
 pub use fault::BoardFault;
 pub use pass::Pass;
+pub use tally::Tally;
 pub use task::Task;
 pub use view::{Sight, View};

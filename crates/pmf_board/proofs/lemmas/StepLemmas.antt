@@ -19,11 +19,11 @@ use Rattle.pmf_board.specs.Steps.{Mine, looked, exchanged, raised, counted}
 use Rattle.pmf_board.proofs.lemmas.WordLemmas.{entry_of-word, word-at, word-handed_out, word-finished, words-opening}
 use Rattle.pmf_board.proofs.lemmas.KeepLemmas.{Moves, IsKept-moves, Moves-seen, Moves-took, Moves-marked, Agrees-at, IsKept-split, IsKept-join, IsKept-first, shares-le, times-le}
 
-abbrev Table : Type 0
+abbrev pub Table : Type 0
 Table = State (Unit {0}) View
 
 module _ (sections : ℕ) where
-  abbrev Holds : Table → Type 0
+  abbrev pub Holds : Table → Type 0
   Holds s = Rules sections s.words s.views
 
   -- the entry of a word of the table
