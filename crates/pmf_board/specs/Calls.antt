@@ -5,7 +5,7 @@ use Rattle.pmf_board.specs.declared.task.Task.{Task}
 use Rattle.pmf_board.specs.declared.view.View.{View}
 use Rattle.pmf_board.specs.Machine.{entry_at}
 use Rattle.pmf_board.specs.Rule.{due}
-use Rattle.pmf_board.specs.Views.{times, most_seen, HasMarked, HasSeenDone, HasSeenClosed, NeverFalls}
+use Rattle.pmf_board.specs.Views.{times, most_seen, HasMarked, HasTaken, HasSeenDone, HasSeenClosed, NeverFalls}
 
 -- the pass took and marked nothing more, its shares are the same, and what it saw never falls
 pub record Stays (old new : View) : Type 0 where
@@ -27,6 +27,7 @@ pub record Takes (limit : ℕ) (old : View) (t : Task) (new : View) : Type 0 whe
   pub took : new.took ≡ old.took ++ t ∷ []
   pub marked : new.marked ≡ old.marked
   pub shares : new.shares ≡ old.shares
+  pub has : HasTaken new t
   pub number : (0 < t.number) × (t.number ≤ limit)
   pub above : most_seen t.section old < t.number
   pub open_before : (HasSeenDone old t.section → ⊥) × (HasMarked old t.section → ⊥)

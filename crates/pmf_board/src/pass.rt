@@ -1,6 +1,6 @@
 //! A pass: the right to take part on one board.
 
-ghost use Rattle.std.specs.Prelude.{◌≡◌, []};
+ghost use Rattle.std.specs.Prelude.{◌≡◌, ◌<◌, ◌≤◌, []};
 ghost use Rattle.pmf_board.specs.Passes.{IsSound, PassValue};
 
 use crate::view::View;
@@ -27,7 +27,8 @@ impl Model for Pass {
 impl Pass {
     /// How many shares it holds: the first pass has 65, of which [`crate::Board::split`] gives one to each new one.
     pub fn shares(&self) -> u32
-        ensures { result ≡ self.now.view.shares }
+        ensures value { result ≡ self.now.view.shares }
+        ensures some { (0 < result) × (result ≤ 65) }
     {
         self.shares
     }

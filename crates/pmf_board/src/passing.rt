@@ -2,7 +2,7 @@
 
 ghost use Rattle.std.specs.Prelude.{◌≡◌, ◌↔◌, ◌+◌, ◌≤◌, ℕ, Err, IfErr, IfOk, OnErr, OnOk};
 ghost use Rattle.pmf_board.specs.Passes.{PassValue};
-ghost use Rattle.pmf_board.specs.Views.{both, given, kept, times};
+ghost use Rattle.pmf_board.specs.Views.{both, given, kept, times, NeverFalls};
 
 use crate::board::Board;
 use crate::fault::BoardFault;
@@ -36,6 +36,8 @@ impl Board {
         requires other { other.board ≡ self.now }
         ensures same { pass.new.board ≡ pass.old.board }
         ensures joined { pass.new.view ≡ both pass.old.view other.view }
+        ensures never_falls { NeverFalls pass.old.view pass.new.view
+            × NeverFalls other.view pass.new.view }
         ensures apart { (s k : ℕ) → times s k pass.old.view + times s k other.view ≤ 1 }
     {
         let Pass { seat, shares } = other;

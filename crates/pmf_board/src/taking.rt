@@ -61,6 +61,7 @@ impl Board {
         requires limit { limit ≤ 8 }
         ensures same { pass.new.board ≡ pass.old.board }
         ensures some { IfSome result (λ t. Takes limit pass.old.view t pass.new.view) }
+        ensures there { IfSome result (λ t. t.section < self.now.words) }
         ensures passed { IfSome result (λ t. PassesOver limit self.now.words start t.section pass.new.view) }
         ensures none { IfNone result (Stays pass.old.view pass.new.view) }
         ensures all { IfNone result (PassesOverAll limit self.now.words pass.new.view) }
@@ -82,6 +83,7 @@ impl Board {
         // The task is the section's first hand-out, and each section passed over was seen handed out or done.
         ensures some { IfSome result (λ t. Takes 1 pass.old.view t pass.new.view) }
         ensures first { IfSome result (λ t. t.number ≡ 1) }
+        ensures there { IfSome result (λ t. t.section < self.now.words) }
         ensures passed { IfSome result (λ t. PassesOver 1 self.now.words start t.section pass.new.view) }
 
         // At None every section was seen so.
@@ -99,6 +101,7 @@ impl Board {
 
         // Each section passed over was seen with 8 hand-outs or done.
         ensures some { IfSome result (λ t. Takes 8 pass.old.view t pass.new.view) }
+        ensures there { IfSome result (λ t. t.section < self.now.words) }
         ensures passed { IfSome result (λ t. PassesOver 8 self.now.words start t.section pass.new.view) }
 
         // At None every section was seen so.

@@ -1,14 +1,15 @@
 -- What the calls do to what a pass knows, of one step and of several.
 use Rattle.std.proofs.Common.{◌≡◌, ℕ, ◌+◌, ◌-◌, ◌%◌, ◌<◌, ◌≤◌, Bool, true, false, cond, ◌&&◌, eqb, leb, count_by, ◌⊎◌, inl, inr, ⊎_elim, List, [], ◌∷◌, ◌++◌, refl, sym, ◌∙◌, ap, subst, arith, Option, Some, None, is_some, IfSome, IfNone}
-use Rattle.std.proofs.lemmas.Bool.{le-leb, lt-leb, cases_lt, true≢false}
+use Rattle.std.proofs.lemmas.Bool.{eq-eqb, le-leb, lt-leb, cases_lt, true≢false}
 use Rattle.pmf_board.specs.declared.entry.Entry.{Entry}
 use Rattle.pmf_board.specs.declared.task.Task.{Task}
 use Rattle.pmf_board.specs.declared.view.View.{View}
 use Rattle.pmf_board.specs.Machine.{entry}
-use Rattle.pmf_board.specs.Views.{task, most_seen, seen, took, marked, HasMarked, HasSeenDone, HasSeenClosed, NeverFalls}
+use Rattle.pmf_board.specs.Views.{task, both, most_seen, seen, took, marked, HasMarked, HasSeenDone, HasSeenClosed, NeverFalls}
 use Rattle.pmf_board.specs.Rule.{Agrees, entry_of}
 use Rattle.pmf_board.specs.Calls.{Stays, Marks, Takes, round_from}
-use Rattle.pmf_board.proofs.lemmas.SightLemmas.{most-more, most-here, dones-more, dones-here, dones-cons}
+use Rattle.pmf_board.proofs.lemmas.KeepLemmas.{bit, times-took, dones-both}
+use Rattle.pmf_board.proofs.lemmas.SightLemmas.{most-append_left, most-append_right, most-more, most-here, dones-more, dones-here, dones-cons}
 
 NeverFalls-step : (v w : View) (s : ℕ) (e : Entry) → w.saw ≡ (seen v s e).saw → NeverFalls v w
 NeverFalls-step v w s e is = subst (λ saw. NeverFalls v (record { took = w.took; marked = w.marked; saw = saw; shares = w.shares })) (sym is)
@@ -48,6 +49,7 @@ Takes-took limit v w s e agrees not_done less is = subst (Takes limit v (task s 
   took = refl;
   marked = refl;
   shares = refl;
+  has = let one : bit (eqb s s && eqb (e.handouts + 1) (e.handouts + 1)) ≡ 1 = (λ i. bit (eq-eqb s s refl i && eq-eqb (e.handouts + 1) (e.handouts + 1) refl i)) in omega (arith, times-took v s (e.handouts + 1) s (e.handouts + 1), one);
   number = (omega arith, omega (arith, less));
   above = omega (arith, agrees.most);
   open_before = ((λ d. true≢false (sym (agrees.done d) ∙ not_done)), (λ m. true≢false (sym (agrees.marked m) ∙ not_done)));
@@ -60,6 +62,7 @@ Takes-after limit u v w t a b = record {
   took = b.took ∙ ap (λ ts. ts ++ t ∷ []) a.took;
   marked = b.marked ∙ a.marked;
   shares = b.shares ∙ a.shares;
+  has = b.has;
   number = b.number;
   above = omega (arith, a.never_falls.most t.section, b.above);
   open_before = ((λ d. b.open_before.0 (a.never_falls.done t.section d)), (λ m. b.open_before.1 (subst (λ ms. 0 < count_by (λ k. eqb k t.section) ms) (sym a.marked) m)));
@@ -147,3 +150,10 @@ module _ {A : Type 0} {P Q : A → Type 0} where
   pub IfSome-then : (r : Option A) → ((x : A) → P x → Q x) → IfSome r P → IfSome r Q
   IfSome-then None f p = p
   IfSome-then (Some x) f p = f x p
+
+-- what either of two joined passes saw never falls
+pub NeverFalls-left : (v w : View) → NeverFalls v (both v w)
+NeverFalls-left v w = record { most = λ s. most-append_left s v.saw w.saw; done = λ s d. omega (arith, d, dones-both v w s) }
+
+pub NeverFalls-right : (v w : View) → NeverFalls w (both v w)
+NeverFalls-right v w = record { most = λ s. most-append_right s v.saw w.saw; done = λ s d. omega (arith, d, dones-both v w s) }

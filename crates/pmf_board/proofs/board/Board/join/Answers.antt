@@ -1,9 +1,11 @@
 use Rattle.std.proofs.Common.{rules, ◌≡◌, ℕ, ◌+◌, ◌<◌, ◌≤◌, ap, sym, subst, ◌∙◌, arith}
+use Rattle.pmf_board.specs.declared.view.View.{View}
 use Rattle.pmf_board.specs.Passes.{PassValue}
-use Rattle.pmf_board.specs.Views.{times, both}
+use Rattle.pmf_board.specs.Views.{times, both, NeverFalls}
 use Rattle.pmf_board.specs.Steps.{Mine}
 use Rattle.pmf_board.proofs.lemmas.StepLemmas.{joins, counts}
 use Rattle.pmf_board.proofs.lemmas.KeepLemmas.{times-both}
+use Rattle.pmf_board.proofs.lemmas.CallLemmas.{NeverFalls-left, NeverFalls-right}
 use Rattle.pmf_board.proofs.lemmas.PassLemmas.{at-equal, after-join}
 use Rattle.pmf_board.proofs.board.Board.join.Goals as goal
 
@@ -27,3 +29,8 @@ returns-clause-apart c s k =
         omega (arith, c.load.ensures.2.2 s k, ap (λ (m : Mine). times s k m.0) joined, times-both c.pass.inside.seat.me.0 c.other.inside.seat.me.0 s k) in
     subst (λ (p : PassValue). times s k p.view + times s k c.args.other.view ≤ 1) c.pass.view_is
         (subst (λ (q : PassValue). times s k c.pass.inside.seat.me.0 + times s k q.view ≤ 1) c.other.view_is once)
+
+pub returns-clause-never_falls : goal.returns-clause-never_falls
+returns-clause-never_falls c =
+    let joined : c.load.new.seat.me.0 ≡ both c.args.pass.now.view c.args.other.view = search rules in
+    (subst (NeverFalls c.args.pass.now.view) (sym joined) (NeverFalls-left c.args.pass.now.view c.args.other.view), subst (NeverFalls c.args.other.view) (sym joined) (NeverFalls-right c.args.pass.now.view c.args.other.view))
