@@ -13,6 +13,8 @@ mod steps;
 mod taking;
 mod tally;
 mod task;
+#[cfg(test)]
+mod tests;
 mod view;
 
 pub use board::{Board, MOST_SECTIONS};

@@ -1,0 +1,197 @@
+//! Sections are handed out and done, by one thread and by two.
+
+ghost use Rattle.std.specs.Prelude.{◌≡◌, length, IfOk};
+
+use super::{Board, BoardFault, MOST_SECTIONS, Pass, Tally, Task};
+use std::alloc::Global;
+use std::process::Abort;
+use std::test::Fail;
+use std::thread::join;
+
+// The section and the number of a task.
+fn told(task: Option<Task>) -> Option<(u32, u32)> {
+    let task = task?;
+    Some((task.section(), task.number()))
+}
+
+// Takes the section again and again, and drops the tasks: they are the hand-outs from the first up to the eighth, and
+// then there is none.
+fn assert_again(rt: &impl Abort, board: &Board, pass: &mut Pass, section: u32, first: u32)
+    requires { pass.old.board ≡ board.now }
+    ensures { pass.new.board ≡ pass.old.board }
+{
+    for number in first..9 {
+        assert_eq!(rt; told(board.take_again(pass, 0)), Some((section, number)));
+    }
+    assert_eq!(rt; told(board.take_again(pass, 0)), None);
+}
+
+// Takes a fresh section and marks it: it is this one, or none is left.
+fn assert_fresh(rt: &impl Abort, board: &Board, pass: &mut Pass, start: u32, section: Option<u32>)
+    requires { pass.old.board ≡ board.now }
+    ensures { pass.new.board ≡ pass.old.board }
+{
+    let Some(task) = board.take_fresh(pass, start) else {
+        assert_eq!(rt; None, section);
+        return;
+    };
+    assert_eq!(rt; (Some(task.section()), task.number()), (section, 1));
+    board.mark(pass, task);
+}
+
+// Takes sections and marks them until none is left. Answers whether none was.
+fn work(board: &Board, mut pass: Pass, start: u32) -> (Pass, bool)
+    requires { pass.board ≡ board.now }
+    ensures { result.0.board ≡ board.now }
+{
+    for _ in 0..board.sections() + 1 {
+        match board.take_fresh(&mut pass, start) {
+            Some(task) => board.mark(&mut pass, task),
+            None => return (pass, true),
+        }
+    }
+    (pass, false)
+}
+
+// Each section was handed out once and is done.
+fn assert_all_once(rt: &impl Abort, tally: &Tally, sections: u32)
+    requires { length tally.now ≡ sections }
+{
+    for section in 0..sections {
+        assert_eq!(rt; (tally.handouts(section), tally.done(section)), (1, true));
+    }
+}
+
+// Splits the pass so often.
+fn split_often(board: &Board, pass: &mut Pass, times: u32) -> Result<(), Fail>
+    requires { pass.old.board ≡ board.now }
+    ensures { pass.new.board ≡ pass.old.board }
+{
+    for _ in 0..times {
+        drop(board.split(pass)?);
+    }
+    Ok(())
+}
+
+// What was done by one pass of a board of one section, and a pass split from it before.
+fn done_by_another(rt: &impl Abort, alloc: Global) -> Result<(Board, Pass), Fail>
+    ensures { IfOk result (λ made. (made.1.board ≡ made.0) × (made.0.words ≡ 1)) }
+{
+    let (board, mut p) = Board::new(alloc, 1)?;
+    let q = board.split(&mut p)?;
+    assert_fresh(rt, &board, &mut p, 0, Some(0));
+    Ok((board, q))
+}
+
+#[test]
+fn two_sections_are_handed_out_and_told(rt: HostRuntime) -> Result<(), Fail> {
+    let (board, mut p) = Board::new(rt.alloc(), 2)?;
+    assert_fresh(&rt, &board, &mut p, 0, Some(0));
+    assert!(rt; board.is_done(&mut p, 0) && !board.is_done(&mut p, 1));
+    let mut q = board.split(&mut p)?;
+    assert!(rt; matches!(board.split(&mut q), Err(BoardFault::Crowded)));
+    assert_eq!(rt; told(board.take_fresh(&mut q, 0)), Some((1, 1)));
+    assert_again(&rt, &board, &mut p, 1, 2);
+    let Err((fault, board, mut p)) = board.close(p) else {
+        panic!(rt; "shares are out")
+    };
+    assert_eq!(rt; (fault, p.shares(), q.shares()), (BoardFault::SharesOut, 64, 1));
+    board.join(&mut p, q);
+    let Ok(tally) = board.close(p) else {
+        panic!(rt; "all shares are there")
+    };
+    assert_eq!(rt; (tally.handouts(0), tally.done(0)), (1, true));
+    assert_eq!(rt; (tally.handouts(1), tally.done(1)), (8, false));
+    Ok(())
+}
+
+#[test]
+fn boards_of_no_and_of_too_many_sections_are_refused(rt: HostRuntime) -> Result<(), Fail> {
+    assert!(rt; matches!(Board::new(rt.alloc(), 0), Err(BoardFault::NoSections)));
+    assert!(rt; matches!(Board::new(rt.alloc(), 65_537), Err(BoardFault::TooMany)));
+    let (board, pass) = Board::new(rt.alloc(), MOST_SECTIONS)?;
+    assert_eq!(rt; (board.sections(), pass.shares()), (65_536, 65));
+    Ok(())
+}
+
+#[test]
+fn the_65th_split_of_a_first_pass_is_crowded(rt: HostRuntime) -> Result<(), Fail> {
+    let (board, mut pass) = Board::new(rt.alloc(), 1)?;
+    split_often(&board, &mut pass, 64)?;
+    assert!(rt; matches!(board.split(&mut pass), Err(BoardFault::Crowded)));
+    assert_eq!(rt; pass.shares(), 1);
+    Ok(())
+}
+
+#[test]
+fn a_section_has_eight_hand_outs(rt: HostRuntime) -> Result<(), Fail> {
+    let (board, mut pass) = Board::new(rt.alloc(), 1)?;
+    assert_again(&rt, &board, &mut pass, 0, 1);
+    assert_fresh(&rt, &board, &mut pass, 0, None);
+    assert!(rt; !board.is_done(&mut pass, 0));
+    Ok(())
+}
+
+#[test]
+fn a_section_is_marked_by_its_third_hand_out(rt: HostRuntime) -> Result<(), Fail> {
+    let (board, mut pass) = Board::new(rt.alloc(), 1)?;
+    assert_eq!(rt; told(board.take_again(&mut pass, 7)), Some((0, 1)));
+    assert_eq!(rt; told(board.take_again(&mut pass, 8)), Some((0, 2)));
+    let Some(third) = board.take_again(&mut pass, 9) else {
+        panic!(rt; "there are eight")
+    };
+    assert_eq!(rt; third.number(), 3);
+    board.mark(&mut pass, third);
+    assert!(rt; board.is_done(&mut pass, 0) && board.take_again(&mut pass, 0).is_none());
+    let Ok(tally) = board.close(pass) else {
+        panic!(rt; "all shares are there")
+    };
+    assert_eq!(rt; (tally.handouts(0), tally.done(0)), (3, true));
+    Ok(())
+}
+
+#[test]
+fn what_another_pass_marked_is_not_taken_fresh(rt: HostRuntime) -> Result<(), Fail> {
+    let (board, mut q) = done_by_another(&rt, rt.alloc())?;
+    assert!(rt; board.take_fresh(&mut q, 0).is_none());
+    Ok(())
+}
+
+#[test]
+fn what_another_pass_marked_is_not_taken_again(rt: HostRuntime) -> Result<(), Fail> {
+    let (board, mut q) = done_by_another(&rt, rt.alloc())?;
+    assert!(rt; board.take_again(&mut q, 0).is_none());
+    Ok(())
+}
+
+#[test]
+fn what_another_pass_marked_is_done(rt: HostRuntime) -> Result<(), Fail> {
+    let (board, mut q) = done_by_another(&rt, rt.alloc())?;
+    assert!(rt; board.is_done(&mut q, 0));
+    Ok(())
+}
+
+#[test]
+fn two_threads_do_each_of_a_thousand_sections_once(rt: HostRuntime) -> Result<(), Fail> {
+    let (board, mut one) = Board::new(rt.alloc(), 1_000)?;
+    let two = board.split(&mut one)?;
+    let shared = &board;
+    let ((mut one, first), (two, second)) = join(
+        &rt,
+        move ||
+            requires { one.board ≡ shared.now }
+            ensures { result.0.board ≡ shared.entry.now }
+        { work(shared, one, 0) },
+        move ||
+            requires { two.board ≡ shared.now }
+            ensures { result.0.board ≡ shared.entry.now }
+        { work(shared, two, 500) },
+    );
+    assert!(rt; first && second);
+    board.join(&mut one, two);
+    let Ok(tally) = board.close(one) else {
+        panic!(rt; "all shares are there")
+    };
+    assert_all_once(&rt, &tally, 1_000);
+    Ok(())
+}
