@@ -1,5 +1,5 @@
 -- A board and a pass as contracts see them. Defined here.
-use Rattle.std.specs.Prelude.{◌≡◌, ℕ, ◌<◌, ◌≤◌}
+use Rattle.std.specs.Prelude.{ℕ, ◌<◌, ◌≤◌}
 use Rattle.atomic_table.specs.Seated.{TableId}
 use Rattle.pmf_board.specs.declared.view.View.{View}
 use Rattle.pmf_board.specs.Views.{times}

@@ -1,5 +1,5 @@
 -- The board's rule on its words and on the views of all passes. Defined here.
-use Rattle.std.specs.Prelude.{◌≡◌, ℕ, ◌+◌, ◌%◌, ◌<◌, ◌≤◌, Bool, true, false, cond, ◌&&◌, leb, List, map, length, sum_by, ◌↔◌}
+use Rattle.std.specs.Prelude.{◌≡◌, ℕ, ◌+◌, ◌%◌, ◌<◌, ◌≤◌, true, cond, ◌&&◌, leb, List, map, length, sum_by, ◌↔◌}
 use mathlib.Core.Option.{some}
 use lib.ListN.{get_elem?}
 use Rattle.pmf_board.specs.declared.entry.Entry.{Entry}

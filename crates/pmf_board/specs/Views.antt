@@ -1,5 +1,5 @@
 -- What a pass took, marked and saw, told by looking back over its lists. Defined here.
-use Rattle.std.specs.Prelude.{◌≡◌, ℕ, ◌+◌, ◌-◌, ◌<◌, ◌≤◌, max, Bool, true, false, cond, ◌&&◌, eqb, ◌⊎◌, List, [], ◌∷◌, ◌++◌, count_by}
+use Rattle.std.specs.Prelude.{ℕ, ◌+◌, ◌-◌, ◌<◌, ◌≤◌, max, Bool, true, false, cond, ◌&&◌, eqb, ◌⊎◌, List, [], ◌∷◌, ◌++◌, count_by}
 use Rattle.pmf_board.specs.declared.entry.Entry.{Entry}
 use Rattle.pmf_board.specs.declared.task.Task.{Task}
 use Rattle.pmf_board.specs.declared.view.Sight.{Sight}

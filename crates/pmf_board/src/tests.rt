@@ -95,7 +95,10 @@ fn two_sections_are_handed_out_and_told(rt: HostRuntime) -> Result<(), Fail> {
     let Err((fault, board, mut p)) = board.close(p) else {
         panic!(rt; "shares are out")
     };
-    assert_eq!(rt; (fault, p.shares(), q.shares()), (BoardFault::SharesOut, 64, 1));
+    assert_eq!(rt;
+        (fault, p.shares(), q.shares()),
+        (BoardFault::SharesOut, 64, 1)
+    );
     board.join(&mut p, q);
     let Ok(tally) = board.close(p) else {
         panic!(rt; "all shares are there")

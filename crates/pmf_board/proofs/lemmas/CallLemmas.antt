@@ -1,11 +1,11 @@
 -- What the calls do to what a pass knows, of one step and of several.
-use Rattle.std.proofs.Common.{◌≡◌, ℕ, ◌+◌, ◌-◌, ◌%◌, ◌<◌, ◌≤◌, Bool, true, false, cond, ◌&&◌, eqb, leb, count_by, ◌⊎◌, inl, inr, ⊎_elim, List, [], ◌∷◌, ◌++◌, refl, sym, ◌∙◌, ap, subst, arith, Option, Some, None, is_some, IfSome, IfNone}
+use Rattle.std.proofs.Common.{◌≡◌, ℕ, ◌+◌, ◌-◌, ◌%◌, ◌<◌, ◌≤◌, true, false, cond, ◌&&◌, eqb, count_by, ◌⊎◌, inl, inr, ⊎_elim, [], ◌∷◌, ◌++◌, refl, sym, ◌∙◌, ap, subst, arith, Option, Some, None, is_some, IfSome, IfNone}
 use Rattle.std.proofs.lemmas.Bool.{eq-eqb, le-leb, lt-leb, cases_lt, true≢false}
 use Rattle.pmf_board.specs.declared.entry.Entry.{Entry}
 use Rattle.pmf_board.specs.declared.task.Task.{Task}
 use Rattle.pmf_board.specs.declared.view.View.{View}
 use Rattle.pmf_board.specs.Machine.{entry}
-use Rattle.pmf_board.specs.Views.{task, both, most_seen, seen, took, marked, HasMarked, HasSeenDone, HasSeenClosed, NeverFalls}
+use Rattle.pmf_board.specs.Views.{task, both, most_seen, seen, took, marked, HasSeenDone, HasSeenClosed, NeverFalls}
 use Rattle.pmf_board.specs.Rule.{Agrees, entry_of}
 use Rattle.pmf_board.specs.Calls.{Stays, Marks, Takes, round_from}
 use Rattle.pmf_board.proofs.lemmas.KeepLemmas.{bit, times-took, dones-both}

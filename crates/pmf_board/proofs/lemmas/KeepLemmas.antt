@@ -1,8 +1,8 @@
 -- Each kind of change of the board and of the views keeps the rule.
-use Rattle.std.proofs.Common.{◌≡◌, ℕ, zero, suc, ◌+◌, ◌-◌, ◌<◌, ◌≤◌, ◌≢◌, Bool, true, false, cond, not, ◌&&◌, eqb, leb, ltb, ◌⊎◌, inl, inr, ⊎_elim, ◌↔◌, List, [], ◌∷◌, ◌++◌, length, set, sum_by, count_by, refl, sym, ◌∙◌, ap, subst, arith}
-use Rattle.std.proofs.lemmas.Bool.{eqb-true, eqb-false, eq-eqb, ne_eqb, cases_eq, cases_lt, true≢false}
+use Rattle.std.proofs.Common.{◌≡◌, ℕ, zero, suc, ◌+◌, ◌<◌, ◌≤◌, ◌≢◌, Bool, true, false, cond, ◌&&◌, eqb, leb, ◌⊎◌, inl, inr, ⊎_elim, ◌↔◌, List, [], ◌∷◌, ◌++◌, length, set, sum_by, refl, sym, ◌∙◌, ap, subst, arith}
+use Rattle.std.proofs.lemmas.Bool.{eq-eqb, ne_eqb, cases_eq, cases_lt, true≢false}
 use Rattle.std.proofs.lemmas.Bool.Decides.{nat_tests}
-use Rattle.std.proofs.lemmas.List.Sums.{sum_by-append, sum_by-cons}
+use Rattle.std.proofs.lemmas.List.Sums.{sum_by-append}
 use mathlib.Core.Option.{some, some-injective, some-ne-none}
 use lib.ListN.{get_elem?}
 use Rattle.atomic_table.proofs.Lists.{at_set, at_snoc, set_else}
@@ -11,7 +11,7 @@ use Rattle.pmf_board.specs.declared.view.View.{View}
 use Rattle.pmf_board.specs.Machine.{entry, entry_at, opening, handed_out, finished, hand_out, mark}
 use Rattle.pmf_board.specs.Views.{task, times, marks, dones, most_seen, HasSeenDone, HasMarked, seen, took, marked, kept, given, both, spent, first_view, is_hand_out, tells_done}
 use Rattle.pmf_board.specs.Rule.{Fits, IsKept, Agrees, due}
-use Rattle.pmf_board.proofs.lemmas.TotalLemmas.{total-set, total-at, total-snoc, total-none, total-alone}
+use Rattle.pmf_board.proofs.lemmas.TotalLemmas.{total-set, total-at, total-snoc, total-alone}
 use Rattle.pmf_board.proofs.lemmas.WordLemmas.{opening-at}
 use Rattle.pmf_board.proofs.lemmas.SightLemmas.{entry-set, most-le, dones-cons, most-append_le}
 
@@ -120,6 +120,7 @@ Moves-took board v s few fits holds within less not_done = record {
   where
     e : Entry
     e = entry_at board s
+
     w : View
     w = took v (task s ((entry_at board s).handouts + 1))
 
@@ -156,6 +157,7 @@ Moves-marked board v s few fits holds within = record {
   where
     e : Entry
     e = entry_at board s
+
     w : View
     w = marked v s (entry_at board s).handouts
 
@@ -176,8 +178,10 @@ IsKept-split board views id v is at two = record {
   where
     fit : Fits board v
     fit = is.fits id v at
+
     left : Fits board (kept v)
     left = record { most = fit.most; done = fit.done; idle = λ none. absurd (omega (arith, none, two)) }
+
     right : Fits board (given v)
     right = record { most = fit.most; done = fit.done; idle = λ none. absurd (omega (arith, none)) }
 
@@ -204,14 +208,16 @@ IsKept-join board views id other v w is at apart there holds = record {
   once = λ s k. omega (arith, total-set (times s k) views id v (both v w) at, is.once s k, total-set (times s k) (set views id (both v w)) other w spent there, times-both v w s k);
   done_is = λ s.
       let same : sum_by (marks s) (set (set views id (both v w)) other spent) ≡ sum_by (marks s) views =
-          omega (arith, total-set (marks s) views id v (both v w) at, total-set (marks s) (set views id (both v w)) other w spent there, marks-both v w s) in
+      omega (arith, total-set (marks s) views id v (both v w) at, total-set (marks s) (set views id (both v w)) other w spent there, marks-both v w s) in
       ((λ d. omega (arith, same, (is.done_is s).0 d)), (λ m. (is.done_is s).1 (omega (arith, same, m))));
 }
   where
     fit : Fits board v
     fit = is.fits id v at
+
     fit' : Fits board w
     fit' = is.fits other w (sym (set_else views id other (both v w) apart) ∙ there)
+
     joined : Fits board (both v w)
     joined = record {
       most = λ s. most-append_le s v.saw w.saw (entry_at board s).handouts (fit.most s) (fit'.most s);
@@ -222,6 +228,7 @@ IsKept-join board views id other v w is at apart there holds = record {
         by_dones : (s : ℕ) → (0 < dones s v) ⊎ (dones s v ≤ 0) → HasSeenDone (both v w) s → (entry_at board s).done ≡ true
         by_dones s (inl yes_v) d = fit.done s yes_v
         by_dones s (inr no_v) d = fit'.done s (omega (arith, dones-both v w s, no_v, d))
+
     nothing : Fits board spent
     nothing = record { most = λ s. omega arith; done = λ s d. absurd (omega (arith, d)); idle = λ none. refl }
 
@@ -237,8 +244,10 @@ IsKept-first n = record {
   where
     none : (k : ℕ) → bit (leb 1 k && leb k 0) ≡ 0
     none k = grind (arith, nat_tests)
+
     first_fits : Fits (opening n) first_view
     first_fits = record { most = λ s. omega arith; done = λ s d. absurd (omega (arith, d)); idle = λ no. absurd (omega (arith, no)) }
+
     at_first : (port : ℕ) (v : View) → get_elem? (first_view ∷ []) port ≡ some v → Fits (opening n) v
     at_first zero v there = subst (Fits (opening n)) (some-injective first_view v there) first_fits
     at_first (suc port) v there = absurd (some-ne-none v (sym there))

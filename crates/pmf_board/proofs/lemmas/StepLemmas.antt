@@ -1,5 +1,5 @@
 -- The five kinds of step, as the table asks for them.
-use Rattle.std.proofs.Common.{◌≡◌, ℕ, zero, suc, ◌+◌, ◌-◌, ◌<◌, ◌≤◌, ◌≢◌, Bool, true, false, eqb, bit_or, List, [], ◌∷◌, ◌++◌, map, length, get_or, set, replicate, refl, sym, ◌∙◌, ap, subst, arith}
+use Rattle.std.proofs.Common.{◌≡◌, ℕ, ◌+◌, ◌<◌, false, eqb, bit_or, [], length, get_or, set, replicate, refl, sym, ◌∙◌, ap, subst, arith}
 use Rattle.std.proofs.lemmas.Bool.{eq-eqb, ne_eqb}
 use Rattle.std.proofs.lemmas.List.{map-set, set-get_or, length-set, length-replicate}
 use mathlib.Core.Logic.{dite}
@@ -8,8 +8,7 @@ use native.Mathlib.Decide.{ℕ_discrete}
 use lib.ListN.{get_elem?}
 use prog.Atomic.{either}
 use Rattle.atomic_table.proofs.Lists.{set_again}
-use Rattle.atomic_table.specs.Table.{State, step, keeps, Allows, Splits, Joins, opening, Final, Seen}
-use Rattle.pmf_board.specs.declared.entry.Entry.{Entry}
+use Rattle.atomic_table.specs.Table.{State, step, keeps, Allows, Splits, Joins, opening}
 use Rattle.pmf_board.specs.declared.view.View.{View}
 use Rattle.pmf_board.specs.Machine.{entry_at, hand_out, mark, handed_out, finished}
 use Rattle.pmf_board.specs.Machine as machine
@@ -17,7 +16,7 @@ use Rattle.pmf_board.specs.Views.{task, seen, took, marked, kept, given, both, s
 use Rattle.pmf_board.specs.Rule.{Rules, IsKept, Agrees, word_of, entry_of}
 use Rattle.pmf_board.specs.Steps.{Mine, looked, exchanged, raised, counted}
 use Rattle.pmf_board.proofs.lemmas.WordLemmas.{entry_of-word, word-at, word-handed_out, word-finished, words-opening}
-use Rattle.pmf_board.proofs.lemmas.KeepLemmas.{Moves, IsKept-moves, Moves-seen, Moves-took, Moves-marked, Agrees-at, IsKept-split, IsKept-join, IsKept-first, shares-le, times-le}
+use Rattle.pmf_board.proofs.lemmas.KeepLemmas.{IsKept-moves, Moves-seen, Moves-took, Moves-marked, Agrees-at, IsKept-split, IsKept-join, IsKept-first, shares-le, times-le}
 
 abbrev pub Table : Type 0
 Table = State (Unit {0}) View
@@ -60,7 +59,7 @@ module _ (sections : ℕ) where
         as_many = length-set r.board i (handed_out (entry_at r.board i)) ∙ r.as_many;
         is_kept = subst (λ e. IsKept (hand_out r.board i) (set s.views id (took v (task i (e.handouts + 1))))) (sym (entry-is s r i))
             (IsKept-moves r.board (hand_out r.board i) s.views id v (took v (task i ((entry_at r.board i).handouts + 1))) r.is_kept at
-                (Moves-took r.board v i r.is_kept.few (r.is_kept.fits id v at) holds here (subst (λ e. e.handouts < 8) (entry-is s r i) less) (subst (λ e. e.done ≡ false) (entry-is s r i) not_done)));
+            (Moves-took r.board v i r.is_kept.few (r.is_kept.fits id v at) holds here (subst (λ e. e.handouts < 8) (entry-is s r i) less) (subst (λ e. e.done ≡ false) (entry-is s r i) not_done)));
       }
 
       -- the table after a mark
@@ -87,7 +86,7 @@ module _ (sections : ℕ) where
         tt,
         subst (λ b. Rules sections (set s.words i (either b (old + 1) n)) (set s.views id w)) (sym (eq-eqb n old hit))
             (subst (λ k. Rules sections (set s.words i (k + 1)) (set s.views id w)) hit
-                (after-hand_out s r id i me.0 at holds within (subst (λ k. (entry_of k).done ≡ false) (sym hit) not_done) (subst (λ k. (entry_of k).handouts < 8) (sym hit) less))),
+            (after-hand_out s r id i me.0 at holds within (subst (λ k. (entry_of k).done ≡ false) (sym hit) not_done) (subst (λ k. (entry_of k).handouts < 8) (sym hit) less))),
         (agrees s r id i me.0 at holds, refl, (λ same. refl), (λ other. absurd (other hit))),
       ))
       (λ miss. let w : View = seen me.0 i (entry_of n) in (

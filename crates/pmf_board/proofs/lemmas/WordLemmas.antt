@@ -1,5 +1,5 @@
 -- Entries as numbers.
-use Rattle.std.proofs.Common.{◌≡◌, ℕ, zero, suc, ◌+◌, ◌%◌, ◌<◌, ◌≤◌, Bool, true, false, cond, leb, bit_or, List, [], ◌∷◌, map, get_or, replicate, refl, sym, ◌∙◌, ap, subst, arith}
+use Rattle.std.proofs.Common.{◌≡◌, ℕ, zero, suc, ◌+◌, ◌%◌, ◌≤◌, Bool, true, false, cond, leb, bit_or, List, [], ◌∷◌, map, get_or, replicate, refl, ap, arith}
 use Rattle.std.proofs.lemmas.Bool.{le-leb, lt-leb}
 use Rattle.pmf_board.specs.declared.entry.Entry.{Entry}
 use Rattle.pmf_board.specs.Machine.{entry, untouched, entry_at, opening, handed_out, finished}

@@ -1,4 +1,4 @@
-use Rattle.std.proofs.Common.{rules, ◌≡◌, sym, ◌∙◌, subst}
+use Rattle.std.proofs.Common.{rules, ◌≡◌, sym, subst}
 use Rattle.std.specs.Mem.Slots.{slots_items}
 use Rattle.pmf_board.specs.Calls.{IsTallied}
 use Rattle.pmf_board.specs.Passes.{PassValue}

@@ -1,4 +1,4 @@
-use Rattle.std.proofs.Common.{rules, ◌≡◌, ℕ, ◌+◌, ◌<◌, subst, sym, ap}
+use Rattle.std.proofs.Common.{rules, ◌+◌, ◌<◌}
 use mathlib.Core.Logic.{dite}
 use native.Mathlib.Decide.{ℕ_discrete}
 use Rattle.pmf_board.specs.Rule.{entry_of}
@@ -16,5 +16,5 @@ invariant_of-pass c =
     let told = c.compare_exchange.ensures.2 in
     let there : c.args.section < c.pass.inside.seat.table_id.words = search rules in
     dite (ℕ_discrete c.compare_exchange.result c.args.word)
-        (λ hit. at-equal _ _ _ _ _ c.compare_exchange.ensures.0 (λ i. (told.2 hit i, told.1 i)) (after-took _ _ c.pass.inside.seat.me c.args.section ((entry_of c.compare_exchange.result).handouts + 1) there c.pass.invariant))
-        (λ miss. at-equal _ _ _ _ _ c.compare_exchange.ensures.0 (λ i. (told.3 miss i, told.1 i)) (after-seen _ _ c.pass.inside.seat.me c.args.section (entry_of c.compare_exchange.result) c.pass.invariant))
+    (λ hit. at-equal _ _ _ _ _ c.compare_exchange.ensures.0 (λ i. (told.2 hit i, told.1 i)) (after-took _ _ c.pass.inside.seat.me c.args.section ((entry_of c.compare_exchange.result).handouts + 1) there c.pass.invariant))
+    (λ miss. at-equal _ _ _ _ _ c.compare_exchange.ensures.0 (λ i. (told.3 miss i, told.1 i)) (after-seen _ _ c.pass.inside.seat.me c.args.section (entry_of c.compare_exchange.result) c.pass.invariant))

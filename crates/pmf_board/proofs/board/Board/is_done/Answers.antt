@@ -1,4 +1,4 @@
-use Rattle.std.proofs.Common.{rules, ◌≡◌, true, leb, ⊎_elim, sym, ◌∙◌}
+use Rattle.std.proofs.Common.{⊎_elim}
 use Rattle.pmf_board.specs.Rule.{entry_of}
 use Rattle.pmf_board.proofs.lemmas.CallLemmas.{Stays-seen, seen-done}
 use Rattle.pmf_board.proofs.board.Board.is_done.Goals as goal

@@ -1,5 +1,4 @@
-use Rattle.std.proofs.Common.{rules, ◌≡◌, ℕ, ◌+◌, ◌<◌, ◌≤◌, ap, sym, subst, ◌∙◌, arith}
-use Rattle.pmf_board.specs.declared.view.View.{View}
+use Rattle.std.proofs.Common.{rules, ◌≡◌, ◌+◌, ◌≤◌, ap, sym, subst, ◌∙◌, arith}
 use Rattle.pmf_board.specs.Passes.{PassValue}
 use Rattle.pmf_board.specs.Views.{times, both, NeverFalls}
 use Rattle.pmf_board.specs.Steps.{Mine}
@@ -26,9 +25,9 @@ pub returns-clause-apart : goal.returns-clause-apart
 returns-clause-apart c s k =
     let joined : c.join_seat.new.seat.me ≡ (both c.pass.inside.seat.me.0 c.other.inside.seat.me.0, c.pass.inside.seat.me.1) = c.join_seat.ensures.2 in
     let once : times s k c.pass.inside.seat.me.0 + times s k c.other.inside.seat.me.0 ≤ 1 =
-        omega (arith, c.load.ensures.2.2 s k, ap (λ (m : Mine). times s k m.0) joined, times-both c.pass.inside.seat.me.0 c.other.inside.seat.me.0 s k) in
+    omega (arith, c.load.ensures.2.2 s k, ap (λ (m : Mine). times s k m.0) joined, times-both c.pass.inside.seat.me.0 c.other.inside.seat.me.0 s k) in
     subst (λ (p : PassValue). times s k p.view + times s k c.args.other.view ≤ 1) c.pass.view_is
-        (subst (λ (q : PassValue). times s k c.pass.inside.seat.me.0 + times s k q.view ≤ 1) c.other.view_is once)
+    (subst (λ (q : PassValue). times s k c.pass.inside.seat.me.0 + times s k q.view ≤ 1) c.other.view_is once)
 
 pub returns-clause-never_falls : goal.returns-clause-never_falls
 returns-clause-never_falls c =

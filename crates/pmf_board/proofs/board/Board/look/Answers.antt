@@ -1,4 +1,4 @@
-use Rattle.std.proofs.Common.{rules, subst}
+use Rattle.std.proofs.Common.{rules}
 use Rattle.pmf_board.specs.Rule.{entry_of}
 use Rattle.pmf_board.proofs.lemmas.StepLemmas.{looks}
 use Rattle.pmf_board.proofs.lemmas.PassLemmas.{at-equal, after-seen}

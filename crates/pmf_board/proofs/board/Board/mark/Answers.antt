@@ -1,5 +1,4 @@
-use Rattle.std.proofs.Common.{rules, ◌≡◌, ◌<◌, subst, sym, ap, ◌∙◌}
-use Rattle.pmf_board.specs.declared.view.View.{View}
+use Rattle.std.proofs.Common.{rules, ◌≡◌, ◌<◌, subst, sym, ap}
 use Rattle.pmf_board.specs.Calls.{Marks}
 use Rattle.pmf_board.specs.Passes.{PassValue, BoardId}
 use Rattle.pmf_board.specs.Rule.{entry_of}

@@ -1,5 +1,4 @@
 use Rattle.std.proofs.Common.{rules, ◌≡◌, replicate, subst, sym}
-use Rattle.pmf_board.specs.Views.{first_view}
 use Rattle.pmf_board.specs.Rule.{Rules}
 use Rattle.pmf_board.proofs.lemmas.StepLemmas.{opens}
 use Rattle.pmf_board.proofs.board.Board.new.Goals as goal

@@ -1,6 +1,6 @@
-use Rattle.std.proofs.Common.{rules, ◌≡◌, ◌<◌, ap, sym, ◌∙◌}
+use Rattle.std.proofs.Common.{rules}
 use Rattle.pmf_board.proofs.lemmas.StepLemmas.{splits}
-use Rattle.pmf_board.proofs.lemmas.PassLemmas.{at-equal, after-split, after-given}
+use Rattle.pmf_board.proofs.lemmas.PassLemmas.{at-equal, after-split}
 use Rattle.pmf_board.proofs.board.Board.split.Goals as goal
 
 pub split_seat-seat-requires : goal.split_seat-seat-requires

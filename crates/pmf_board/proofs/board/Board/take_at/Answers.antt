@@ -1,6 +1,5 @@
-use Rattle.std.proofs.Common.{rules, ◌≡◌, ℕ, ◌+◌, ◌%◌, ◌<◌, ◌≤◌, refl, sym, ◌∙◌, ap, subst, arith}
-use Rattle.pmf_board.specs.declared.view.View.{View}
-use Rattle.pmf_board.specs.Calls.{Stays, Takes}
+use Rattle.std.proofs.Common.{rules, ◌≡◌, ◌+◌, ◌%◌, ◌<◌, ◌≤◌, refl, subst, arith}
+use Rattle.pmf_board.specs.Calls.{Takes}
 use Rattle.pmf_board.specs.Views.{task}
 use Rattle.pmf_board.specs.Rule.{Agrees, entry_of}
 use Rattle.pmf_board.proofs.lemmas.CallLemmas.{Stays-seen, Stays-both, Takes-took, Takes-after, Known-seen, closed-known, low-not_done}

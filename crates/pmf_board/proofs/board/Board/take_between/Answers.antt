@@ -1,20 +1,17 @@
-use Rattle.std.proofs.Common.{rules, ◌≡◌, ℕ, ◌+◌, ◌<◌, ◌≤◌, false, is_some, sym, ◌∙◌, subst, arith}
-use Rattle.pmf_board.specs.Calls.{Stays, Takes}
-use Rattle.pmf_board.specs.Views.{HasSeenClosed}
+use Rattle.std.proofs.Common.{rules, ◌≡◌, ◌<◌, ◌≤◌, false, is_some, sym, subst, arith}
 use Rattle.pmf_board.proofs.lemmas.CallLemmas.{Stays-both, Takes-after, closed-later, closed-more, IfSome-then, IfNone-of}
 use Rattle.pmf_board.proofs.board.Board.take_between.Goals as goal
 
 pub returns-then-is_some-clause-some : goal.returns-then-is_some-clause-some
 returns-then-is_some-clause-some c = IfSome-then c.take_at-taken.result
     (λ t takes.
-        let from : c.args.first ≤ t.section = subst (λ n. c.args.first ≤ n) (sym takes.0) c.loop-section.invariant.from in
-        let below : t.section < c.args.end = subst (λ n. n < c.args.end) (sym takes.0) (search rules) in
-        (
-          Takes-after _ _ _ _ _ c.loop-section.invariant.stays takes.1,
-          from,
-          below,
-          (λ s up less. closed-later _ _ _ s takes.1.never_falls (c.loop-section.invariant.closed s up (subst (λ n. s < n) takes.0 less))),
-        ))
+    let from : c.args.first ≤ t.section = subst (λ n. c.args.first ≤ n) (sym takes.0) c.loop-section.invariant.from in
+    let below : t.section < c.args.end = subst (λ n. n < c.args.end) (sym takes.0) (search rules) in (
+      Takes-after _ _ _ _ _ c.loop-section.invariant.stays takes.1,
+      from,
+      below,
+      (λ s up less. closed-later _ _ _ s takes.1.never_falls (c.loop-section.invariant.closed s up (subst (λ n. s < n) takes.0 less))),
+    ))
     c.take_at-taken.ensures.some
 
 pub loop-section-preserved : goal.loop-section-preserved

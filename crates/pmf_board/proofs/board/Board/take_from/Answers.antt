@@ -1,6 +1,5 @@
-use Rattle.std.proofs.Common.{rules, ◌≡◌, ℕ, ◌%◌, ◌<◌, ◌≤◌, false, is_some, sym, ◌∙◌, ap, subst, arith}
-use Rattle.pmf_board.specs.Calls.{Stays, Takes, PassesOver, PassesOverAll}
-use Rattle.pmf_board.specs.Views.{HasSeenClosed}
+use Rattle.std.proofs.Common.{rules, ◌≡◌, ◌%◌, false, is_some, subst}
+use Rattle.pmf_board.specs.Calls.{PassesOver, PassesOverAll}
 use Rattle.pmf_board.proofs.lemmas.CallLemmas.{Stays-both, Takes-after, passes-round, all-round, IfSome-then, IfNone-of, IfNone-then}
 use Rattle.pmf_board.proofs.board.Board.take_from.Goals as goal
 
@@ -16,9 +15,9 @@ returns-clause-passed c =
     let told = IfNone-of c.take_between-taken.result none c.take_between-taken.ensures.none in
     let n : c.self.inside.sections ≡ c.args.self.now.words = search rules in
     IfSome-then c.take_between.result
-        (λ t takes. subst (λ k. PassesOver c.args.limit k c.args.start t.section c.take_between.new.pass.view) n
-            (passes-round c.args.limit c.self.inside.sections (c.args.start % c.self.inside.sections) t.section _ _ takes.0.never_falls takes.2 told.1 takes.3))
-        c.take_between.ensures.some
+    (λ t takes. subst (λ k. PassesOver c.args.limit k c.args.start t.section c.take_between.new.pass.view) n
+    (passes-round c.args.limit c.self.inside.sections (c.args.start % c.self.inside.sections) t.section _ _ takes.0.never_falls takes.2 told.1 takes.3))
+    c.take_between.ensures.some
 
 pub returns-clause-none : goal.returns-clause-none
 returns-clause-none c =
@@ -32,6 +31,6 @@ returns-clause-all c =
     let told = IfNone-of c.take_between-taken.result none c.take_between-taken.ensures.none in
     let n : c.self.inside.sections ≡ c.args.self.now.words = search rules in
     IfNone-then c.take_between.result
-        (λ more. subst (λ k. PassesOverAll c.args.limit k c.take_between.new.pass.view) n
-            (all-round c.args.limit c.self.inside.sections (c.args.start % c.self.inside.sections) _ _ more.0.never_falls told.1 more.1))
-        c.take_between.ensures.none
+    (λ more. subst (λ k. PassesOverAll c.args.limit k c.take_between.new.pass.view) n
+    (all-round c.args.limit c.self.inside.sections (c.args.start % c.self.inside.sections) _ _ more.0.never_falls told.1 more.1))
+    c.take_between.ensures.none
