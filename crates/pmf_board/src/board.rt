@@ -43,12 +43,13 @@ impl Board {
 
         // The board has the sections asked for, and the pass took, marked and saw nothing: nothing is handed out.
         ensures sections { IfOk result (λ made. made.0.words ≡ sections) }
-        ensures first { IfOk result (λ made. made.1 ≡ record { board = made.0; view = first_view }) }
+        ensures first { IfOk result (λ made. made.1
+            ≡ record { board = made.0; view = first_view }) }
 
         // Each refusal comes exactly where it has to, want of memory aside.
         ensures none { (result ≡ Err BoardFault.NoSections) ↔ (sections ≡ 0) }
         ensures many { (result ≡ Err BoardFault.TooMany) ↔ (65536 < sections) }
-        ensures other { IfErr result (λ f. (f ≢ BoardFault.SharesOut) × (f ≢ BoardFault.Crowded)) }
+        ensures only { IfErr result (λ f. (f ≢ BoardFault.SharesOut) × (f ≢ BoardFault.Crowded)) }
     {
         if sections == 0 {
             return Err(BoardFault::NoSections);

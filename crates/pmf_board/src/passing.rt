@@ -13,7 +13,8 @@ impl Board {
     /// A new pass with one share of the given one, which took and marked nothing and saw what the given one saw.
     pub fn split(&self, pass: &mut Pass) -> Result<Pass, BoardFault>
         requires own { pass.old.board ≡ self.now }
-        ensures new { IfOk result (λ p. p ≡ record { board = self.now; view = given pass.old.view }) }
+        ensures new { IfOk result (λ p. p
+            ≡ record { board = self.now; view = given pass.old.view }) }
         ensures kept { OnOk result (pass.new
             ≡ record { board = pass.old.board; view = kept pass.old.view }) }
 

@@ -26,12 +26,14 @@ impl Board {
     pub(crate) fn exchange(&self, pass: &mut Pass, section: u32, word: u64) -> u64
         requires own { pass.old.board ≡ self.now }
         requires there { section < self.now.words }
-        requires offered { ((entry_of word).done ≡ false) × ((entry_of word).handouts < 8) × (word < 32) }
+        requires offered { ((entry_of word).done ≡ false)
+            × ((entry_of word).handouts < 8) × (word < 32) }
         ensures same { pass.new.board ≡ pass.old.board }
         ensures agrees { Agrees pass.old.view section (entry_of result) }
         ensures hit { result ≡ word
             → pass.new.view ≡ took pass.old.view (task section ((entry_of word).handouts + 1)) }
-        ensures miss { result ≢ word → pass.new.view ≡ seen pass.old.view section (entry_of result) }
+        ensures miss { result ≢ word
+            → pass.new.view ≡ seen pass.old.view section (entry_of result) }
     {
         self.table
             .shared

@@ -62,7 +62,8 @@ impl Board {
         ensures same { pass.new.board ≡ pass.old.board }
         ensures some { IfSome result (λ t. Takes limit pass.old.view t pass.new.view) }
         ensures there { IfSome result (λ t. t.section < self.now.words) }
-        ensures passed { IfSome result (λ t. PassesOver limit self.now.words start t.section pass.new.view) }
+        ensures passed { IfSome result (λ t.
+            PassesOver limit self.now.words start t.section pass.new.view) }
         ensures none { IfNone result (Stays pass.old.view pass.new.view) }
         ensures all { IfNone result (PassesOverAll limit self.now.words pass.new.view) }
     {
@@ -84,7 +85,8 @@ impl Board {
         ensures some { IfSome result (λ t. Takes 1 pass.old.view t pass.new.view) }
         ensures first { IfSome result (λ t. t.number ≡ 1) }
         ensures there { IfSome result (λ t. t.section < self.now.words) }
-        ensures passed { IfSome result (λ t. PassesOver 1 self.now.words start t.section pass.new.view) }
+        ensures passed { IfSome result (λ t.
+            PassesOver 1 self.now.words start t.section pass.new.view) }
 
         // At None every section was seen so.
         ensures none { IfNone result (Stays pass.old.view pass.new.view) }
@@ -102,7 +104,8 @@ impl Board {
         // Each section passed over was seen with 8 hand-outs or done.
         ensures some { IfSome result (λ t. Takes 8 pass.old.view t pass.new.view) }
         ensures there { IfSome result (λ t. t.section < self.now.words) }
-        ensures passed { IfSome result (λ t. PassesOver 8 self.now.words start t.section pass.new.view) }
+        ensures passed { IfSome result (λ t.
+            PassesOver 8 self.now.words start t.section pass.new.view) }
 
         // At None every section was seen so.
         ensures none { IfNone result (Stays pass.old.view pass.new.view) }

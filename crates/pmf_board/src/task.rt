@@ -2,8 +2,8 @@
 
 ghost use Rattle.std.specs.Prelude.{◌≡◌};
 
-/// A hand-out: a section, and the how-manieth hand-out of it this is, from 1 to 8. Only a take gives one, so
-/// a task stands for a hand-out that the board counted. It may be dropped: the section stays handed out.
+/// A hand-out: a section, and which of its hand-outs this is, from 1 to 8. Only a take gives one, so a task
+/// stands for a hand-out that the board counted. It may be dropped: the section stays handed out.
 #[derive(Debug, PartialEq, Eq, Drop)]
 pub struct Task {
     pub(crate) section: u32,
