@@ -1,3 +1,5 @@
+//! What a write-back finds: lines that had nothing to write back, or were written back already.
+
 ghost use Rattle.std.specs.Prelude.{◌≡◌, ℕ, List};
 ghost use Rattle.pmf_event.specs.declared.event.Event.{Event};
 ghost use Rattle.pmf_event.specs.FlushWarnings.{is_clean, is_pending, lines_where, doubled_finding, needless_finding};

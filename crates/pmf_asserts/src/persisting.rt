@@ -1,3 +1,5 @@
+//! What a persist assertion finds.
+
 ghost use Rattle.std.specs.Prelude.{◌≡◌, ℕ, List};
 ghost use Rattle.pmf_event.specs.declared.event.Event.{Event};
 ghost use Rattle.pmf_event.specs.Persist.{persist_finding};

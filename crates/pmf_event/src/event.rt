@@ -1,3 +1,5 @@
+//! The events of a section.
+
 use crate::span::Span;
 
 /// What one record of a section's log says. A section's events are numbered from 1 by their place.

@@ -1,3 +1,5 @@
+//! What the checker finds of one event.
+
 /// What the checker says of one event. Addresses are of bytes, or of cache lines by their first
 /// byte.
 #[derive(Clone, Copy, Debug, PartialEq, Eq)]

@@ -1,3 +1,5 @@
+//! The persist interval of a byte.
+
 /// The persist interval of a written byte: the epochs in which its last store may become durable.
 ///
 /// An epoch is the number of fences before a place.

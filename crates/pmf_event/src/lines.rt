@@ -1,3 +1,5 @@
+//! Some cache lines, told by the least and their number.
+
 /// Some cache lines, at least one: the address of the least, and how many there are.
 #[derive(Clone, Copy, Debug, PartialEq, Eq)]
 pub struct Lines {

@@ -1,3 +1,5 @@
+//! The name of a section.
+
 /// The name of a section: the run that it belongs to, and its number in that run's log.
 ///
 /// Names are ordered by run, then by number.

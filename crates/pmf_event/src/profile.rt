@@ -1,3 +1,5 @@
+//! The two rules by which order assertions are judged.
+
 /// By which rule an order assertion judges two bytes of one cache line.
 ///
 /// The stores of one thread to one line become durable in program order (x86 persistency, as in

@@ -1,3 +1,5 @@
+//! What the checker says at one place, and lists of it.
+
 ghost use Rattle.std.specs.Prelude.{◌≡◌, List, [], ◌∷◌, ◌++◌, length, OnOk, OnErr};
 ghost use Rattle.pmf_event.specs.declared.row.Row.{Row};
 

@@ -1,3 +1,5 @@
+//! A valid range of bytes, and the cache lines that it meets.
+
 ghost use Rattle.std.specs.Prelude.{◌≡◌, ◌+◌, ◌-◌, ◌<◌, ◌≤◌, ◌^◌, ◌↔◌, min, IsTrue};
 ghost use Rattle.pmf_event.specs.Line.{line_of_byte, meets_span};
 ghost use Rattle.pmf_event.specs.Span.{Extent, IsValidExtent, covers_byte, extent_of};

@@ -1,3 +1,5 @@
+//! Spans, lines, names and sections at their limits.
+
 use super::*;
 use std::cmp::Ordering;
 use std::test::Fail;

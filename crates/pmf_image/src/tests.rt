@@ -1,3 +1,5 @@
+//! What the image of a certificate holds and shows.
+
 ghost use Rattle.std.specs.Prelude.{◌≡◌, true};
 ghost use Rattle.pmf_image.specs.Certificate.{Fits};
 

@@ -1,3 +1,5 @@
+//! Why a log is refused.
+
 ghost use Rattle.std.specs.Prelude.{◌≡◌, ◌+◌};
 
 use pmf_event::SpanFault;

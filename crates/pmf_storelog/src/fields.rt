@@ -1,3 +1,5 @@
+//! The fields of a record.
+
 ghost use Rattle.std.specs.Prelude.{◌≡◌, ◌+◌, ◌<◌, [], ◌∷◌, length, take, drop, MatchResult, MatchOption, IfSome};
 ghost use Rattle.std.specs.Option.{option_copied};
 ghost use Rattle.pmf_storelog.specs.Fields.{fields_left};

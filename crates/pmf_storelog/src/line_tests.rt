@@ -1,4 +1,5 @@
-// One event from one text line, and the number at the front of a text.
+//! One event from one text line, and the number at the front of a text.
+
 use super::*;
 use pmf_event::{Event, Span, SpanFault};
 use std::test::Fail;

@@ -1,3 +1,5 @@
+//! What a log without a fault says.
+
 ghost use Rattle.std.specs.Prelude.{◌≡◌, map};
 
 use pmf_event::Section;

@@ -1,4 +1,5 @@
-// The markers of events: what each is read as, and its first fault.
+//! The markers of events: what each is read as, and its first fault.
+
 use super::*;
 use pmf_event::{Event, Span, SpanFault};
 use std::alloc::Global;

@@ -1,3 +1,5 @@
+//! The numbers that a text spells.
+
 ghost use Rattle.std.specs.Prelude.{◌≡◌, ◌<◌, ◌≤◌, None, Some, MatchOption};
 ghost use Rattle.std.specs.Char.{digit_value};
 ghost use Rattle.pmf_storelog.specs.Numbers.{digits_in_front, number_in_front, number_of, numeral_of};

@@ -1,3 +1,5 @@
+//! How far a log was read: the records that ended, and the one that a piece cut.
+
 ghost use Rattle.std.specs.Prelude.{◌≡◌, ◌+◌, ◌<◌, ◌≤◌, ◌^◌, ℕ, List, [], ◌∷◌, ◌++◌, length, take, MatchOption, OnOk, IfOk, IfErr, IfSome};
 ghost use Rattle.pmf_storelog.specs.Separators.{ended_records, parts_of};
 

@@ -1,4 +1,5 @@
-// The quick reading beside the plain one: where it answers, and that both say the same.
+//! The quick reading beside the plain one: where it answers, and that both say the same.
+
 use crate::quick::read_quickly;
 use crate::record::{Saying, read_plainly};
 use pmf_event::{Event, Span};

@@ -1,3 +1,5 @@
+//! The reader of a log in pieces.
+
 ghost use Rattle.std.specs.Prelude.{◌≡◌, ◌≢◌, ◌≤◌, ℕ, List, [], ◌++◌, None, OnOk, OnErr, IfErr};
 ghost use Rattle.pmf_storelog.specs.declared.fault.TheConstants.{LOG_LIMIT};
 

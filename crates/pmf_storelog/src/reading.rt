@@ -1,3 +1,5 @@
+//! A log in one piece.
+
 ghost use Rattle.pmf_storelog.specs.LogText.{log_of};
 ghost use Rattle.pmf_storelog.specs.Answers.{Answers};
 

@@ -1,3 +1,5 @@
+//! What one record says.
+
 ghost use Rattle.std.specs.Prelude.{◌≡◌};
 ghost use Rattle.pmf_storelog.specs.Records.{record_of, order_of_fields, order_of_texts, other_name, saying_of, section_of_fields, span_of_fields, span_of_texts, span_or_cause, stored_span, transaction_of};
 ghost use Rattle.pmf_event.specs.Span.{extent_of};

@@ -1,4 +1,5 @@
-// Sections by number: which there are, and the events of each.
+//! Sections by number: which there are, and the events of each.
+
 use super::*;
 use pmf_event::{Event, Name, Section, Span};
 use std::alloc::Global;

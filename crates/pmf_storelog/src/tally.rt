@@ -1,3 +1,5 @@
+//! What the ended records of a log gave so far.
+
 ghost use Rattle.std.specs.Prelude.{◌≡◌, ◌≢◌, ◌+◌, ◌<◌, ◌≤◌, ◌^◌, ℕ, List, [], ◌∷◌, ◌++◌, OnOk, IfOk, IfErr, IsOk};
 
 use crate::fault::{Cause, LogFault};

@@ -1,3 +1,5 @@
+//! Logs, whole and in pieces, and their first faults.
+
 use super::*;
 use pmf_event::{Event, Name, Span, SpanFault};
 use std::alloc::Global;

@@ -1,3 +1,5 @@
+//! A record without the blanks at both ends.
+
 ghost use Rattle.std.specs.Prelude.{◌≡◌};
 ghost use Rattle.pmf_storelog.specs.Separators.{is_blank, trimmed, without_end_blanks, without_front_blanks};
 

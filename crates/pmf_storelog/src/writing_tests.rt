@@ -1,4 +1,5 @@
-// The canonical text of a section, and what the reader makes of it.
+//! The canonical text of a section, and what the reader makes of it.
+
 use super::*;
 use pmf_event::{Event, Name, Section, Span};
 use std::alloc::Global;

@@ -1,3 +1,5 @@
+//! What transactions and their scopes find, in tables.
+
 ghost use Rattle.std.specs.Prelude.{◌≡◌, ℕ, suc, ◌<◌, List, Some, OnOk};
 ghost use Rattle.pmf_event.specs.declared.event.Event.{Event};
 ghost use Rattle.pmf_event.specs.declared.section.TheConstants.{EVENT_LIMIT};

@@ -1,3 +1,5 @@
+//! One walk over the events of a section, which gives its rows.
+
 ghost use Rattle.std.specs.Prelude.{◌≡◌, ℕ, suc, ◌≤◌, ◌<◌, [], ◌∷◌, ◌++◌, List, Some, length, map, OnOk, IfOk, IfErr};
 ghost use Rattle.pmf_event.specs.declared.event.Event.{Event};
 ghost use Rattle.pmf_event.specs.FlushWarnings.{if_any};

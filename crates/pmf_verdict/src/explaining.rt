@@ -1,3 +1,5 @@
+//! The certificate of a failure.
+
 ghost use Rattle.std.specs.Prelude.{◌≡◌, ℕ, Some};
 ghost use Rattle.pmf_image.specs.Image.{IsAllowed};
 ghost use Rattle.pmf_image.specs.Certificate.{Fits, image_of};

@@ -1,3 +1,5 @@
+//! How a row counts.
+
 ghost use Rattle.std.specs.Prelude.{◌≡◌};
 ghost use Rattle.pmf_verdict.specs.Outcome.{outcome_of};
 

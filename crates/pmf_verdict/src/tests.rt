@@ -1,3 +1,5 @@
+//! Verdicts, their rows and how they count.
+
 use super::*;
 use pmf_event::{Event, Finding, Name, Profile, Row, Section, Span, SpanFault};
 use std::alloc::Global;

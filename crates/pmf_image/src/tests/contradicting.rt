@@ -1,3 +1,5 @@
+//! Which certificates contradict which assertions.
+
 use super::*;
 use pmf_event::SPAN_LIMIT;
 use std::process::Abort;

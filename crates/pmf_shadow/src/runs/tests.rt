@@ -1,3 +1,5 @@
+//! A map of runs, its changes and its questions.
+
 ghost use Rattle.std.specs.Prelude.{None, Some, ◌≤◌};
 ghost use Rattle.std.proofs.Common.{rules};
 ghost use Rattle.pmf_shadow.specs.declared.runs.tests.Colour.TheVariants.{Red, Green, Blue};

@@ -1,3 +1,5 @@
+//! The text of each row.
+
 use super::*;
 use std::test::Fail;
 
