@@ -1,0 +1,149 @@
+-- A worker's turns, one after another.
+use Rattle.std.proofs.Common.{◌≡◌, ℕ, zero, suc, ◌+◌, ◌-◌, ◌<◌, ◌≤◌, List, [], ◌∷◌, ◌++◌, length, map, refl, sym, ◌∙◌, ap, subst, arith, inl, inr, true, false}
+use Rattle.std.specs.Prelude.{eqb, count_by, cond}
+use Rattle.std.proofs.lemmas.List.{map-append, append-nil, length-append}
+use Rattle.std.proofs.lemmas.Bool.{cases_order}
+use Rattle.std.proofs.lemmas.List.Sums.{sum_by-append, sum_by-cons}
+use Rattle.std.proofs.Common.{eq-eqb}
+use Rattle.std.proofs.Common.{append_assoc}
+use Rattle.pmf_event.specs.declared.profile.Profile.{Profile}
+use Rattle.pmf_event.specs.Section.{Trace}
+use Rattle.pmf_verdict.specs.Checked.{Checked}
+use Rattle.pmf_board.specs.Calls.{Marks, Stays, Takes}
+use Rattle.pmf_board.specs.declared.task.Task.{Task}
+use Rattle.pmf_board.specs.declared.view.View.{View}
+use Rattle.std.proofs.Common.{Ok}
+use Rattle.std.specs.declared.alloc.AllocError.{AllocError}
+use Rattle.pmf_farm.specs.declared.working.Ended.{Ended}
+use Rattle.pmf_farm.specs.declared.working.Ended.TheVariants.{All}
+use Rattle.pmf_farm.specs.Working.{HasWorked, Serves, checked_of, most_left}
+
+module _ (sections : List Trace) (profile : Profile) where
+  -- who did nothing has worked
+  pub HasWorked-none : (v : View) (xs : List Checked) → HasWorked sections profile v v xs xs 0
+  HasWorked-none v xs = record {
+    tasks = [];
+    rest = [];
+    took = sym (append-nil v.took) ∙ sym (append-nil (v.took ++ []));
+    marked = sym (append-nil v.marked);
+    put = sym (append-nil xs);
+    few = omega arith;
+  }
+
+  -- what may be left may be more
+  pub HasWorked-weaker : (old new : View) (before after : List Checked) (m n : ℕ) → m ≤ n → HasWorked sections profile old new before after m → HasWorked sections profile old new before after n
+  HasWorked-weaker old new before after m n less worked = record {
+    tasks = worked.tasks;
+    rest = worked.rest;
+    took = worked.took;
+    marked = worked.marked;
+    put = worked.put;
+    few = let few = worked.few in omega (arith, few, less);
+  }
+
+  -- who ended with all left nothing
+  pub HasWorked-all : (old new : View) (before after : List Checked) (e : Ended) → e ≡ All → HasWorked sections profile old new before after (most_left {E = AllocError} (Ok e)) → HasWorked sections profile old new before after 0
+  HasWorked-all old new before after e is worked = subst (λ x. HasWorked sections profile old new before after (most_left {E = AllocError} (Ok x))) is worked
+
+  -- a list of at most no element is empty
+  none_left : (xs : List Task) → length xs ≤ 0 → xs ≡ []
+  none_left [] few = refl
+  none_left (x ∷ xs) few = absurd (omega (arith, few))
+
+  took_all : (old new : View) (before after : List Checked) (worked : HasWorked sections profile old new before after 0) → new.took ≡ old.took ++ worked.tasks
+  took_all old new before after worked =
+      worked.took ∙ ap (λ rest. old.took ++ worked.tasks ++ rest) (none_left worked.rest worked.few) ∙ append-nil (old.took ++ worked.tasks)
+
+  -- a pass that stayed as it was has worked no more
+  pub HasWorked-stays : (old mid new : View) (before after : List Checked) → HasWorked sections profile old mid before after 0 → Stays mid new → HasWorked sections profile old new before after 0
+  HasWorked-stays old mid new before after worked stays = record {
+    tasks = worked.tasks;
+    rest = worked.rest;
+    took = stays.took ∙ worked.took;
+    marked = stays.marked ∙ worked.marked;
+    put = worked.put;
+    few = worked.few;
+  }
+
+  -- a task that was taken and not served is left
+  pub HasWorked-left : (old mid new : View) (before after : List Checked) (limit : ℕ) (t : Task) → HasWorked sections profile old mid before after 0 → Takes limit mid t new → HasWorked sections profile old new before after 1
+  HasWorked-left old mid new before after limit t worked takes = record {
+    tasks = worked.tasks;
+    rest = t ∷ [];
+    took = takes.took ∙ ap (λ ts. ts ++ t ∷ []) (took_all old mid before after worked);
+    marked = takes.marked ∙ worked.marked;
+    put = worked.put;
+    few = omega arith;
+  }
+
+  -- a task that was taken and served is one more
+  pub HasWorked-served : (old mid taken new : View) (before sent after : List Checked) (limit : ℕ) (t : Task) → HasWorked sections profile old mid before sent 0 → Takes limit mid t taken → Serves sections profile t taken new sent after → HasWorked sections profile old new before after 0
+  HasWorked-served old mid taken new before sent after limit t worked takes serves = record {
+    tasks = worked.tasks ++ t ∷ [];
+    rest = [];
+    took =
+        serves.marks.took ∙ takes.took ∙ ap (λ ts. ts ++ t ∷ []) (took_all old mid before sent worked) ∙ append_assoc old.took worked.tasks (t ∷ [])
+        ∙ sym (append-nil (old.took ++ (worked.tasks ++ t ∷ [])));
+    marked =
+        serves.marks.marked ∙ ap (λ ms. ms ++ t.section ∷ []) (takes.marked ∙ worked.marked)
+        ∙ append_assoc old.marked (map (λ x. x.section) worked.tasks) (t.section ∷ [])
+        ∙ ap (λ ms. old.marked ++ ms) (sym (map-append (λ x. x.section) worked.tasks (t ∷ [])));
+    put =
+        serves.put ∙ ap (λ xs. xs ++ checked_of sections profile t ∷ []) worked.put
+        ∙ append_assoc before (map (checked_of sections profile) worked.tasks) (checked_of sections profile t ∷ [])
+        ∙ ap (λ xs. before ++ xs) (sym (map-append (checked_of sections profile) worked.tasks (t ∷ [])));
+    few = omega arith;
+  }
+
+  -- two stretches of work are one
+  pub HasWorked-then : (old mid new : View) (before sent after : List Checked) (most : ℕ) → HasWorked sections profile old mid before sent 0 → HasWorked sections profile mid new sent after most → HasWorked sections profile old new before after most
+  HasWorked-then old mid new before sent after most first second = record {
+    tasks = first.tasks ++ second.tasks;
+    rest = second.rest;
+    took =
+        second.took ∙ ap (λ ts. ts ++ second.tasks ++ second.rest) (took_all old mid before sent first)
+        ∙ ap (λ ts. ts ++ second.rest) (append_assoc old.took first.tasks second.tasks);
+    marked =
+        second.marked ∙ ap (λ ms. ms ++ map (λ x. x.section) second.tasks) first.marked
+        ∙ append_assoc old.marked (map (λ x. x.section) first.tasks) (map (λ x. x.section) second.tasks)
+        ∙ ap (λ ms. old.marked ++ ms) (sym (map-append (λ x. x.section) first.tasks second.tasks));
+    put =
+        second.put ∙ ap (λ xs. xs ++ map (checked_of sections profile) second.tasks) first.put
+        ∙ append_assoc before (map (checked_of sections profile) first.tasks) (map (checked_of sections profile) second.tasks)
+        ∙ ap (λ xs. before ++ xs) (sym (map-append (checked_of sections profile) first.tasks second.tasks));
+    few = second.few;
+  }
+
+-- how many of the sections below n stand not among the marked ones
+abbrev pub unmarked : ℕ → List ℕ → ℕ
+unmarked zero marked = 0
+unmarked (suc n) marked = (1 - count_by (λ m. eqb m n) marked) + unmarked n marked
+
+counted : (n s : ℕ) (marked : List ℕ) → count_by (λ m. eqb m n) (marked ++ s ∷ []) ≡ count_by (λ m. eqb m n) marked + cond (eqb s n) 1 0
+counted n s marked = omega (arith, sum_by-append (λ m. cond (eqb m n) 1 0) marked (s ∷ []), sum_by-cons (λ m. cond (eqb m n) 1 0) s [])
+
+head-more : (n s : ℕ) (marked : List ℕ) → 1 - count_by (λ m. eqb m n) (marked ++ s ∷ []) ≤ 1 - count_by (λ m. eqb m n) marked
+head-more n s marked = let is = counted n s marked in omega (arith, is)
+
+-- with one more marked there are no more unmarked
+unmarked-more : (n s : ℕ) (marked : List ℕ) → unmarked n (marked ++ s ∷ []) ≤ unmarked n marked
+unmarked-more zero s marked = omega arith
+unmarked-more (suc n) s marked = let head = head-more n s marked in let rest = unmarked-more n s marked in omega (arith, head, rest)
+
+head-falls : (n : ℕ) (marked : List ℕ) → (0 < count_by (λ m. eqb m n) marked → ⊥) → 1 - count_by (λ m. eqb m n) (marked ++ n ∷ []) < 1 - count_by (λ m. eqb m n) marked
+head-falls n marked new =
+    let here : count_by (λ m. eqb m n) (marked ++ n ∷ []) ≡ count_by (λ m. eqb m n) marked + 1 = counted n n marked ∙ ap (λ b. count_by (λ m. eqb m n) marked + cond b 1 0) (eq-eqb n n refl) in
+    omega (arith, here, new)
+
+-- and one less where it was below n and not marked
+pub unmarked-falls : (n s : ℕ) (marked : List ℕ) → s < n → (0 < count_by (λ m. eqb m s) marked → ⊥) → unmarked n (marked ++ s ∷ []) < unmarked n marked
+unmarked-falls zero s marked below new = omega (arith, below)
+unmarked-falls (suc n) s marked below new = elim (cases_order s n) [
+  | inl same ↦ subst (λ k. unmarked (suc n) (marked ++ k ∷ []) < unmarked (suc n) marked) (sym same)
+      (let head = head-falls n marked (subst (λ k. 0 < count_by (λ m. eqb m k) marked → ⊥) same new) in let rest = unmarked-more n n marked in omega (arith, head, rest))
+  | inr other ↦
+      let low : s < n = elim other [ | inl less ↦ less | inr more ↦ omega (arith, more, below) ] in
+      let head = head-more n s marked in
+      let rest = unmarked-falls n s marked low new in
+      omega (arith, head, rest)
+]

@@ -1,0 +1,9 @@
+use Rattle.pmf_farm.proofs.lemmas.WorkingLemmas.{HasWorked-all, HasWorked-then}
+use Rattle.pmf_farm.proofs.working.work.Goals as goal
+
+pub returns-clause-worked : goal.returns-clause-worked
+returns-clause-worked g c =
+    HasWorked-then _ _ _ _ _ _ _ _ _
+    (HasWorked-then _ _ _ _ _ _ _ _ _ (HasWorked-all _ _ _ _ _ _ _ c.in-Ok-All.field-0-is c.in-Ok-All.ensures.worked)
+    (HasWorked-all _ _ _ _ _ _ _ c.in-Ok-All-serve_late.field-0-is c.in-Ok-All-serve_late.ensures.worked))
+    c.serve_again.ensures.worked

@@ -1,0 +1,44 @@
+-- What a worker did on a board: the tasks that it took, and the verdicts that it put. Defined here.
+use Rattle.std.specs.Prelude.{◌≡◌, ℕ, ◌≤◌, List, [], ◌∷◌, ◌++◌, length, map, get_or, Result, Ok, Err}
+use Rattle.pmf_event.specs.declared.profile.Profile.{Profile}
+use Rattle.pmf_event.specs.Section.{Trace}
+use Rattle.pmf_verdict.specs.Checked.{Checked, checked_by}
+use Rattle.pmf_board.specs.Calls.{Marks}
+use Rattle.pmf_board.specs.declared.task.Task.{Task}
+use Rattle.pmf_board.specs.declared.view.View.{View}
+use Rattle.pmf_farm.specs.declared.gate.Turn.{Turn}
+use Rattle.pmf_farm.specs.declared.gate.Turn.TheVariants as turn
+use Rattle.pmf_farm.specs.declared.working.Ended.{Ended}
+use Rattle.pmf_farm.specs.declared.working.Ended.TheVariants as ended
+
+-- no section: it stands for a place that the list hasn't
+abbrev pub no_section : Trace
+no_section = record { name = record { run = 0; number = 0 }; events = [] }
+
+-- the section at this place, counted from 0
+abbrev pub section_at : List Trace → ℕ → Trace
+section_at sections k = get_or sections k no_section
+
+-- the section of the task, checked by the profile
+abbrev pub checked_of : List Trace → Profile → Task → Checked
+checked_of sections profile task = checked_by profile (section_at sections task.section)
+
+-- the worker took some tasks and at most so many more; it marked the sections of the tasks, in order, and put their verdicts, in the same order, and nothing else
+pub record HasWorked (sections : List Trace) (profile : Profile) (old new : View) (before after : List Checked) (most : ℕ) : Type 0 where
+  pub tasks : List Task
+  pub rest : List Task
+  pub took : new.took ≡ old.took ++ tasks ++ rest
+  pub marked : new.marked ≡ old.marked ++ map (λ t. t.section) tasks
+  pub put : after ≡ before ++ map (checked_of sections profile) tasks
+  pub few : length rest ≤ most
+
+-- how many tasks a worker may leave: none where it ended with all, else the one in its hand
+abbrev pub most_left : {E : Type 0} → Result Ended E → ℕ
+most_left (Ok ended.All) = 0
+most_left (Ok ended.Lost) = 1
+most_left (Err fault) = 1
+
+-- the task's section was marked, and its verdict put
+pub record Serves (sections : List Trace) (profile : Profile) (task : Task) (old new : View) (before after : List Checked) : Type 0 where
+  pub marks : Marks old task.section new
+  pub put : after ≡ before ++ checked_of sections profile task ∷ []
