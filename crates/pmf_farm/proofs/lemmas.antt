@@ -1,1 +1,3 @@
 pub mod WorkingLemmas
+pub mod GatherLemmas
+pub mod RepeatLemmas

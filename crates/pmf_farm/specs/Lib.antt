@@ -5,3 +5,6 @@ pub use Rattle.pmf_ledger.specs.Names
 pub use Rattle.pmf_board.specs.Calls
 pub use Rattle.pmf_board.specs.Views
 pub mod Working
+pub mod Repeats
+pub mod Rolls
+pub mod Running

@@ -1,0 +1,216 @@
+//! A farm: workers on threads of their own, and the ledger of what they and the caller's own thread checked.
+
+ghost use Rattle.std.specs.Prelude.{◌≡◌, ◌≤◌, map, length, vec_len, IfOk, IfErr};
+ghost use Rattle.std.specs.List.{All};
+ghost use Rattle.pmf_ledger.specs.Gathered.{IsLedgerOf};
+ghost use Rattle.pmf_farm.specs.Repeats.{HaveOwnNames};
+ghost use Rattle.pmf_farm.specs.Rolls.{IsRepeatOf, sections_of};
+ghost use Rattle.pmf_farm.specs.Running.{IsRefused, IsTaken};
+
+use crate::fault::{FarmFault, MOST_WORKERS};
+use crate::gate::Gate;
+use crate::outbox::ChannelOutbox;
+use crate::queue::{Queue, QueueGate};
+use crate::roll::{call, keep};
+use crate::slot::Slot;
+use crate::working::work;
+use crossbeam_channel::{Receiver, Sender, unbounded};
+use pmf_board::{Board, MOST_SECTIONS, Pass};
+use pmf_event::{Profile, Section};
+use pmf_ledger::Ledger;
+use pmf_verdict::Verdict;
+use std::alloc::{AllocError, Global};
+use std::sync::{Arc, Wait};
+use std::thread;
+use std::thread::Threads;
+
+// What a worker has of its own: its number, a pass, and where its verdicts go.
+#[derive(Drop)]
+struct Hand {
+    number: u32,
+    pass: Pass,
+    channel: Sender<Verdict, Global>,
+}
+
+// What each worker has of its own. Its pass is split off the first one.
+fn hands_of(
+    alloc: Global,
+    board: &Board,
+    first: &mut Pass,
+    workers: u32,
+    channel: &Sender<Verdict, Global>,
+) -> Result<Vec<Hand>, AllocError>
+    requires own { first.old.board ≡ board.now }
+    ensures { IfOk result (λ hands. All (λ h. h.pass.board ≡ board.now) hands.items) }
+{
+    let mut hands = Vec::with_capacity(alloc, workers as usize)?;
+    for number in 0..workers {
+        let channel = channel.clone()?;
+        // The first pass has a share for each of 64 workers.
+        if let Ok(pass) = board.split(first) {
+            hands.push(Hand {
+                number,
+                pass,
+                channel,
+            })?;
+        }
+    }
+    Ok(hands)
+}
+
+// What the thread of a worker does.
+fn run_worker<R: Wait, G: Gate>(
+    rt: &R,
+    alloc: Global,
+    board: &Board,
+    hand: Hand,
+    queue: &Queue,
+    profile: Profile,
+    gate: &G,
+)
+    requires own { hand.pass.board ≡ board.now }
+    requires all { vec_len queue.now.sections ≡ board.now.words }
+{
+    let Hand {
+        number,
+        mut pass,
+        channel,
+    } = hand;
+    let mut outbox = ChannelOutbox::new(rt, alloc, channel);
+    let gate = QueueGate { queue, gate };
+    let sections = queue.sections.as_slice();
+    // However it ended, the caller's own thread checks what is missing.
+    drop(work(alloc, board, &mut pass, sections, number, profile, &mut outbox, &gate));
+}
+
+// The roll with the verdicts that arrive until no sender is left.
+fn collect<R: Wait>(rt: &R, channel: &Receiver<Verdict, Global>, mut roll: Vec<Slot>) -> Vec<Slot>
+    ensures { result.items ≡ roll.items }
+{
+    for verdict in channel.iter(rt) {
+        keep(roll.as_mut_slice(), verdict);
+    }
+    roll
+}
+
+// The roll with the verdicts of workers, each on a thread of its own. A worker that can't be started is as one that was
+// lost.
+fn farm_out<R: Threads + Wait + Sync, G: Gate + Sync>(
+    rt: &R,
+    alloc: Global,
+    board: &Board,
+    hands: Vec<Hand>,
+    queue: &Queue,
+    profile: Profile,
+    gate: &G,
+    channel: &Receiver<Verdict, Global>,
+    roll: Vec<Slot>,
+) -> Vec<Slot>
+    requires own { All (λ h. h.pass.board ≡ board.now) hands.items }
+    requires all { vec_len queue.now.sections ≡ board.now.words }
+    ensures { result.items ≡ roll.items }
+{
+    thread::scope(
+        thread::scope_env(),
+        rt,
+        |scope| -> Vec<Slot>
+            requires own { All (λ h. h.pass.board ≡ board.now) hands.items }
+            requires all { vec_len queue.now.sections ≡ board.now.words }
+            ensures { result.items ≡ roll.items }
+        {
+            for hand in hands {
+                drop(scope.spawn(move ||
+                    requires own { hand.pass.board ≡ board.now }
+                    requires all { vec_len queue.now.sections ≡ board.now.words }
+                {
+                    run_worker(rt, alloc, board, hand, queue, profile, gate)
+                }));
+            }
+            collect(rt, channel, roll)
+        },
+    )
+}
+
+// The ledger of the roll. What has no verdict yet is checked here.
+fn gather<G: Gate>(alloc: Global, roll: Vec<Slot>, profile: Profile, gate: &G) -> Result<Ledger, AllocError>
+    ensures { IfOk result (IsLedgerOf profile (sections_of roll.items)) }
+{
+    let mut ledger = Ledger::new(alloc, profile);
+    for slot in roll {
+        let verdict = slot.settle(alloc, gate)?;
+        // The names of a roll differ, so that nothing is refused for another cause.
+        if let Err(_) = ledger.take(verdict) {
+            return Err(AllocError);
+        }
+    }
+    Ok(ledger)
+}
+
+// The ledger of the sections, by workers whose number fits.
+fn run_all<R: Threads + Wait + Sync, G: Gate + Sync>(
+    rt: &R,
+    alloc: Global,
+    sections: &[Arc<Section>],
+    workers: u32,
+    profile: Profile,
+    gate: &G,
+) -> Result<Ledger, FarmFault>
+    requires few { length sections.now ≤ 65536 }
+    ensures ledger { IfOk result (IsLedgerOf profile (map (λ s. s.value) sections.now)) }
+    ensures own { IfOk result (λ ledger. HaveOwnNames (map (λ s. s.value) sections.now)) }
+    ensures refused { IfErr result (IsRepeatOf (map (λ s. s.value) sections.now)) }
+{
+    if sections.is_empty() {
+        return Ok(Ledger::new(alloc, profile));
+    }
+    let roll = call(alloc, sections, profile)?;
+    let queue = Queue::new(alloc, roll.as_slice())?;
+    let Ok((board, mut first)) = Board::new(alloc, sections.len() as u32) else {
+        return Err(FarmFault::OutOfMemory);
+    };
+    let (sender, receiver) = unbounded(alloc)?;
+    let hands = hands_of(alloc, &board, &mut first, workers, &sender)?;
+    // From then on only workers can send.
+    drop(sender);
+    let roll = farm_out(rt, alloc, &board, hands, &queue, profile, gate, &receiver, roll);
+    let ledger = gather(alloc, roll, profile, gate)?;
+    Ok(ledger)
+}
+
+/// Runs a farm: the sections are checked by the profile by so many workers, each on a thread of its own, and gathered in
+/// a ledger by the caller's own thread, which then checks what no worker's verdict arrived of. So it is the ledger of all
+/// sections handed in, whichever workers were lost, never started or refused memory, whatever arrived twice or didn't.
+///
+/// It waits until each worker has ended. Workers take long sections first. Takes memory for a list of the sections, the
+/// board and the ledger, besides that of the workers; [`FarmFault::OutOfMemory`] tells that memory was refused to the
+/// caller's own thread.
+pub fn run<R: Threads + Wait + Sync, G: Gate + Sync>(
+    rt: &R,
+    alloc: Global,
+    sections: &[Arc<Section>],
+    workers: u32,
+    profile: Profile,
+    gate: &G,
+) -> Result<Ledger, FarmFault>
+
+    // The ledger of all sections handed in, which have names of their own, by 1 to 64 workers.
+    ensures ledger { IfOk result (IsLedgerOf profile (map (λ s. s.value) sections.now)) }
+    ensures taken { IfOk result (λ ledger. IsTaken workers (map (λ s. s.value) sections.now)) }
+
+    // Each refusal comes where it has to, and want of memory only where the numbers of workers and sections fit.
+    ensures refused { IfErr result (IsRefused workers (map (λ s. s.value) sections.now)) }
+{
+    if workers == 0 {
+        return Err(FarmFault::NoWorkers);
+    }
+    if workers > MOST_WORKERS {
+        return Err(FarmFault::TooManyWorkers);
+    }
+    if sections.len() > MOST_SECTIONS as usize {
+        return Err(FarmFault::TooManySections);
+    }
+    match run_all(rt, alloc, sections, workers, profile, gate) {
+        Ok(ledger) => Ok(ledger),
+        Err(fault) => Err(fault),
+    }
+}

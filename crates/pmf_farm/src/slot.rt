@@ -1,0 +1,85 @@
+//! A section that was handed in, and its verdict once it is there.
+
+ghost use Rattle.std.specs.Prelude.{◌≡◌, IfOk, IfSome};
+ghost use Rattle.pmf_verdict.specs.Checked.{Checked, checked_by};
+
+use crate::gate::Gate;
+use pmf_event::{Name, Profile, Section};
+use pmf_verdict::{Verdict, check};
+use std::alloc::{AllocError, Global};
+use std::marker::Model;
+use std::sync::Arc;
+
+/// A section that was handed in at a place, and its verdict by a profile once it is there. Contracts see it as the
+/// section checked by the profile.
+#[derive(Drop)]
+pub(crate) struct Slot {
+    section: Arc<Section>,
+    profile: Profile,
+    place: u32,
+    verdict: Option<Verdict>,
+}
+
+impl Model for Slot {
+    ghost Value = { Checked };
+
+    ghost view = { λ s. checked_by s.profile s.section.value };
+
+    ghost invariant = { λ s. IfSome s.verdict (λ v. v ≡ checked_by s.profile s.section.value) };
+}
+
+impl Slot {
+    pub(crate) fn new(section: Arc<Section>, profile: Profile, place: u32) -> Slot
+        ensures { result ≡ checked_by profile section.value }
+    {
+        Slot {
+            section,
+            profile,
+            place,
+            verdict: None,
+        }
+    }
+
+    pub(crate) fn name(&self) -> Name
+        ensures { result ≡ self.now.section.name }
+    {
+        self.section.name()
+    }
+
+    pub(crate) fn section(&self) -> &Arc<Section> {
+        &self.section
+    }
+
+    pub(crate) fn place(&self) -> u32 {
+        self.place
+    }
+
+    /// Keeps the verdict, if it is one of this section by this profile.
+    pub(crate) fn keep(&mut self, verdict: Verdict)
+        ensures { self.new ≡ self.old }
+    {
+        if verdict.profile() == self.profile && verdict.section().same_as(&self.section) {
+            self.verdict = Some(verdict);
+        }
+    }
+
+    /// The verdict, which is made here where none was kept.
+    pub(crate) fn settle<G: Gate>(self, alloc: Global, gate: &G) -> Result<Verdict, AllocError>
+        ensures { IfOk result (λ verdict. verdict ≡ self) }
+    {
+        let Slot {
+            section,
+            profile,
+            place,
+            verdict,
+        } = self;
+        if let Some(verdict) = verdict {
+            return Ok(verdict);
+        }
+        gate.missing(place);
+        match check(alloc, section, profile) {
+            Ok(verdict) => Ok(verdict),
+            Err(_) => Err(AllocError),
+        }
+    }
+}
