@@ -7,8 +7,12 @@
 set -u
 list=$1 out=$2 run=$3
 log=$(sed -n "${run}p" "$list") || exit 4
+if ! [ -r "$log" ]; then
+    printf 'map.sh: run %s: cannot read %s\n' "$run" "$log" >&2
+    exit 4
+fi
 exec <"$log" || exit 4
-mkdir -p "$out" && new=$(mktemp "$out/$run.XXXXXX") || exit 4
+mkdir -p "$out" && new=$(mktemp "$out/$run.new.XXXXXX") || exit 4
 pmfarm check --ledger --run "$run" >"$new"
 status=$?
 if [ "$status" -gt 1 ]; then
