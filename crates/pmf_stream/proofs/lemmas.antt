@@ -1,5 +1,4 @@
 pub mod TextLemmas
-pub mod GatherLemmas
 pub mod JoiningLemmas
 pub mod ReadingLemmas
 pub mod StreamLemmas

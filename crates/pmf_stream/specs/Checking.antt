@@ -9,6 +9,9 @@ use Rattle.pmf_ledger.specs.Gathered.{IsLedgerOf}
 use Rattle.pmf_ledger.specs.LedgerText.{text_of_ledger}
 use Rattle.pmf_ledger.specs.LedgerValue.{LedgerValue}
 use Rattle.pmf_ledger.specs.Report.{report_of, totals_of}
+use Rattle.pmf_farm.specs.Running.{IsRefused, IsTaken}
+use Rattle.pmf_stream.specs.declared.checking.CheckLogFault.{CheckLogFault}
+use Rattle.pmf_stream.specs.declared.checking.CheckLogFault.TheVariants as checking
 use Rattle.pmf_stream.specs.declared.checking.Done.{Done}
 use Rattle.pmf_stream.specs.declared.settings.Settings.{Settings}
 use Rattle.pmf_stream.specs.Reading.{HasReadBytes}
@@ -32,9 +35,10 @@ abbrev pub text_asked : Bool → LedgerValue → List ℕ
 text_asked false ledger = report_of ledger.sections
 text_asked true ledger = text_of_ledger ledger
 
--- this is the report, or the ledger text, of the ledger of the log's sections by the profile, and what is told of it
--- is so
+-- the workers take the log's sections, this is the report, or the ledger text, of the ledger of those by the profile,
+-- and what is told of it is so
 pub record Reports (settings : Settings) (log : LogValue) (done : Done) (text : List ℕ) : Type 0 where
+  pub taken : IsTaken settings.workers log.sections
   pub ledger : LedgerValue
   pub gathered : IsLedgerOf settings.profile log.sections ledger
   pub text_is : text ≡ text_asked settings.ledger ledger
@@ -48,3 +52,8 @@ IsReportOf settings left rest done text = (log : LogValue) × IsLogOf settings.r
 -- what was read has this first fault, want of memory aside
 abbrev pub IsLogFaultOf : ℕ → Option (List ℕ) → Option (List ℕ) → LogFault → Type 0
 IsLogFaultOf run left rest found = found ≢ out_of_memory → IsFaultOf run left rest found
+
+-- the log is refused with this first fault, or it was read whole without a fault and the farm refuses its sections with this one
+abbrev pub IsCheckFaultOf : Settings → Option (List ℕ) → Option (List ℕ) → CheckLogFault → Type 0
+IsCheckFaultOf settings left rest (checking.Log found) = IsLogFaultOf settings.run left rest found
+IsCheckFaultOf settings left rest (checking.Farm found) = (log : LogValue) × IsLogOf settings.run left rest log × IsRefused settings.workers log.sections found

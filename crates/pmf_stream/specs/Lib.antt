@@ -6,6 +6,8 @@ pub use Rattle.pmf_ledger.specs.Report
 pub use Rattle.pmf_ledger.specs.LedgerText
 pub use Rattle.pmf_ledger.specs.Gathered
 pub use Rattle.pmf_ledger.specs.Loading
+pub use Rattle.pmf_farm.specs.Repeats
+pub use Rattle.pmf_farm.specs.Running
 pub use Rattle.pmf_verdict.specs.Outcome
 pub use Rattle.pmf_verdict.specs.Explained
 pub use Rattle.pmf_verdict.specs.Text

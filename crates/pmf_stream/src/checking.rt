@@ -1,13 +1,13 @@
 //! From a stream of bytes to its report, or its ledger text.
 
-ghost use Rattle.std.specs.Prelude.{◌≡◌, ◌≢◌, ◌++◌, ◌+◌, ℕ, List, [], map, Option, None, IfOk, IfErr, MatchResult};
+ghost use Rattle.std.specs.Prelude.{◌≡◌, ◌≢◌, ◌++◌, ◌+◌, ℕ, List, [], Option, None, IfOk, IfErr, MatchResult};
 ghost use Rattle.pmf_storelog.specs.LogText.{IsFaultOfAll, out_of_memory, shown_fault};
 ghost use Rattle.pmf_storelog.specs.Reader.{HasRead};
+ghost use Rattle.pmf_farm.specs.Running.{IsTaken};
 ghost use Rattle.pmf_ledger.specs.Gathered.{IsLedgerOf};
 ghost use Rattle.pmf_ledger.specs.Report.{totals_of};
-ghost use Rattle.pmf_verdict.specs.Checked.{checked_by};
 ghost use Rattle.pmf_stream.specs.Answering.{Answers, RefusesReading, TellsFaults, failed_reads};
-ghost use Rattle.pmf_stream.specs.Checking.{IsLogFaultOf, IsLogOf, IsReportOf, Reports, text_asked};
+ghost use Rattle.pmf_stream.specs.Checking.{IsCheckFaultOf, IsLogOf, IsReportOf, Reports, text_asked};
 ghost use Rattle.pmf_stream.specs.Failures.{CanCountOneMore};
 
 use crate::failed::Failed;
@@ -17,12 +17,13 @@ use crate::settings::Settings;
 use crate::sink::Sink;
 use crate::source::Source;
 use crate::writing::write_answer;
-use pmf_event::{Profile, Section};
+use pmf_farm::{FarmFault, Gate, run};
 use pmf_ledger::Ledger;
 use pmf_storelog::{LOG_LIMIT, Log, LogFault, LogReader};
-use pmf_verdict::{Verdict, check};
 use std::alloc::{AllocError, Global};
-use std::sync::Arc;
+use std::sync::Wait;
+use std::thread::Threads;
+use thiserror::Error;
 
 /// What [`check_stream`] tells of a log that it has reported.
 #[derive(Clone, Copy, Debug, PartialEq, Eq)]
@@ -31,6 +32,17 @@ pub struct Done {
     pub skipped: u64,
     /// How many rows of the report count as fail.
     pub fails: u128,
+}
+
+/// Why a log was not checked: it is faulty, or else its sections were not taken by the workers.
+#[derive(Clone, Copy, Debug, PartialEq, Eq, Error)]
+pub enum CheckLogFault {
+    /// What was read is no log, by its first fault.
+    #[error("{0}")]
+    Log(LogFault),
+    /// The log was read without a fault, and there are no workers for it, too many, or no memory.
+    #[error("{0}")]
+    Farm(FarmFault),
 }
 
 impl Intake for LogReader {
@@ -65,53 +77,24 @@ impl Intake for LogReader {
 fn read_log<R: Source>(
     alloc: Global,
     reader: &mut R,
-    run: u64,
-) -> Result<Log, StreamFault<LogFault>>
+    settings: Settings,
+) -> Result<Log, StreamFault<CheckLogFault>>
     requires { CanCountOneMore (R.failed_calls reader.old) }
-    ensures ok { IfOk result (IsLogOf run (R.left reader.old) (R.left reader.new)) }
+    ensures ok { IfOk result (IsLogOf settings.run (R.left reader.old) (R.left reader.new)) }
     ensures faults { IfErr result
-        (RefusesReading (IsLogFaultOf run (R.left reader.old) (R.left reader.new))) }
+        (RefusesReading (IsCheckFaultOf settings (R.left reader.old) (R.left reader.new))) }
     ensures reads { R.failed_calls reader.new ≡ R.failed_calls reader.old + failed_reads result }
 {
-    let mut log = LogReader::new(alloc, run);
+    let mut log = LogReader::new(alloc, settings.run);
     match read_into(reader, &mut log, LOG_LIMIT) {
         Ok(Ok(())) => {}
-        Ok(Err(fault)) => return Err(StreamFault::Refused(fault)),
+        Ok(Err(fault)) => return Err(StreamFault::Refused(CheckLogFault::Log(fault))),
         Err(Failed) => return Err(StreamFault::ReadFault),
     }
     match log.finish() {
         Ok(log) => Ok(log),
-        Err(fault) => Err(StreamFault::Refused(fault)),
+        Err(fault) => Err(StreamFault::Refused(CheckLogFault::Log(fault))),
     }
-}
-
-// The section's verdict by the profile.
-fn check_section(
-    alloc: Global,
-    section: &Arc<Section>,
-    profile: Profile,
-) -> Result<Verdict, AllocError>
-    ensures { IfOk result (λ verdict. verdict ≡ checked_by profile section.now.value) }
-{
-    match check(alloc, Arc::try_clone(section)?, profile) {
-        Ok(verdict) => Ok(verdict),
-        Err(_) => Err(AllocError),
-    }
-}
-
-// The ledger of the sections of a log by the profile.
-fn gather(alloc: Global, sections: &[Arc<Section>], profile: Profile) -> Result<Ledger, AllocError>
-    ensures { IfOk result (IsLedgerOf profile (map (λ section. section.value) sections.now)) }
-{
-    let mut ledger = Ledger::new(alloc, profile);
-    for section in sections {
-        let verdict = check_section(alloc, section, profile)?;
-        // The names of a log's sections differ, so that nothing is refused for another cause.
-        if let Err(_) = ledger.take(verdict) {
-            return Err(AllocError);
-        }
-    }
-    Ok(ledger)
 }
 
 /// The text of the ledger that is asked for, and how many of its rows count as fail.
@@ -131,12 +114,18 @@ pub(crate) fn write_asked(
     Ok((text, totals.fail))
 }
 
-/// What is written of the log by the settings, and what is told of it.
-fn report_log(alloc: Global, log: &Log, settings: Settings) -> Result<(Vec<u8>, Done), AllocError>
+/// What is written of the log's ledger by the settings, and what is told of it.
+fn report_log(
+    alloc: Global,
+    log: &Log,
+    ledger: &Ledger,
+    settings: Settings,
+) -> Result<(Vec<u8>, Done), AllocError>
+    requires ledger { IsLedgerOf settings.profile log.now.sections ledger.now }
+    requires taken { IsTaken settings.workers log.now.sections }
     ensures { IfOk result (λ made. Reports settings log.now made.1 made.0.items) }
 {
-    let ledger = gather(alloc, log.sections(), settings.profile)?;
-    let (text, fails) = write_asked(alloc, &ledger, settings.ledger)?;
+    let (text, fails) = write_asked(alloc, ledger, settings.ledger)?;
     let done = Done {
         skipped: log.skipped(),
         fails,
@@ -144,34 +133,42 @@ fn report_log(alloc: Global, log: &Log, settings: Settings) -> Result<(Vec<u8>, 
     Ok((text, done))
 }
 
-/// Reads a log, checks its sections by the profile and writes their report, or their ledger text. Reads in pieces, at
-/// most one byte more
-/// than a log may have, and stops at the first fault of the log; writes nothing before the whole
-/// log was read and checked.
+/// Reads a log, checks its sections by the profile, by so many workers on threads of their own, and writes their report,
+/// or their ledger text. Reads in pieces, at most one byte more than a log may have, and stops at the first fault of the
+/// log; writes nothing before the whole log was read and checked.
 ///
-/// Refusals: [`StreamFault::ReadFault`] and [`StreamFault::Refused`] as the reading goes, then
-/// [`StreamFault::OutOfMemory`] (also as a cause of `Refused`), then [`StreamFault::WriteFault`]. Takes
-/// memory for the events, the verdicts and the report, and for no other byte of the log.
-pub fn check_stream<R: Source, W: Sink>(
+/// What is written doesn't depend on the number of workers, on the gate, or on which workers were lost.
+///
+/// Refusals: [`StreamFault::ReadFault`] and [`CheckLogFault::Log`] as the reading goes, then [`CheckLogFault::Farm`],
+/// then [`StreamFault::OutOfMemory`] (also as a cause of the two before), then [`StreamFault::WriteFault`]. Takes memory
+/// for the events, the verdicts and the report, and for no other byte of the log.
+pub fn check_stream<H: Threads + Wait + Sync, R: Source, W: Sink, G: Gate + Sync>(
+    rt: &H,
     alloc: Global,
     reader: &mut R,
     writer: &mut W,
     settings: Settings,
-) -> Result<Done, StreamFault<LogFault>>
+    gate: &G,
+) -> Result<Done, StreamFault<CheckLogFault>>
     requires read { CanCountOneMore (R.failed_calls reader.old) }
     requires write { CanCountOneMore (W.failed_calls writer.old) }
     // The whole stream was a log without a fault, and exactly the text of its sections was written; or it
-    // was refused with the first fault of what was read, and of every log that begins so.
+    // was refused with the first fault of what was read, and of every log that begins so; or the farm refused the
+    // sections of the whole log.
     ensures answer { Answers (IsReportOf settings (R.left reader.old) (R.left reader.new))
-        (IsLogFaultOf settings.run (R.left reader.old) (R.left reader.new))
+        (IsCheckFaultOf settings (R.left reader.old) (R.left reader.new))
         (W.held writer.old) (W.held writer.new) result }
     ensures faults { TellsFaults (R.failed_calls reader.old) (R.failed_calls reader.new)
         (W.failed_calls writer.old) (W.failed_calls writer.new) writer.old writer.new result }
 {
-    let log = match read_log(alloc, reader, settings.run) {
+    let log = match read_log(alloc, reader, settings) {
         Ok(log) => log,
         Err(fault) => return Err(fault),
     };
-    let (text, done) = report_log(alloc, &log, settings)?;
+    let ledger = match run(rt, alloc, log.sections(), settings.workers, settings.profile, gate) {
+        Ok(ledger) => ledger,
+        Err(fault) => return Err(StreamFault::Refused(CheckLogFault::Farm(fault))),
+    };
+    let (text, done) = report_log(alloc, &log, &ledger, settings)?;
     write_answer(writer, &text, done)
 }

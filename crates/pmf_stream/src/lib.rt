@@ -26,7 +26,7 @@ mod tests;
 mod writing;
 
 pub use asking::explain_stream;
-pub use checking::{Done, check_stream};
+pub use checking::{CheckLogFault, Done, check_stream};
 pub use device::{Counted, Device};
 pub use explaining::{ExplainFault, explain_text};
 pub use failed::Failed;

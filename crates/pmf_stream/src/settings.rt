@@ -5,6 +5,8 @@ use pmf_event::Profile;
 /// What `check` is told by its words.
 #[derive(Clone, Copy, Debug, PartialEq, Eq)]
 pub struct Settings {
+    /// How many workers check the sections: 1 to 64.
+    pub workers: u32,
     /// The run in the name of each section.
     pub run: u64,
     /// By which rule order assertions judge two bytes of one line.

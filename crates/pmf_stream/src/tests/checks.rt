@@ -14,6 +14,7 @@ use std::fmt::Display;
 use std::process::Abort;
 
 pub const RUN: Settings = Settings {
+    workers: 1,
     run: 0,
     profile: Profile::One,
     ledger: false,
@@ -51,7 +52,7 @@ pub fn checks<D: Display + Drop>(
     requires read { source.failures ≡ 0 }
     requires write { sink.failures ≡ 0 }
 {
-    let answer = check_stream(alloc, &mut source, &mut sink, settings);
+    let answer = check_stream(rt, alloc, &mut source, &mut sink, settings, &OpenGate);
     assert_eq!(rt; answer, want, "at {case}");
     assert!(rt; sink.bytes() == text, "at {case}");
     let failed = (source.failures(), sink.failures());

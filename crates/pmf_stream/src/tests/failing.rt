@@ -44,7 +44,7 @@ fn a_writer_that_takes_no_byte_is_a_write_fault_after_0(rt: HostRuntime) {
     let pieces = [LOG];
     let mut room = [0u8; 0];
     let mut sink = StdSink::new(&mut room[..]);
-    let answer = check_stream(rt.alloc(), &mut PieceSource::new(&pieces), &mut sink, RUN);
+    let answer = check_stream(&rt, rt.alloc(), &mut PieceSource::new(&pieces), &mut sink, RUN, &OpenGate);
     assert_eq!(rt; answer, Err(StreamFault::WriteFault { written: 0 }));
     assert_eq!(rt; sink.failures(), 1);
 }

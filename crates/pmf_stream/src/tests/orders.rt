@@ -24,6 +24,7 @@ pub(super) fn reports(
     );
     assert_eq!(rt; written, Ok(()), "the report of {log}");
     let settings = Settings {
+        workers: 1,
         run: 0,
         profile,
         ledger: false,

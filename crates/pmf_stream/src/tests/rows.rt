@@ -205,7 +205,7 @@ total sections=1 pass=0 fail=0 warn=0 empty=0
     ] {
         let mut sink = ByteSink::new(rt.alloc());
         let pieces = [log.as_bytes()];
-        let answer = check_stream(rt.alloc(), &mut PieceSource::new(&pieces), &mut sink, RUN);
+        let answer = check_stream(&rt, rt.alloc(), &mut PieceSource::new(&pieces), &mut sink, RUN, &OpenGate);
         assert_eq!(rt; answer.map(|done| done.skipped), Ok(0), "at {log}");
     }
 }
@@ -244,6 +244,7 @@ total sections=1 pass=0 fail=0 warn=0 empty=0
         ),
     ] {
         let settings = Settings {
+            workers: 1,
             run,
             profile: Profile::One,
             ledger: false,
@@ -283,6 +284,7 @@ end verdicts=2
         );
         assert_eq!(rt; written, Ok(()));
         let settings = Settings {
+            workers: 1,
             run: 9,
             profile,
             ledger: true,
@@ -303,6 +305,7 @@ PMT.PERSIST;0x1000;0x8
 end verdicts=1
 ";
     let settings = Settings {
+        workers: 1,
         run: 0,
         profile: Profile::One,
         ledger: true,

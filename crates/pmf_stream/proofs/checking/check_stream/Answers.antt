@@ -1,4 +1,6 @@
-use Rattle.pmf_stream.specs.Checking.{IsLogFaultOf, IsReportOf}
+use Rattle.std.proofs.Common.{subst}
+use Rattle.pmf_farm.specs.Running.{IsRefused}
+use Rattle.pmf_stream.specs.Checking.{IsCheckFaultOf, IsReportOf}
 use Rattle.pmf_stream.proofs.lemmas.AnsweringLemmas.{Answers-written}
 use Rattle.pmf_stream.proofs.checking.check_stream.Goals as goal
 
@@ -7,6 +9,10 @@ returns-clause-answer g c =
     let settings = c.args.settings in
     let left = g.R.Source.left c.args.reader.now in
     let rest = g.R.Source.left c.read_log.new.reader in
-    Answers-written (IsReportOf settings left rest) (IsLogFaultOf settings.run left rest) _ _ c.in_ok-text.done c.in_ok-text.text.items c.write_answer.result
+    Answers-written (IsReportOf settings left rest) (IsCheckFaultOf settings left rest) _ _ c.in_ok-text.done c.in_ok-text.text.items c.write_answer.result
     (c.in-Ok.log, c.in-Ok.ensures.ok, c.in_ok-text.ensures)
     (rw c.deref.ensures.value at c.write_answer.ensures.written)
+
+pub returns-in-Err-run-clause-answer : goal.returns-in-Err-run-clause-answer
+returns-in-Err-run-clause-answer g c =
+    (c.in-Ok.log, c.in-Ok.ensures.ok, subst (λ ss. IsRefused c.args.settings.workers ss c.in-Err-run.fault) c.sections.ensures c.in-Err-run.ensures.refused)
