@@ -9,6 +9,10 @@ use Rattle.pmf_ledger.specs.declared.joining.JoinFault.{JoinFault}
 use Rattle.pmf_ledger.specs.declared.joining.JoinFault.TheVariants as joining
 use Rattle.pmf_ledger.specs.declared.loading.LedgerFault.{LedgerFault}
 use Rattle.pmf_ledger.specs.declared.loading.LedgerFault.TheVariants as loading
+use Rattle.pmf_farm.specs.declared.fault.FarmFault.{FarmFault}
+use Rattle.pmf_farm.specs.declared.fault.FarmFault.TheVariants as farm
+use Rattle.pmf_stream.specs.declared.checking.CheckLogFault.{CheckLogFault}
+use Rattle.pmf_stream.specs.declared.checking.CheckLogFault.TheVariants as checking
 use Rattle.pmf_stream.specs.declared.checking.Done.{Done}
 use Rattle.pmf_stream.specs.declared.explaining.ExplainFault.{ExplainFault}
 use Rattle.pmf_stream.specs.declared.explaining.ExplainFault.TheVariants as explaining
@@ -56,6 +60,16 @@ status_of_cause _ = Refused
 -- how the program ends where a log is refused
 abbrev pub status_of_log_fault : LogFault → Status
 status_of_log_fault fault = status_of_cause fault.cause
+
+-- how the program ends where a farm refuses its workers or its sections
+abbrev pub status_of_farm_fault : FarmFault → Status
+status_of_farm_fault farm.OutOfMemory = NoMemory
+status_of_farm_fault _ = Refused
+
+-- how the program ends where a log is not checked
+abbrev pub status_of_check_fault : CheckLogFault → Status
+status_of_check_fault (checking.Log fault) = status_of_log_fault fault
+status_of_check_fault (checking.Farm fault) = status_of_farm_fault fault
 
 -- how the program ends where the event is explained
 abbrev pub status_of_asked : Unit {0} → Status

@@ -3,23 +3,24 @@
 ghost use Rattle.std.specs.Prelude.{◌≡◌, ◌⊎◌, ◌↔◌, ◌+◌, map, Result};
 ghost use Rattle.std.specs.Io.KnownBytes.{Appends};
 ghost use Rattle.clap.specs.Words.{kind_of};
-ghost use Rattle.pmf_storelog.specs.declared.fault.LogFault.{LogFault};
 ghost use Rattle.pmf_stream.specs.Answering.{Answers, TellsFaults};
 ghost use Rattle.pmf_stream.specs.Asking.{IsExplanationOf, IsRefusalOf};
-ghost use Rattle.pmf_stream.specs.Checking.{IsLogFaultOf, IsReportOf};
+ghost use Rattle.pmf_stream.specs.Checking.{IsCheckFaultOf, IsReportOf};
 ghost use Rattle.pmf_stream.specs.Failures.{CanCountOneMore};
 ghost use Rattle.pmf_stream.specs.Joining.{IsJoinedText, IsRefusalOfTexts};
+ghost use Rattle.pmf_stream.specs.declared.checking.CheckLogFault.{CheckLogFault};
 ghost use Rattle.pmf_stream.specs.declared.checking.Done.{Done};
 ghost use Rattle.pmf_stream.specs.declared.explaining.ExplainFault.{ExplainFault};
 ghost use Rattle.pmf_stream.specs.declared.fault.StreamFault.{StreamFault};
 ghost use Rattle.pmf_stream.specs.declared.joining.Joined.{Joined};
 ghost use Rattle.pmf_stream.specs.declared.joining.JoinTextFault.{JoinTextFault};
-ghost use Rattle.pmf_command.specs.Statuses.{IsAnswerTo, status_of, status_of_asked, status_of_done, status_of_joined, status_of_log_fault, status_of_refusal, status_of_text_fault};
+ghost use Rattle.pmf_command.specs.Statuses.{IsAnswerTo, status_of, status_of_asked, status_of_check_fault, status_of_done, status_of_joined, status_of_refusal, status_of_text_fault};
 
 use crate::diagnostics::{fail, fail_file, out_of_memory, refuse_words, say_skipped};
 use crate::ending::Ending;
 use crate::request::{Files, Request, request_of};
 use crate::status::Status;
+use pmf_farm::OpenGate;
 use pmf_ledger::LEDGER_LIMIT;
 use pmf_stream::{
     JoinTextFault, Joined, Question, Settings, Sink, Source, StdSink, StdSource, StreamFault,
@@ -28,10 +29,13 @@ use pmf_stream::{
 use std::alloc::Global;
 use std::fmt::Display;
 use std::io::{Eprint, ErrorKind, Input, Print};
+use std::sync::Wait;
+use std::thread::Threads;
 use std::{env, fs, io};
 
-/// Does what the words of the command line ask for.
-pub fn run(rt: &HostRuntime) -> Status {
+/// Does what the words of the command line ask for. Workers' threads are started by the second handle: the program's
+/// `main` has it.
+pub fn run<T: Threads + Wait + Sync>(rt: &HostRuntime, threads: &T) -> Status {
     let alloc = rt.alloc();
     let words = match words_of(rt) {
         Ok(words) => words,
@@ -39,7 +43,7 @@ pub fn run(rt: &HostRuntime) -> Status {
         Err(_) => return refuse_words(rt, "error: a word of the command line is not UTF-8\n"),
     };
     match request_of(alloc, words.as_slice()) {
-        Ok(Request::Check(settings)) => run_check(rt, settings),
+        Ok(Request::Check(settings)) => run_check(rt, threads, settings),
         Ok(Request::Explain(question)) => run_explain(rt, question),
         Ok(Request::Join(files)) => run_join(rt, &files),
         Err(error) => answer(rt, alloc, &error),
@@ -52,15 +56,16 @@ fn words_of(rt: &HostRuntime) -> io::Result<Vec<String>> {
 }
 
 /// Checks the log on standard input and writes its report to standard output.
-fn run_check(rt: &HostRuntime, settings: Settings) -> Status {
+fn run_check<T: Threads + Wait + Sync>(rt: &HostRuntime, threads: &T, settings: Settings) -> Status {
     let mut source = StdSource::new(rt.reader());
     let mut sink = StdSink::new(io::writer(rt));
-    check_to(rt, rt.alloc(), &mut source, &mut sink, settings)
+    check_to(rt, threads, rt.alloc(), &mut source, &mut sink, settings)
 }
 
-/// Checks the log of the source and writes its report to the sink.
-fn check_to<R: Eprint, S: Source, W: Sink>(
+/// Checks the log of the source by workers whose gate is open, and writes its report to the sink.
+fn check_to<R: Eprint, T: Threads + Wait + Sync, S: Source, W: Sink>(
     rt: &R,
+    threads: &T,
     alloc: Global,
     source: &mut S,
     sink: &mut W,
@@ -68,15 +73,15 @@ fn check_to<R: Eprint, S: Source, W: Sink>(
 ) -> Status
     requires read { CanCountOneMore (S.failed_calls source.old) }
     requires write { CanCountOneMore (W.failed_calls sink.old) }
-    ensures { (answer : Result Done (StreamFault LogFault))
-        × (result ≡ status_of status_of_done status_of_log_fault answer)
+    ensures { (answer : Result Done (StreamFault CheckLogFault))
+        × (result ≡ status_of status_of_done status_of_check_fault answer)
         × Answers (IsReportOf settings (S.left source.old) (S.left source.new))
-        (IsLogFaultOf settings.run (S.left source.old) (S.left source.new))
+        (IsCheckFaultOf settings (S.left source.old) (S.left source.new))
         (W.held sink.old) (W.held sink.new) answer
         × TellsFaults (S.failed_calls source.old) (S.failed_calls source.new)
         (W.failed_calls sink.old) (W.failed_calls sink.new) sink.old sink.new answer }
 {
-    let answer = check_stream(alloc, source, sink, settings);
+    let answer = check_stream(threads, alloc, source, sink, settings, &OpenGate);
     if let Ok(done) = &answer {
         say_skipped(rt, done.skipped);
     }

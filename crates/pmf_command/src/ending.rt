@@ -1,13 +1,14 @@
 //! The status of each answer of a command.
 
 ghost use Rattle.std.specs.Prelude.{◌≡◌};
-ghost use Rattle.pmf_command.specs.Statuses.{status_of_asked, status_of_done, status_of_fails, status_of_fault, status_of_join_fault, status_of_joined, status_of_ledger_fault, status_of_log_fault, status_of_refusal, status_of_text_fault};
+ghost use Rattle.pmf_command.specs.Statuses.{status_of_asked, status_of_check_fault, status_of_done, status_of_farm_fault, status_of_fails, status_of_fault, status_of_join_fault, status_of_joined, status_of_ledger_fault, status_of_log_fault, status_of_refusal, status_of_text_fault};
 ghost use Rattle.pmf_command.specs.declared.status.Status.{Status};
 
 use crate::status::Status;
+use pmf_farm::FarmFault;
 use pmf_ledger::{JoinFault, LedgerFault};
 use pmf_storelog::{Cause, LogFault};
-use pmf_stream::{Done, ExplainFault, JoinTextFault, Joined, StreamFault};
+use pmf_stream::{CheckLogFault, Done, ExplainFault, JoinTextFault, Joined, StreamFault};
 
 /// What a command did, or why it refused: the program ends as this says.
 pub trait Ending {
@@ -55,6 +56,33 @@ impl Ending for LogFault {
         match self.cause {
             Cause::OutOfMemory => Status::NoMemory,
             _ => Status::Refused,
+        }
+    }
+}
+
+/// The farm refuses its workers or its sections.
+impl Ending for FarmFault {
+    ghost ends_as = { status_of_farm_fault };
+
+    fn status(&self) -> Status {
+        match self {
+            FarmFault::OutOfMemory => Status::NoMemory,
+            FarmFault::NoWorkers
+            | FarmFault::TooManyWorkers
+            | FarmFault::TooManySections
+            | FarmFault::TwiceNamed { .. } => Status::Refused,
+        }
+    }
+}
+
+/// The log is not checked.
+impl Ending for CheckLogFault {
+    ghost ends_as = { status_of_check_fault };
+
+    fn status(&self) -> Status {
+        match self {
+            CheckLogFault::Log(fault) => fault.status(),
+            CheckLogFault::Farm(fault) => fault.status(),
         }
     }
 }

@@ -8,6 +8,8 @@ use std::alloc::Global;
 const AFTER_HELP: &str = "\
 Examples:
   pmfarm check < store.log          the report of the log
+  pmfarm check --workers 4 < store.log
+                                    the same report, checked by four threads
   pmfarm check --run 7 < store.log  the same, its sections named 7.N
   pmfarm check --profile 2 < store.log
                                     a pair on one line is also ordered by its stores
@@ -67,11 +69,13 @@ pub fn request_of<'a>(alloc: Global, words: &'a [String]) -> Result<Request<'a>,
     }
     let settings = match matches.subcommand_matches("check") {
         Some(check) => Settings {
+            workers: check.get_one::<u32>("workers").unwrap_or(1),
             run: check.get_one::<u64>("run").unwrap_or(0),
             profile: profile_of(check.get_str("profile")),
             ledger: check.get_flag("ledger"),
         },
         None => Settings {
+            workers: 1,
             run: 0,
             profile: Profile::One,
             ledger: false,
@@ -129,9 +133,16 @@ fn ledger<'a>(alloc: Global) -> Arg<'a> {
 }
 
 fn check<'a>(alloc: Global) -> Result<Command<'a>, Error> {
+    let workers = Arg::new(alloc, "workers")
+        .long("workers")
+        .value_name("N")
+        .value_parser(value_parser!(u32))
+        .default_value("1")
+        .help("How many threads check the sections, 1 to 64");
     let check = Command::new(alloc, "check")
         .about("Reads a log from standard input and writes its report to standard output")
         .after_help(AFTER_HELP)
+        .arg(workers)?
         .arg(run(alloc))?
         .arg(profile(alloc))?
         .arg(ledger(alloc))?;

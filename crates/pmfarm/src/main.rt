@@ -14,15 +14,16 @@ ghost use Rattle.pmf_command.specs.Statuses.{exit_code_of};
 mod words_tests;
 
 pub use pmf_command::{Files, Request, Status, request_of};
+pub use pmf_farm::{FarmFault, Gate, OpenGate, Turn};
 pub use pmf_stream::{
-    Counted, Cut, Device, Done, ExplainFault, Failed, JoinTextFault, Joined, Question, Settings,
+    CheckLogFault, Counted, Cut, Device, Done, ExplainFault, Failed, JoinTextFault, Joined, Question, Settings,
     Sink, Source, StdSink, StdSource, StreamFault, check_stream, explain_stream, explain_text,
     join_texts, join_to, read_all, write_text,
 };
 use std::process::ExitCode;
 
 fn main(rt: HostRuntime) -> ExitCode {
-    exit_of(pmf_command::run(&rt))
+    exit_of(pmf_command::run(&rt, &rt))
 }
 
 fn exit_of(status: Status) -> ExitCode

@@ -50,6 +50,7 @@ fn check_takes_a_run_of_64_bits(rt: HostRuntime) -> Result<(), Fail> {
             rt.alloc(),
             words,
             Request::Check(Settings {
+                workers: 1,
                 run,
                 profile,
                 ledger: false,
@@ -73,8 +74,33 @@ fn check_takes_profile_1_or_2(rt: HostRuntime) -> Result<(), Fail> {
             rt.alloc(),
             words,
             Request::Check(Settings {
+                workers: 1,
                 run: 0,
                 profile,
+                ledger: false,
+            }),
+        )?;
+    }
+    Ok(())
+}
+
+#[test]
+fn check_takes_a_number_of_workers(rt: HostRuntime) -> Result<(), Fail> {
+    let cases = [
+        (&["pmfarm", "check"][..], 1),
+        (&["pmfarm", "check", "--workers", "64"][..], 64),
+        (&["pmfarm", "check", "--workers=0"][..], 0),
+        (&["pmfarm", "check", "--workers=4294967295"][..], u32::MAX),
+    ];
+    for (words, workers) in cases {
+        asks(
+            &rt,
+            rt.alloc(),
+            words,
+            Request::Check(Settings {
+                workers,
+                run: 0,
+                profile: Profile::One,
                 ledger: false,
             }),
         )?;
@@ -124,6 +150,7 @@ fn check_takes_the_flag_for_the_ledger_text(rt: HostRuntime) -> Result<(), Fail>
         rt.alloc(),
         &["pmfarm", "check", "--ledger", "--run", "3"],
         Request::Check(Settings {
+            workers: 1,
             run: 3,
             profile: Profile::One,
             ledger: true,
@@ -176,6 +203,10 @@ fn words_that_are_no_request_are_refused(rt: HostRuntime) -> Result<(), Fail> {
         &["pmfarm", "check", "--run", "-1"][..],
         &["pmfarm", "check", "--run", "18446744073709551616"][..],
         &["pmfarm", "check", "--run", "1", "--run", "2"][..],
+        &["pmfarm", "check", "--workers"][..],
+        &["pmfarm", "check", "--workers", "-1"][..],
+        &["pmfarm", "check", "--workers", "4294967296"][..],
+        &["pmfarm", "check", "--workers", "1", "--workers", "1"][..],
         &["pmfarm", "check", "--profile"][..],
         &["pmfarm", "check", "--profile", "0"][..],
         &["pmfarm", "check", "--profile", "3"][..],
