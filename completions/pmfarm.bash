@@ -6,8 +6,8 @@ _pmfarm() {
         mapfile -t COMPREPLY < <(compgen -W 'check explain join help --help -h --version -V' -- "$word")
     elif [ "$command" = check ] && [ "$before" = --profile ]; then
         mapfile -t COMPREPLY < <(compgen -W '1 2' -- "$word")
-    elif [ "$command" = check ] && [ "$before" != --run ]; then
-        mapfile -t COMPREPLY < <(compgen -W '--run --profile --ledger --help -h' -- "$word")
+    elif [ "$command" = check ] && [[ "$before" != --@(run|workers) ]]; then
+        mapfile -t COMPREPLY < <(compgen -W '--workers --run --profile --ledger --help -h' -- "$word")
     elif [ "$command" = explain ] && [ "$before" = --profile ]; then
         mapfile -t COMPREPLY < <(compgen -W '1 2' -- "$word")
     elif [ "$command" = explain ] && [[ "$before" != --@(run|section|event) ]]; then

@@ -8,6 +8,7 @@ complete -c pmfarm -n __fish_use_subcommand -s V -l version -d 'print the versio
 complete -c pmfarm -s h -l help -d 'print help'
 complete -c pmfarm -n '__fish_seen_subcommand_from explain' -l section -x -d 'the number of the section'
 complete -c pmfarm -n '__fish_seen_subcommand_from explain' -l event -x -d 'the place of the event in its section'
+complete -c pmfarm -n '__fish_seen_subcommand_from check' -l workers -x -d 'how many threads check the sections'
 complete -c pmfarm -n '__fish_seen_subcommand_from check explain' -l run -x -d 'the run in the name of each section'
 complete -c pmfarm -n '__fish_seen_subcommand_from check explain' -l profile -x -a '1 2' -d 'the rule for two bytes of one cache line'
 complete -c pmfarm -n '__fish_seen_subcommand_from check join' -l ledger -d 'write the ledger text instead of the report'
