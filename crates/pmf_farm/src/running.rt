@@ -165,11 +165,13 @@ fn run_all<R: Threads + Wait + Sync, G: Gate + Sync>(
     }
     let roll = call(alloc, sections, profile)?;
     let queue = Queue::new(alloc, roll.as_slice())?;
-    let Ok((board, mut first)) = Board::new(alloc, sections.len() as u32) else {
+    let count = sections.len() as u32;
+    let Ok((board, mut first)) = Board::new(alloc, count) else {
         return Err(FarmFault::OutOfMemory);
     };
     let (sender, receiver) = unbounded(alloc)?;
-    let hands = hands_of(alloc, &board, &mut first, workers, &sender)?;
+    // More workers than sections would only wait.
+    let hands = hands_of(alloc, &board, &mut first, workers.min(count), &sender)?;
     // From then on only workers can send.
     drop(sender);
     let roll = farm_out(rt, alloc, &board, hands, &queue, profile, gate, &receiver, roll);
@@ -181,7 +183,8 @@ fn run_all<R: Threads + Wait + Sync, G: Gate + Sync>(
 /// a ledger by the caller's own thread, which then checks what no worker's verdict arrived of. So it is the ledger of all
 /// sections handed in, whichever workers were lost, never started or refused memory, whatever arrived twice or didn't.
 ///
-/// It waits until each worker has ended. Workers take long sections first. Takes memory for a list of the sections, the
+/// It waits until each worker has ended. No more workers are started than there are sections, and they take long sections
+/// first. Takes memory for a list of the sections, the
 /// board and the ledger, besides that of the workers; [`FarmFault::OutOfMemory`] tells that memory was refused to the
 /// caller's own thread.
 pub fn run<R: Threads + Wait + Sync, G: Gate + Sync>(

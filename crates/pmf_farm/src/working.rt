@@ -15,8 +15,9 @@ use std::alloc::{AllocError, Global};
 use std::sync::Arc;
 use std::thread;
 
-// How often a worker looks for each event of a section whether another is done with it.
-const LOOKS_FOR_AN_EVENT: usize = 8;
+// How often a worker looks for each event of a section whether another is done with it: for about ten times as long as
+// a check mostly takes, since two that check one section end later than one.
+const LOOKS_FOR_AN_EVENT: usize = 64;
 
 /// How a worker ended.
 #[derive(Clone, Copy, Debug, PartialEq, Eq)]
