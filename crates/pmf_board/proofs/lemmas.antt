@@ -6,3 +6,4 @@ pub mod StepLemmas
 pub mod PassLemmas
 pub mod CallLemmas
 pub mod CloseLemmas
+pub mod MachineLemmas

@@ -4,3 +4,4 @@ pub mod Rule
 pub mod Steps
 pub mod Calls
 pub mod Passes
+pub mod Laws

@@ -38,13 +38,14 @@ hand_out board s = set board s (handed_out (entry_at board s))
 abbrev pub mark : List Entry → ℕ → List Entry
 mark board s = set board s (finished (entry_at board s))
 
+-- the take of what stands of a section, if it is there: where it is on offer, the hand-out's number and the board after it
+abbrev pub taken : ℕ → List Entry → ℕ → Option Entry → Option (ℕ × List Entry)
+taken limit board s None = None
+taken limit board s (Some e) = if is_on_offer limit e then Some (e.handouts + 1, hand_out board s) else None
+
 -- a take: the hand-out's number and the board after it, where the section is there and on offer
 abbrev pub take_below : ℕ → List Entry → ℕ → Option (ℕ × List Entry)
 take_below limit board s = taken limit board s (slice_get board s)
-  where
-    taken : ℕ → List Entry → ℕ → Option Entry → Option (ℕ × List Entry)
-    taken limit board s None = None
-    taken limit board s (Some e) = if is_on_offer limit e then Some (e.handouts + 1, hand_out board s) else None
 
 -- a take of a section that was never handed out
 abbrev pub take_fresh : List Entry → ℕ → Option (ℕ × List Entry)

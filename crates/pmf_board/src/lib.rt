@@ -9,8 +9,9 @@
 //! has each hand-out that the pass took, once, and as done just what it marked.
 //!
 //! The definitions: `specs/Machine` (what stands of a section, takes and marks, with no word of atomics), `specs/Rule`
-//! (what holds of the words and of the views of all passes, between any two steps), `specs/Steps` (what one step
-//! tells), `specs/Calls` (what a call does to what its pass knows), `specs/Passes`.
+//! (what holds of the words and of the views of all passes, between any two steps), `specs/Laws` (that the words and
+//! the rule follow the machine), `specs/Steps` (what one step tells), `specs/Calls` (what a call does to what its pass
+//! knows), `specs/Passes`.
 //!
 //! Not promised here: that memory suffices, who takes what, how often a lost exchange is tried again, or anything
 //! between passes that never meet beyond the rule.
@@ -20,6 +21,7 @@ mod board;
 mod closing;
 mod entry;
 mod fault;
+mod laws;
 mod marking;
 mod pass;
 mod passing;
@@ -35,6 +37,7 @@ mod view;
 pub use board::{Board, MOST_SECTIONS};
 pub use entry::Entry;
 pub use fault::BoardFault;
+pub use laws::words_follow_the_machine;
 pub use pass::Pass;
 pub use tally::Tally;
 pub use task::Task;

@@ -1,0 +1,28 @@
+-- The board machine, told by the words and the views of a board. Defined here.
+use Rattle.std.specs.Prelude.{◌≡◌, ℕ, ◌+◌, ◌<◌, ◌≤◌, List, map, length, set, bit_or, Some, None}
+use mathlib.Core.Option.{some}
+use lib.ListN.{get_elem?}
+use Rattle.pmf_board.specs.declared.entry.Entry.{Entry}
+use Rattle.pmf_board.specs.declared.view.View.{View}
+use Rattle.pmf_board.specs.Machine.{entry_at, hand_out, mark, take_below}
+use Rattle.pmf_board.specs.Rule.{IsKept, word_of}
+use Rattle.pmf_board.specs.Views.{task, took, marked}
+
+-- what a take of the machine gives is told by the section's word: where it is below the limit, the number one above it; else nothing
+abbrev pub TakesAreToldByWords : Type 0
+TakesAreToldByWords = (limit : ℕ) (board : List Entry) (s : ℕ) → limit ≤ 8 → s < length board
+    → (word_of (entry_at board s) < limit → take_below limit board s ≡ Some (word_of (entry_at board s) + 1, hand_out board s))
+    × (limit ≤ word_of (entry_at board s) → take_below limit board s ≡ None)
+
+-- a hand-out adds 1 to the section's word, and a mark sets its bit of 16
+abbrev pub ChangesAreStepsOnWords : Type 0
+ChangesAreStepsOnWords = (board : List Entry) (s : ℕ)
+    → (map word_of (hand_out board s) ≡ set (map word_of board) s (word_of (entry_at board s) + 1))
+    × ((entry_at board s).handouts ≤ 8 → map word_of (mark board s) ≡ set (map word_of board) s (bit_or (word_of (entry_at board s)) 16))
+
+-- where the rule is kept and a pass has a share, it is kept after a take of the machine, with the task in the pass's view, and after a mark, with the section in it
+abbrev pub ChangesKeepTheRule : Type 0
+ChangesKeepTheRule = (board : List Entry) (views : List View) (id : ℕ) (v : View) → IsKept board views → get_elem? views id ≡ some v → 0 < v.shares
+    → (s : ℕ) → s < length board
+    → ((limit k : ℕ) (after : List Entry) → limit ≤ 8 → take_below limit board s ≡ Some (k, after) → IsKept after (set views id (took v (task s k))))
+    × IsKept (mark board s) (set views id (marked v s (entry_at board s).handouts))
