@@ -10,15 +10,15 @@ const SWEEPS: u32 = 16;
 
 // A pass of a board, and the section at which its takes begin.
 #[derive(Drop)]
-pub struct Job {
-    pub pass: Pass,
-    pub start: u32,
+pub(crate) struct Job {
+    pub(crate) pass: Pass,
+    pub(crate) start: u32,
 }
 
 // Nothing; numbers of one counter; sections, each take from behind the last; the same with sweeps that find none; sections,
 // each take from the same start.
 #[derive(Clone, Copy)]
-pub enum Work {
+pub(crate) enum Work {
     Idle,
     Counter,
     Apart,
@@ -26,7 +26,7 @@ pub enum Work {
     Fixed,
 }
 
-pub fn work_of(word: &str) -> Option<Work> {
+pub(crate) fn work_of(word: &str) -> Option<Work> {
     match word {
         "idle" => Some(Work::Idle),
         "counter" => Some(Work::Counter),
@@ -67,22 +67,18 @@ fn take_all(board: &Board, pass: &mut Pass, start: u32, moves: bool) -> u32
 }
 
 // Asks so often for a fresh section where none is.
-fn sweep(board: &Board, pass: &mut Pass) -> u32
+fn sweep(board: &Board, pass: &mut Pass)
     requires { pass.old.board ≡ board.now }
     ensures { pass.new.board ≡ pass.old.board }
 {
-    let mut found = 0u32;
     for start in 0..SWEEPS {
-        if board.take_fresh(pass, start).is_some() {
-            found = found.wrapping_add(1);
-        }
+        drop(board.take_fresh(pass, start));
     }
-    found
 }
 
 impl Work {
     // Answers how many sections, or numbers of the counter, were handed out.
-    pub fn hand_out(self, board: &Board, counter: &AtomicU64, job: Job) -> u32
+    pub(crate) fn hand_out(self, board: &Board, counter: &AtomicU64, job: Job) -> u32
         requires { job.pass.board ≡ board.now }
     {
         let Job { mut pass, start } = job;
@@ -93,7 +89,8 @@ impl Work {
             Work::Fixed => take_all(board, &mut pass, start, false),
             Work::Sweep => {
                 let taken = take_all(board, &mut pass, start, true);
-                taken.wrapping_add(sweep(board, &mut pass))
+                sweep(board, &mut pass);
+                taken
             }
         }
     }
