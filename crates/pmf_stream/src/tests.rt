@@ -10,3 +10,4 @@ mod orders;
 mod rows;
 mod streams;
 mod transactions;
+mod workers;

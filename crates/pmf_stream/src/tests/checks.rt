@@ -3,15 +3,18 @@
 ghost use Rattle.std.specs.Prelude.{◌≡◌};
 
 use super::fakes::{ByteSink, PieceSource};
-use crate::checking::{Done, check_stream};
+use crate::checking::{CheckLogFault, Done, check_stream};
 use crate::device::Device;
 use crate::fault::StreamFault;
 use crate::settings::Settings;
 use pmf_event::Profile;
+use pmf_farm::OpenGate;
 use pmf_storelog::{Cause, LogFault};
 use std::alloc::Global;
 use std::fmt::Display;
 use std::process::Abort;
+use std::sync::Wait;
+use std::thread::Threads;
 
 pub const RUN: Settings = Settings {
     workers: 1,
@@ -20,12 +23,12 @@ pub const RUN: Settings = Settings {
     ledger: false,
 };
 
-pub fn done(skipped: u64, fails: u128) -> Result<Done, StreamFault<LogFault>> {
+pub fn done(skipped: u64, fails: u128) -> Result<Done, StreamFault<CheckLogFault>> {
     Ok(Done { skipped, fails })
 }
 
-pub fn refused(at: u64, cause: Cause) -> Result<Done, StreamFault<LogFault>> {
-    Err(StreamFault::Refused(LogFault { at, cause }))
+pub fn refused(at: u64, cause: Cause) -> Result<Done, StreamFault<CheckLogFault>> {
+    Err(StreamFault::Refused(CheckLogFault::Log(LogFault { at, cause })))
 }
 
 /// How many reads and how many writes have failed where a stream is answered so.
@@ -40,13 +43,13 @@ pub fn failed_calls<T, E>(answer: &Result<T, StreamFault<E>>) -> (u64, u64) {
 /// The check of the source answers so, and the sink holds these bytes; how many reads and writes failed is told
 /// by the answer.
 pub fn checks<D: Display + Drop>(
-    rt: &impl Abort,
+    rt: &(impl Abort + Threads + Wait + Sync),
     alloc: Global,
     case: D,
     mut source: PieceSource,
     mut sink: ByteSink,
     settings: Settings,
-    want: Result<Done, StreamFault<LogFault>>,
+    want: Result<Done, StreamFault<CheckLogFault>>,
     text: &[u8],
 )
     requires read { source.failures ≡ 0 }
@@ -61,11 +64,11 @@ pub fn checks<D: Display + Drop>(
 
 /// The check of the log by the settings answers so, and exactly this text is written.
 pub fn checks_log(
-    rt: &impl Abort,
+    rt: &(impl Abort + Threads + Wait + Sync),
     alloc: Global,
     log: &str,
     settings: Settings,
-    want: Result<Done, StreamFault<LogFault>>,
+    want: Result<Done, StreamFault<CheckLogFault>>,
     text: &[u8],
 ) {
     let pieces = [log.as_bytes()];

@@ -3,6 +3,7 @@
 use super::checks::{RUN, checks, done, refused};
 use super::fakes::{ByteSink, InterruptedOnce, PieceSource};
 use crate::checking::check_stream;
+use pmf_farm::OpenGate;
 use crate::device::Device;
 use crate::failed::Failed;
 use crate::fault::StreamFault;

@@ -2,21 +2,23 @@
 
 use super::checks::{RUN, checks, done, refused};
 use super::fakes::{ByteSink, PieceSource};
-use crate::checking::Done;
+use crate::checking::{CheckLogFault, Done};
 use crate::fault::StreamFault;
-use pmf_storelog::{Cause, LogFault};
+use pmf_storelog::Cause;
 use std::alloc::Global;
 use std::process::Abort;
+use std::sync::Wait;
+use std::thread::Threads;
 
 const SEPARATORS: [u8; 65_536] = [b'|'; 65_536];
 
 // A check of the first piece, so many times more, and then of the other pieces answers so and writes this text.
 fn checks_pieces(
-    rt: &impl Abort,
+    rt: &(impl Abort + Threads + Wait + Sync),
     alloc: Global,
     pieces: &[&[u8]],
     again: usize,
-    want: Result<Done, StreamFault<LogFault>>,
+    want: Result<Done, StreamFault<CheckLogFault>>,
     text: &[u8],
 ) {
     let source = PieceSource::new(pieces).again(again);

@@ -5,10 +5,12 @@ use crate::settings::Settings;
 use pmf_event::Profile;
 use std::alloc::Global;
 use std::process::Abort;
+use std::sync::Wait;
+use std::thread::Threads;
 
 // Under the profile the log is one section with these counts and rows.
 pub(super) fn reports(
-    rt: &impl Abort,
+    rt: &(impl Abort + Threads + Wait + Sync),
     alloc: Global,
     log: &str,
     profile: Profile,

@@ -5,17 +5,20 @@ use super::fakes::{ByteSink, PieceSource};
 use crate::checking::check_stream;
 use crate::settings::Settings;
 use pmf_event::{Profile, SpanFault};
+use pmf_farm::OpenGate;
 use pmf_storelog::Cause;
 use std::alloc::Global;
 use std::process::Abort;
+use std::sync::Wait;
+use std::thread::Threads;
 
 // The log has this report, no record of it is skipped, and so many rows count as fail.
-fn reports(rt: &impl Abort, alloc: Global, log: &str, report: &str, fails: u128) {
+fn reports(rt: &(impl Abort + Threads + Wait + Sync), alloc: Global, log: &str, report: &str, fails: u128) {
     checks_log(rt, alloc, log, RUN, done(0, fails), report.as_bytes());
 }
 
 // The log is refused at this record, and nothing is written.
-fn refuses(rt: &impl Abort, alloc: Global, log: &str, at: u64, cause: Cause) {
+fn refuses(rt: &(impl Abort + Threads + Wait + Sync), alloc: Global, log: &str, at: u64, cause: Cause) {
     checks_log(rt, alloc, log, RUN, refused(at, cause), b"");
 }
 
