@@ -5,6 +5,7 @@ pub mod DigitLemmas
 pub mod PartLemmas
 pub mod LogLemmas
 pub mod SectionLemmas
+pub mod RisingLemmas
 pub mod TallyLemmas
 pub mod ProgressLemmas
 pub mod ReaderLemmas

@@ -44,7 +44,7 @@ module _ (records more : List (List ℕ)) where
   numbered_among-append (suc k) le =
       rw (reading_at-append k (omega arith), current_at-append k (omega arith), numbered_among-append k (omega arith)) refl
 
-  numbers_among-append : (k : ℕ) → k ≤ length records → numbers_among (records ++ more) k ≡ numbers_among records k
+  pub numbers_among-append : (k : ℕ) → k ≤ length records → numbers_among (records ++ more) k ≡ numbers_among records k
   unfolding numbers_among
   numbers_among-append zero le = refl
   numbers_among-append (suc k) le =

@@ -4,3 +4,4 @@ pub mod ReadingLemmas
 pub mod StreamLemmas
 pub mod AnsweringLemmas
 pub mod SectionLemmas
+pub mod TakenLemmas

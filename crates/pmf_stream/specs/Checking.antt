@@ -1,5 +1,5 @@
 -- What check_stream reads, and the report or ledger text that it writes. Defined here.
-use Rattle.std.specs.Prelude.{◌≡◌, ◌≢◌, ◌⊎◌, Bool, true, false, List, ℕ, Option, Ok, Err}
+use Rattle.std.specs.Prelude.{◌≡◌, ◌≢◌, ◌<◌, ◌⊎◌, Bool, true, false, List, ℕ, Option, Ok, Err}
 use Rattle.std.specs.Io.KnownBytes.{IsAtEnd}
 use Rattle.pmf_storelog.specs.declared.fault.LogFault.{LogFault}
 use Rattle.pmf_storelog.specs.declared.fault.TheConstants.{LOG_LIMIT}
@@ -9,7 +9,10 @@ use Rattle.pmf_ledger.specs.Gathered.{IsLedgerOf}
 use Rattle.pmf_ledger.specs.LedgerText.{text_of_ledger}
 use Rattle.pmf_ledger.specs.LedgerValue.{LedgerValue}
 use Rattle.pmf_ledger.specs.Report.{report_of, totals_of}
-use Rattle.pmf_farm.specs.Running.{IsRefused, IsTaken}
+use Rattle.pmf_farm.specs.declared.fault.FarmFault.{FarmFault}
+use Rattle.pmf_farm.specs.declared.fault.FarmFault.TheVariants as farm
+use Rattle.pmf_farm.specs.declared.fault.TheConstants.{MOST_WORKERS}
+use Rattle.pmf_farm.specs.Running.{AreWorkers, IsTaken}
 use Rattle.pmf_stream.specs.declared.checking.CheckLogFault.{CheckLogFault}
 use Rattle.pmf_stream.specs.declared.checking.CheckLogFault.TheVariants as checking
 use Rattle.pmf_stream.specs.declared.checking.Done.{Done}
@@ -53,7 +56,14 @@ IsReportOf settings left rest done text = (log : LogValue) × IsLogOf settings.r
 abbrev pub IsLogFaultOf : ℕ → Option (List ℕ) → Option (List ℕ) → LogFault → Type 0
 IsLogFaultOf run left rest found = found ≢ out_of_memory → IsFaultOf run left rest found
 
--- the log is refused with this first fault, or it was read whole without a fault and the farm refuses its sections with this one
+-- why a farm refuses the sections of a log: for its workers, or for want of memory; never for the sections
+abbrev pub IsWorkersFault : ℕ → FarmFault → Type 0
+IsWorkersFault workers farm.NoWorkers = workers ≡ 0
+IsWorkersFault workers farm.TooManyWorkers = MOST_WORKERS < workers
+IsWorkersFault workers farm.OutOfMemory = AreWorkers workers
+IsWorkersFault workers _ = ⊥
+
+-- the log is refused with this first fault, or it was read whole without a fault and the farm refuses its workers
 abbrev pub IsCheckFaultOf : Settings → Option (List ℕ) → Option (List ℕ) → CheckLogFault → Type 0
 IsCheckFaultOf settings left rest (checking.Log found) = IsLogFaultOf settings.run left rest found
-IsCheckFaultOf settings left rest (checking.Farm found) = (log : LogValue) × IsLogOf settings.run left rest log × IsRefused settings.workers log.sections found
+IsCheckFaultOf settings left rest (checking.Farm found) = (log : LogValue) × IsLogOf settings.run left rest log × IsWorkersFault settings.workers found

@@ -1,5 +1,6 @@
 use Rattle.std.proofs.Common.{subst}
 use Rattle.pmf_farm.specs.Running.{IsRefused}
+use Rattle.pmf_stream.proofs.lemmas.TakenLemmas.{refuses-workers}
 use Rattle.pmf_stream.specs.Checking.{IsCheckFaultOf, IsReportOf}
 use Rattle.pmf_stream.proofs.lemmas.AnsweringLemmas.{Answers-written}
 use Rattle.pmf_stream.proofs.checking.check_stream.Goals as goal
@@ -15,4 +16,6 @@ returns-clause-answer g c =
 
 pub returns-in-Err-run-clause-answer : goal.returns-in-Err-run-clause-answer
 returns-in-Err-run-clause-answer g c =
-    (c.in-Ok.log, c.in-Ok.ensures.ok, subst (λ ss. IsRefused c.args.settings.workers ss c.in-Err-run.fault) c.sections.ensures c.in-Err-run.ensures.refused)
+    let read = c.in-Ok.ensures.ok in
+    let refused = subst (λ ss. IsRefused c.args.settings.workers ss c.in-Err-run.fault) c.sections.ensures c.in-Err-run.ensures.refused in
+    (c.in-Ok.log, read, refuses-workers c.args.settings.run c.args.settings.workers read.bytes c.in-Ok.log c.in-Err-run.fault read.faultless refused)
