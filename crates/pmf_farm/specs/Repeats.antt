@@ -1,5 +1,5 @@
 -- Names that stand twice among sections. Defined here.
-use Rattle.std.specs.Prelude.{◌≡◌, ℕ, ◌<◌, Bool, eqb, ◌&&◌, List, count_by}
+use Rattle.std.specs.Prelude.{ℕ, ◌<◌, Bool, eqb, ◌&&◌, List, count_by}
 use Rattle.pmf_event.specs.declared.name.Name.{Name}
 use Rattle.pmf_event.specs.Section.{Trace}
 use Rattle.pmf_ledger.specs.Names.{IsBefore}

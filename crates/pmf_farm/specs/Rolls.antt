@@ -1,5 +1,5 @@
 -- The sections that were handed in, in the order of their names. Defined here.
-use Rattle.std.specs.Prelude.{◌≡◌, ℕ, ◌+◌, ◌<◌, List, length, map}
+use Rattle.std.specs.Prelude.{ℕ, ◌+◌, ◌<◌, List, length, map}
 use Rattle.std.specs.List.{slice_index_or}
 use Rattle.pmf_event.specs.Section.{Trace}
 use Rattle.pmf_ledger.specs.Names.{ComesBefore}

@@ -6,8 +6,6 @@ use Rattle.pmf_verdict.specs.Checked.{Checked, checked_by}
 use Rattle.pmf_board.specs.Calls.{Marks}
 use Rattle.pmf_board.specs.declared.task.Task.{Task}
 use Rattle.pmf_board.specs.declared.view.View.{View}
-use Rattle.pmf_farm.specs.declared.gate.Turn.{Turn}
-use Rattle.pmf_farm.specs.declared.gate.Turn.TheVariants as turn
 use Rattle.pmf_farm.specs.declared.working.Ended.{Ended}
 use Rattle.pmf_farm.specs.declared.working.Ended.TheVariants as ended
 

@@ -13,7 +13,11 @@ use std::alloc::{AllocError, Global};
 use std::sync::Arc;
 
 // A slot for each section, in the order in which they were handed in.
-fn slots_of(alloc: Global, sections: &[Arc<Section>], profile: Profile) -> Result<Vec<Slot>, AllocError>
+fn slots_of(
+    alloc: Global,
+    sections: &[Arc<Section>],
+    profile: Profile,
+) -> Result<Vec<Slot>, AllocError>
     requires few { length sections.now ≤ 65536 }
     ensures { IfOk result (λ roll. roll.items ≡ map (λ s. checked_by profile s.value) sections.now) }
 {
@@ -56,7 +60,11 @@ fn repeated(roll: &[Slot]) -> Option<Name>
 
 /// A slot for each section, in the order of their names, unless a name stands twice. Takes a slot of memory for each
 /// section.
-pub(crate) fn call(alloc: Global, sections: &[Arc<Section>], profile: Profile) -> Result<Vec<Slot>, FarmFault>
+pub(crate) fn call(
+    alloc: Global,
+    sections: &[Arc<Section>],
+    profile: Profile,
+) -> Result<Vec<Slot>, FarmFault>
     requires few { length sections.now ≤ 65536 }
     ensures same { IfOk result (λ roll.
         IsPermutation (map (λ s. checked_by profile s.value) sections.now) roll.items) }

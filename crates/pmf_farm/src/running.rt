@@ -80,7 +80,16 @@ fn run_worker<R: Wait, G: Gate>(
     let gate = QueueGate { queue, gate };
     let sections = queue.sections.as_slice();
     // However it ended, the caller's own thread checks what is missing.
-    drop(work(alloc, board, &mut pass, sections, number, profile, &mut outbox, &gate));
+    drop(work(
+        alloc,
+        board,
+        &mut pass,
+        sections,
+        number,
+        profile,
+        &mut outbox,
+        &gate,
+    ));
 }
 
 // The roll with the verdicts that arrive until no sender is left.
@@ -119,12 +128,12 @@ fn farm_out<R: Threads + Wait + Sync, G: Gate + Sync>(
             ensures { result.items ≡ roll.items }
         {
             for hand in hands {
-                drop(scope.spawn(move ||
-                    requires own { hand.pass.board ≡ board.now }
-                    requires all { vec_len queue.now.sections ≡ board.now.words }
-                {
-                    run_worker(rt, alloc, board, hand, queue, profile, gate)
-                }));
+                drop(scope.spawn(
+                    move ||
+                        requires own { hand.pass.board ≡ board.now }
+                        requires all { vec_len queue.now.sections ≡ board.now.words }
+                    { run_worker(rt, alloc, board, hand, queue, profile, gate) },
+                ));
             }
             collect(rt, channel, roll)
         },
@@ -132,7 +141,12 @@ fn farm_out<R: Threads + Wait + Sync, G: Gate + Sync>(
 }
 
 // The ledger of the roll. What has no verdict yet is checked here.
-fn gather<G: Gate>(alloc: Global, roll: Vec<Slot>, profile: Profile, gate: &G) -> Result<Ledger, AllocError>
+fn gather<G: Gate>(
+    alloc: Global,
+    roll: Vec<Slot>,
+    profile: Profile,
+    gate: &G,
+) -> Result<Ledger, AllocError>
     ensures { IfOk result (IsLedgerOf profile (sections_of roll.items)) }
 {
     let mut ledger = Ledger::new(alloc, profile);
@@ -174,7 +188,9 @@ fn run_all<R: Threads + Wait + Sync, G: Gate + Sync>(
     let hands = hands_of(alloc, &board, &mut first, workers.min(count), &sender)?;
     // From then on only workers can send.
     drop(sender);
-    let roll = farm_out(rt, alloc, &board, hands, &queue, profile, gate, &receiver, roll);
+    let roll = farm_out(
+        rt, alloc, &board, hands, &queue, profile, gate, &receiver, roll,
+    );
     let ledger = gather(alloc, roll, profile, gate)?;
     Ok(ledger)
 }

@@ -54,7 +54,12 @@ impl<'a, G: Gate> Worker<'a, G> {
     }
 
     // Checks the task's section, puts its verdict and marks it, unless the gate loses the worker before.
-    fn serve<O: Outbox>(&self, pass: &mut Pass, outbox: &mut O, task: Task) -> Result<Turn, AllocError>
+    fn serve<O: Outbox>(
+        &self,
+        pass: &mut Pass,
+        outbox: &mut O,
+        task: Task,
+    ) -> Result<Turn, AllocError>
         requires own { pass.old.board ≡ self.now.board.now }
         requires all { length self.now.sections.now ≡ self.now.board.now.words }
         requires taken { HasTaken pass.old.view task }

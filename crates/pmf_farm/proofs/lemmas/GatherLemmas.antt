@@ -49,7 +49,7 @@ pub IsLedgerOf-permuted : (profile : Profile) (sections : List Trace) (roll : Li
     IsLedgerOf profile (sections_of roll) ledger → IsLedgerOf profile sections ledger
 IsLedgerOf-permuted profile sections roll ledger moved is =
     let there : IsPermutation sections (sections_of roll) =
-        subst (λ ss. IsPermutation ss (sections_of roll)) (sections-checked profile sections) (IsPermutation-map (λ (c : Checked). c.section) (map (checked_by profile) sections) roll moved) in
+    subst (λ ss. IsPermutation ss (sections_of roll)) (sections-checked profile sections) (IsPermutation-map (λ (c : Checked). c.section) (map (checked_by profile) sections) roll moved) in
     let back = IsPermutation-sym sections (sections_of roll) there in
     record {
       profile_is = is.profile_is;

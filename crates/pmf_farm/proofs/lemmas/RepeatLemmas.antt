@@ -35,15 +35,15 @@ at_most-unless_before : (a b : Name) → (IsBefore b a → ⊥) → IsAtMost a b
 at_most-unless_before a b never = elim (cases_order a.run b.run) [
   | inl same ↦ elim (cases_order a.number b.number) [
     | inl equal ↦ inr (ap (λ r. record { run = r; number = a.number }) same ∙ ap (λ n. record { run = b.run; number = n }) equal)
-    | inr other ↦ elim other [ | inl less ↦ inl (inr (same, less)) | inr more ↦ absurd (never (inr (sym same, more))) ]
+    | inr other ↦ elim other [ inl less ↦ inl (inr (same, less)) | inr more ↦ absurd (never (inr (sym same, more))) ]
   ]
-  | inr other ↦ elim other [ | inl less ↦ inl (inl less) | inr more ↦ absurd (never (inl more)) ]
+  | inr other ↦ elim other [ inl less ↦ inl (inl less) | inr more ↦ absurd (never (inl more)) ]
 ]
 
 at_most-trans : (a b c : Name) → IsAtMost a b → IsAtMost b c → IsAtMost a c
 at_most-trans a b c first then = elim first [
   | inr same ↦ subst (λ x. IsAtMost x c) (sym same) then
-  | inl less ↦ elim then [ | inr same ↦ inl (subst (IsBefore a) same less) | inl more ↦ inl (before-trans a b c less more) ]
+  | inl less ↦ elim then [ inr same ↦ inl (subst (IsBefore a) same less) | inl more ↦ inl (before-trans a b c less more) ]
 ]
 
 -- the first so many names rise
@@ -86,7 +86,7 @@ module _ (roll : List Checked) (d : Checked) where
     | inr high ↦
         let last : i ≡ k = omega (arith, high, below) in
         let here : k < length roll = omega (arith, inside) in
-        let step : IsBefore (name_at k) (name_at (k + 1)) = elim (at_most-unless_before (name_at k) (name_at (k + 1)) (sorted k d inside)) [ | inl less ↦ less | inr same ↦ absurd (other same) ] in
+        let step : IsBefore (name_at k) (name_at (k + 1)) = elim (at_most-unless_before (name_at k) (name_at (k + 1)) (sorted k d inside)) [ inl less ↦ less | inr same ↦ absurd (other same) ] in
         subst (λ x. ComesBefore (get_or roll x e) (get_or roll (x + 1) e)) (sym last) (rw (get_or_default roll k e d here, get_or_default roll (k + 1) e d inside) step)
   ]
 
@@ -180,15 +180,15 @@ module _ (roll : List Checked) (d : Checked) where
       let name = name_at roll d (k + 1) in
       let here : k < length roll = omega (arith, inside) in (
         some_two (has_name name) (sections_of roll) k (k + 1) d.section (omega arith) (omega (arith, inside, long))
-        (has_name-yes name (get_or (sections_of roll) k d.section) (ap (λ s. s.name) (section_of k here) ∙ same))
-        (has_name-yes name (get_or (sections_of roll) (k + 1) d.section) (ap (λ s. s.name) (section_of (k + 1) inside))),
+            (has_name-yes name (get_or (sections_of roll) k d.section) (ap (λ s. s.name) (section_of k here) ∙ same))
+            (has_name-yes name (get_or (sections_of roll) (k + 1) d.section) (ap (λ s. s.name) (section_of (k + 1) inside))),
         λ other twice before.
             let r = stands_at other twice in
             elim (cases_lt r.1 (k + 1)) [
               | inl low ↦ before-itself other (subst (λ n. IsBefore n other) r.4 (subst (λ n. IsBefore (name_at roll d r.0) n) r.5 (rises_between roll d (k + 1) r.0 r.1 rises r.2 low)))
               | inr high ↦
                   let most : IsAtMost name other = subst (IsAtMost name) r.5 (at_most_between roll d (k + 1) r.1 sorted high r.3) in
-                  elim most [ | inl less ↦ before-itself name (before-trans name other name less before) | inr is ↦ before-itself other (subst (IsBefore other) is before) ]
+                  elim most [ inl less ↦ before-itself name (before-trans name other name less before) | inr is ↦ before-itself other (subst (IsBefore other) is before) ]
             ],
       )
 

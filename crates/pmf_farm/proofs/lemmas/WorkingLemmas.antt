@@ -1,7 +1,7 @@
 -- A worker's turns, one after another.
-use Rattle.std.proofs.Common.{◌≡◌, ℕ, zero, suc, ◌+◌, ◌-◌, ◌<◌, ◌≤◌, List, [], ◌∷◌, ◌++◌, length, map, refl, sym, ◌∙◌, ap, subst, arith, inl, inr, true, false}
+use Rattle.std.proofs.Common.{◌≡◌, ℕ, zero, suc, ◌+◌, ◌-◌, ◌<◌, ◌≤◌, List, [], ◌∷◌, ◌++◌, length, map, refl, sym, ◌∙◌, ap, subst, arith, inl, inr}
 use Rattle.std.specs.Prelude.{eqb, count_by, cond}
-use Rattle.std.proofs.lemmas.List.{map-append, append-nil, length-append}
+use Rattle.std.proofs.lemmas.List.{map-append, append-nil}
 use Rattle.std.proofs.lemmas.Bool.{cases_order}
 use Rattle.std.proofs.lemmas.List.Sums.{sum_by-append, sum_by-cons}
 use Rattle.std.proofs.Common.{eq-eqb}
@@ -9,7 +9,7 @@ use Rattle.std.proofs.Common.{append_assoc}
 use Rattle.pmf_event.specs.declared.profile.Profile.{Profile}
 use Rattle.pmf_event.specs.Section.{Trace}
 use Rattle.pmf_verdict.specs.Checked.{Checked}
-use Rattle.pmf_board.specs.Calls.{Marks, Stays, Takes}
+use Rattle.pmf_board.specs.Calls.{Stays, Takes}
 use Rattle.pmf_board.specs.declared.task.Task.{Task}
 use Rattle.pmf_board.specs.declared.view.View.{View}
 use Rattle.std.proofs.Common.{Ok}
@@ -142,7 +142,7 @@ unmarked-falls (suc n) s marked below new = elim (cases_order s n) [
   | inl same ↦ subst (λ k. unmarked (suc n) (marked ++ k ∷ []) < unmarked (suc n) marked) (sym same)
       (let head = head-falls n marked (subst (λ k. 0 < count_by (λ m. eqb m k) marked → ⊥) same new) in let rest = unmarked-more n n marked in omega (arith, head, rest))
   | inr other ↦
-      let low : s < n = elim other [ | inl less ↦ less | inr more ↦ omega (arith, more, below) ] in
+      let low : s < n = elim other [ inl less ↦ less | inr more ↦ omega (arith, more, below) ] in
       let head = head-more n s marked in
       let rest = unmarked-falls n s marked low new in
       omega (arith, head, rest)

@@ -1,4 +1,3 @@
-use Rattle.std.specs.List.{All}
 use Rattle.pmf_ledger.specs.Gathered.{IsLedgerOf}
 use Rattle.pmf_farm.specs.Rolls.{sections_of}
 use Rattle.pmf_farm.proofs.running.gather.Given as goal

@@ -1,5 +1,4 @@
-use Rattle.std.proofs.Common.{map, subst, sym, ◌∙◌, IsPermutation}
-use Rattle.pmf_verdict.specs.Checked.{checked_by}
+use Rattle.std.proofs.Common.{map, subst, IsPermutation}
 use Rattle.pmf_ledger.specs.Gathered.{IsLedgerOf}
 use Rattle.pmf_farm.specs.Rolls.{sections_of}
 use Rattle.pmf_farm.proofs.lemmas.GatherLemmas.{IsLedgerOf-permuted}
