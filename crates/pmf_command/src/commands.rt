@@ -56,7 +56,11 @@ fn words_of(rt: &HostRuntime) -> io::Result<Vec<String>> {
 }
 
 /// Checks the log on standard input and writes its report to standard output.
-fn run_check<T: Threads + Wait + Sync>(rt: &HostRuntime, threads: &T, settings: Settings) -> Status {
+fn run_check<T: Threads + Wait + Sync>(
+    rt: &HostRuntime,
+    threads: &T,
+    settings: Settings,
+) -> Status {
     let mut source = StdSource::new(rt.reader());
     let mut sink = StdSink::new(io::writer(rt));
     check_to(rt, threads, rt.alloc(), &mut source, &mut sink, settings)

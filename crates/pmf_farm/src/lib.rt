@@ -1,4 +1,13 @@
-//! The farm.
+//! The farm: sections checked by workers on threads of their own, and gathered whoever was lost.
+//!
+//! [`run`] gives the ledger of all sections handed in, for 1 to 64 workers: whichever of them was lost by its gate, never
+//! started or refused memory, and whatever verdict arrived twice or not at all. It refuses exactly what `specs/Running`
+//! says, with the least name that stands twice (`specs/Repeats`). [`work`] is what one worker does on a board, with a
+//! [`Gate`] and an [`Outbox`] of the caller's: the verdicts that it puts are those of the sections that it marks, in their
+//! order; it takes those and at most the one in its hand, and ends with all only where it has seen each section done, or
+//! handed out 8 times (`specs/Working`). What is said of the ledger rests on none of this, but on what `specs/Rolls` keeps.
+//!
+//! Not promised here: that memory suffices, that a worker is started or gets on, who takes what, or that a verdict arrives.
 #![tactic(auto)]
 
 mod fault;
@@ -8,6 +17,8 @@ mod queue;
 mod roll;
 mod running;
 mod slot;
+#[cfg(test)]
+mod tests;
 mod working;
 
 pub use fault::{FarmFault, MOST_WORKERS};

@@ -41,43 +41,43 @@ below-less m n (x ∷ xs) less below = ((let b = below.0 in omega (arith, b, les
 
 has-above : (m n : ℕ) (xs : List ℕ) → IsBelow m xs → Has n xs → m < n
 has-above m n [] below has = absurd has
-has-above m n (x ∷ xs) below has = elim has [ | inl is ↦ subst (λ y. m < y) (sym is) below.0 | inr later ↦ has-above m n xs below.1 later ]
+has-above m n (x ∷ xs) below has = elim has [ inl is ↦ subst (λ y. m < y) (sym is) below.0 | inr later ↦ has-above m n xs below.1 later ]
 
 -- how a number stands to another, as the order of keys says it
 order_of : (m n : ℕ) → ((nat_cmp m n ≡ Less) × (m < n)) ⊎ ((nat_cmp m n ≡ Equal) × (m ≡ n)) ⊎ ((nat_cmp m n ≡ Greater) × (n < m))
 order_of m n = elim (cases_order m n) [
   | inl same ↦ inr (inl (sym (nat_cmp_is m n Equal same), same))
-  | inr other ↦ elim other [ | inl less ↦ inl (sym (nat_cmp_is m n Less less), less) | inr more ↦ inr (inr (sym (nat_cmp_is m n Greater more), more)) ]
+  | inr other ↦ elim other [ inl less ↦ inl (sym (nat_cmp_is m n Less less), less) | inr more ↦ inr (inr (sym (nat_cmp_is m n Greater more), more)) ]
 ]
 
 below-insert : (m n : ℕ) (xs : List ℕ) → m < n → IsBelow m xs → IsBelow m (insert_key nat_cmp xs n)
 below-insert m n [] less below = (less, tt)
 below-insert m n (x ∷ xs) less below = elim (order_of n x) [
   | inl low ↦ rw low.0 (less, below)
-  | inr rest ↦ elim rest [ | inl same ↦ rw same.0 below | inr high ↦ rw high.0 (below.0, below-insert m n xs less below.1) ]
+  | inr rest ↦ elim rest [ inl same ↦ rw same.0 below | inr high ↦ rw high.0 (below.0, below-insert m n xs less below.1) ]
 ]
 
 rising-insert : (n : ℕ) (xs : List ℕ) → Rising xs → Rising (insert_key nat_cmp xs n)
 rising-insert n [] rising = (tt, tt)
 rising-insert n (x ∷ xs) rising = elim (order_of n x) [
   | inl low ↦ rw low.0 ((low.1, below-less n x xs low.1 rising.0), rising)
-  | inr rest ↦ elim rest [ | inl same ↦ rw same.0 rising | inr high ↦ rw high.0 (below-insert x n xs high.1 rising.0, rising-insert n xs rising.1) ]
+  | inr rest ↦ elim rest [ inl same ↦ rw same.0 rising | inr high ↦ rw high.0 (below-insert x n xs high.1 rising.0, rising-insert n xs rising.1) ]
 ]
 
 has-insert : (n : ℕ) (xs : List ℕ) → Has n (insert_key nat_cmp xs n)
 has-insert n [] = inl refl
 has-insert n (x ∷ xs) = elim (order_of n x) [
   | inl low ↦ rw low.0 (inl refl)
-  | inr rest ↦ elim rest [ | inl same ↦ rw same.0 (inl same.1) | inr high ↦ rw high.0 (inr (has-insert n xs)) ]
+  | inr rest ↦ elim rest [ inl same ↦ rw same.0 (inl same.1) | inr high ↦ rw high.0 (inr (has-insert n xs)) ]
 ]
 
 insert-present : (n : ℕ) (xs : List ℕ) → Rising xs → Has n xs → insert_key nat_cmp xs n ≡ xs
 insert-present n [] rising has = absurd has
 insert-present n (x ∷ xs) rising has = elim (order_of n x) [
-  | inl low ↦ absurd (elim has [ | inl is ↦ (let l = low.1 in omega (arith, is, l)) | inr later ↦ (let l = low.1 in let a = has-above x n xs rising.0 later in omega (arith, a, l)) ])
+  | inl low ↦ absurd (elim has [ inl is ↦ (let l = low.1 in omega (arith, is, l)) | inr later ↦ (let l = low.1 in let a = has-above x n xs rising.0 later in omega (arith, a, l)) ])
   | inr rest ↦ elim rest [
     | inl same ↦ rw same.0 refl
-    | inr high ↦ rw high.0 (ap (λ ys. x ∷ ys) (insert-present n xs rising.1 (elim has [ | inl is ↦ absurd (let h = high.1 in omega (arith, is, h)) | inr later ↦ later ])))
+    | inr high ↦ rw high.0 (ap (λ ys. x ∷ ys) (insert-present n xs rising.1 (elim has [ inl is ↦ absurd (let h = high.1 in omega (arith, is, h)) | inr later ↦ later ])))
   ]
 ]
 

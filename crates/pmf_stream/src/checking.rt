@@ -165,7 +165,14 @@ pub fn check_stream<H: Threads + Wait + Sync, R: Source, W: Sink, G: Gate + Sync
         Ok(log) => log,
         Err(fault) => return Err(fault),
     };
-    let ledger = match run(rt, alloc, log.sections(), settings.workers, settings.profile, gate) {
+    let ledger = match run(
+        rt,
+        alloc,
+        log.sections(),
+        settings.workers,
+        settings.profile,
+        gate,
+    ) {
         Ok(ledger) => ledger,
         Err(fault) => return Err(StreamFault::Refused(CheckLogFault::Farm(fault))),
     };

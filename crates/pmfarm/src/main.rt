@@ -16,9 +16,9 @@ mod words_tests;
 pub use pmf_command::{Files, Request, Status, request_of};
 pub use pmf_farm::{FarmFault, Gate, OpenGate, Turn};
 pub use pmf_stream::{
-    CheckLogFault, Counted, Cut, Device, Done, ExplainFault, Failed, JoinTextFault, Joined, Question, Settings,
-    Sink, Source, StdSink, StdSource, StreamFault, check_stream, explain_stream, explain_text,
-    join_texts, join_to, read_all, write_text,
+    CheckLogFault, Counted, Cut, Device, Done, ExplainFault, Failed, JoinTextFault, Joined,
+    Question, Settings, Sink, Source, StdSink, StdSource, StreamFault, check_stream,
+    explain_stream, explain_text, join_texts, join_to, read_all, write_text,
 };
 use std::process::ExitCode;
 

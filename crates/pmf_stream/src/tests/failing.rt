@@ -3,12 +3,12 @@
 use super::checks::{RUN, checks, done, refused};
 use super::fakes::{ByteSink, InterruptedOnce, PieceSource};
 use crate::checking::check_stream;
-use pmf_farm::OpenGate;
 use crate::device::Device;
 use crate::failed::Failed;
 use crate::fault::StreamFault;
 use crate::sink::{Sink, StdSink};
 use crate::source::{Source, StdSource};
+use pmf_farm::OpenGate;
 use pmf_storelog::Cause;
 
 // Two stores of one line, of which the second comes after the write-back.
@@ -45,7 +45,14 @@ fn a_writer_that_takes_no_byte_is_a_write_fault_after_0(rt: HostRuntime) {
     let pieces = [LOG];
     let mut room = [0u8; 0];
     let mut sink = StdSink::new(&mut room[..]);
-    let answer = check_stream(&rt, rt.alloc(), &mut PieceSource::new(&pieces), &mut sink, RUN, &OpenGate);
+    let answer = check_stream(
+        &rt,
+        rt.alloc(),
+        &mut PieceSource::new(&pieces),
+        &mut sink,
+        RUN,
+        &OpenGate,
+    );
     assert_eq!(rt; answer, Err(StreamFault::WriteFault { written: 0 }));
     assert_eq!(rt; sink.failures(), 1);
 }

@@ -13,12 +13,24 @@ use std::sync::Wait;
 use std::thread::Threads;
 
 // The log has this report, no record of it is skipped, and so many rows count as fail.
-fn reports(rt: &(impl Abort + Threads + Wait + Sync), alloc: Global, log: &str, report: &str, fails: u128) {
+fn reports(
+    rt: &(impl Abort + Threads + Wait + Sync),
+    alloc: Global,
+    log: &str,
+    report: &str,
+    fails: u128,
+) {
     checks_log(rt, alloc, log, RUN, done(0, fails), report.as_bytes());
 }
 
 // The log is refused at this record, and nothing is written.
-fn refuses(rt: &(impl Abort + Threads + Wait + Sync), alloc: Global, log: &str, at: u64, cause: Cause) {
+fn refuses(
+    rt: &(impl Abort + Threads + Wait + Sync),
+    alloc: Global,
+    log: &str,
+    at: u64,
+    cause: Cause,
+) {
     checks_log(rt, alloc, log, RUN, refused(at, cause), b"");
 }
 
@@ -208,7 +220,14 @@ total sections=1 pass=0 fail=0 warn=0 empty=0
     ] {
         let mut sink = ByteSink::new(rt.alloc());
         let pieces = [log.as_bytes()];
-        let answer = check_stream(&rt, rt.alloc(), &mut PieceSource::new(&pieces), &mut sink, RUN, &OpenGate);
+        let answer = check_stream(
+            &rt,
+            rt.alloc(),
+            &mut PieceSource::new(&pieces),
+            &mut sink,
+            RUN,
+            &OpenGate,
+        );
         assert_eq!(rt; answer.map(|done| done.skipped), Ok(0), "at {log}");
     }
 }

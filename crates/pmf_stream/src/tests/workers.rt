@@ -15,6 +15,7 @@ use std::thread::Threads;
 const INTERLEAVED: &str = "\
 PMT.SECTION;1|STORE;0x1000;0x1;0x8|PMT.SECTION;2|STORE;0x1000;0x2;0x8|PMT.SECTION;1|FLUSH;0x1000;0x40|FENCE|\
 PMT.PERSIST;0x1000;0x8|PMT.SECTION;2|PMT.PERSIST;0x1000;0x8";
+
 const REPORT: &str = "\
 section 0.1 events=4 pass=1 fail=0 warn=0 empty=0
 4 PERSIST PASS
@@ -29,7 +30,11 @@ struct LosesBelow(u32);
 
 impl Gate for LosesBelow {
     fn turn(&self, worker: u32, _section: u32) -> Turn {
-        if worker < self.0 { Turn::Lost } else { Turn::Go }
+        if worker < self.0 {
+            Turn::Lost
+        } else {
+            Turn::Go
+        }
     }
 
     fn missing(&self, _section: u32) {}
@@ -57,13 +62,24 @@ fn checks_by(
     let mut sink = ByteSink::new(alloc);
     let answer = check_stream(rt, alloc, &mut source, &mut sink, settings, &gate);
     assert_eq!(rt; answer, want, "{workers} workers, {lost} lost");
-    assert!(rt; sink.bytes() == text.as_bytes(), "{workers} workers, {lost} lost");
+    assert!(rt;
+        sink.bytes() == text.as_bytes(),
+        "{workers} workers, {lost} lost"
+    );
 }
 
 #[test]
 fn the_report_does_not_depend_on_workers_and_losses(rt: HostRuntime) {
     for (workers, lost) in [(1, 0), (2, 0), (2, 1), (2, 2), (4, 4), (64, 0), (64, 64)] {
-        checks_by(&rt, rt.alloc(), INTERLEAVED, workers, lost, done(0, 1), REPORT);
+        checks_by(
+            &rt,
+            rt.alloc(),
+            INTERLEAVED,
+            workers,
+            lost,
+            done(0, 1),
+            REPORT,
+        );
     }
 }
 
@@ -82,6 +98,14 @@ fn a_faultless_log_is_refused_to_no_and_to_too_many_workers(rt: HostRuntime) {
 #[test]
 fn a_faulty_log_is_refused_before_its_workers(rt: HostRuntime) {
     for workers in [0, 1, 65] {
-        checks_by(&rt, rt.alloc(), "FENCE|PMT.X", workers, 0, refused(2, Cause::UnknownMarker), "");
+        checks_by(
+            &rt,
+            rt.alloc(),
+            "FENCE|PMT.X",
+            workers,
+            0,
+            refused(2, Cause::UnknownMarker),
+            "",
+        );
     }
 }

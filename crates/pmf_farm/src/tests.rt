@@ -1,0 +1,99 @@
+//! What farms, their workers and outboxes answer, by real threads.
+
+ghost use Rattle.std.specs.Prelude.{◌≡◌, vec_len, IfOk};
+
+use super::{FarmFault, Gate, run};
+use pmf_event::{Event, Name, Profile, Section, Span};
+use pmf_ledger::Ledger;
+use std::alloc::Global;
+use std::process::Abort;
+use std::sync::{Arc, Wait};
+use std::test::Fail;
+use std::thread::Threads;
+
+mod gates;
+mod ledgers;
+mod outboxes;
+mod refusals;
+mod turns;
+mod workers;
+
+fn name(run: u64, number: u64) -> Name {
+    Name { run, number }
+}
+
+// A section of this name with so many fences.
+fn fences(alloc: Global, name: Name, count: usize) -> Result<Arc<Section>, Fail> {
+    let mut section = Section::new(alloc, name);
+    for _ in 0..count {
+        section.push(Event::Fence)?;
+    }
+    Ok(Arc::new(alloc, section)?)
+}
+
+// A section of one fence for each of the names.
+fn sections_named(alloc: Global, names: &[Name]) -> Result<Vec<Arc<Section>>, Fail> {
+    let mut sections = Vec::new(alloc);
+    for name in names {
+        sections.push(fences(alloc, *name, 1)?)?;
+    }
+    Ok(sections)
+}
+
+// Section 0.1: a store, its write-back, a fence, and the assertion that it is durable.
+fn persisted(alloc: Global) -> Result<Arc<Section>, Fail> {
+    let word = Span::make(0x1000, 8)?;
+    let mut section = Section::new(alloc, name(0, 1));
+    section.push(Event::Store(word))?;
+    section.push(Event::Flush(Span::make(0x1000, 64)?))?;
+    section.push(Event::Fence)?;
+    section.push(Event::Persist(word))?;
+    Ok(Arc::new(alloc, section)?)
+}
+
+// Section 0.2: a store, and the assertion that it is durable.
+fn not_persisted(alloc: Global) -> Result<Arc<Section>, Fail> {
+    let word = Span::make(0x1000, 8)?;
+    let mut section = Section::new(alloc, name(0, 2));
+    section.push(Event::Store(word))?;
+    section.push(Event::Persist(word))?;
+    Ok(Arc::new(alloc, section)?)
+}
+
+// Sections 0.1 and 0.2.
+fn both(alloc: Global) -> Result<Vec<Arc<Section>>, Fail>
+    ensures { IfOk result (λ sections. vec_len sections ≡ 2) }
+{
+    Ok(Vec::from_array(alloc, [persisted(alloc)?, not_persisted(alloc)?])?)
+}
+
+// What the ledger of sections 0.1 and 0.2 reports, by either profile.
+const REPORT: &[u8] = b"\
+section 0.1 events=4 pass=1 fail=0 warn=0 empty=0
+4 PERSIST PASS
+section 0.2 events=2 pass=0 fail=1 warn=0 empty=0
+2 PERSIST FAIL byte=0x1000 crash=2
+total sections=2 pass=1 fail=1 warn=0 empty=0
+";
+
+// So many workers and this gate give the ledger of sections 0.1 and 0.2.
+fn assert_both<R: Threads + Wait + Sync + Abort, G: Gate + Sync>(
+    rt: &R,
+    alloc: Global,
+    workers: u32,
+    gate: &G,
+) -> Result<(), Fail> {
+    let sections = both(alloc)?;
+    let ledger = run(rt, alloc, sections.as_slice(), workers, Profile::One, gate)?;
+    let report = ledger.write_report(alloc)?;
+    assert!(rt; report.as_slice() == REPORT, "{workers} workers");
+    Ok(())
+}
+
+// The ledger holds sections of these names, in this order.
+fn assert_names(rt: &impl Abort, ledger: &Ledger, names: &[Name]) {
+    assert_eq!(rt; ledger.len(), names.len());
+    for (verdict, name) in ledger.verdicts().iter().zip(names.iter()) {
+        assert_eq!(rt; verdict.name(), *name);
+    }
+}
