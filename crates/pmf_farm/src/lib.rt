@@ -24,5 +24,6 @@ mod working;
 pub use fault::{FarmFault, MOST_WORKERS};
 pub use gate::{Gate, OpenGate, Turn};
 pub use outbox::{ChannelOutbox, Outbox};
+pub use roll::least_repeat;
 pub use running::run;
 pub use working::{Ended, work};

@@ -79,6 +79,22 @@ pub(crate) fn call(
     }
 }
 
+/// The least name that stands twice among at most 65,536 sections, if one does. Takes memory as long as it looks, and the
+/// time of a sort.
+pub fn least_repeat(alloc: Global, sections: &[Arc<Section>]) -> Result<Option<Name>, AllocError>
+    requires few { length sections.now ≤ 65536 }
+    ensures { IfOk result (λ found. MatchOption found
+        (HaveOwnNames (map (λ s. s.value) sections.now))
+        (IsLeastTwice (map (λ s. s.value) sections.now))) }
+{
+    // The profile says nothing of names.
+    match call(alloc, sections, Profile::One) {
+        Ok(_) => Ok(None),
+        Err(FarmFault::TwiceNamed { name }) => Ok(Some(name)),
+        Err(_) => Err(AllocError),
+    }
+}
+
 // Where the section of this name stands, or where it would.
 fn place_of(roll: &[Slot], name: Name) -> usize
     ensures { result ≤ length roll.now }

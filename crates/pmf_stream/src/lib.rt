@@ -36,4 +36,4 @@ pub use reading::read_all;
 pub use settings::{Question, Settings};
 pub use sink::{Sink, StdSink};
 pub use source::{Source, StdSource};
-pub use writing::{Cut, write_text};
+pub use writing::{Cut, write_answer, write_text};

@@ -43,7 +43,7 @@ pub fn write_text<W: Sink>(writer: &mut W, text: &[u8]) -> Result<(), Cut>
 }
 
 /// Writes the text of what was done, and answers what was done.
-pub(crate) fn write_answer<W: Sink, T: Drop, E>(
+pub fn write_answer<W: Sink, T: Drop, E>(
     writer: &mut W,
     text: &[u8],
     done: T,

@@ -65,7 +65,7 @@ module _ (run : ℕ) (name : Name) where
         omega (arith, head, all, rest)
   ]
 
-own_names : (run : ℕ) (bytes : List ℕ) (log : LogValue) → log_of run bytes ≡ Ok log → (name : Name) → StandsTwice log.sections name → ⊥
+pub own_names : (run : ℕ) (bytes : List ℕ) (log : LogValue) → log_of run bytes ≡ Ok log → (name : Name) → StandsTwice log.sections name → ⊥
 own_names run bytes log is name twice =
     let found = numbers_rise run bytes log is in
     let all = times-names name log.sections in
@@ -73,7 +73,7 @@ own_names run bytes log is name twice =
     let most = once run name found.0 found.1 in
     omega (arith, all, same, most, twice)
 
-few_sections : (run : ℕ) (bytes : List ℕ) (log : LogValue) → log_of run bytes ≡ Ok log → length log.sections ≤ 65536
+pub few_sections : (run : ℕ) (bytes : List ℕ) (log : LogValue) → log_of run bytes ≡ Ok log → length log.sections ≤ 65536
 few_sections run bytes log is =
     let found = numbers_rise run bytes log is in
     let long = sym (length-map log.sections (λ (s : Trace). s.name)) ∙ ap length found.3 ∙ length-map found.0 (name_in run) in

@@ -1,0 +1,13 @@
+pub use Rattle.pmf_event.specs.Section
+pub use Rattle.pmf_storelog.specs.LogText
+pub use Rattle.pmf_storelog.specs.LogValue
+pub use Rattle.pmf_storelog.specs.Numbers
+pub use Rattle.pmf_ledger.specs.LedgerValue
+pub use Rattle.pmf_ledger.specs.Report
+pub use Rattle.pmf_farm.specs.Running
+pub use Rattle.pmf_world.specs.Steps
+pub use Rattle.pmf_world.specs.Worlds
+pub mod Schedule
+pub mod Reading
+pub mod Lines
+pub mod Simulation

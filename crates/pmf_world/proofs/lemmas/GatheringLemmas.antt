@@ -1,0 +1,252 @@
+-- What one ledger of a world takes or is joined with, and the world after it.
+use Rattle.std.proofs.Common.{rules, ◌≡◌, ℕ, zero, suc, ◌+◌, ◌<◌, ◌≤◌, true, List, [], ◌∷◌, ◌++◌, length, set, get_or, slice_get, refl, sym, ◌∙◌, ap, subst, Some, Ok, inl, inr, arith, if◌then◌else◌, eqb, eqb-true}
+use Rattle.std.specs.Prelude.{◌↔◌, cond, count_by, Contains, IfOk, OnOk, OnErr, Result, Err}
+use Rattle.std.specs.List.{All, list_any}
+use Rattle.std.proofs.lemmas.Bool.{cases_Bool, eq-eqb}
+use Rattle.std.proofs.lemmas.List.{get_or_default, map-append, set-get_or}
+use Rattle.std.proofs.lemmas.List.Elements.{All-append, All-cons, All-get_or, Contains-append_cases, Contains-append_left, Contains-get_or}
+use Rattle.std.proofs.lemmas.List.Folds.{Any-from_list_any, list_any_at}
+use Rattle.std.proofs.lemmas.List.Sums.{get_or-le-sum_by, sum_by-cons}
+use Rattle.std.proofs.lemmas.Option.{slice_get-get_or}
+use Rattle.pmf_event.specs.declared.name.Name.{Name}
+use Rattle.pmf_event.specs.declared.profile.Profile.{Profile}
+use Rattle.pmf_event.specs.Section.{Trace}
+use Rattle.pmf_ledger.specs.Gathered.{ClashesAt, Gains, Gathers, GathersBoth, Holds, HoldsOther, IsLedgerOf, Unites}
+use Rattle.pmf_ledger.specs.LedgerValue.{LedgerValue}
+use Rattle.pmf_ledger.specs.declared.taking.Taken.{Taken}
+use Rattle.pmf_ledger.specs.declared.taking.Taken.TheVariants as taken
+use Rattle.pmf_ledger.proofs.lemmas.AddingLemmas.{Contains-cons_cases}
+use Rattle.pmf_ledger.proofs.lemmas.MergingLemmas.{none_of_empty}
+use Rattle.pmf_verdict.specs.Checked.{Checked}
+use Rattle.pmf_farm.specs.Repeats.{HaveOwnNames, has_name}
+use Rattle.pmf_farm.specs.Working.{no_section, section_at}
+use Rattle.pmf_world.specs.declared.step.WorldAnswer.TheVariants as answer
+use Rattle.pmf_world.specs.declared.step.WorldStep.TheVariants as step
+use Rattle.pmf_world.specs.Floors.{IsSent}
+use Rattle.pmf_world.specs.Steps.{WorldState, set_at, with_set, arrive_found, join_found}
+use Rattle.pmf_world.specs.Worlds.{IsOfWorld, StandsFor, Steps, WorldValue, ledger_at, sections_at}
+use Rattle.pmf_world.specs.Gatherings.{JoinsAt, TakesAt, answer_of, with_ledger}
+use Rattle.pmf_world.proofs.lemmas.GatheredLemmas.{from_map, to_map}
+use Rattle.pmf_world.proofs.lemmas.StandsLemmas.{StandsFor-set}
+
+has_its_name : (s : Trace) (name : Name) → s.name ≡ name → has_name name s ≡ true
+has_its_name s name is = subst (λ n. has_name n s ≡ true) is (rw (eq-eqb s.name.run s.name.run refl, eq-eqb s.name.number s.name.number refl) refl)
+
+module _ (x : Trace) (xs : List Trace) where
+  counted : (name : Name) → count_by (has_name name) (x ∷ xs) ≡ cond (has_name name x) 1 0 + count_by (has_name name) xs
+  counted name = sum_by-cons (λ (r : Trace). cond (has_name name r) 1 0) x xs
+
+  own_behind : HaveOwnNames (x ∷ xs) → HaveOwnNames xs
+  own_behind own name more = own name (let all = counted name in omega (arith, all, more))
+
+  -- the first one's name doesn't stand behind it
+  not_behind : HaveOwnNames (x ∷ xs) → (r : Trace) → Contains xs r → x.name ≡ r.name → ⊥
+  not_behind own r there named =
+      let one : ◌≡◌ {A = ℕ} (cond (has_name x.name x) 1 0) 1 = ap (λ b. cond b 1 0) (has_its_name x x.name refl) in
+      let other : ◌≡◌ {A = ℕ} (cond (has_name x.name r) 1 0) 1 = ap (λ b. cond b 1 0) (has_its_name r x.name (sym named)) in
+      let at = subst (λ (q : Trace). cond (has_name x.name q) 1 0 ≤ count_by (has_name x.name) xs) there.2 (get_or-le-sum_by (λ (q : Trace). cond (has_name x.name q) 1 0) xs there.0 r there.1) in
+      own x.name (let all = counted x.name in omega (arith, all, one, other, at))
+
+-- of sections with names of their own two with one name are one
+pub same_section : (ss : List Trace) → HaveOwnNames ss → (s t : Trace) → Contains ss s → Contains ss t → s.name ≡ t.name → s ≡ t
+same_section [] own s t has_s has_t same = absurd (none_of_empty [] s refl has_s)
+same_section (x ∷ xs) own s t has_s has_t same = elim (Contains-cons_cases s x xs has_s) [
+  | inl first ↦ elim (Contains-cons_cases t x xs has_t) [
+    | inl second ↦ first ∙ sym second
+    | inr behind ↦ absurd (not_behind x xs own t behind (ap (λ (r : Trace). r.name) (sym first) ∙ same))
+  ]
+  | inr before ↦ elim (Contains-cons_cases t x xs has_t) [
+    | inl second ↦ absurd (not_behind x xs own s before (ap (λ (r : Trace). r.name) (sym second) ∙ sym same))
+    | inr behind ↦ same_section xs (own_behind x xs own) s t before behind same
+  ]
+]
+
+-- a ledger of some sections holds none of them with other events
+pub holds_no_other : (profile : Profile) (ss : List Trace) (l : LedgerValue) (s : Trace) → HaveOwnNames ss → IsOfWorld profile ss l → Contains ss s → HoldsOther l s → ⊥
+holds_no_other profile ss l s own ours has other = other.3 (same_section ss own other.0 s (ours.1 other.0 other.1) has other.2)
+
+-- two ledgers of some sections don't clash
+pub clash_nowhere : (profile : Profile) (ss : List Trace) (a b : LedgerValue) → HaveOwnNames ss → IsOfWorld profile ss a → IsOfWorld profile ss b → (name : Name) → ClashesAt a b name → ⊥
+clash_nowhere profile ss a b own of_a of_b name clash = clash.6 (same_section ss own clash.0 clash.1 (of_a.1 clash.0 clash.2) (of_b.1 clash.1 clash.3) (clash.4 ∙ sym clash.5))
+
+-- what takes one of the sections is still of them
+pub is_ours-taken : (profile : Profile) (ss : List Trace) (l m : LedgerValue) (s : Trace) → IsOfWorld profile ss l → Contains ss s → Gains l s m → IsOfWorld profile ss m
+is_ours-taken profile ss l m s ours has gains = (
+  gains.profile_stays ∙ ours.0,
+  λ t held. elim ((gains.holds t).0 held) [ inl before ↦ ours.1 t before | inr new ↦ subst (Contains ss) (sym new) has ],
+)
+
+-- and so is the join of two
+pub is_ours-joined : (profile : Profile) (ss : List Trace) (a b m : LedgerValue) → IsOfWorld profile ss a → IsOfWorld profile ss b → Unites a b m → IsOfWorld profile ss m
+is_ours-joined profile ss a b m of_a of_b unites = (
+  unites.profile_stays ∙ of_a.0,
+  λ t held. elim ((unites.holds t).0 held) [ inl first ↦ of_a.1 t first | inr second ↦ of_b.1 t second ],
+)
+
+-- a section of a number that there is is one of the sections
+has_section : (ss : List Trace) (s : ℕ) → s < length ss → Contains ss (section_at ss s)
+has_section ss s here = Contains-get_or ss s no_section here
+
+-- sections that are one have one number
+same_number : (ss : List Trace) → HaveOwnNames ss → (s t : ℕ) → s < length ss → t < length ss → section_at ss s ≡ section_at ss t → s ≡ t
+same_number [] own s t of_s of_t same = omega (arith, of_s)
+same_number (x ∷ xs) own zero zero of_s of_t same = refl
+same_number (x ∷ xs) own zero (suc t) of_s of_t same = absurd (not_behind x xs own (section_at xs t) (has_section xs t (omega (arith, of_t))) (ap (λ (r : Trace). r.name) same))
+same_number (x ∷ xs) own (suc s) zero of_s of_t same = absurd (not_behind x xs own (section_at xs s) (has_section xs s (omega (arith, of_s))) (ap (λ (r : Trace). r.name) (sym same)))
+same_number (x ∷ xs) own (suc s) (suc t) of_s of_t same = ap suc (same_number xs (own_behind x xs own) s t (omega (arith, of_s)) (omega (arith, of_t)) same)
+
+-- a set of numbers has a number where their sections have its section
+has_number : (ss : List Trace) (set : List ℕ) (s : ℕ) → HaveOwnNames ss → All (λ n. n < length ss) set → s < length ss → Contains (sections_at ss set) (section_at ss s) → Contains set s
+has_number ss set s own within here found =
+    let there = from_map (section_at ss) set (section_at ss s) found in
+    let less = subst (λ n. n < length ss) there.1.2 (All-get_or (λ n. n < length ss) set there.1.0 there.0 there.1.1 within) in
+    subst (Contains set) (same_number ss own there.0 s less here there.2) there.1
+
+-- and the test of a number finds it where it is
+finds : (set : List ℕ) (s : ℕ) → Contains set s ↔ (list_any (eqb s) set ≡ true)
+finds set s = (
+  λ found. list_any_at (eqb s) set found.0 s found.1 (ap (eqb s) found.2 ∙ eq-eqb s s refl),
+  λ is. let any = Any-from_list_any (eqb s) set is in subst (Contains set) (sym (eqb-true s any.1 any.4)) (any.0, any.2, any.3),
+)
+
+-- the ledger of a set is that of the set with itself
+twice_over : (profile : Profile) (xs : List Trace) (l : LedgerValue) → IsLedgerOf profile xs l → IsLedgerOf profile (xs ++ xs) l
+twice_over profile xs l is = record {
+  profile_is = is.profile_is;
+  checked = is.checked;
+  rises = is.rises;
+  same = λ t. (
+    λ held. Contains-append_left xs xs t ((is.same t).0 held),
+    λ found. (is.same t).1 (elim (Contains-append_cases xs xs t found) [ inl one ↦ one | inr other ↦ other ]),
+  );
+}
+
+module _ (old : WorldValue) (state : WorldState) (stands : StandsFor old state) where
+  is_ledger : (k : ℕ) → k < length old.ledgers → IsLedgerOf (ledger_at old k).profile (sections_at old.sections (set_at state k)) (ledger_at old k)
+  is_ledger k there = let is = stands.ledgers k there in subst (λ p. IsLedgerOf p (sections_at old.sections (set_at state k)) (ledger_at old k)) (sym is.profile_is) is
+
+  there_is : (k : ℕ) → k < length old.ledgers → slice_get state.sets k ≡ Some (set_at state k)
+  there_is k there = slice_get-get_or state.sets k [] (subst (λ n. k < n) stands.as_many there)
+
+  within_at : (k : ℕ) → k < length old.ledgers → All (λ s. s < length old.sections) (set_at state k)
+  within_at k there = All-get_or (All (λ s. s < length old.sections)) state.sets k [] (subst (λ n. k < n) stands.as_many there) stands.within
+
+  module _ (k s : ℕ) (there : k < length old.ledgers) (here : s < length old.sections) (own : HaveOwnNames old.sections) where
+    -- the ledger holds the section exactly where its number was gathered
+    holds_it : Holds (ledger_at old k) (section_at old.sections s) ↔ (list_any (eqb s) (set_at state k) ≡ true)
+    holds_it =
+        let is = (is_ledger k there).same (section_at old.sections s) in (
+          λ held. (finds (set_at state k) s).0 (has_number old.sections (set_at state k) s own (within_at k there) here (is.0 held)),
+          λ found. is.1 (to_map (section_at old.sections) (set_at state k) s ((finds (set_at state k) s).1 found)),
+        )
+
+    answers : (t : Taken) → (t ≡ taken.Repeat) ↔ Holds (ledger_at old k) (section_at old.sections s) → (if list_any (eqb s) (set_at state k) then answer.Repeat else answer.Added) ≡ answer_of t
+    answers taken.Repeat told = ap (λ b. if b then answer.Repeat else answer.Added) (holds_it.0 (told.0 refl))
+    answers taken.Added told = elim (cases_Bool (list_any (eqb s) (set_at state k))) [
+      | inl found ↦ absurd (let no = told.1 (holds_it.1 found) in cc)
+      | inr not_found ↦ ap (λ b. if b then answer.Repeat else answer.Added) not_found
+    ]
+
+-- a message of the section arrives
+pub arrive-steps : (old new : WorldValue) (m k : ℕ) (v : Checked) (t : Taken) → HaveOwnNames old.sections → IsSent old.profile old.sections old.farm.messages m v → k < length old.ledgers → TakesAt old k v.section t new →
+    Steps old (step.Arrive m k) (answer_of t) new
+arrive-steps old new m k v t own sent there takes =
+    let s = sent.0 in
+    let here = sent.2 in
+    let of = ap (λ (c : Checked). c.section) sent.3 in
+    let repeat = subst (λ (x : Trace). (t ≡ taken.Repeat) ↔ Holds (ledger_at old k) x) of takes.repeat in
+    let gathers = subst (λ (x : Trace). Gathers (ledger_at old k) x takes.ledger) of takes.gathers in
+    subst (Steps old (step.Arrive m k) (answer_of t)) (sym takes.new_is) (record {
+      profile_stays = refl;
+      sections_stay = refl;
+      follows = λ state stands.
+          let gathered = set_at state k in
+          let message = subst (λ f. slice_get f.messages m ≡ Some s) stands.farm sent.1 in
+          let is = gathers (sections_at old.sections gathered) (is_ledger old state stands k there) in (
+            with_set state k (s ∷ gathered),
+            ap (λ o. arrive_found state k o (slice_get state.sets k)) message ∙ ap (arrive_found state k (Some s)) (there_is old state stands k there)
+                ∙ ap (λ a. Ok (a, with_set state k (s ∷ gathered))) (answers old state stands k s there here own t repeat),
+            StandsFor-set old state k takes.ledger (s ∷ gathered) there
+                (subst (λ p. IsLedgerOf p (sections_at old.sections (s ∷ gathered)) takes.ledger) ((stands.ledgers k there).profile_is) is)
+                (All-cons (λ n. n < length old.sections) s gathered here (within_at old state stands k there)) stands,
+          );
+    })
+
+-- a ledger is joined with another
+pub join-steps : (old new : WorldValue) (k from : ℕ) → k < length old.ledgers → from < length old.ledgers → JoinsAt old k from new → Steps old (step.Join k from) answer.Joined new
+join-steps old new k from there other joins =
+    subst (Steps old (step.Join k from) answer.Joined) (sym joins.new_is) (record {
+      profile_stays = refl;
+      sections_stay = refl;
+      follows = λ state stands.
+          let own = set_at state k in
+          let added = set_at state from in
+          let second = subst (λ p. IsLedgerOf p (sections_at old.sections added) (ledger_at old from)) (sym (stands.ledgers k there).profile_is) (stands.ledgers from other) in
+          let is = joins.gathers (sections_at old.sections own) (sections_at old.sections added) (is_ledger old state stands k there) second in
+          let both = subst (λ xs. IsLedgerOf (ledger_at old k).profile xs joins.ledger) (sym (map-append (section_at old.sections) own added)) is in (
+            with_set state k (own ++ added),
+            ap (λ o. join_found state k o (slice_get state.sets from)) (there_is old state stands k there) ∙ ap (join_found state k (Some own)) (there_is old state stands from other),
+            StandsFor-set old state k joins.ledger (own ++ added) there
+                (subst (λ p. IsLedgerOf p (sections_at old.sections (own ++ added)) joins.ledger) ((stands.ledgers k there).profile_is) both)
+                (All-append (λ n. n < length old.sections) own added (within_at old state stands k there) (within_at old state stands from other)) stands,
+          );
+    })
+
+-- a ledger joined with itself stays
+pub join-itself : (old : WorldValue) (k : ℕ) → k < length old.ledgers → Steps old (step.Join k k) answer.Joined old
+join-itself old k there = record {
+  profile_stays = refl;
+  sections_stay = refl;
+  follows = λ state stands.
+      let own = set_at state k in
+      let is = subst (λ xs. IsLedgerOf old.profile xs (ledger_at old k)) (sym (map-append (section_at old.sections) own own)) (twice_over old.profile (sections_at old.sections own) (ledger_at old k) (stands.ledgers k there)) in
+      let within = within_at old state stands k there in (
+        with_set state k (own ++ own),
+        ap (λ o. join_found state k o (slice_get state.sets k)) (there_is old state stands k there) ∙ ap (join_found state k (Some own)) (there_is old state stands k there),
+        subst (λ ls. StandsFor (record { profile = old.profile; sections = old.sections; farm = old.farm; ledgers = ls }) (with_set state k (own ++ own)))
+            (set-get_or old.ledgers k (record { profile = old.profile; sections = [] }))
+            (StandsFor-set old state k (ledger_at old k) (own ++ own) there is (All-append (λ n. n < length old.sections) own own within within) stands),
+      );
+}
+
+-- a ledger that was read is the one of this number
+pub ledger-is : (profile : Profile) (ls : List LedgerValue) (k : ℕ) (l : LedgerValue) → l ≡ get_or ls k l → k < length ls → l ≡ get_or ls k (record { profile = profile; sections = [] })
+ledger-is profile ls k l read there = read ∙ get_or_default ls k l (record { profile = profile; sections = [] }) there
+
+-- and is one of the world's
+pub ledger-ours : (profile : Profile) (ss : List Trace) (ls : List LedgerValue) (k : ℕ) (l : LedgerValue) → l ≡ get_or ls k l → k < length ls → All (IsOfWorld profile ss) ls → IsOfWorld profile ss l
+ledger-ours profile ss ls k l read there ours = subst (IsOfWorld profile ss) (sym read) (All-get_or (IsOfWorld profile ss) ls k l there ours)
+
+module _ {E : Type 0} (profile : Profile) (ss : List Trace) (l m : LedgerValue) (s : Trace) (ours : IsOfWorld profile ss l) (has : Contains ss s) where
+  -- what took a section, or was refused memory, is still one of the world's
+  pub is_ours-after : (r : Result Taken E) → OnOk r (Gains l s m) → OnErr r (m ≡ l) → IsOfWorld profile ss m
+  is_ours-after (Ok t) gains same = is_ours-taken profile ss l m s ours has gains
+  is_ours-after (Err e) gains same = subst (IsOfWorld profile ss) (sym same) ours
+
+-- what the ledger of this number took
+pub takes-at : {E : Type 0} (old seen : WorldValue) (k : ℕ) (s : Trace) (l m : LedgerValue) (r : Result Taken E) → seen ≡ old → l ≡ ledger_at seen k → OnOk r (Gathers l s m) → (r ≡ Ok taken.Repeat) ↔ Holds l s →
+    IfOk r (λ t. TakesAt old k s t (with_ledger seen k m))
+takes-at old seen k s l m (Ok t) is read gathers repeat =
+    subst (λ o. TakesAt o k s t (with_ledger seen k m)) is (record {
+      ledger = m;
+      new_is = refl;
+      gathers = subst (λ x. Gathers x s m) read gathers;
+      repeat = subst (λ x. (t ≡ taken.Repeat) ↔ Holds x s) read (λ same. repeat.0 (ap Ok same), λ held. (let same = repeat.1 held in cc));
+    })
+takes-at old seen k s l m (Err e) is read gathers repeat = search rules
+
+-- what the ledger of this number was joined with
+pub joins-at : (old seen : WorldValue) (k from : ℕ) (a b m : LedgerValue) (ledgers : List LedgerValue) → seen ≡ old → a ≡ ledger_at seen k → b ≡ ledger_at seen from → GathersBoth a b m → ledgers ≡ set seen.ledgers k m →
+    JoinsAt old k from (record { profile = seen.profile; sections = seen.sections; farm = seen.farm; ledgers = ledgers })
+joins-at old seen k from a b m ledgers is own other gathers same =
+    subst (λ o. JoinsAt o k from (record { profile = seen.profile; sections = seen.sections; farm = seen.farm; ledgers = ledgers })) is (record {
+      ledger = m;
+      new_is = ap (λ ls. record { profile = seen.profile; sections = seen.sections; farm = seen.farm; ledgers = ls }) same;
+      gathers = subst (λ x. GathersBoth x (ledger_at seen from) m) own (subst (λ x. GathersBoth a x m) other gathers);
+    })
+
+-- a ledger that was put at a number twice
+pub set-again : {X : Type 0} (xs : List X) (k : ℕ) (x y : X) → set (set xs k x) k y ≡ set xs k y
+set-again [] k x y = refl
+set-again (z ∷ xs) zero x y = refl
+set-again (z ∷ xs) (suc k) x y = ap (λ ys. z ∷ ys) (set-again xs k x y)

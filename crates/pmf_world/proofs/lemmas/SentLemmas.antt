@@ -1,0 +1,116 @@
+-- Of each section that is done, and of each whose verdict a worker has just sent, a message was sent.
+use Rattle.std.proofs.Common.{◌≡◌, ℕ, true, List, [], ◌∷◌, ◌++◌, set, Some, None, refl, sym, ◌∙◌, ap, subst, inl, inr}
+use Rattle.std.specs.Prelude.{slice_get, Contains, Option, Ok}
+use Rattle.std.specs.List.{All}
+use Rattle.std.proofs.lemmas.List.Elements.{All-replicate, All-set, All-weaker, Contains-append_left, Contains-push}
+use Rattle.std.proofs.lemmas.Option.{slice_get_within, get_or_from_slice_get}
+use Rattle.pmf_board.specs.declared.entry.Entry.{Entry}
+use Rattle.pmf_board.specs.Machine.{untouched, entry_at, handed_out, finished}
+use Rattle.pmf_world.specs.declared.doing.Doing.{Doing}
+use Rattle.pmf_world.specs.declared.doing.Doing.TheVariants as doing
+use Rattle.pmf_world.specs.declared.step.WorldStep.{WorldStep}
+use Rattle.pmf_world.specs.declared.step.WorldStep.TheVariants as step
+use Rattle.pmf_world.specs.Turns.{FarmState, check_where, lose_where, mark_where, send_where, take_found, taken_by}
+use Rattle.pmf_world.specs.Steps.{WorldState, after, arrive_found, join_found, opening_of, stepped, turned, world_of}
+use Rattle.pmf_world.specs.Laws.{DoneWasSent}
+use Rattle.pmf_world.proofs.lemmas.GatheredLemmas.{get_or-set_cases, get_or-replicate_default}
+use Rattle.pmf_world.proofs.lemmas.TaskLemmas.{take_cases}
+
+-- if it has just sent a verdict, a message of that section is among these
+abbrev HasToldTruly : List ℕ → Doing → Type 0
+HasToldTruly messages (doing.HasSent s) = Contains messages s
+HasToldTruly messages _ = Unit {0}
+
+-- a message was sent of each section that is done, and of each whose verdict a worker has just sent
+record IsSent (f : FarmState) : Type 0 where
+  pub of_done : (s : ℕ) → (entry_at f.board s).done ≡ true → Contains f.messages s
+  pub of_workers : All (HasToldTruly f.messages) f.workers
+
+-- one message more
+told_still : (messages : List ℕ) (s : ℕ) (d : Doing) → HasToldTruly messages d → HasToldTruly (messages ++ s ∷ []) d
+told_still messages s (doing.HasSent x) told = Contains-append_left messages (s ∷ []) x told
+told_still messages s _ told = tt
+
+-- after a set to an entry that is done only where a message of its section was sent
+done_still : (f : FarmState) (s : ℕ) (e : Entry) → IsSent f → (e.done ≡ true → Contains f.messages s) → (x : ℕ) → (entry_at (set f.board s e) x).done ≡ true → Contains f.messages x
+done_still f s e is sent x done = elim (get_or-set_cases f.board s x e untouched) [
+  | inl here ↦ subst (Contains f.messages) (sym here.0) (sent (ap (λ (g : Entry). g.done) (sym here.1) ∙ done))
+  | inr other ↦ is.of_done x (ap (λ (g : Entry). g.done) (sym other) ∙ done)
+]
+
+module _ (w : WorldState) (worker : ℕ) (is : IsSent w.farm) where
+  told_set : (d : Doing) → HasToldTruly w.farm.messages d → All (HasToldTruly w.farm.messages) (set w.farm.workers worker d)
+  told_set d told = All-set (HasToldTruly w.farm.messages) w.farm.workers worker d told is.of_workers
+
+  IsSent-take : (limit s : ℕ) (found : Option Doing) (section : Option Entry) → slice_get w.farm.board s ≡ section → IsSent (world_of w (turned w (take_found limit w.farm worker s found section))).farm
+  IsSent-take limit s None section at = is
+  IsSent-take limit s (Some d) None at = is
+  IsSent-take limit s (Some doing.Idle) (Some e) at =
+      take_cases (λ taking. IsSent (world_of w (turned w (Ok (taken_by w.farm worker s taking)))).farm) limit w.farm.board s e at is
+      (record { of_done = done_still w.farm s (handed_out (entry_at w.farm.board s)) is (is.of_done s); of_workers = told_set (doing.HasTask s) tt })
+  IsSent-take limit s (Some _) (Some e) at = is
+
+  IsSent-check : (found : Option Doing) → IsSent (world_of w (turned w (check_where w.farm worker found))).farm
+  IsSent-check None = is
+  IsSent-check (Some (doing.HasTask s)) = record { of_done = is.of_done; of_workers = told_set (doing.HasVerdict s) tt }
+  IsSent-check (Some _) = is
+
+  IsSent-send : (found : Option Doing) → IsSent (world_of w (turned w (send_where w.farm worker found))).farm
+  IsSent-send None = is
+  IsSent-send (Some (doing.HasVerdict s)) =
+      let messages = w.farm.messages ++ s ∷ [] in
+      let told = All-weaker (HasToldTruly w.farm.messages) (HasToldTruly messages) (told_still w.farm.messages s) w.farm.workers is.of_workers in
+      record {
+        of_done = λ x done. Contains-append_left w.farm.messages (s ∷ []) x (is.of_done x done);
+        of_workers = All-set (HasToldTruly messages) w.farm.workers worker (doing.HasSent s) (Contains-push w.farm.messages s) told;
+      }
+  IsSent-send (Some _) = is
+
+  IsSent-mark : (found : Option Doing) → slice_get w.farm.workers worker ≡ found → IsSent (world_of w (turned w (mark_where w.farm worker found))).farm
+  IsSent-mark None at = is
+  IsSent-mark (Some (doing.HasSent s)) at =
+      let told = is.of_workers worker (doing.HasSent s) (slice_get_within w.farm.workers worker _ at) in
+      let sent : Contains w.farm.messages s = subst (HasToldTruly w.farm.messages) (get_or_from_slice_get w.farm.workers worker _ (doing.HasSent s) at) told in
+      record {
+        of_done = done_still w.farm s (finished (entry_at w.farm.board s)) is (λ done. sent);
+        of_workers = told_set doing.Idle tt;
+      }
+  IsSent-mark (Some _) at = is
+
+  IsSent-lose : (found : Option Doing) → IsSent (world_of w (turned w (lose_where w.farm worker found))).farm
+  IsSent-lose None = is
+  IsSent-lose (Some doing.Gone) = is
+  IsSent-lose (Some _) = record { of_done = is.of_done; of_workers = told_set doing.Gone tt }
+
+IsSent-arrive : (w : WorldState) (k : ℕ) (found : Option ℕ) (set_found : Option (List ℕ)) → IsSent w.farm → IsSent (world_of w (arrive_found w k found set_found)).farm
+IsSent-arrive w k None set_found is = is
+IsSent-arrive w k (Some s) None is = is
+IsSent-arrive w k (Some s) (Some gathered) is = is
+
+IsSent-join : (w : WorldState) (k : ℕ) (own other : Option (List ℕ)) → IsSent w.farm → IsSent (world_of w (join_found w k own other)).farm
+IsSent-join w k None other is = is
+IsSent-join w k (Some own) None is = is
+IsSent-join w k (Some own) (Some other) is = is
+
+step_sent : (w : WorldState) (newest : WorldStep) → IsSent w.farm → IsSent (world_of w (stepped w newest)).farm
+step_sent w (step.Fresh worker section) is = IsSent-take w worker is 1 section _ _ refl
+step_sent w (step.Again worker section) is = IsSent-take w worker is 8 section _ _ refl
+step_sent w (step.Check worker) is = IsSent-check w worker is _
+step_sent w (step.Send worker) is = IsSent-send w worker is _
+step_sent w (step.Mark worker) is = IsSent-mark w worker is _ refl
+step_sent w (step.Lose worker) is = IsSent-lose w worker is _
+step_sent w (step.Arrive message ledger) is = IsSent-arrive w ledger _ _ is
+step_sent w (step.Join into from) is = IsSent-join w into _ _ is
+
+sent_after : (first : WorldState) → IsSent first.farm → (steps : List WorldStep) → IsSent (after first steps).farm
+unfolding after
+sent_after first is [] = is
+sent_after first is (newest ∷ before) = step_sent (after first before) newest (sent_after first is before)
+
+pub done_is_sent : DoneWasSent
+done_is_sent sections workers ledgers steps =
+    let none_yet : IsSent (opening_of sections workers ledgers).farm = record {
+      of_done = λ s done. let not_done = ap (λ (e : Entry). e.done) (get_or-replicate_default sections s untouched) in absurd (cc);
+      of_workers = All-replicate (HasToldTruly []) workers doing.Idle tt;
+    } in
+    (sent_after (opening_of sections workers ledgers) none_yet steps).of_done

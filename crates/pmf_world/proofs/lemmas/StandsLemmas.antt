@@ -1,0 +1,82 @@
+-- What a world stands for, after a turn of a worker and after a change of one ledger.
+use Rattle.std.proofs.Common.{◌≡◌, ◌≢◌, ℕ, ◌<◌, List, [], length, set, get_or, refl, sym, ◌∙◌, ap, subst, Ok, Err, inl, inr}
+use Rattle.std.proofs.lemmas.Bool.{cases_eq}
+use Rattle.std.specs.List.{All}
+use Rattle.std.proofs.lemmas.List.{get_or-set_same, get_or-set_other, length-set}
+use Rattle.std.proofs.lemmas.List.Elements.{All-set}
+use Rattle.pmf_ledger.specs.Gathered.{IsLedgerOf}
+use Rattle.pmf_ledger.specs.LedgerValue.{LedgerValue}
+use Rattle.pmf_world.specs.declared.step.WorldAnswer.{WorldAnswer}
+use Rattle.pmf_world.specs.declared.step.WorldFault.{WorldFault}
+use Rattle.pmf_world.specs.declared.step.WorldFault.TheVariants as fault
+use Rattle.pmf_world.specs.declared.step.WorldStep.{WorldStep}
+use Rattle.pmf_world.specs.Turns.{FarmState, Turned}
+use Rattle.pmf_world.specs.Steps.{WorldState, stepped, turned, with_set, set_at}
+use Rattle.pmf_world.specs.Worlds.{WorldValue, StandsFor, Steps, Refuses, sections_at}
+
+-- the worlds differ in the farm alone
+pub StandsFor-turned : (old new : WorldValue) (state : WorldState) (farm : FarmState) → new.profile ≡ old.profile → new.sections ≡ old.sections → new.farm ≡ farm → new.ledgers ≡ old.ledgers →
+    StandsFor old state → StandsFor new (record { farm = farm; sets = state.sets })
+StandsFor-turned old new state farm profile sections farms ledgers stands = record {
+  farm = farms;
+  as_many = ap length ledgers ∙ stands.as_many;
+  within = subst (λ ss. All (All (λ s. s < length ss)) state.sets) (sym sections) stands.within;
+  ledgers = λ k less.
+      subst (λ p. IsLedgerOf p (sections_at new.sections (set_at state k)) (get_or new.ledgers k (record { profile = p; sections = [] }))) (sym profile)
+      (subst (λ ss. IsLedgerOf old.profile (sections_at ss (set_at state k)) (get_or new.ledgers k (record { profile = old.profile; sections = [] }))) (sym sections)
+      (subst (λ ls. IsLedgerOf old.profile (sections_at old.sections (set_at state k)) (get_or ls k (record { profile = old.profile; sections = [] }))) (sym ledgers)
+      (stands.ledgers k (subst (λ ls. k < length ls) ledgers less))));
+}
+
+-- a turn of a worker is the step
+pub steps-turned : (old new : WorldValue) (newest : WorldStep) (told : WorldAnswer) (turn : FarmState → Turned) (farm : FarmState) →
+    ((state : WorldState) → stepped state newest ≡ turned state (turn state.farm)) → turn old.farm ≡ Ok (told, farm) →
+    new.profile ≡ old.profile → new.sections ≡ old.sections → new.farm ≡ farm → new.ledgers ≡ old.ledgers → Steps old newest told new
+steps-turned old new newest told turn farm by is profile sections farms ledgers = record {
+  profile_stays = profile;
+  sections_stay = sections;
+  follows = λ state stands. (
+    record { farm = farm; sets = state.sets },
+    by state ∙ ap (λ f. turned state (turn f)) (sym stands.farm) ∙ ap (turned state) is,
+    StandsFor-turned old new state farm profile sections farms ledgers stands,
+  );
+}
+
+-- a refusal that isn't want of memory
+pub refuses : (world : WorldValue) (newest : WorldStep) (f : WorldFault) → f ≢ fault.OutOfMemory → ((state : WorldState) → StandsFor world state → stepped state newest ≡ Err f) → Refuses world newest f
+refuses world newest fault.NoSuchWorker other is = is
+refuses world newest fault.NoSuchSection other is = is
+refuses world newest fault.NoSuchMessage other is = is
+refuses world newest fault.NoSuchLedger other is = is
+refuses world newest fault.Gone other is = is
+refuses world newest fault.Misplaced other is = is
+refuses world newest fault.OutOfMemory other is = absurd (other refl)
+
+-- a turn that is refused is the step's refusal
+pub refuses-turned : (world : WorldValue) (newest : WorldStep) (f : WorldFault) (turn : FarmState → Turned) →
+    ((state : WorldState) → stepped state newest ≡ turned state (turn state.farm)) → turn world.farm ≡ Err f → f ≢ fault.OutOfMemory → Refuses world newest f
+refuses-turned world newest f turn by is other =
+    refuses world newest f other (λ state stands. by state ∙ ap (λ farm. turned state (turn farm)) (sym stands.farm) ∙ ap (turned state) is)
+
+-- a change of one ledger
+pub StandsFor-set : (old : WorldValue) (state : WorldState) (k : ℕ) (ledger : LedgerValue) (gathered : List ℕ) → k < length old.ledgers →
+    IsLedgerOf old.profile (sections_at old.sections gathered) ledger → All (λ s. s < length old.sections) gathered → StandsFor old state →
+    StandsFor (record { profile = old.profile; sections = old.sections; farm = old.farm; ledgers = set old.ledgers k ledger }) (with_set state k gathered)
+StandsFor-set old state k ledger gathered there is within stands = record {
+  farm = stands.farm;
+  as_many = length-set old.ledgers k ledger ∙ stands.as_many ∙ sym (length-set state.sets k gathered);
+  within = All-set (All (λ s. s < length old.sections)) state.sets k gathered within stands.within;
+  ledgers = λ j less. elim (cases_eq j k) [
+    | inl same ↦
+        subst (λ n. IsLedgerOf old.profile (sections_at old.sections (get_or (set state.sets k gathered) n [])) (get_or (set old.ledgers k ledger) n none)) (sym same)
+        (subst (λ xs. IsLedgerOf old.profile (sections_at old.sections xs) (get_or (set old.ledgers k ledger) k none)) (sym (get_or-set_same state.sets k gathered [] (subst (λ n. k < n) stands.as_many there)))
+        (subst (IsLedgerOf old.profile (sections_at old.sections gathered)) (sym (get_or-set_same old.ledgers k ledger none there)) is))
+    | inr other ↦
+        subst (λ xs. IsLedgerOf old.profile (sections_at old.sections xs) (get_or (set old.ledgers k ledger) j none)) (sym (get_or-set_other state.sets k j gathered [] other))
+        (subst (IsLedgerOf old.profile (sections_at old.sections (set_at state j))) (sym (get_or-set_other old.ledgers k j ledger none other))
+        (stands.ledgers j (subst (λ n. j < n) (length-set old.ledgers k ledger) less)))
+  ];
+}
+  where
+    none : LedgerValue
+    none = record { profile = old.profile; sections = [] }

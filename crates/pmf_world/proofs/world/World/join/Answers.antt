@@ -1,0 +1,18 @@
+use Rattle.std.proofs.Common.{rules, ◌≡◌, ◌<◌, length, subst}
+use Rattle.pmf_world.specs.declared.step.WorldAnswer.TheVariants.{Joined}
+use Rattle.pmf_world.specs.declared.step.WorldStep.TheVariants.{Join}
+use Rattle.pmf_world.specs.Worlds.{Steps}
+use Rattle.pmf_world.proofs.lemmas.GatheringLemmas.{join-itself, join-steps}
+use Rattle.pmf_world.proofs.world.World.join.Goals as goal
+
+pub returns-in_ok-join_at-clause-steps : goal.returns-in_ok-join_at-clause-steps
+returns-in_ok-join_at-clause-steps c =
+    let into : c.args.into < length c.args.self.now.ledgers = search rules in
+    let from : c.args.from < length c.args.self.now.ledgers = search rules in
+    join-steps c.args.self.now c.join_at.new.self c.args.into c.args.from into from c.in_ok-join_at.ensures.joins
+
+pub returns-else-into-from-clause-steps : goal.returns-else-into-from-clause-steps
+returns-else-into-from-clause-steps c =
+    let into : c.args.into < length c.args.self.now.ledgers = search rules in
+    let same : c.args.into ≡ c.args.from = search rules in
+    subst (λ k. Steps c.args.self.now (Join c.args.into k) Joined c.args.self.now) same (join-itself c.args.self.now c.args.into into)

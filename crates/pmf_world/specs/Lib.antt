@@ -1,0 +1,16 @@
+pub use Rattle.pmf_event.specs.Section
+pub use Rattle.pmf_verdict.specs.Checked
+pub use Rattle.pmf_ledger.specs.Gathered
+pub use Rattle.pmf_ledger.specs.LedgerValue
+pub use Rattle.pmf_ledger.specs.Names
+pub use Rattle.pmf_board.specs.Machine
+pub use Rattle.pmf_farm.specs.Repeats
+pub use Rattle.pmf_farm.specs.Running
+pub use Rattle.pmf_farm.specs.Working
+pub mod Turns
+pub mod Floors
+pub mod Steps
+pub mod Worlds
+pub mod Gatherings
+pub mod Opening
+pub mod Laws

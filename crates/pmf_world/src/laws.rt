@@ -1,0 +1,23 @@
+//! Laws of the world, each the clause of an empty function.
+
+ghost use Rattle.pmf_world.specs.Laws.{DoneWasSent, LedgersAreOfTheGathered, SetsAreOfTheGathered, TasksDiffer};
+
+/// After every list of steps, what is kept of a ledger is just what was gathered there.
+pub fn sets_are_of_the_gathered()
+    ensures { SetsAreOfTheGathered }
+{}
+
+/// After every list of steps, each ledger is just that of the sections gathered there.
+pub fn ledgers_are_of_the_gathered()
+    ensures { LedgersAreOfTheGathered }
+{}
+
+/// No two tasks that a world hands out are the same.
+pub fn tasks_differ()
+    ensures { TasksDiffer }
+{}
+
+/// Of each section that is done a message was sent.
+pub fn done_was_sent()
+    ensures { DoneWasSent }
+{}
