@@ -3,7 +3,7 @@ _pmfarm() {
     local word=${COMP_WORDS[COMP_CWORD]} before=${COMP_WORDS[COMP_CWORD - 1]} command=${COMP_WORDS[1]}
     COMPREPLY=()
     if [ "$COMP_CWORD" -eq 1 ]; then
-        mapfile -t COMPREPLY < <(compgen -W 'check explain join help --help -h --version -V' -- "$word")
+        mapfile -t COMPREPLY < <(compgen -W 'check explain join sim help --help -h --version -V' -- "$word")
     elif [ "$command" = check ] && [ "$before" = --profile ]; then
         mapfile -t COMPREPLY < <(compgen -W '1 2' -- "$word")
     elif [ "$command" = check ] && [[ "$before" != --@(run|workers) ]]; then
@@ -16,8 +16,12 @@ _pmfarm() {
         mapfile -t COMPREPLY < <(compgen -f -- "$word")
     elif [ "$command" = join ]; then
         mapfile -t COMPREPLY < <(compgen -W '--ledger --help -h' -- "$word")
+    elif [ "$command" = sim ] && [ "$before" = --log ]; then
+        mapfile -t COMPREPLY < <(compgen -f -- "$word")
+    elif [ "$command" = sim ] && [[ "$before" != --@(workers|ledgers) ]]; then
+        mapfile -t COMPREPLY < <(compgen -W '--log --workers --ledgers --help -h' -- "$word")
     elif [ "$command" = help ]; then
-        mapfile -t COMPREPLY < <(compgen -W 'check explain join' -- "$word")
+        mapfile -t COMPREPLY < <(compgen -W 'check explain join sim' -- "$word")
     fi
 }
 complete -F _pmfarm pmfarm

@@ -21,6 +21,10 @@ use Rattle.pmf_stream.specs.declared.joining.JoinTextFault.{JoinTextFault}
 use Rattle.pmf_stream.specs.declared.joining.JoinTextFault.TheVariants as texts
 use Rattle.pmf_stream.specs.declared.fault.StreamFault.{StreamFault}
 use Rattle.pmf_stream.specs.declared.fault.StreamFault.TheVariants as stream
+use Rattle.pmf_world.specs.declared.fault.WorldNewFault.{WorldNewFault}
+use Rattle.pmf_world.specs.declared.fault.WorldNewFault.TheVariants as new
+use Rattle.pmf_sim.specs.declared.simulating.SimFault.{SimFault}
+use Rattle.pmf_sim.specs.declared.simulating.SimFault.TheVariants as sim
 use Rattle.pmf_command.specs.declared.status.Status.{Status}
 use Rattle.pmf_command.specs.declared.status.Status.TheVariants.{NoFail, SomeFail, Refused, NoMemory, DeviceFault}
 
@@ -71,7 +75,7 @@ abbrev pub status_of_check_fault : CheckLogFault → Status
 status_of_check_fault (checking.Log fault) = status_of_log_fault fault
 status_of_check_fault (checking.Farm fault) = status_of_farm_fault fault
 
--- how the program ends where the event is explained
+-- how the program ends where the event is explained, or the schedule played
 abbrev pub status_of_asked : Unit {0} → Status
 status_of_asked done = NoFail
 
@@ -102,6 +106,19 @@ abbrev pub status_of_text_fault : JoinTextFault → Status
 status_of_text_fault (texts.Load index fault) = status_of_ledger_fault fault
 status_of_text_fault (texts.Join fault) = status_of_join_fault fault
 status_of_text_fault texts.OutOfMemory = NoMemory
+
+-- how the program ends where there is no such world
+abbrev pub status_of_new_fault : WorldNewFault → Status
+status_of_new_fault new.OutOfMemory = NoMemory
+status_of_new_fault _ = Refused
+
+-- how the program ends where the schedule is not played
+abbrev pub status_of_sim_fault : SimFault → Status
+status_of_sim_fault sim.TooLong = Refused
+status_of_sim_fault (sim.BadStep line) = Refused
+status_of_sim_fault (sim.Log fault) = status_of_log_fault fault
+status_of_sim_fault (sim.New fault) = status_of_new_fault fault
+status_of_sim_fault sim.OutOfMemory = NoMemory
 
 -- how the program ends where the stream is not answered, from how it ends after a refusal
 abbrev pub status_of_fault : {E : Type 0} → (E → Status) → StreamFault E → Status

@@ -1,8 +1,9 @@
 //! What the program does.
 
-ghost use Rattle.std.specs.Prelude.{◌≡◌, ◌⊎◌, ◌↔◌, ◌+◌, map, Result};
+ghost use Rattle.std.specs.Prelude.{◌≡◌, ◌⊎◌, ◌↔◌, ◌<◌, ◌+◌, ◌^◌, map, Result};
 ghost use Rattle.std.specs.Io.KnownBytes.{Appends};
 ghost use Rattle.clap.specs.Words.{kind_of};
+ghost use Rattle.pmf_sim.specs.Simulation.{IsSimRefusalOf, IsSimulationOf};
 ghost use Rattle.pmf_stream.specs.Answering.{Answers, TellsFaults};
 ghost use Rattle.pmf_stream.specs.Asking.{IsExplanationOf, IsRefusalOf};
 ghost use Rattle.pmf_stream.specs.Checking.{IsCheckFaultOf, IsReportOf};
@@ -14,14 +15,16 @@ ghost use Rattle.pmf_stream.specs.declared.explaining.ExplainFault.{ExplainFault
 ghost use Rattle.pmf_stream.specs.declared.fault.StreamFault.{StreamFault};
 ghost use Rattle.pmf_stream.specs.declared.joining.Joined.{Joined};
 ghost use Rattle.pmf_stream.specs.declared.joining.JoinTextFault.{JoinTextFault};
-ghost use Rattle.pmf_command.specs.Statuses.{IsAnswerTo, status_of, status_of_asked, status_of_check_fault, status_of_done, status_of_joined, status_of_refusal, status_of_text_fault};
+ghost use Rattle.pmf_command.specs.Statuses.{IsAnswerTo, status_of, status_of_asked, status_of_check_fault, status_of_done, status_of_joined, status_of_refusal, status_of_sim_fault, status_of_text_fault};
 
 use crate::diagnostics::{fail, fail_file, out_of_memory, refuse_words, say_skipped};
 use crate::ending::Ending;
-use crate::request::{Files, Request, request_of};
+use crate::request::{Files, Request, Simulation, request_of};
 use crate::status::Status;
 use pmf_farm::OpenGate;
 use pmf_ledger::LEDGER_LIMIT;
+use pmf_sim::{SCHEDULE_LIMIT, SimFault, sim_to};
+use pmf_storelog::LOG_LIMIT;
 use pmf_stream::{
     JoinTextFault, Joined, Question, Settings, Sink, Source, StdSink, StdSource, StreamFault,
     check_stream, explain_stream, join_to, read_all, write_text,
@@ -46,6 +49,7 @@ pub fn run<T: Threads + Wait + Sync>(rt: &HostRuntime, threads: &T) -> Status {
         Ok(Request::Check(settings)) => run_check(rt, threads, settings),
         Ok(Request::Explain(question)) => run_explain(rt, question),
         Ok(Request::Join(files)) => run_join(rt, &files),
+        Ok(Request::Sim(simulation)) => run_sim(rt, &simulation),
         Err(error) => answer(rt, alloc, &error),
     }
 }
@@ -143,10 +147,9 @@ fn run_join(rt: &HostRuntime, files: &Files) -> Status {
     let alloc = rt.alloc();
     let mut texts = Vec::new(alloc);
     for name in files.names.iter() {
-        let text = match read_file(rt, *name) {
+        let text = match read_file::<JoinTextFault>(rt, *name, LEDGER_LIMIT) {
             Ok(text) => text,
-            Err(StreamFault::OutOfMemory) => return out_of_memory(rt),
-            Err(fault) => return fail_file(rt, *name, fault, Status::DeviceFault),
+            Err(status) => return status,
         };
         if texts.push(text).is_err() {
             return out_of_memory(rt);
@@ -154,6 +157,48 @@ fn run_join(rt: &HostRuntime, files: &Files) -> Status {
     }
     let mut sink = StdSink::new(io::writer(rt));
     join_all(rt, alloc, &files.names, &texts, &mut sink, files.ledger)
+}
+
+/// Plays the schedule on standard input with the sections of the log in the file, which is read first, and writes what
+/// comes of it to standard output.
+fn run_sim(rt: &HostRuntime, simulation: &Simulation) -> Status {
+    let alloc = rt.alloc();
+    let log = match read_file::<SimFault>(rt, simulation.log, LOG_LIMIT) {
+        Ok(log) => log,
+        Err(status) => return status,
+    };
+    let schedule = match read_all(alloc, &mut StdSource::new(rt.reader()), SCHEDULE_LIMIT) {
+        Ok(schedule) => schedule,
+        Err(fault) => return tell::<_, (), SimFault>(rt, Err(fault)),
+    };
+    let mut sink = StdSink::new(io::writer(rt));
+    let Simulation {
+        workers, ledgers, ..
+    } = *simulation;
+    play_to(rt, alloc, &log, &schedule, workers, ledgers, &mut sink)
+}
+
+/// Plays the schedule with the sections of the log, and writes what comes of it to the sink.
+fn play_to<R: Eprint, W: Sink>(
+    rt: &R,
+    alloc: Global,
+    log: &[u8],
+    schedule: &[u8],
+    workers: u32,
+    ledgers: u32,
+    sink: &mut W,
+) -> Status
+    requires { CanCountOneMore (W.failed_calls sink.old) }
+    ensures { (answer : Result (Unit {0}) (StreamFault SimFault))
+        × (result ≡ status_of status_of_asked status_of_sim_fault answer)
+        × Answers (IsSimulationOf log.now schedule.now workers ledgers)
+        (IsSimRefusalOf log.now schedule.now workers ledgers)
+        (W.held sink.old) (W.held sink.new) answer
+        × TellsFaults 0 0 (W.failed_calls sink.old) (W.failed_calls sink.new)
+        sink.old sink.new answer }
+{
+    let answer = sim_to(alloc, log, schedule, workers, ledgers, sink);
+    tell(rt, answer)
 }
 
 /// Joins the texts of the files with these names and writes the report of all, or their ledger text, to the sink.
@@ -178,8 +223,14 @@ fn join_all<R: Eprint, W: Sink>(
     tell_joined(rt, names, answer)
 }
 
-// The bytes of the file, at most one more than a ledger text may have.
-fn read_file(rt: &HostRuntime, name: &str) -> Result<Vec<u8>, StreamFault<JoinTextFault>> {
+// The bytes of the file, at most one more than the limit.
+fn bytes_of<E: Drop>(
+    rt: &HostRuntime,
+    name: &str,
+    limit: usize,
+) -> Result<Vec<u8>, StreamFault<E>>
+    requires { limit < 2 ^ 63 }
+{
     let file = match fs::open(rt, name) {
         Ok(file) => file,
         Err(error) if error.kind() == ErrorKind::OutOfMemory => {
@@ -187,7 +238,22 @@ fn read_file(rt: &HostRuntime, name: &str) -> Result<Vec<u8>, StreamFault<JoinTe
         }
         Err(_) => return Err(StreamFault::ReadFault),
     };
-    read_all(rt.alloc(), &mut StdSource::new(file), LEDGER_LIMIT)
+    read_all(rt.alloc(), &mut StdSource::new(file), limit)
+}
+
+// The same, or how the program ends without them, which is said on standard error.
+fn read_file<E: Display + Drop>(
+    rt: &HostRuntime,
+    name: &str,
+    limit: usize,
+) -> Result<Vec<u8>, Status>
+    requires { limit < 2 ^ 63 }
+{
+    match bytes_of::<E>(rt, name, limit) {
+        Ok(bytes) => Ok(bytes),
+        Err(StreamFault::OutOfMemory) => Err(out_of_memory(rt)),
+        Err(fault) => Err(fail_file(rt, name, fault, Status::DeviceFault)),
+    }
 }
 
 /// Says on standard error why the texts of these files are not joined, if they are not, and how the program ends.

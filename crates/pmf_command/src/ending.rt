@@ -1,14 +1,16 @@
 //! The status of each answer of a command.
 
 ghost use Rattle.std.specs.Prelude.{◌≡◌};
-ghost use Rattle.pmf_command.specs.Statuses.{status_of_asked, status_of_check_fault, status_of_done, status_of_farm_fault, status_of_fails, status_of_fault, status_of_join_fault, status_of_joined, status_of_ledger_fault, status_of_log_fault, status_of_refusal, status_of_text_fault};
+ghost use Rattle.pmf_command.specs.Statuses.{status_of_asked, status_of_check_fault, status_of_done, status_of_farm_fault, status_of_fails, status_of_fault, status_of_join_fault, status_of_joined, status_of_ledger_fault, status_of_log_fault, status_of_new_fault, status_of_refusal, status_of_sim_fault, status_of_text_fault};
 ghost use Rattle.pmf_command.specs.declared.status.Status.{Status};
 
 use crate::status::Status;
 use pmf_farm::FarmFault;
 use pmf_ledger::{JoinFault, LedgerFault};
+use pmf_sim::SimFault;
 use pmf_storelog::{Cause, LogFault};
 use pmf_stream::{CheckLogFault, Done, ExplainFault, JoinTextFault, Joined, StreamFault};
+use pmf_world::WorldNewFault;
 
 /// What a command did, or why it refused: the program ends as this says.
 pub trait Ending {
@@ -145,6 +147,36 @@ impl Ending for JoinTextFault {
             JoinTextFault::Load { fault, .. } => fault.status(),
             JoinTextFault::Join(fault) => fault.status(),
             JoinTextFault::OutOfMemory => Status::NoMemory,
+        }
+    }
+}
+
+/// There is no such world.
+impl Ending for WorldNewFault {
+    ghost ends_as = { status_of_new_fault };
+
+    fn status(&self) -> Status {
+        match self {
+            WorldNewFault::OutOfMemory => Status::NoMemory,
+            WorldNewFault::NoWorkers
+            | WorldNewFault::TooManyWorkers
+            | WorldNewFault::TooManySections
+            | WorldNewFault::TwiceNamed { .. }
+            | WorldNewFault::TooManyLedgers => Status::Refused,
+        }
+    }
+}
+
+/// The schedule is not played.
+impl Ending for SimFault {
+    ghost ends_as = { status_of_sim_fault };
+
+    fn status(&self) -> Status {
+        match self {
+            SimFault::TooLong | SimFault::BadStep { .. } => Status::Refused,
+            SimFault::Log(fault) => fault.status(),
+            SimFault::New(fault) => fault.status(),
+            SimFault::OutOfMemory => Status::NoMemory,
         }
     }
 }

@@ -16,5 +16,5 @@ mod status;
 
 pub use commands::run;
 pub use ending::Ending;
-pub use request::{Files, Request, request_of};
+pub use request::{Files, Request, Simulation, request_of};
 pub use status::Status;

@@ -18,9 +18,12 @@ Examples:
   pmfarm check --ledger --run 7 < store.log > 7.ledger
                                     the checked sections themselves, to be joined
   pmfarm join 7.ledger 8.ledger     the report of both, each section once
+  pmfarm sim --log store.log --workers 2 --ledgers 1 < steps.schedule
+                                    what each step of the schedule comes to
 
 Exit status:
-  0  no row of the report counts as fail, or the event was explained
+  0  no row of the report counts as fail, or the event was explained, or the
+     schedule was played
   1  some row counts as fail
   2  the input or the command line was refused
   3  memory ran out
@@ -35,6 +38,17 @@ pub struct Files<'a> {
     pub ledger: bool,
 }
 
+/// In which world a schedule is to be played.
+#[derive(Debug, PartialEq, Drop)]
+pub struct Simulation<'a> {
+    /// The file of the log whose sections the world is of.
+    pub log: &'a str,
+    /// How many workers there are.
+    pub workers: u32,
+    /// How many ledgers there are.
+    pub ledgers: u32,
+}
+
 /// What the words of a command line ask for.
 #[derive(Debug, PartialEq, Drop)]
 pub enum Request<'a> {
@@ -44,13 +58,16 @@ pub enum Request<'a> {
     Explain(Question),
     /// Join the ledgers of the files, and write the report of all, or their ledger text, to standard output.
     Join(Files<'a>),
+    /// Play the schedule on standard input, and write what each step comes to, and each ledger's report, to standard
+    /// output.
+    Sim(Simulation<'a>),
 }
 
 /// Reads the words, the first of which is the program's name. Help and the version come as errors
 /// of their own kind, and so does want of memory.
 pub fn request_of<'a>(alloc: Global, words: &'a [String]) -> Result<Request<'a>, Error> {
     let matches = program(alloc)?.try_get_matches_from(words)?;
-    // There are three commands, and the parser lets nothing pass without one.
+    // There are four commands, and the parser lets nothing pass without one.
     if let Some(explain) = matches.subcommand_matches("explain") {
         return Ok(Request::Explain(Question {
             run: explain.get_one::<u64>("run").unwrap_or(0),
@@ -65,6 +82,13 @@ pub fn request_of<'a>(alloc: Global, words: &'a [String]) -> Result<Request<'a>,
         return Ok(Request::Join(Files {
             names,
             ledger: join.get_flag("ledger"),
+        }));
+    }
+    if let Some(sim) = matches.subcommand_matches("sim") {
+        return Ok(Request::Sim(Simulation {
+            log: sim.get_str("log").unwrap_or(""),
+            workers: sim.get_one::<u32>("workers").unwrap_or(0),
+            ledgers: sim.get_one::<u32>("ledgers").unwrap_or(0),
         }));
     }
     let settings = match matches.subcommand_matches("check") {
@@ -101,7 +125,8 @@ fn program<'a>(alloc: Global) -> Result<Command<'a>, Error> {
         .subcommand_required(true)
         .subcommand(check(alloc)?)?
         .subcommand(explain(alloc)?)?
-        .subcommand(join(alloc)?)?;
+        .subcommand(join(alloc)?)?
+        .subcommand(sim(alloc)?)?;
     Ok(program)
 }
 
@@ -185,4 +210,31 @@ fn join<'a>(alloc: Global) -> Result<Command<'a>, Error> {
         .arg(ledger(alloc))?
         .arg(file)?;
     Ok(join)
+}
+
+fn sim<'a>(alloc: Global) -> Result<Command<'a>, Error> {
+    let log = Arg::new(alloc, "log")
+        .long("log")
+        .value_name("FILE")
+        .required(true)
+        .help("The log with whose sections the schedule is played");
+    let workers = Arg::new(alloc, "workers")
+        .long("workers")
+        .value_name("W")
+        .value_parser(value_parser!(u32))
+        .required(true)
+        .help("How many workers there are, 1 to 64");
+    let ledgers = Arg::new(alloc, "ledgers")
+        .long("ledgers")
+        .value_name("K")
+        .value_parser(value_parser!(u32))
+        .required(true)
+        .help("How many ledgers there are, 0 to 64");
+    let sim = Command::new(alloc, "sim")
+        .about("Plays a schedule from standard input by hand, and writes what each step comes to")
+        .after_help(AFTER_HELP)
+        .arg(log)?
+        .arg(workers)?
+        .arg(ledgers)?;
+    Ok(sim)
 }

@@ -1,4 +1,15 @@
-//! The world: every schedule of a farm, run by hand.
+//! The world: every schedule of a farm, played by hand.
+//!
+//! A [`World`] is the machine of a farm as a value: sections with their hand-outs, workers that take, check, send, mark and
+//! may be lost at any point, messages that arrive any number of times and in any order, and ledgers that are joined. It is
+//! stepped by [`World::step`], whose answer, refusal and world after it are those of `specs/Steps` and `specs/Turns`, for every
+//! state that the world stands for (`specs/Worlds`); a refusal leaves the world as it was. [`World::new`] gives the first state,
+//! or refuses exactly what `specs/Opening` says.
+//!
+//! Of those definitions alone, the laws of `specs/Laws` hold after every list of steps: each ledger is that of just the sections
+//! gathered there, no task is given twice, and of each section that is done a message was sent.
+//!
+//! Not promised here: that memory suffices, or that the threads of a running farm make one list of such steps.
 #![tactic(auto)]
 
 mod doing;

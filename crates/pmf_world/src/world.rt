@@ -20,6 +20,9 @@ use std::alloc::{AllocError, Global};
 use std::marker::Model;
 use std::sync::Arc;
 
+// How often a section is handed out at most.
+const MOST_HANDOUTS: u32 = 8;
+
 /// The same machine as a farm, as a value that is stepped by hand: sections with their hand-outs, workers that take,
 /// check, send, mark and may be lost, messages that arrive any number of times in any order, and ledgers that are joined.
 /// Contracts see what it is of, its farm, and its ledgers.
@@ -105,7 +108,7 @@ impl World {
     {
         match step {
             WorldStep::Fresh { worker, section } => self.floor.take(worker, section, 1),
-            WorldStep::Again { worker, section } => self.floor.take(worker, section, 8),
+            WorldStep::Again { worker, section } => self.floor.take(worker, section, MOST_HANDOUTS),
             WorldStep::Check { worker } => self.floor.check_task(worker),
             WorldStep::Send { worker } => self.floor.send(worker),
             WorldStep::Mark { worker } => self.floor.mark_sent(worker),

@@ -13,12 +13,16 @@ ghost use Rattle.pmf_command.specs.Statuses.{exit_code_of};
 #[cfg(test)]
 mod words_tests;
 
-pub use pmf_command::{Files, Request, Status, request_of};
+pub use pmf_command::{Files, Request, Simulation, Status, request_of};
 pub use pmf_farm::{FarmFault, Gate, OpenGate, Turn};
+pub use pmf_sim::{SCHEDULE_LIMIT, SimFault, sim_text, sim_to};
 pub use pmf_stream::{
     CheckLogFault, Counted, Cut, Device, Done, ExplainFault, Failed, JoinTextFault, Joined,
     Question, Settings, Sink, Source, StdSink, StdSource, StreamFault, check_stream,
     explain_stream, explain_text, join_texts, join_to, read_all, write_text,
+};
+pub use pmf_world::{
+    MOST_LEDGERS, World, WorldAnswer, WorldFault, WorldNewFault, WorldStep,
 };
 use std::process::ExitCode;
 

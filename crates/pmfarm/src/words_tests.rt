@@ -1,6 +1,6 @@
 //! What the words of the command line ask for, and the status where they are refused.
 
-use crate::{Files, Question, Request, Settings, Status, request_of};
+use crate::{Files, Question, Request, Settings, Simulation, Status, request_of};
 use pmf_event::Profile;
 use std::alloc::{AllocError, Global};
 use std::process::Abort;
@@ -289,6 +289,70 @@ fn help_and_the_version_are_no_fault(rt: HostRuntime) -> Result<(), Fail> {
     ];
     for words in cases {
         ends(&rt, rt.alloc(), words, Status::NoFail)?;
+    }
+    Ok(())
+}
+
+#[test]
+fn sim_takes_a_log_workers_and_ledgers(rt: HostRuntime) -> Result<(), Fail> {
+    let cases = [
+        (
+            &[
+                "pmfarm", "sim", "--log", "a.log", "--workers", "2", "--ledgers", "3",
+            ][..],
+            2,
+            3,
+        ),
+        (
+            &[
+                "pmfarm",
+                "sim",
+                "--ledgers=0",
+                "--log=a.log",
+                "--workers=4294967295",
+            ][..],
+            u32::MAX,
+            0,
+        ),
+    ];
+    for (words, workers, ledgers) in cases {
+        asks(
+            &rt,
+            rt.alloc(),
+            words,
+            Request::Sim(Simulation {
+                log: "a.log",
+                workers,
+                ledgers,
+            }),
+        )?;
+    }
+    Ok(())
+}
+
+#[test]
+fn sim_refuses_other_words(rt: HostRuntime) -> Result<(), Fail> {
+    let cases = [
+        &["pmfarm", "sim"][..],
+        &["pmfarm", "sim", "--log", "a.log", "--workers", "2"][..],
+        &["pmfarm", "sim", "--log", "a.log", "--ledgers", "2"][..],
+        &["pmfarm", "sim", "--workers", "2", "--ledgers", "2"][..],
+        &[
+            "pmfarm",
+            "sim",
+            "--log",
+            "a.log",
+            "--workers",
+            "4294967296",
+            "--ledgers",
+            "2",
+        ][..],
+        &[
+            "pmfarm", "sim", "--log", "a.log", "--workers", "2", "--ledgers", "x",
+        ][..],
+    ];
+    for words in cases {
+        ends(&rt, rt.alloc(), words, Status::Refused)?;
     }
     Ok(())
 }
