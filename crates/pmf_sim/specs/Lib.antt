@@ -10,4 +10,5 @@ pub use Rattle.pmf_world.specs.Worlds
 pub mod Schedule
 pub mod Reading
 pub mod Lines
+pub mod Playing
 pub mod Simulation

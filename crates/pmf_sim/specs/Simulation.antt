@@ -58,3 +58,11 @@ IsSimFault log schedule workers ledgers (fault.Log found) =
 IsSimFault log schedule workers ledgers (fault.New found) =
     (steps : List WorldStep) × (read : LogValue) × IsSchedule schedule steps × (log_of 0 log ≡ Ok read) × IsNumbersFault workers ledgers found
 IsSimFault log schedule workers ledgers fault.OutOfMemory = Unit {0}
+
+-- the same, of what a command writes that answers nothing else
+abbrev pub IsSimulationOf : List ℕ → List ℕ → ℕ → ℕ → Unit {0} → List ℕ → Type 0
+IsSimulationOf log schedule workers ledgers done text = IsSimulation log schedule workers ledgers text
+
+-- the same, of what a command refuses that tells want of memory apart
+abbrev pub IsSimRefusalOf : List ℕ → List ℕ → ℕ → ℕ → SimFault → Type 0
+IsSimRefusalOf log schedule workers ledgers found = (found ≢ fault.OutOfMemory) × IsSimFault log schedule workers ledgers found

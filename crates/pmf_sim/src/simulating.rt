@@ -1,10 +1,17 @@
-//! Why a schedule was not simulated.
+//! From a log and a schedule to the text of the simulation.
 
-ghost use Rattle.std.specs.Prelude.{◌≡◌};
+ghost use Rattle.std.specs.Prelude.{◌≡◌, ℕ, List, MatchResult};
+ghost use Rattle.pmf_stream.specs.Answering.{Answers, TellsFaults};
+ghost use Rattle.pmf_stream.specs.Failures.{CanCountOneMore};
+ghost use Rattle.pmf_sim.specs.Simulation.{IsSchedule, IsSimFault, IsSimRefusalOf, IsSimulation, IsSimulationOf};
 
-use pmf_storelog::LogFault;
-use pmf_world::WorldNewFault;
-use std::alloc::AllocError;
+use crate::playing::{play_all, push_ledgers};
+use crate::schedule::{ScheduleFault, read_schedule};
+use pmf_event::Profile;
+use pmf_storelog::{LogFault, read_log};
+use pmf_stream::{Sink, StreamFault, write_answer};
+use pmf_world::{World, WorldNewFault, WorldStep};
+use std::alloc::{AllocError, Global};
 use thiserror::Error;
 
 /// The greatest length of a schedule, in bytes: 2^20.
@@ -41,4 +48,85 @@ impl From<AllocError> for SimFault {
     fn from(_refused: AllocError) -> SimFault {
         SimFault::OutOfMemory
     }
+}
+
+// The steps of a schedule that is not too long.
+fn read_steps(alloc: Global, schedule: &[u8]) -> Result<Vec<WorldStep>, SimFault>
+    ensures { MatchResult result (λ steps. IsSchedule schedule.now steps.items)
+        (λ fault. (log : List ℕ) (workers ledgers : ℕ)
+        → IsSimFault log schedule.now workers ledgers fault) }
+{
+    if schedule.len() > SCHEDULE_LIMIT {
+        return Err(SimFault::TooLong);
+    }
+    match read_schedule(alloc, schedule) {
+        Ok(steps) => Ok(steps),
+        Err(ScheduleFault::BadLine { line }) => Err(SimFault::BadStep { line }),
+        Err(ScheduleFault::OutOfMemory) => Err(SimFault::OutOfMemory),
+    }
+}
+
+/// Plays the schedule in a world of the log's sections by profile One, with so many workers and ledgers: of each step a
+/// text line with its number and what came of it, and behind them the report of each ledger. A refused step is told like
+/// any other, and the schedule goes on.
+///
+/// Takes memory for the steps, the log, the world and the text.
+pub fn sim_text(
+    alloc: Global,
+    log: &[u8],
+    schedule: &[u8],
+    workers: u32,
+    ledgers: u32,
+) -> Result<Vec<u8>, SimFault>
+    ensures { MatchResult result
+        (λ text. IsSimulation log.now schedule.now workers ledgers text.items)
+        (IsSimFault log.now schedule.now workers ledgers) }
+{
+    let steps = match read_steps(alloc, schedule) {
+        Ok(steps) => steps,
+        Err(fault) => return Err(fault),
+    };
+    let read = match read_log(alloc, log, 0) {
+        Ok(read) => read,
+        Err(fault) => return Err(SimFault::Log(fault)),
+    };
+    let mut world = match World::new(alloc, read.sections(), workers, ledgers, Profile::One) {
+        Ok(world) => world,
+        Err(fault) => return Err(SimFault::New(fault)),
+    };
+    let lines = play_all(alloc, &mut world, &steps)?;
+    let mut text = lines.into_bytes();
+    push_ledgers(alloc, &mut text, &world, ledgers)?;
+    Ok(text)
+}
+
+/// Plays the schedule as [`sim_text`] does, and writes the text. Nothing is written before the schedule is played to its
+/// end.
+///
+/// Refusals: [`StreamFault::Refused`] and [`StreamFault::OutOfMemory`], then [`StreamFault::WriteFault`]. Takes memory
+/// as [`sim_text`] does.
+pub fn sim_to<W: Sink>(
+    alloc: Global,
+    log: &[u8],
+    schedule: &[u8],
+    workers: u32,
+    ledgers: u32,
+    writer: &mut W,
+) -> Result<(), StreamFault<SimFault>>
+    requires { CanCountOneMore (W.failed_calls writer.old) }
+    // Exactly the text of the simulation was written, or there is none.
+    ensures answer { Answers (IsSimulationOf log.now schedule.now workers ledgers)
+        (IsSimRefusalOf log.now schedule.now workers ledgers)
+        (W.held writer.old) (W.held writer.new) result }
+    ensures faults { TellsFaults 0 0 (W.failed_calls writer.old) (W.failed_calls writer.new)
+        writer.old writer.new result }
+{
+    let text = match sim_text(alloc, log, schedule, workers, ledgers) {
+        Ok(text) => text,
+        Err(fault) => match fault {
+            SimFault::OutOfMemory => return Err(StreamFault::OutOfMemory),
+            _ => return Err(StreamFault::Refused(fault)),
+        },
+    };
+    write_answer(writer, &text, ())
 }
