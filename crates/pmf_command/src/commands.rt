@@ -173,7 +173,9 @@ fn run_sim(rt: &HostRuntime, simulation: &Simulation) -> Status {
     };
     let mut sink = StdSink::new(io::writer(rt));
     let Simulation {
-        workers, ledgers, ..
+        workers,
+        ledgers,
+        ..
     } = *simulation;
     play_to(rt, alloc, &log, &schedule, workers, ledgers, &mut sink)
 }
@@ -224,11 +226,7 @@ fn join_all<R: Eprint, W: Sink>(
 }
 
 // The bytes of the file, at most one more than the limit.
-fn bytes_of<E: Drop>(
-    rt: &HostRuntime,
-    name: &str,
-    limit: usize,
-) -> Result<Vec<u8>, StreamFault<E>>
+fn bytes_of<E: Drop>(rt: &HostRuntime, name: &str, limit: usize) -> Result<Vec<u8>, StreamFault<E>>
     requires { limit < 2 ^ 63 }
 {
     let file = match fs::open(rt, name) {

@@ -16,5 +16,7 @@ mod lines;
 mod playing;
 mod schedule;
 mod simulating;
+#[cfg(test)]
+mod tests;
 
 pub use simulating::{SCHEDULE_LIMIT, SimFault, sim_text, sim_to};

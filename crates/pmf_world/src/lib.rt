@@ -18,6 +18,8 @@ mod floor;
 mod gathering;
 mod laws;
 mod step;
+#[cfg(test)]
+mod tests;
 mod turns;
 mod world;
 

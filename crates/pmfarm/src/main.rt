@@ -21,9 +21,7 @@ pub use pmf_stream::{
     Question, Settings, Sink, Source, StdSink, StdSource, StreamFault, check_stream,
     explain_stream, explain_text, join_texts, join_to, read_all, write_text,
 };
-pub use pmf_world::{
-    MOST_LEDGERS, World, WorldAnswer, WorldFault, WorldNewFault, WorldStep,
-};
+pub use pmf_world::{MOST_LEDGERS, World, WorldAnswer, WorldFault, WorldNewFault, WorldStep};
 use std::process::ExitCode;
 
 fn main(rt: HostRuntime) -> ExitCode {

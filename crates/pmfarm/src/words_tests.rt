@@ -298,7 +298,14 @@ fn sim_takes_a_log_workers_and_ledgers(rt: HostRuntime) -> Result<(), Fail> {
     let cases = [
         (
             &[
-                "pmfarm", "sim", "--log", "a.log", "--workers", "2", "--ledgers", "3",
+                "pmfarm",
+                "sim",
+                "--log",
+                "a.log",
+                "--workers",
+                "2",
+                "--ledgers",
+                "3",
             ][..],
             2,
             3,
@@ -348,7 +355,14 @@ fn sim_refuses_other_words(rt: HostRuntime) -> Result<(), Fail> {
             "2",
         ][..],
         &[
-            "pmfarm", "sim", "--log", "a.log", "--workers", "2", "--ledgers", "x",
+            "pmfarm",
+            "sim",
+            "--log",
+            "a.log",
+            "--workers",
+            "2",
+            "--ledgers",
+            "x",
         ][..],
     ];
     for words in cases {
