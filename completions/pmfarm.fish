@@ -14,7 +14,7 @@ complete -c pmfarm -n '__fish_seen_subcommand_from check explain' -l run -x -d '
 complete -c pmfarm -n '__fish_seen_subcommand_from check explain' -l profile -x -a '1 2' -d 'the rule for two bytes of one cache line'
 complete -c pmfarm -n '__fish_seen_subcommand_from check join' -l ledger -d 'write the ledger text instead of the report'
 complete -c pmfarm -n '__fish_seen_subcommand_from join' -F
-complete -c pmfarm -n '__fish_seen_subcommand_from sim' -l log -r -F -d 'the log whose sections are played with'
+complete -c pmfarm -n '__fish_seen_subcommand_from sim' -l log -x -a '(__fish_complete_path)' -d 'the log whose sections are played with'
 complete -c pmfarm -n '__fish_seen_subcommand_from sim' -l workers -x -d 'how many workers there are'
 complete -c pmfarm -n '__fish_seen_subcommand_from sim' -l ledgers -x -d 'how many ledgers there are'
 complete -c pmfarm -n '__fish_seen_subcommand_from help' -a 'check explain join sim'
