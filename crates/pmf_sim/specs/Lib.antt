@@ -5,6 +5,8 @@ pub use Rattle.pmf_storelog.specs.Numbers
 pub use Rattle.pmf_ledger.specs.LedgerValue
 pub use Rattle.pmf_ledger.specs.Report
 pub use Rattle.pmf_farm.specs.Running
+pub use Rattle.pmf_stream.specs.Answering
+pub use Rattle.pmf_stream.specs.Failures
 pub use Rattle.pmf_world.specs.Steps
 pub use Rattle.pmf_world.specs.Worlds
 pub mod Schedule
