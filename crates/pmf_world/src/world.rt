@@ -61,7 +61,7 @@ fn empty_ledgers(alloc: Global, profile: Profile, count: u32) -> Result<Vec<Ledg
 impl World {
     /// A world of these sections by the profile, with so many idle workers and empty ledgers, in which nothing has happened.
     ///
-    /// Takes memory for 24 bytes a section, for the workers and the ledgers, and for a while for a sort of the sections.
+    /// Takes memory for 16 bytes a section, for the workers and the ledgers, and for a while for a sort of the sections.
     pub fn new(
         alloc: Global,
         sections: &[Arc<Section>],
