@@ -5,5 +5,6 @@ pub mod RangeLemmas
 pub mod LeastPairLemmas
 pub mod IntervalLemmas
 pub mod WriteBackLemmas
+pub mod LineBytesLemmas
 pub mod TransactionLemmas
 pub mod WorkedRows

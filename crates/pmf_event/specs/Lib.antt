@@ -11,5 +11,6 @@ pub mod Exclusion
 pub mod Persist
 pub mod Order
 pub mod FlushWarnings
+pub mod LineBytes
 pub mod Transactions
 pub mod Laws

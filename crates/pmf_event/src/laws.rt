@@ -1,6 +1,7 @@
 //! Laws of the definitions, each the clause of an empty function.
 
 ghost use Rattle.pmf_event.specs.Laws.{MeetsTheLinesOfItsBytes, MeetsTheLinesOfItsNumbers, MeetsWhereAByteIsShared};
+ghost use Rattle.pmf_event.specs.LineBytes.{LinesFollowFromTheirBytes};
 
 /// A span meets exactly the cache lines of the bytes that it covers.
 pub fn span_meets_the_lines_of_its_bytes()
@@ -16,4 +17,10 @@ pub fn spans_meet_where_a_byte_is_shared()
 /// numbers.
 pub fn span_meets_the_lines_of_its_numbers()
     ensures { MeetsTheLinesOfItsNumbers }
+{}
+
+/// A cache line is clean exactly where no byte of it is undurable, and pending exactly where some byte of
+/// it is undurable and none is unwritten: the state of a line follows from its bytes.
+pub fn lines_follow_from_their_bytes()
+    ensures { LinesFollowFromTheirBytes }
 {}
