@@ -1,11 +1,7 @@
 pub mod OrderLemmas
-pub mod RunLemmas
-pub mod ChangeLemmas
-pub mod WalkLemmas
-pub mod KeptLemmas
-pub mod RoomLemmas
-pub mod AskingLemmas
+pub mod BoundsLemmas
 pub mod StandsLemmas
+pub mod StretchLemmas
 pub mod QuestionLemmas
 pub mod PairLemmas
 pub mod PieceLemmas

@@ -1,6 +1,6 @@
--- The shadow stands for one more event: what the definitions say of a byte and of a line after it, and
--- that the changed runs say the same.
-use Rattle.std.proofs.Common.{◌≡◌, ℕ, suc, ◌+◌, ◌-◌, ◌*◌, ◌/◌, ◌<◌, ◌≤◌, Bool, true, false, ◌==◌, if◌then◌else◌, List, refl, sym, ◌∙◌, ap, arith, inl, inr}
+-- The shadow stands for one more event: what the definitions say of a byte after it, and that the changed
+-- runs say the same.
+use Rattle.std.proofs.Common.{◌≡◌, ℕ, zero, suc, ◌+◌, ◌-◌, ◌*◌, ◌/◌, ◌<◌, ◌≤◌, Bool, true, false, ◌==◌, if◌then◌else◌, List, refl, sym, ◌∙◌, ap, subst, arith, inl, inr}
 use Rattle.std.specs.Prelude.{Option, Some, None, is_none}
 use Rattle.std.proofs.lemmas.Bool.{cases_eq, leb-true, le-leb, lt-ltb, and_parts, and_from, ne_eqb, ltb-true}
 use Rattle.std.proofs.lemmas.Bool.Decides.{Decides-eqb}
@@ -10,22 +10,23 @@ use Rattle.pmf_event.specs.declared.event.Event.TheVariants.{Store, Flush, Fence
 use Rattle.pmf_event.specs.Span.{Extent}
 use Rattle.pmf_event.specs.Line.{line_of_byte, meets_line}
 use Rattle.pmf_event.specs.Places.{count}
-use Rattle.pmf_event.specs.Store.{event_at, at, stores, stores_line, flushes, is_fence, last, last_store, epoch_of}
+use Rattle.pmf_event.specs.Store.{event_at, at, stores, flushes, is_fence, last_store, epoch_of}
 use Rattle.pmf_event.specs.WriteBack.{write_back_epoch}
 use Rattle.pmf_event.specs.Exclusion.{excludes, marks, is_excluded}
+use Rattle.pmf_event.specs.LineBytes.{HasBytes}
 use Rattle.pmf_event.proofs.PlacesLemmas.{count-le, count-zero}
 use Rattle.pmf_event.proofs.EventLemmas.{at-is, last-none, last-other, last-here, epoch_of-next, fences-step}
-use Rattle.pmf_event.proofs.LineLemmas.{line-bounds, meets-bounds, bounds-meet, number-meets, meets-number}
+use Rattle.pmf_event.proofs.LineLemmas.{line-bounds, meets-bounds, bounds-meet}
 use Rattle.pmf_event.proofs.WriteBackLemmas.{write_back-kept, write_back-stored, write_back-flushed}
 use Rattle.pmf_shadow.specs.declared.byte.ByteState.{ByteState}
 use Rattle.pmf_shadow.specs.declared.byte.Stored.{Stored}
-use Rattle.pmf_shadow.specs.declared.line.LineState.{LineState}
-use Rattle.pmf_shadow.specs.declared.line.LineState.TheVariants.{Untouched}
-use Rattle.pmf_shadow.specs.declared.runs.RunMap.{RunMap}
+use Rattle.pmf_runs.specs.declared.runs.RunMap.{RunMap}
+use Rattle.pmf_runs.specs.declared.state.State.{Ghosts}
 use Rattle.pmf_shadow.specs.declared.shadow.Shadow.{Shadow}
-use Rattle.pmf_shadow.specs.Runs.{state_at, is_between, ChangesBetween, SameStates}
-use Rattle.pmf_shadow.specs.States.{after_store, written_back_in, after_write_back, after_mark, line_after_store, line_after_write_back}
-use Rattle.pmf_shadow.specs.Shadow.{stored_at, byte_at, dirty_unless, line_at, StandsFor}
+use Rattle.pmf_runs.specs.Runs.{state_at, is_between, ChangesBetween}
+use Rattle.pmf_shadow.specs.States.{stored_of, after_store, after_write_back, after_mark}
+use Rattle.pmf_shadow.specs.EqualStates.{state_of}
+use Rattle.pmf_shadow.specs.Shadow.{stored_at, StandsFor}
 use Rattle.pmf_shadow.specs.Laws.{is_unseen, UnseenEventsChangeNothing}
 
 -- ---- one byte
@@ -45,11 +46,27 @@ pub stored_at-is : (es : List Event) (p b : ℕ) → stored_at es p b ≡ store_
 unfolding store_of
 stored_at-is es p b = refl
 
-abbrev pub byte_is : Option Stored → Bool → ByteState
-byte_is stored out = record { stored = stored; excluded = out }
+-- the state says of byte b what the definitions say at p
+pub record IsByteAt (es : List Event) (p b : ℕ) (s : ByteState) : Type 0 where
+  pub stored : stored_of s ≡ stored_at es p b
+  pub excluded : s.excluded ≡ is_excluded es p b
 
-byte_at-is : (es : List Event) (p b : ℕ) (stored : Option Stored) (out : Bool) → stored_at es p b ≡ stored → is_excluded es p b ≡ out → byte_at es p b ≡ byte_is stored out
-byte_at-is es p b stored out one other = ap (λ (s : Option Stored). byte_is s (is_excluded es p b)) one ∙ ap (byte_is stored) other
+-- the last store after a write-back in this epoch: the first one counts
+written_back_in : ℕ → Option Stored → Option Stored
+written_back_in epoch None = None
+written_back_in epoch (Some k) = Some (record k { written_back = if is_none k.written_back then Some epoch else k.written_back })
+
+stored-after_write_back : (epoch last opens w : ℕ) (is_stored is_written_back out : Bool) →
+    stored_of (after_write_back epoch (state_of last opens w is_stored is_written_back out)) ≡ written_back_in epoch (stored_of (state_of last opens w is_stored is_written_back out))
+unfolding written_back_in
+stored-after_write_back epoch last opens w false is_written_back out = refl
+stored-after_write_back epoch last opens w true false out = refl
+stored-after_write_back epoch last opens w true true out = refl
+
+excluded-after_write_back : (epoch last opens w : ℕ) (is_stored is_written_back out : Bool) → (after_write_back epoch (state_of last opens w is_stored is_written_back out)).excluded ≡ out
+excluded-after_write_back epoch last opens w false is_written_back out = refl
+excluded-after_write_back epoch last opens w true false out = refl
+excluded-after_write_back epoch last opens w true true out = refl
 
 module _ (es : List Event) (p b : ℕ) (e : Event) (here : event_at es (suc p) ≡ Some e) where
   excluded-kept : marks b e ≡ false → is_excluded es (suc p) b ≡ is_excluded es p b
@@ -76,6 +93,7 @@ module _ (es : List Event) (p b : ℕ) (e : Event) (here : event_at es (suc p) �
       ∙ ap (λ o. Some (record { last = suc p; opens = o; written_back = None })) (epoch_of-next es p)
 
   stored-flushed : stores b e ≡ false → flushes (line_of_byte b) e ≡ true → stored_at es (suc p) b ≡ written_back_in (count (at is_fence es) p) (stored_at es p b)
+  unfolding written_back_in
   stored-flushed other flush =
       let l = last_store es p b in
       let w = write_back_epoch (stores b) (line_of_byte b) es p in
@@ -92,103 +110,51 @@ module _ (es : List Event) (p b : ℕ) (e : Event) (here : event_at es (suc p) �
             ∙ sym (ap (written_back_in fences) (stored_at-is es p b ∙ store_of-some es l w (omega arith)))
       ]
 
-  byte-kept : stores b e ≡ false → flushes (line_of_byte b) e ≡ false → marks b e ≡ false → byte_at es (suc p) b ≡ byte_at es p b
-  byte-kept other no_flush no_mark = byte_at-is es (suc p) b (stored_at es p b) (is_excluded es p b) (stored-kept other no_flush) (excluded-kept no_mark)
+  byte-kept : stores b e ≡ false → flushes (line_of_byte b) e ≡ false → marks b e ≡ false → (s : ByteState) → IsByteAt es p b s → IsByteAt es (suc p) b s
+  byte-kept other no_flush no_mark s is = record {
+    stored = is.stored ∙ sym (stored-kept other no_flush);
+    excluded = is.excluded ∙ sym (excluded-kept no_mark);
+  }
 
-  byte-stored : (epoch : ℕ) → epoch ≡ count (at is_fence es) p → stores b e ≡ true → marks b e ≡ false → byte_at es (suc p) b ≡ after_store (suc p) epoch (byte_at es p b)
-  byte-stored epoch now is no_mark =
-      byte_at-is es (suc p) b (Some (record { last = suc p; opens = epoch; written_back = None })) (is_excluded es p b)
-      (stored-stored is ∙ ap (λ o. Some (record { last = suc p; opens = o; written_back = None })) (sym now)) (excluded-kept no_mark)
+  byte-stored : (place epoch : ℕ) → place ≡ suc p → epoch ≡ count (at is_fence es) p → stores b e ≡ true → marks b e ≡ false →
+      (s : ByteState) → IsByteAt es p b s → IsByteAt es (suc p) b (after_store place epoch s)
+  byte-stored place epoch here_too now stored no_mark s is = record {
+    stored = ap (λ l. Some (record { last = l; opens = epoch; written_back = None })) here_too
+        ∙ ap (λ o. Some (record { last = suc p; opens = o; written_back = None })) now ∙ sym (stored-stored stored);
+    excluded = is.excluded ∙ sym (excluded-kept no_mark);
+  }
 
   byte-flushed : (epoch : ℕ) → epoch ≡ count (at is_fence es) p → stores b e ≡ false → flushes (line_of_byte b) e ≡ true → marks b e ≡ false →
-      byte_at es (suc p) b ≡ after_write_back epoch (byte_at es p b)
-  byte-flushed epoch now other flush no_mark =
-      byte_at-is es (suc p) b (written_back_in epoch (stored_at es p b)) (is_excluded es p b)
-      (stored-flushed other flush ∙ ap (λ o. written_back_in o (stored_at es p b)) (sym now)) (excluded-kept no_mark)
+      (s : ByteState) → IsByteAt es p b s → IsByteAt es (suc p) b (after_write_back epoch s)
+  byte-flushed epoch now other flush no_mark s is = record {
+    stored = stored-after_write_back epoch s.last s.opens s.written_back s.is_stored s.is_written_back s.excluded
+        ∙ ap (written_back_in epoch) is.stored
+        ∙ ap (λ o. written_back_in o (stored_at es p b)) now
+        ∙ sym (stored-flushed other flush);
+    excluded = excluded-after_write_back epoch s.last s.opens s.written_back s.is_stored s.is_written_back s.excluded ∙ is.excluded ∙ sym (excluded-kept no_mark);
+  }
 
   byte-marked : (out : Bool) → stores b e ≡ false → flushes (line_of_byte b) e ≡ false → marks b e ≡ true → excludes b e ≡ out →
-      byte_at es (suc p) b ≡ after_mark out (byte_at es p b)
-  byte-marked out other no_flush mark is = byte_at-is es (suc p) b (stored_at es p b) out (stored-kept other no_flush) (excluded-marked mark ∙ is)
-
--- ---- one line
-
-pub line_is : ℕ → Option ℕ → LineState
-line_is l w = if l == 0 then Untouched else dirty_unless w
-
-pub line_is-none : (l : ℕ) (w : Option ℕ) → l ≡ 0 → line_is l w ≡ Untouched
-unfolding line_is
-line_is-none l w zero_is = ap (λ v. if v then Untouched else dirty_unless w) ((Decides-eqb l 0).1 zero_is)
-
-pub line_is-some : (l : ℕ) (w : Option ℕ) → 0 < l → line_is l w ≡ dirty_unless w
-unfolding line_is
-line_is-some l w some = ap (λ v. if v then Untouched else dirty_unless w) (ne_eqb l 0 (λ zero_is. omega arith))
-
-pub line_at-is : (es : List Event) (p l : ℕ) → line_at es p l ≡ line_is (last (stores_line l) es p) (write_back_epoch (stores_line l) l es p)
-unfolding line_is
-line_at-is es p l = refl
-
-written-back-twice : (w : Option ℕ) (epoch : ℕ) → dirty_unless (if is_none w then Some epoch else w) ≡ line_after_write_back epoch (dirty_unless w)
-written-back-twice None epoch = refl
-written-back-twice (Some w) epoch = refl
-
-module _ (es : List Event) (p l : ℕ) (e : Event) (here : event_at es (suc p) ≡ Some e) where
-  line-kept : stores_line l e ≡ false → flushes l e ≡ false → line_at es (suc p) l ≡ line_at es p l
-  line-kept other no_flush =
-      line_at-is es (suc p) l
-      ∙ ap (λ k. line_is k (write_back_epoch (stores_line l) l es (suc p))) (last-other (stores_line l) es p e here other)
-      ∙ ap (line_is (last (stores_line l) es p)) (write_back-kept (stores_line l) l es p e here other no_flush)
-      ∙ sym (line_at-is es p l)
-
-  line-stored : stores_line l e ≡ true → line_at es (suc p) l ≡ line_after_store (line_at es p l)
-  line-stored is =
-      line_at-is es (suc p) l
-      ∙ ap (λ k. line_is k (write_back_epoch (stores_line l) l es (suc p))) (last-here (stores_line l) es p e here is)
-      ∙ ap (line_is (suc p)) (write_back-stored (stores_line l) l es p e here is)
-      ∙ line_is-some (suc p) None (omega arith)
-
-  line-flushed : (epoch : ℕ) → epoch ≡ count (at is_fence es) p → stores_line l e ≡ false → flushes l e ≡ true →
-      line_at es (suc p) l ≡ line_after_write_back epoch (line_at es p l)
-  line-flushed epoch now other flush =
-      let k = last (stores_line l) es p in
-      let w = write_back_epoch (stores_line l) l es p in
-      line_at-is es (suc p) l
-      ∙ ap (λ k. line_is k (write_back_epoch (stores_line l) l es (suc p))) (last-other (stores_line l) es p e here other)
-      ∙ ap (line_is k) (write_back-flushed (stores_line l) l es p e here other flush)
-      ∙ ap (λ o. line_is k (if is_none w then Some o else w)) (sym now)
-      ∙ elim (cases_eq k 0) [
-        | inl zero_is ↦
-            line_is-none k (if is_none w then Some epoch else w) zero_is
-            ∙ sym (ap (line_after_write_back epoch) (line_at-is es p l ∙ line_is-none k w zero_is))
-        | inr some ↦
-            line_is-some k (if is_none w then Some epoch else w) (omega arith)
-            ∙ written-back-twice w epoch
-            ∙ sym (ap (line_after_write_back epoch) (line_at-is es p l ∙ line_is-some k w (omega arith)))
-      ]
+      (s : ByteState) → IsByteAt es p b s → IsByteAt es (suc p) b (after_mark out s)
+  byte-marked out other no_flush mark marked s is = record {
+    stored = is.stored ∙ sym (stored-kept other no_flush);
+    excluded = sym (excluded-marked mark ∙ marked);
+  }
 
 -- ---- the runs
 
--- runs that are changed as the definitions change say what the definitions say
-changed-stands : {S : Type 0} (first end : ℕ) (change : S → S) (old new : RunMap S) (was now : ℕ → S) → ChangesBetween first end change old new →
-    ((k : ℕ) → state_at old k ≡ was k) → ((k : ℕ) → is_between first end k ≡ true → now k ≡ change (was k)) →
-    ((k : ℕ) → is_between first end k ≡ false → now k ≡ was k) → (k : ℕ) → state_at new k ≡ now k
+-- what holds of the states before a change holds of them after it in its new form, where the change and what it leaves keep it
+changed-stands : {S M : Type 0} {laws : Ghosts S M} (first end : ℕ) (change : S → S) (old new : RunMap S M laws) (was now : ℕ → S → Type 0) → ChangesBetween first end change old new →
+    ((k : ℕ) → was k (state_at old k)) → ((k : ℕ) → is_between first end k ≡ true → (s : S) → was k s → now k (change s)) →
+    ((k : ℕ) → is_between first end k ≡ false → (s : S) → was k s → now k s) → (k : ℕ) → now k (state_at new k)
 changed-stands first end change old new was now changes before inside outside k =
-    changes.states k ∙ elim (is_between first end k) as (λ v. is_between first end k ≡ v → (if v then change (state_at old k) else state_at old k) ≡ now k) [
-      | true ↦ λ is. ap change (before k) ∙ sym (inside k is)
-      | false ↦ λ is. before k ∙ sym (outside k is)
-    ] refl
+    subst (now k) (sym (changes.states k)) (elim (is_between first end k) as (λ v. is_between first end k ≡ v → now k (if v then change (state_at old k) else state_at old k)) [
+      | true ↦ λ is. inside k is (state_at old k) (before k)
+      | false ↦ λ is. outside k is (state_at old k) (before k)
+    ] refl)
 
--- the lines that a span meets, by number
-numbers-between : (s : Extent) → 0 < s.size → (n : ℕ) → is_between (s.first / 64) ((s.first + s.size - 1) / 64 + 1) n ≡ meets_line s (n * 64)
-unfolding is_between
-numbers-between s some n = both_ways _ _
-    (λ is.
-    let parts = and_parts _ _ is in
-    let from = leb-true (s.first / 64) n parts.0 in
-    let to = ltb-true n ((s.first + s.size - 1) / 64 + 1) parts.1 in
-    number-meets s n some from (omega arith))
-    (λ meets.
-    let own = meets-number s n some meets in
-    and_from _ _ (le-leb (s.first / 64) n own.0) (lt-ltb n ((s.first + s.size - 1) / 64 + 1) (omega (arith, own.1))))
+pub stands-bytes : (shadow : Shadow) (es : List Event) (p : ℕ) → StandsFor shadow es p → (b : ℕ) → IsByteAt es p b (state_at shadow.bytes b)
+stands-bytes shadow es p stands b = record { stored = stands.stored b; excluded = stands.excluded b }
 
 -- the bytes of the lines that a span meets
 lines-between : (s : Extent) → 0 < s.size → (b : ℕ) → is_between (s.first / 64 * 64) (((s.first + s.size - 1) / 64 + 1) * 64) b ≡ meets_line s (line_of_byte b)
@@ -209,115 +175,141 @@ fences-kept : (shadow : Shadow) (es : List Event) (p : ℕ) (e : Event) (fences 
     fences ≡ count (at is_fence es) p → fences ≡ count (at is_fence es) (suc p)
 fences-kept shadow es p e fences here other before = before ∙ sym (fences-step es p e here ∙ ap (λ v. if v then suc (count (at is_fence es) p) else count (at is_fence es) p) other)
 
+-- ---- each store has a size
+
+-- the event is no store of no bytes
+abbrev IsSized : Event → Type 0
+IsSized e = (s : Extent) → e ≡ Store s → 0 < s.size
+
+sized-more : (es : List Event) (p : ℕ) (e : Event) → event_at es (suc p) ≡ Some e → IsSized e → HasBytes es p → HasBytes es (suc p)
+sized-more es p e here sized before k s within is = elim (cases_eq k (suc p)) [
+  | inl same ↦ let there : Some e ≡ Some (Store s) = sym here ∙ ap (event_at es) (sym same) ∙ is in sized s cc
+  | inr other ↦ before k s (omega arith) is
+]
+
+sized-none : (es : List Event) → HasBytes es 0
+unfolding event_at
+sized-none es zero s within is = let bad : None ≡ Some (Store s) = is in cc
+sized-none es (suc k) s within is = absurd (omega arith)
+
+-- ---- one more event
+
+-- after a change of the bytes
+stands-changed : (old new : Shadow) (es : List Event) (p : ℕ) (e : Event) (first end : ℕ) (change : ByteState → ByteState) → event_at es (suc p) ≡ Some e →
+    is_fence e ≡ false → IsSized e → new.fences ≡ old.fences → ChangesBetween first end change old.bytes new.bytes →
+    ((b : ℕ) → is_between first end b ≡ true → (s : ByteState) → IsByteAt es p b s → IsByteAt es (suc p) b (change s)) →
+    ((b : ℕ) → is_between first end b ≡ false → (s : ByteState) → IsByteAt es p b s → IsByteAt es (suc p) b s) →
+    StandsFor old es p → StandsFor new es (suc p)
+stands-changed old new es p e first end change here no_fence sized fences bytes inside outside stands =
+    let now = changed-stands first end change old.bytes new.bytes (IsByteAt es p) (IsByteAt es (suc p)) bytes (stands-bytes old es p stands) inside outside in record {
+      fences = fences ∙ fences-kept old es p e old.fences here no_fence stands.fences;
+      stored = λ b. (now b).stored;
+      excluded = λ b. (now b).excluded;
+      sized = sized-more es p e here sized stands.sized;
+    }
+
 pub stands-store : (old new : Shadow) (s : Extent) (place : ℕ) (es : List Event) (p : ℕ) → 0 < s.size → new.fences ≡ old.fences →
     ChangesBetween s.first (s.first + s.size) (after_store place old.fences) old.bytes new.bytes →
-    ChangesBetween (s.first / 64) ((s.first + s.size - 1) / 64 + 1) line_after_store old.lines new.lines →
     event_at es (suc p) ≡ Some (Store s) → place ≡ suc p → StandsFor old es p → StandsFor new es (suc p)
-unfolding stores stores_line flushes marks is_fence is_between
-stands-store old new s place es p some fences bytes lines here at_place stands = record {
-  fences = fences ∙ fences-kept old es p (Store s) old.fences here refl stands.fences;
-  bytes = changed-stands s.first (s.first + s.size) (after_store place old.fences) old.bytes new.bytes (byte_at es p) (byte_at es (suc p)) bytes stands.bytes
-      (λ b within. byte-stored es p b (Store s) here old.fences stands.fences within refl ∙ ap (λ k. after_store k old.fences (byte_at es p b)) (sym at_place))
-      (λ b without. byte-kept es p b (Store s) here without refl refl);
-  lines = changed-stands (s.first / 64) ((s.first + s.size - 1) / 64 + 1) line_after_store old.lines new.lines (λ n. line_at es p (n * 64)) (λ n. line_at es (suc p) (n * 64)) lines stands.lines
-      (λ n within. line-stored es p (n * 64) (Store s) here (sym (numbers-between s some n) ∙ within))
-      (λ n without. line-kept es p (n * 64) (Store s) here (sym (numbers-between s some n) ∙ without) refl);
-}
+unfolding stores flushes marks is_fence is_between
+stands-store old new s place es p some fences bytes here at_place stands =
+    stands-changed old new es p (Store s) s.first (s.first + s.size) (after_store place old.fences) here refl
+    (λ t is. let same : s ≡ t = cc in subst (λ (x : Extent). 0 < x.size) same some) fences bytes
+    (λ b within. byte-stored es p b (Store s) here place old.fences at_place stands.fences within refl)
+    (λ b without. byte-kept es p b (Store s) here without refl refl) stands
 
 pub stands-flush : (old new : Shadow) (s : Extent) (es : List Event) (p : ℕ) → 0 < s.size → new.fences ≡ old.fences →
     ChangesBetween (s.first / 64 * 64) (((s.first + s.size - 1) / 64 + 1) * 64) (after_write_back old.fences) old.bytes new.bytes →
-    ChangesBetween (s.first / 64) ((s.first + s.size - 1) / 64 + 1) (line_after_write_back old.fences) old.lines new.lines →
     event_at es (suc p) ≡ Some (Flush s) → StandsFor old es p → StandsFor new es (suc p)
-unfolding stores stores_line flushes marks is_fence
-stands-flush old new s es p some fences bytes lines here stands = record {
-  fences = fences ∙ fences-kept old es p (Flush s) old.fences here refl stands.fences;
-  bytes = changed-stands (s.first / 64 * 64) (((s.first + s.size - 1) / 64 + 1) * 64) (after_write_back old.fences) old.bytes new.bytes (byte_at es p) (byte_at es (suc p)) bytes stands.bytes
-      (λ b within. byte-flushed es p b (Flush s) here old.fences stands.fences refl (sym (lines-between s some b) ∙ within) refl)
-      (λ b without. byte-kept es p b (Flush s) here refl (sym (lines-between s some b) ∙ without) refl);
-  lines = changed-stands (s.first / 64) ((s.first + s.size - 1) / 64 + 1) (line_after_write_back old.fences) old.lines new.lines (λ n. line_at es p (n * 64)) (λ n. line_at es (suc p) (n * 64)) lines stands.lines
-      (λ n within. line-flushed es p (n * 64) (Flush s) here old.fences stands.fences refl (sym (numbers-between s some n) ∙ within))
-      (λ n without. line-kept es p (n * 64) (Flush s) here refl (sym (numbers-between s some n) ∙ without));
-}
+unfolding stores flushes marks is_fence
+stands-flush old new s es p some fences bytes here stands =
+    stands-changed old new es p (Flush s) (s.first / 64 * 64) (((s.first + s.size - 1) / 64 + 1) * 64) (after_write_back old.fences) here refl
+    (λ t is. let bad : Flush s ≡ Store t = is in cc) fences bytes
+    (λ b within. byte-flushed es p b (Flush s) here old.fences stands.fences refl (sym (lines-between s some b) ∙ within) refl)
+    (λ b without. byte-kept es p b (Flush s) here refl (sym (lines-between s some b) ∙ without) refl) stands
 
-pub stands-exclude : (old new : Shadow) (s : Extent) (es : List Event) (p : ℕ) → new.fences ≡ old.fences → new.lines ≡ old.lines →
+pub stands-exclude : (old new : Shadow) (s : Extent) (es : List Event) (p : ℕ) → new.fences ≡ old.fences →
     ChangesBetween s.first (s.first + s.size) (after_mark true) old.bytes new.bytes →
     event_at es (suc p) ≡ Some (Exclude s) → StandsFor old es p → StandsFor new es (suc p)
-unfolding stores stores_line flushes marks excludes is_fence is_between
-stands-exclude old new s es p fences lines bytes here stands = record {
-  fences = fences ∙ fences-kept old es p (Exclude s) old.fences here refl stands.fences;
-  bytes = changed-stands s.first (s.first + s.size) (after_mark true) old.bytes new.bytes (byte_at es p) (byte_at es (suc p)) bytes stands.bytes
-      (λ b within. byte-marked es p b (Exclude s) here true refl refl within within)
-      (λ b without. byte-kept es p b (Exclude s) here refl refl without);
-  lines = λ n. ap (λ (m : RunMap LineState). state_at m n) lines ∙ stands.lines n ∙ sym (line-kept es p (n * 64) (Exclude s) here refl refl);
-}
+unfolding stores flushes marks excludes is_fence is_between
+stands-exclude old new s es p fences bytes here stands =
+    stands-changed old new es p (Exclude s) s.first (s.first + s.size) (after_mark true) here refl
+    (λ t is. let bad : Exclude s ≡ Store t = is in cc) fences bytes
+    (λ b within. byte-marked es p b (Exclude s) here true refl refl within within)
+    (λ b without. byte-kept es p b (Exclude s) here refl refl without) stands
 
-pub stands-include : (old new : Shadow) (s : Extent) (es : List Event) (p : ℕ) → new.fences ≡ old.fences → new.lines ≡ old.lines →
+pub stands-include : (old new : Shadow) (s : Extent) (es : List Event) (p : ℕ) → new.fences ≡ old.fences →
     ChangesBetween s.first (s.first + s.size) (after_mark false) old.bytes new.bytes →
     event_at es (suc p) ≡ Some (Include s) → StandsFor old es p → StandsFor new es (suc p)
-unfolding stores stores_line flushes marks excludes is_fence is_between
-stands-include old new s es p fences lines bytes here stands = record {
-  fences = fences ∙ fences-kept old es p (Include s) old.fences here refl stands.fences;
-  bytes = changed-stands s.first (s.first + s.size) (after_mark false) old.bytes new.bytes (byte_at es p) (byte_at es (suc p)) bytes stands.bytes
-      (λ b within. byte-marked es p b (Include s) here false refl refl within refl)
-      (λ b without. byte-kept es p b (Include s) here refl refl without);
-  lines = λ n. ap (λ (m : RunMap LineState). state_at m n) lines ∙ stands.lines n ∙ sym (line-kept es p (n * 64) (Include s) here refl refl);
-}
+unfolding stores flushes marks excludes is_fence is_between
+stands-include old new s es p fences bytes here stands =
+    stands-changed old new es p (Include s) s.first (s.first + s.size) (after_mark false) here refl
+    (λ t is. let bad : Include s ≡ Store t = is in cc) fences bytes
+    (λ b within. byte-marked es p b (Include s) here false refl refl within refl)
+    (λ b without. byte-kept es p b (Include s) here refl refl without) stands
 
-pub stands-fence : (old new : Shadow) (es : List Event) (p : ℕ) → new.bytes ≡ old.bytes → new.lines ≡ old.lines → new.fences ≡ old.fences + 1 →
+-- after an event that changes no byte
+stands-kept : (old new : Shadow) (es : List Event) (p : ℕ) (e : Event) → event_at es (suc p) ≡ Some e → ((b : ℕ) → stores b e ≡ false) → IsSized e →
+    ((l : ℕ) → flushes l e ≡ false) → ((b : ℕ) → marks b e ≡ false) → new.bytes ≡ old.bytes → new.fences ≡ count (at is_fence es) (suc p) →
+    StandsFor old es p → StandsFor new es (suc p)
+stands-kept old new es p e here no_store no_size no_flush no_mark bytes fences stands =
+    let now = λ (b : ℕ). byte-kept es p b e here (no_store b) (no_flush (line_of_byte b)) (no_mark b) (state_at new.bytes b)
+    (subst (λ m. IsByteAt es p b (state_at m b)) (sym bytes) (stands-bytes old es p stands b)) in record {
+      fences = fences;
+      stored = λ b. (now b).stored;
+      excluded = λ b. (now b).excluded;
+      sized = sized-more es p e here no_size stands.sized;
+    }
+
+pub stands-fence : (old new : Shadow) (es : List Event) (p : ℕ) → new.bytes ≡ old.bytes → new.fences ≡ old.fences + 1 →
     event_at es (suc p) ≡ Some Fence → StandsFor old es p → StandsFor new es (suc p)
-unfolding stores stores_line flushes marks is_fence
-stands-fence old new es p bytes lines fences here stands = record {
-  fences = let step = fences-step es p Fence here in let before = stands.fences in omega arith;
-  bytes = λ b. ap (λ (m : RunMap ByteState). state_at m b) bytes ∙ stands.bytes b ∙ sym (byte-kept es p b Fence here refl refl refl);
-  lines = λ n. ap (λ (m : RunMap LineState). state_at m n) lines ∙ stands.lines n ∙ sym (line-kept es p (n * 64) Fence here refl refl);
-}
+unfolding stores flushes marks is_fence
+stands-fence old new es p bytes fences here stands =
+    stands-kept old new es p Fence here (λ b. refl) (λ t is. let bad : Fence ≡ Store t = is in cc) (λ l. refl) (λ b. refl) bytes
+    (let step = fences-step es p Fence here in let before = stands.fences in omega arith) stands
 
 -- events that change nothing
 pub stands-other : (shadow : Shadow) (es : List Event) (p : ℕ) (e : Event) → event_at es (suc p) ≡ Some e → is_fence e ≡ false →
-    ((b : ℕ) → stores b e ≡ false) → ((l : ℕ) → stores_line l e ≡ false) → ((l : ℕ) → flushes l e ≡ false) → ((b : ℕ) → marks b e ≡ false) →
+    ((b : ℕ) → stores b e ≡ false) → IsSized e → ((l : ℕ) → flushes l e ≡ false) → ((b : ℕ) → marks b e ≡ false) →
     StandsFor shadow es p → StandsFor shadow es (suc p)
-stands-other shadow es p e here no_fence no_store no_line no_flush no_mark stands = record {
-  fences = fences-kept shadow es p e shadow.fences here no_fence stands.fences;
-  bytes = λ b. stands.bytes b ∙ sym (byte-kept es p b e here (no_store b) (no_flush (line_of_byte b)) (no_mark b));
-  lines = λ n. stands.lines n ∙ sym (line-kept es p (n * 64) e here (no_line (n * 64)) (no_flush (n * 64)));
-}
+stands-other shadow es p e here no_fence no_store no_size no_flush no_mark stands =
+    stands-kept shadow shadow es p e here no_store no_size no_flush no_mark refl (fences-kept shadow es p e shadow.fences here no_fence stands.fences) stands
 
 pub stands-unseen : UnseenEventsChangeNothing
-unfolding is_unseen stores stores_line flushes marks is_fence
+unfolding is_unseen stores flushes marks is_fence
 stands-unseen shadow es p (Store s) here unseen stands = let bad : false ≡ true = unseen in cc
 stands-unseen shadow es p (Flush s) here unseen stands = let bad : false ≡ true = unseen in cc
 stands-unseen shadow es p Fence here unseen stands = let bad : false ≡ true = unseen in cc
 stands-unseen shadow es p (Exclude s) here unseen stands = let bad : false ≡ true = unseen in cc
 stands-unseen shadow es p (Include s) here unseen stands = let bad : false ≡ true = unseen in cc
-stands-unseen shadow es p (Persist s) here unseen stands = stands-other shadow es p (Persist s) here refl (λ b. refl) (λ l. refl) (λ l. refl) (λ b. refl) stands
-stands-unseen shadow es p (Ordered a b) here unseen stands = stands-other shadow es p (Ordered a b) here refl (λ x. refl) (λ l. refl) (λ l. refl) (λ x. refl) stands
-stands-unseen shadow es p TxBegin here unseen stands = stands-other shadow es p TxBegin here refl (λ b. refl) (λ l. refl) (λ l. refl) (λ b. refl) stands
-stands-unseen shadow es p (TxAdd s) here unseen stands = stands-other shadow es p (TxAdd s) here refl (λ b. refl) (λ l. refl) (λ l. refl) (λ b. refl) stands
-stands-unseen shadow es p TxEnd here unseen stands = stands-other shadow es p TxEnd here refl (λ b. refl) (λ l. refl) (λ l. refl) (λ b. refl) stands
-stands-unseen shadow es p CheckStart here unseen stands = stands-other shadow es p CheckStart here refl (λ b. refl) (λ l. refl) (λ l. refl) (λ b. refl) stands
-stands-unseen shadow es p CheckEnd here unseen stands = stands-other shadow es p CheckEnd here refl (λ b. refl) (λ l. refl) (λ l. refl) (λ b. refl) stands
+stands-unseen shadow es p (Persist s) here unseen stands = stands-other shadow es p (Persist s) here refl (λ b. refl) (λ t is. let bad : (Persist s) ≡ Store t = is in cc) (λ l. refl) (λ b. refl) stands
+stands-unseen shadow es p (Ordered a b) here unseen stands = stands-other shadow es p (Ordered a b) here refl (λ x. refl) (λ t is. let bad : (Ordered a b) ≡ Store t = is in cc) (λ l. refl) (λ x. refl) stands
+stands-unseen shadow es p TxBegin here unseen stands = stands-other shadow es p TxBegin here refl (λ b. refl) (λ t is. let bad : TxBegin ≡ Store t = is in cc) (λ l. refl) (λ b. refl) stands
+stands-unseen shadow es p (TxAdd s) here unseen stands = stands-other shadow es p (TxAdd s) here refl (λ b. refl) (λ t is. let bad : (TxAdd s) ≡ Store t = is in cc) (λ l. refl) (λ b. refl) stands
+stands-unseen shadow es p TxEnd here unseen stands = stands-other shadow es p TxEnd here refl (λ b. refl) (λ t is. let bad : TxEnd ≡ Store t = is in cc) (λ l. refl) (λ b. refl) stands
+stands-unseen shadow es p CheckStart here unseen stands = stands-other shadow es p CheckStart here refl (λ b. refl) (λ t is. let bad : CheckStart ≡ Store t = is in cc) (λ l. refl) (λ b. refl) stands
+stands-unseen shadow es p CheckEnd here unseen stands = stands-other shadow es p CheckEnd here refl (λ b. refl) (λ t is. let bad : CheckEnd ≡ Store t = is in cc) (λ l. refl) (λ b. refl) stands
 
 pub stands-fences : (shadow : Shadow) (es : List Event) (p : ℕ) → StandsFor shadow es p → shadow.fences ≤ p
 stands-fences shadow es p stands = let bound = count-le (at is_fence es) p in let same = stands.fences in omega arith
 
-pub stands-empty : (shadow : Shadow) (es : List Event) → shadow.fences ≡ 0 → ((b : ℕ) → state_at shadow.bytes b ≡ byte_is None false) →
-    ((n : ℕ) → state_at shadow.lines n ≡ Untouched) → StandsFor shadow es 0
+pub stands-empty : (shadow : Shadow) (es : List Event) → shadow.fences ≡ 0 → ((b : ℕ) → state_at shadow.bytes b ≡ state_of 0 0 0 false false false) → StandsFor shadow es 0
 unfolding is_excluded at event_at
-stands-empty shadow es fences bytes lines = record {
+stands-empty shadow es fences bytes = record {
   fences = fences ∙ sym (count-zero (at is_fence es));
-  bytes = λ b. bytes b ∙ sym (byte_at-is es 0 b None false
-      (stored_at-is es 0 b ∙ store_of-none es (last_store es 0 b) (write_back_epoch (stores b) (line_of_byte b) es 0) (last-none (stores b) es))
-      (ap (at (excludes b) es) (last-none (marks b) es)));
-  lines = λ n. lines n ∙ sym (line_at-is es 0 (n * 64) ∙ line_is-none (last (stores_line (n * 64)) es 0) (write_back_epoch (stores_line (n * 64)) (n * 64) es 0) (last-none (stores_line (n * 64)) es));
+  stored = λ b. ap stored_of (bytes b)
+      ∙ sym (stored_at-is es 0 b ∙ store_of-none es (last_store es 0 b) (write_back_epoch (stores b) (line_of_byte b) es 0) (last-none (stores b) es));
+  excluded = λ b. ap (λ (s : ByteState). s.excluded) (bytes b) ∙ sym (ap (at (excludes b) es) (last-none (marks b) es));
+  sized = sized-none es;
 }
 
 -- ---- after room was made
 
-pub changes-after_room : {S : Type 0} (change : S → S) (old mid new : RunMap S) (f e first end : ℕ) → f ≡ first → e ≡ end → SameStates old mid →
-    ChangesBetween f e change mid new → ChangesBetween first end change old new
-changes-after_room change old mid new f e first end at_first at_end same changes = record {
+-- the ends of a change are the range's
+pub changes-at : {S M : Type 0} {laws : Ghosts S M} (change : S → S) (old new : RunMap S M laws) (f e first end : ℕ) → f ≡ first → e ≡ end →
+    ChangesBetween f e change old new → ChangesBetween first end change old new
+changes-at change old new f e first end at_first at_end changes = record {
   states = λ b. changes.states b
-      ∙ ap (λ s. if is_between f e b then change s else s) (same b)
       ∙ ap (λ k. if is_between k e b then change (state_at old b) else state_at old b) at_first
       ∙ ap (λ k. if is_between first k b then change (state_at old b) else state_at old b) at_end;
 }

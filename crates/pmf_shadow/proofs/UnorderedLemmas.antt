@@ -24,10 +24,12 @@ use Rattle.pmf_event.proofs.WriteBackLemmas.{last-bound, epoch_unless-place}
 use Rattle.pmf_shadow.specs.declared.byte.ByteState.{ByteState}
 use Rattle.pmf_shadow.specs.declared.byte.Stored.{Stored}
 use Rattle.pmf_shadow.specs.declared.shadow.Shadow.{Shadow}
-use Rattle.pmf_shadow.specs.States.{checked_store, holds_of, any_store, is_late, late_for, is_before, opens_in, stored_by, comes_after, has_one_by, opening_of, place_of}
+use Rattle.pmf_shadow.specs.States.{stored_of, checked_store, holds_of, any_store, is_late, late_for, is_before, opens_in, stored_by, comes_after, has_one_by, opening_of, place_of}
+use Rattle.pmf_runs.specs.Runs.{state_at}
 use Rattle.pmf_shadow.specs.Pairs.{kept, both_hold, by_epoch, by_place, by_epochs, by_lines, by_line, on_line, off_line, IsLeastValue}
-use Rattle.pmf_shadow.specs.Shadow.{stored_at, byte_at, closing, StandsFor}
+use Rattle.pmf_shadow.specs.Shadow.{stored_at, closing, StandsFor}
 use Rattle.pmf_shadow.proofs.PairLemmas.{late-monotone, no_pairs-by_epochs, has_partner-by_epochs, partner-by_epochs, no_pairs-by_lines, has_partner-by_lines, partner-by_lines, by_lines-on, by_lines-off, by_line-on, by_line-off, on_line-on}
+use Rattle.pmf_shadow.proofs.StandsLemmas.{stands-bytes}
 use Rattle.pmf_shadow.proofs.QuestionLemmas.{IsWritten, written-from_stored, interval-written, checked-is, closing-some, closing-open}
 
 -- ---- what is kept of a checked byte
@@ -38,23 +40,24 @@ pub record IsKept (es : List Event) (p x : ℕ) (k : Stored) : Type 0 where
   pub written : IsWritten es p x k
   pub interval : interval_at es p x ≡ Some (record { last = k.last; opens = k.opens; closes = closing (count (at is_fence es) p) k.written_back })
 
-store-of_checked : (s : ByteState) (k : Stored) → checked_store s ≡ Some k → s.stored ≡ Some k
-store-of_checked s k is = elim s.excluded as (λ v. (if v then None else s.stored) ≡ Some k → s.stored ≡ Some k) [
+store-of_checked : (s : ByteState) (k : Stored) → checked_store s ≡ Some k → stored_of s ≡ Some k
+store-of_checked s k is = elim s.excluded as (λ v. (if v then None else stored_of s) ≡ Some k → stored_of s ≡ Some k) [
   | true ↦ λ bad. let wrong : None ≡ Some k = bad in cc
   | false ↦ λ same. same
 ] is
 
 module _ (shadow : Shadow) (es : List Event) (p : ℕ) (stands : StandsFor shadow es p) where
-  kept-is : (x : ℕ) → kept shadow.bytes x ≡ checked_store (byte_at es p x)
-  unfolding kept
-  kept-is x = ap checked_store (stands.bytes x)
-
   checked-kept : (x : ℕ) → is_checked es p x ≡ holds_of any_store (kept shadow.bytes x)
-  checked-kept x = checked-is es p x ∙ ap (holds_of any_store) (sym (kept-is x))
+  unfolding kept
+  checked-kept x = checked-is es p x (state_at shadow.bytes x) (stands-bytes shadow es p stands x)
+
+  stored-kept : (x : ℕ) (k : Stored) → kept shadow.bytes x ≡ Some k → stored_at es p x ≡ Some k
+  unfolding kept
+  stored-kept x k is = sym (stands.stored x) ∙ store-of_checked (state_at shadow.bytes x) k is
 
   pub kept-some : (x : ℕ) (k : Stored) → kept shadow.bytes x ≡ Some k → IsKept es p x k
   kept-some x k is =
-      let stored : stored_at es p x ≡ Some k = store-of_checked (byte_at es p x) k (sym (kept-is x) ∙ is) in record {
+      let stored = stored-kept x k is in record {
         checked = checked-kept x ∙ ap (holds_of any_store) is;
         written = written-from_stored es p x k stored;
         interval = interval-written es p x k stored;

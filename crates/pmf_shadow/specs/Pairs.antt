@@ -6,8 +6,10 @@ use Rattle.pmf_event.specs.Line.{line_of_byte}
 use Rattle.pmf_event.specs.Order.{share_line, is_unordered, is_certified}
 use Rattle.pmf_shadow.specs.declared.byte.ByteState.{ByteState}
 use Rattle.pmf_shadow.specs.declared.byte.Stored.{Stored}
-use Rattle.pmf_shadow.specs.declared.runs.RunMap.{RunMap}
-use Rattle.pmf_shadow.specs.Runs.{state_at}
+use Rattle.pmf_runs.specs.declared.runs.RunMap.{RunMap}
+use Rattle.pmf_runs.specs.declared.state.State.{Ghosts}
+use Rattle.pmf_shadow.specs.declared.byte.bounds.Bounds.{Bounds}
+use Rattle.pmf_runs.specs.Runs.{state_at}
 use Rattle.pmf_shadow.specs.States.{checked_store, comes_after, stored_by}
 
 -- the pairs that are asked for: those that are certified, or all that are unordered
@@ -16,7 +18,7 @@ pairs_of true profile es p = is_certified profile es p
 pairs_of false profile es p = is_unordered profile es p
 
 -- the last store of each byte that is checked
-unfoldable pub kept : RunMap ByteState → ℕ → Option Stored
+unfoldable pub kept : {laws : Ghosts ByteState Bounds} → RunMap ByteState Bounds laws → ℕ → Option Stored
 kept runs b = checked_store (state_at runs b)
 
 -- whether both bytes are checked, and their stores pass

@@ -1,43 +1,41 @@
--- What an event does to the state that is kept of a byte or of a line, and what the questions ask of it.
-use Rattle.std.specs.Prelude.{ℕ, Bool, true, false, ◌&&◌, ◌||◌, ◌==◌, nat_lt, nat_le, Option, None, Some, is_none, if◌then◌else◌}
+-- What an event does to the state that is kept of a byte, and what the questions ask of it.
+use Rattle.std.specs.Prelude.{ℕ, Bool, true, false, not, ◌&&◌, ◌||◌, ◌==◌, nat_lt, nat_le, Option, None, Some, is_none, if◌then◌else◌}
 use Rattle.pmf_shadow.specs.declared.byte.ByteState.{ByteState}
 use Rattle.pmf_shadow.specs.declared.byte.Stored.{Stored}
-use Rattle.pmf_shadow.specs.declared.line.LineState.{LineState}
-use Rattle.pmf_shadow.specs.declared.line.LineState.TheVariants.{Untouched, Dirty, WrittenBack}
+
+-- ---- what is kept
+
+-- the epoch of the first write-back, where there is one
+abbrev pub written_back_of : ByteState → Option ℕ
+written_back_of s = if s.is_written_back then Some s.written_back else None
+
+-- the last store, where there is one
+abbrev pub stored_of : ByteState → Option Stored
+stored_of s = if s.is_stored then Some (record { last = s.last; opens = s.opens; written_back = written_back_of s }) else None
+
+-- whether there is a store, and no write-back after it
+abbrev pub is_unsettled : ByteState → Bool
+is_unsettled s = s.is_stored && not s.is_written_back
 
 -- ---- changes
 
 -- a byte after a store of it at this place, in this epoch
 abbrev pub after_store : ℕ → ℕ → ByteState → ByteState
-after_store place epoch s = record s { stored = Some (record { last = place; opens = epoch; written_back = None }) }
+after_store place epoch s = record s { last = place; opens = epoch; written_back = 0; is_stored = true; is_written_back = false }
 
--- the last store after a write-back in this epoch: the first one counts
-abbrev pub written_back_in : ℕ → Option Stored → Option Stored
-written_back_in epoch None = None
-written_back_in epoch (Some k) = Some (record k { written_back = if is_none k.written_back then Some epoch else k.written_back })
-
--- a byte after a write-back of its line in this epoch
+-- a byte after a write-back of its line in this epoch: the first one after the store counts
 abbrev pub after_write_back : ℕ → ByteState → ByteState
-after_write_back epoch s = record s { stored = written_back_in epoch s.stored }
+after_write_back epoch s = if is_unsettled s then record s { written_back = epoch; is_written_back = true } else s
 
 -- a byte after an exclusion or an inclusion that covers it
 abbrev pub after_mark : Bool → ByteState → ByteState
 after_mark out s = record s { excluded = out }
 
--- a line after a store that meets it
-abbrev pub line_after_store : LineState → LineState
-line_after_store s = Dirty
-
--- a line after a write-back of it in this epoch
-abbrev pub line_after_write_back : ℕ → LineState → LineState
-line_after_write_back epoch Dirty = WrittenBack epoch
-line_after_write_back epoch s = s
-
 -- ---- what is asked of a byte
 
 -- the last store of a byte that is checked
 abbrev pub checked_store : ByteState → Option Stored
-checked_store s = if s.excluded then None else s.stored
+checked_store s = if s.excluded then None else stored_of s
 
 -- whether there is a store, and it passes
 abbrev pub holds_of : (Stored → Bool) → Option Stored → Bool
@@ -79,6 +77,19 @@ comes_after written_back k = is_late k.opens written_back
 abbrev pub has_one_by : Bool → ℕ → Option ℕ → Stored → Bool
 has_one_by ties first elsewhere k = is_before ties first k.last || late_for_any elsewhere k
 
+-- whether the write-back lies in this epoch or later
+abbrev pub is_from : ℕ → Option ℕ → Bool
+is_from epoch None = false
+is_from epoch (Some w) = nat_le epoch w
+
+-- whether the store was first written back in this epoch or later
+abbrev pub written_back_from : ℕ → Stored → Bool
+written_back_from epoch k = is_from epoch k.written_back
+
+-- whether no write-back of the byte's line follows the store
+abbrev pub lacks_write_back : Stored → Bool
+lacks_write_back k = is_none k.written_back
+
 -- whether it is a store
 abbrev pub any_store : Stored → Bool
 any_store k = true
@@ -100,16 +111,3 @@ kept_place s = place_of (checked_store s)
 -- the epoch of the last store, if the byte is checked
 abbrev pub kept_opening : ByteState → Option ℕ
 kept_opening s = opening_of (checked_store s)
-
--- ---- what is asked of a line, after so many fences
-
--- whether it is clean
-abbrev pub line_clean : ℕ → LineState → Bool
-line_clean fences Untouched = true
-line_clean fences Dirty = false
-line_clean fences (WrittenBack epoch) = nat_lt epoch fences
-
--- whether it is pending
-abbrev pub line_pending : ℕ → LineState → Bool
-line_pending fences (WrittenBack epoch) = nat_le fences epoch
-line_pending fences s = false

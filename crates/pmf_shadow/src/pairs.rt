@@ -4,17 +4,17 @@ ghost use Rattle.std.specs.Prelude.{◌≡◌, ℕ, ◌%◌, ◌<◌, List, min,
 ghost use Rattle.pmf_event.specs.declared.event.Event.{Event};
 ghost use Rattle.pmf_event.specs.declared.span.TheConstants.{ADDRESS_LIMIT, LINE_SIZE};
 ghost use Rattle.pmf_event.specs.Span.{IsValidExtent};
-ghost use Rattle.pmf_event.specs.Ranges.{first_byte};
+ghost use Rattle.pmf_event.specs.Ranges.{first_byte, lesser};
 ghost use Rattle.pmf_event.specs.Order.{least_pair};
-ghost use Rattle.pmf_shadow.specs.Runs.{passing, keyed};
+ghost use Rattle.pmf_runs.specs.Runs.{passing, keyed};
 ghost use Rattle.pmf_shadow.specs.Pairs.{by_epochs, by_line, by_lines, kept, off_line, on_line, pairs_of, IsLeastValue};
 ghost use Rattle.pmf_shadow.specs.Shadow.{StandsFor};
 ghost use Rattle.pmf_shadow.specs.States.{kept_opening, kept_place};
 
 use crate::byte::{ByteState, ComesAfter, HasOneBy, IsLate, Opening, OpensIn, Place, StoredBy};
-use crate::runs::{Test, lesser};
 use crate::shadow::{Shadow, end_of};
 use pmf_event::{LINE_SIZE, Profile, Span, line_of};
+use pmf_runs::Test;
 
 impl Shadow {
     /// The least unordered pair of a byte of `a` and a byte of `b`, or with `shown` the least
@@ -144,4 +144,14 @@ fn upper(a: u64, b: u64) -> u64
     ensures { result ≡ max a b }
 {
     if a < b { b } else { a }
+}
+
+fn lesser(one: Option<u32>, other: Option<u32>) -> Option<u32>
+    ensures { result ≡ lesser one other }
+{
+    match (one, other) {
+        (None, _) => other,
+        (_, None) => one,
+        (Some(x), Some(y)) => Some(x.min(y)),
+    }
 }

@@ -1,6 +1,6 @@
-//! The shadow of some events: states of bytes and of lines, and how many fences there were.
+//! The shadow of some events: the states of bytes, and how many fences there were.
 
-ghost use Rattle.std.specs.Prelude.{◌≡◌, ℕ, suc, ◌+◌, ◌-◌, ◌*◌, ◌/◌, ◌<◌, ◌≤◌, List, Some, OnOk, OnErr, is_some};
+ghost use Rattle.std.specs.Prelude.{◌≡◌, ℕ, suc, ◌+◌, ◌<◌, ◌≤◌, List, Some, OnOk, OnErr, is_some};
 ghost use Rattle.pmf_event.specs.declared.event.Event.{Event};
 ghost use Rattle.pmf_event.specs.declared.section.TheConstants.{EVENT_LIMIT};
 ghost use Rattle.pmf_event.specs.Span.{IsValidExtent};
@@ -9,21 +9,21 @@ ghost use Rattle.pmf_event.specs.Store.{event_at};
 ghost use Rattle.pmf_event.specs.Interval.{interval_at};
 ghost use Rattle.pmf_event.specs.Exclusion.{is_included};
 ghost use Rattle.pmf_event.specs.Persist.{is_checked, is_exposed};
-ghost use Rattle.pmf_event.specs.FlushWarnings.{first_line, line_count, is_clean, is_pending, lines_where};
-ghost use Rattle.pmf_shadow.specs.Runs.{passing};
-ghost use Rattle.pmf_shadow.specs.Shadow.{StandsFor, closing, lines_by};
+ghost use Rattle.pmf_event.specs.FlushWarnings.{is_clean, is_pending, lines_where};
+ghost use Rattle.pmf_runs.specs.Runs.{passing};
+ghost use Rattle.pmf_shadow.specs.Shadow.{StandsFor, closing};
 
 use crate::byte::{
-    ByteState, IsChecked, IsIncluded, IsLate, Marked, StoredAt, UNTOUCHED, WrittenBackIn,
+    ByteState, IsChecked, IsIncluded, IsLate, IsPending, IsUndurable, IsUnwritten, Marked,
+    StoredAt, UNTOUCHED, WrittenBackIn,
 };
-use crate::line::{Dirtied, IsClean, IsPending, LineState};
-use crate::runs::{RunMap, Test};
+use crate::stretches::lines_of;
 use pmf_event::{Event, Interval, LINE_SIZE, Lines, Span};
+use pmf_runs::{RunMap, Test};
 use std::alloc::{AllocError, Global};
 
 /// What is kept of some events: for each byte its last store, the first write-back after it and
-/// whether it is excluded; for each cache line the same of the last store that met it; and the
-/// number of fences.
+/// whether it is excluded; and the number of fences.
 ///
 /// Each change and each question takes O((k + 1) log n) steps for k runs of equal state that it
 /// meets and n that are held, whatever the size of its span; a fence is one addition. Memory
@@ -31,7 +31,6 @@ use std::alloc::{AllocError, Global};
 #[derive(Debug, Drop)]
 pub struct Shadow {
     pub(crate) bytes: RunMap<ByteState>,
-    lines: RunMap<LineState>,
     fences: u32,
 }
 
@@ -42,13 +41,12 @@ impl Shadow {
     {
         Shadow {
             bytes: RunMap::new(alloc, UNTOUCHED),
-            lines: RunMap::new(alloc, LineState::Untouched),
             fences: 0,
         }
     }
 
-    /// Follows a store to the bytes of the span at this place. Memory: at most two runs of bytes and
-    /// two of lines. After an `Err` the shadow stands for what it stood for.
+    /// Follows a store to the bytes of the span at this place. Memory: at most two runs.
+    /// After an `Err` the shadow stands for what it stood for.
     pub fn store(&mut self, place: u32, span: Span) -> Result<(), AllocError>
         ensures follows { OnOk result ((es : List Event) (p : ℕ) → StandsFor self.old es p
             → event_at es (suc p) ≡ Some (Event.Store span) → place ≡ suc p
@@ -56,35 +54,26 @@ impl Shadow {
         ensures unchanged { OnErr result ((es : List Event) (p : ℕ) → StandsFor self.old es p
             → StandsFor self.new es p) }
     {
-        let (first, end) = (span.first(), end_of(&span));
-        let (line, line_end) = (line_number(first), line_number(end - 1) + 1);
-        let epoch = self.fences;
-        let change = StoredAt { place, epoch };
-        let bytes = self.bytes.make_room(first, end, &change)?;
-        let lines = self.lines.make_room(line, line_end, &Dirtied)?;
-        self.bytes.rewrite(bytes, &change);
-        self.lines.rewrite(lines, &Dirtied);
+        let change = StoredAt {
+            place,
+            epoch: self.fences,
+        };
+        self.bytes.change(span.first(), end_of(&span), &change)?;
         Ok(())
     }
 
-    /// Follows a write-back of every line that the span meets. Memory: at most two runs of bytes and
-    /// two of lines. After an `Err` the shadow stands for what it stood for.
+    /// Follows a write-back of every line that the span meets. Memory: at most two runs.
+    /// After an `Err` the shadow stands for what it stood for.
     pub fn flush(&mut self, span: Span) -> Result<(), AllocError>
         ensures follows { OnOk result ((es : List Event) (p : ℕ) → StandsFor self.old es p
             → event_at es (suc p) ≡ Some (Event.Flush span) → StandsFor self.new es (suc p)) }
         ensures unchanged { OnErr result ((es : List Event) (p : ℕ) → StandsFor self.old es p
             → StandsFor self.new es p) }
     {
-        let (line, line_end) = (
-            line_number(span.first()),
-            line_number(end_of(&span) - 1) + 1,
-        );
-        let (first, end) = (line * LINE_SIZE, line_end * LINE_SIZE);
+        let (first, end) = lines_of(&span);
         let change = WrittenBackIn { epoch: self.fences };
-        let bytes = self.bytes.make_room(first, end, &change)?;
-        let lines = self.lines.make_room(line, line_end, &change)?;
-        self.bytes.rewrite(bytes, &change);
-        self.lines.rewrite(lines, &change);
+        self.bytes
+            .change(first * LINE_SIZE, end * LINE_SIZE, &change)?;
         Ok(())
     }
 
@@ -128,7 +117,7 @@ impl Shadow {
         ensures { (es : List Event) (p : ℕ) → StandsFor self.now es p
             → result ≡ interval_at es p byte }
     {
-        match self.bytes.at(byte).stored {
+        match self.bytes.at(byte).stored() {
             None => None,
             Some(stored) => Some(Interval {
                 last: stored.last,
@@ -168,12 +157,9 @@ impl Shadow {
         ensures { (es : List Event) (p : ℕ) → StandsFor self.now es p
             → result ≡ lines_where (is_pending es p) span }
     {
-        self.lines_in(
-            &span,
-            &IsPending {
-                fences: self.fences,
-            },
-        )
+        let undurable = IsUndurable { epoch: self.fences };
+        let pending = IsPending { epoch: self.fences };
+        self.lines_with_but(&span, &undurable, &IsUnwritten, &pending)
     }
 
     /// Of the lines that the span meets, those with nothing to write back: the least, and how many.
@@ -181,31 +167,13 @@ impl Shadow {
         ensures { (es : List Event) (p : ℕ) → StandsFor self.now es p
             → result ≡ lines_where (is_clean es p) span }
     {
-        self.lines_in(
-            &span,
-            &IsClean {
-                fences: self.fences,
-            },
-        )
+        self.lines_without(&span, &IsUndurable { epoch: self.fences })
     }
 
     pub(crate) fn first_in<T: Test<ByteState>>(&self, span: &Span, test: &T) -> Option<u64>
         ensures { result ≡ first_byte (passing (T.passes test.now) self.now.bytes) span.now }
     {
         self.bytes.first_where(span.first(), end_of(span), test)
-    }
-
-    fn lines_in<T: Test<LineState>>(&self, span: &Span, test: &T) -> Option<Lines>
-        ensures { result ≡ lines_by (passing (T.passes test.now) self.now.lines) span.now }
-    {
-        let (line, end) = (line_number(span.first()), line_number(end_of(span) - 1) + 1);
-        match self.lines.first_where(line, end, test) {
-            None => None,
-            Some(least) => Some(Lines {
-                least: least * LINE_SIZE,
-                count: self.lines.count_where(least, end, test),
-            }),
-        }
     }
 }
 
@@ -214,12 +182,6 @@ pub(crate) fn end_of(span: &Span) -> u64
     ensures valid { IsValidExtent span.now.first span.now.size }
 {
     span.first() + span.size()
-}
-
-fn line_number(byte: u64) -> u64
-    ensures { result ≡ byte / LINE_SIZE }
-{
-    byte / LINE_SIZE
 }
 
 // The epoch that a first write-back in this one closes the interval with, if it was fenced.

@@ -10,9 +10,11 @@ use Rattle.pmf_event.specs.Persist.{is_exposed}
 use Rattle.pmf_event.specs.Transactions.{in_transaction, in_scope, lacks_backup, is_left_open}
 use Rattle.pmf_event.proofs.RangeLemmas.{IsFirst, first_from-none, first_from-some, none-passes, first-passes}
 use Rattle.pmf_event.proofs.TransactionLemmas.{left_open-exposed, left_open-none, bare-excluded, bare-backed, bare-from}
-use Rattle.pmf_shadow.specs.declared.runs.RunMap.{RunMap}
+use Rattle.pmf_runs.specs.declared.members.Members.{Members}
+use Rattle.pmf_runs.specs.declared.runs.RunMap.{RunMap}
+use Rattle.pmf_runs.specs.declared.state.State.{Ghosts}
 use Rattle.pmf_shadow.specs.declared.shadow.Shadow.{Shadow}
-use Rattle.pmf_shadow.specs.Runs.{state_at, passing}
+use Rattle.pmf_runs.specs.Runs.{state_at, passing}
 use Rattle.pmf_shadow.specs.Shadow.{StandsFor}
 use Rattle.pmf_txcheck.specs.declared.state.TxState.{TxState}
 use Rattle.pmf_txcheck.specs.Tracking.{Tracks}
@@ -58,14 +60,14 @@ passing-end test at end until (Some k) below fails is at_end =
     }
 
 -- from first up to here all numbers are alike, and those before, from where the search began, are not
-pub record IsRun (set : RunMap Bool) (alike : Bool) (at end first until : ℕ) : Type 0 where
+pub record IsRun {laws : Ghosts Bool Members} (set : RunMap Bool Members laws) (alike : Bool) (at end first until : ℕ) : Type 0 where
   pub from : at ≤ first
   pub some : first < until
   pub within : until ≤ end
   pub before : (j : ℕ) → at ≤ j → j < first → state_at set j ≡ not alike
   pub all : (j : ℕ) → first ≤ j → j < until → state_at set j ≡ alike
 
-module _ (set : RunMap Bool) (at end first until : ℕ) (found_first found_end : Option ℕ) where
+module _ {laws : Ghosts Bool Members} (set : RunMap Bool Members laws) (at end first until : ℕ) (found_first found_end : Option ℕ) where
   pub run-of_members : found_first ≡ first_from (passing (λ member. member) set) at (end - at) → found_first ≡ Some first →
       found_end ≡ first_from (passing (λ member. not member) set) first (end - first) → until ≡ unwrap_or found_end end → IsRun set true at end first until
   unfolding passing
@@ -96,7 +98,7 @@ module _ (set : RunMap Bool) (at end first until : ℕ) (found_first found_end :
         all = run.before;
       }
 
-module _ (set : RunMap Bool) (at end : ℕ) (found : Option ℕ) where
+module _ {laws : Ghosts Bool Members} (set : RunMap Bool Members laws) (at end : ℕ) (found : Option ℕ) where
   -- no run of members, or of others, is left
   pub no-members : found ≡ first_from (passing (λ member. member) set) at (end - at) → found ≡ None → (j : ℕ) → at ≤ j → j < end → state_at set j ≡ false
   unfolding passing

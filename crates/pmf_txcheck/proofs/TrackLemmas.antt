@@ -13,8 +13,10 @@ use Rattle.pmf_event.specs.Transactions.{begins, ends, depth_at, in_transaction,
 use Rattle.pmf_event.specs.declared.span.TheConstants.{ADDRESS_LIMIT}
 use Rattle.pmf_event.proofs.RangeLemmas.{first_from-same, some-from}
 use Rattle.pmf_event.proofs.TransactionLemmas.{depth-start, depth-begun, depth-ended, depth-kept, inside-from, outside-from, inside-depth, inside-kept, backed-begun, backed-added, backed-kept, scope-start, scope-some, scoped-from, unscoped-from, in_scope-same, scope-stays, scope-opened, scope-kept, scope-closed, scoped-opened, scoped-kept, scoped-stored}
-use Rattle.pmf_shadow.specs.declared.runs.RunMap.{RunMap}
-use Rattle.pmf_shadow.specs.Runs.{state_at, passing, is_between, ChangesBetween}
+use Rattle.pmf_runs.specs.declared.members.Members.{Members}
+use Rattle.pmf_runs.specs.declared.runs.RunMap.{RunMap}
+use Rattle.pmf_runs.specs.contracts.members.BoolState.TheImpl.{ghosts}
+use Rattle.pmf_runs.specs.Runs.{state_at, passing, is_between, ChangesBetween}
 use Rattle.pmf_txcheck.specs.declared.state.TxState.{TxState}
 use Rattle.pmf_txcheck.specs.Tracking.{scope_unless, Tracks, is_untracked, UntrackedEventsChangeNothing}
 
@@ -100,7 +102,7 @@ module _ (state : TxState) (es : List Event) (p : ℕ) (here : event_at es (suc 
   unfolding begins ends
   inside-begun = let deeper = depth-begun es p TxBegin here refl refl in inside-from es (suc p) (omega arith)
 
-  pub begun-outermost : (backup : RunMap Bool) → ((b : ℕ) → state_at backup b ≡ false) → state.depth ≡ 0 → Begun (record state { backup = backup }) es p
+  pub begun-outermost : (backup : RunMap Bool Members ghosts) → ((b : ℕ) → state_at backup b ≡ false) → state.depth ≡ 0 → Begun (record state { backup = backup }) es p
   unfolding adds closes_scope opens_scope stores
   begun-outermost backup empty none =
       let same = scope-kept es p TxBegin here refl refl in record {
@@ -165,7 +167,7 @@ module _ (state : TxState) (es : List Event) (p : ℕ) (tracks : Tracks state es
         stored = stored-same state es p (TxAdd s) here tracks same (λ b. refl);
       }
 
-  pub tracks-added : (backup : RunMap Bool) (first end : ℕ) → first ≡ s.first → end ≡ s.first + s.size → 0 < state.depth →
+  pub tracks-added : (backup : RunMap Bool Members ghosts) (first end : ℕ) → first ≡ s.first → end ≡ s.first + s.size → 0 < state.depth →
       ChangesBetween first end (λ member. true) state.backup backup → event_at es (suc p) ≡ Some (TxAdd s) → Tracks (record state { backup = backup }) es (suc p)
   unfolding begins ends adds closes_scope opens_scope stores is_between
   tracks-added backup first end at_first at_end some changes here =
@@ -207,7 +209,7 @@ module _ (state : TxState) (es : List Event) (p : ℕ) (tracks : Tracks state es
 -- ---- a store
 
 module _ (state : TxState) (es : List Event) (p : ℕ) (tracks : Tracks state es p) (s : Extent) where
-  pub tracks-stored : (stored : RunMap Bool) (first end : ℕ) → first ≡ s.first → end ≡ s.first + s.size → 0 < state.depth →
+  pub tracks-stored : (stored : RunMap Bool Members ghosts) (first end : ℕ) → first ≡ s.first → end ≡ s.first + s.size → 0 < state.depth →
       ChangesBetween first end (λ member. true) state.stored stored → event_at es (suc p) ≡ Some (Store s) → Tracks (record state { stored = stored }) es (suc p)
   unfolding begins ends adds closes_scope opens_scope stores is_between
   tracks-stored stored first end at_first at_end some changes here =
@@ -283,7 +285,7 @@ module _ (state : TxState) (es : List Event) (p : ℕ) (tracks : Tracks state es
         stored = stored-same state es p CheckStart here tracks same (λ b. refl);
       }
 
-  pub tracks-opened : (stored : RunMap Bool) (place : ℕ) → ((b : ℕ) → state_at stored b ≡ false) → state.scope ≡ None → event_at es (suc p) ≡ Some CheckStart → place ≡ suc p →
+  pub tracks-opened : (stored : RunMap Bool Members ghosts) (place : ℕ) → ((b : ℕ) → state_at stored b ≡ false) → state.scope ≡ None → event_at es (suc p) ≡ Some CheckStart → place ≡ suc p →
       Tracks (record state { scope = Some place; stored = stored }) es (suc p)
   unfolding begins ends adds closes_scope opens_scope
   tracks-opened stored place empty none here at_place =

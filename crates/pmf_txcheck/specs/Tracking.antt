@@ -5,7 +5,7 @@ use Rattle.pmf_event.specs.declared.event.Event.{Event}
 use Rattle.pmf_event.specs.declared.event.Event.TheVariants.{Store, TxBegin, TxAdd, TxEnd, CheckStart, CheckEnd}
 use Rattle.pmf_event.specs.Store.{event_at}
 use Rattle.pmf_event.specs.Transactions.{depth_at, in_transaction, is_backed, scope_at, in_scope, is_scoped}
-use Rattle.pmf_shadow.specs.Runs.{state_at}
+use Rattle.pmf_runs.specs.Runs.{state_at}
 use Rattle.pmf_txcheck.specs.declared.state.TxState.{TxState}
 
 -- the place of a scope, if there is one

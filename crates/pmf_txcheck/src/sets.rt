@@ -2,7 +2,7 @@
 
 ghost use Rattle.std.specs.Prelude.{true, not};
 
-use pmf_shadow::{Change, Test};
+use pmf_runs::{Change, Effect, Members, Test};
 
 /// Puts the bytes in.
 #[derive(Clone, Copy, Debug, Drop)]
@@ -13,6 +13,21 @@ impl Change<bool> for PutIn {
 
     fn changed(&self, _member: bool) -> bool {
         true
+    }
+
+    fn may_alter(&self, summary: Members) -> bool {
+        summary.some_out
+    }
+
+    fn widened(&self, summary: Members) -> Members {
+        Members {
+            some_in: true,
+            some_out: summary.some_out,
+        }
+    }
+
+    fn effect(&self, _summary: Members, _member: bool) -> Effect {
+        Effect::Widens
     }
 }
 
@@ -26,6 +41,10 @@ impl Test<bool> for IsIn {
     fn passes(&self, member: bool) -> bool {
         member
     }
+
+    fn may_pass(&self, summary: Members) -> bool {
+        summary.some_in
+    }
 }
 
 /// Whether the byte is no member.
@@ -37,5 +56,9 @@ impl Test<bool> for IsOut {
 
     fn passes(&self, member: bool) -> bool {
         !member
+    }
+
+    fn may_pass(&self, summary: Members) -> bool {
+        summary.some_out
     }
 }

@@ -11,7 +11,8 @@ ghost use Rattle.pmf_txcheck.specs.Tracking.{Tracks, depth_of};
 
 use crate::sets::{IsIn, IsOut, PutIn};
 use pmf_event::{ADDRESS_LIMIT, Event, Finding, Span};
-use pmf_shadow::{RunMap, Shadow};
+use pmf_runs::RunMap;
+use pmf_shadow::Shadow;
 use std::alloc::{AllocError, Global};
 
 /// What is kept of some events: how many transactions run, the bytes that the running one has backed up,

@@ -8,4 +8,4 @@ overflow_add-self c =
     let below = c.requires.3 in omega arith
 
 pub returns : goal.returns
-returns c = λ es p stands here. stands-fence c.args.self.now _ es p refl refl refl here stands
+returns c = λ es p stands here. stands-fence c.args.self.now _ es p refl refl here stands

@@ -1,7 +1,7 @@
 use Rattle.std.proofs.Common.{◌≡◌, ℕ, ◌+◌, ◌-◌, min, max, sym, ◌∙◌, ap}
 use Rattle.std.specs.Prelude.{Option, is_some}
 use Rattle.pmf_event.specs.Ranges.{first_from}
-use Rattle.pmf_shadow.specs.Runs.{passing}
+use Rattle.pmf_runs.specs.Runs.{passing}
 use Rattle.pmf_shadow.proofs.PieceLemmas.{piece-before, piece-within, piece-after}
 use Rattle.pmf_shadow.proofs.shadow.Shadow.first_by_line.Goals as goal
 

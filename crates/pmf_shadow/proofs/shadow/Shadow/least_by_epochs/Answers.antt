@@ -2,7 +2,7 @@ use Rattle.std.proofs.Common.{◌≡◌, refl, sym, ◌∙◌, ap}
 use Rattle.std.specs.Prelude.{Some, None}
 use Rattle.pmf_event.specs.Order.{paired, with_partner}
 use Rattle.pmf_event.proofs.RangeLemmas.{first-passes}
-use Rattle.pmf_shadow.specs.Runs.{passing, keyed}
+use Rattle.pmf_runs.specs.Runs.{passing, keyed}
 use Rattle.pmf_shadow.specs.States.{kept_opening, checked_store, late_for}
 use Rattle.pmf_shadow.specs.Pairs.{kept, by_epochs}
 use Rattle.pmf_shadow.proofs.PieceLemmas.{least-of_span}

@@ -3,7 +3,7 @@ use Rattle.std.specs.Prelude.{Some, None}
 use Rattle.pmf_event.specs.Order.{paired, with_partner}
 use Rattle.pmf_event.proofs.LineLemmas.{line-bounds}
 use Rattle.pmf_event.proofs.RangeLemmas.{first-passes}
-use Rattle.pmf_shadow.specs.Runs.{passing, keyed}
+use Rattle.pmf_runs.specs.Runs.{passing, keyed}
 use Rattle.pmf_shadow.specs.States.{kept_opening, kept_place, checked_store, late_for, has_one_by}
 use Rattle.pmf_shadow.specs.Pairs.{kept, by_lines, on_line, IsLeastValue}
 use Rattle.pmf_shadow.proofs.PieceLemmas.{least-of_span}

@@ -15,7 +15,7 @@ returns-then-is_some-clause-finds c = λ es p tracks.
 
 pub returns-clause-tracks : goal.returns-clause-tracks
 returns-clause-tracks c = λ es p tracks here place.
-    tracks-opened c.args.self.now es p tracks c.new.result c.args.place c.new.ensures (none-from _ (sym c.is_some.ensures ∙ c.if-is_some.false)) here place
+    tracks-opened c.args.self.now es p tracks c.new.result c.args.place c.new.ensures.states (none-from _ (sym c.is_some.ensures ∙ c.if-is_some.false)) here place
 
 pub returns-clause-finds : goal.returns-clause-finds
 returns-clause-finds c = λ es p tracks. start-nothing c.args.self.now es p tracks (none-from _ (sym c.is_some.ensures ∙ c.if-is_some.false))

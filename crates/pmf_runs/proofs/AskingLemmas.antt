@@ -1,0 +1,259 @@
+-- Walks over the elements of a range, and what a question has found so far.
+use Rattle.std.proofs.Common.{◌≡◌, ℕ, zero, suc, ◌+◌, ◌-◌, ◌<◌, ◌≤◌, min, max, Bool, true, false, if◌then◌else◌, List, length, get_or, refl, sym, ◌∙◌, ap, subst, arith, inl, inr}
+use Rattle.std.specs.Prelude.{Option, Some, None, is_some}
+use Rattle.std.proofs.lemmas.Bool.{cases_lt}
+use Rattle.pmf_event.specs.Ranges.{first_from, count_from, lesser, least_from}
+use Rattle.pmf_event.proofs.RangeLemmas.{first_from-none, first_from-some, first_from-same, count_from-same, count_from-split, count_from-all, count_from-none, least_from-same, least_from-split, least_from-alike, lesser-none, lesser-assoc}
+use Rattle.pmf_runs.specs.declared.leaf.Leaf.{Leaf}
+use Rattle.pmf_runs.specs.Ranks.{rank, Rises}
+use Rattle.pmf_runs.specs.Walks.{end_of}
+use Rattle.pmf_runs.specs.Leaves.{leaf_state}
+use Rattle.pmf_runs.proofs.RankLemmas.{IsRank, rank-is, rank-unique, rises-le, lt-true, lt-false}
+use Rattle.pmf_runs.proofs.LeafLemmas.{state-read}
+
+-- ---- where a walk begins, and where an element ends
+
+-- the first element has the numbers below the first key
+pub rank-front : (keys : List ℕ) (b : ℕ) → (0 < length keys → b < get_or keys 0 0) → 0 ≡ rank keys b
+rank-front keys b before = sym (rank-unique keys b 0 (record {
+  bound = omega arith;
+  upto = λ k below. absurd (omega arith);
+  beyond = before;
+}))
+
+pub end-key : (keys : List ℕ) (index end : ℕ) → index < length keys → end_of keys index end ≡ min end (get_or keys index 0)
+unfolding end_of
+end-key keys index end within = ap (λ t. if t then min end (get_or keys index 0) else end) (lt-true index (length keys) within)
+
+pub end-last : (keys : List ℕ) (index end : ℕ) → length keys ≤ index → end_of keys index end ≡ end
+unfolding end_of
+end-last keys index end past = ap (λ t. if t then min end (get_or keys index 0) else end) (lt-false index (length keys) past)
+
+-- ---- the walk
+
+-- the walk through a range has come to start, where the element at the index has numbers left
+pub record Walks (keys : List ℕ) (first end start index : ℕ) : Type 0 where
+  pub from : first ≤ start
+  pub upto : start ≤ max first end
+  pub at : start < end → IsRank keys start index
+
+-- the element at the index has the numbers from start up to until
+record Piece (keys : List ℕ) (first end start index until : ℕ) : Type 0 where
+  more : start < until
+  within : until ≤ end
+  at : (b : ℕ) → start ≤ b → b < until → index ≡ rank keys b
+  next : Walks keys first end until (index + 1)
+
+walks-start : (keys : List ℕ) (first end index : ℕ) → index ≡ rank keys first → Walks keys first end first index
+walks-start keys first end index at = record {
+  from = omega arith;
+  upto = omega arith;
+  at = λ some. subst (IsRank keys first) (sym at) (rank-is keys first);
+}
+
+piece : (keys : List ℕ) (first end start index until : ℕ) → Rises keys → start < end → until ≡ end_of keys index end → Walks keys first end start index → Piece keys first end start index until
+piece keys first end start index until rises some is walk =
+    let here = walk.at some in
+    let bound = here.bound in
+    let from = walk.from in
+    elim (cases_lt index (length keys)) [
+      | inl inner ↦
+          let key = end-key keys index end inner in
+          let beyond = here.beyond inner in record {
+            more = omega arith;
+            within = omega arith;
+            at = λ b low high. sym (rank-unique keys b index (record {
+              bound = bound;
+              upto = λ k below. let le = here.upto k below in omega arith;
+              beyond = λ within. omega arith;
+            }));
+            next = record {
+              from = omega arith;
+              upto = omega arith;
+              at = λ left. record {
+                bound = omega arith;
+                upto = λ k below. let le = rises-le keys k index rises (omega arith) inner in omega arith;
+                beyond = λ within. let lt = rises.order index (index + 1) (omega arith) within in omega arith;
+              };
+            };
+          }
+      | inr past ↦
+          let last = end-last keys index end past in record {
+            more = omega arith;
+            within = omega arith;
+            at = λ b low high. sym (rank-unique keys b index (record {
+              bound = bound;
+              upto = λ k below. let le = here.upto k below in omega arith;
+              beyond = λ within. absurd (omega arith);
+            }));
+            next = record {
+              from = omega arith;
+              upto = omega arith;
+              at = λ left. absurd (omega arith);
+            };
+          }
+    ]
+
+pub walks-more : (keys : List ℕ) (first end start index until : ℕ) → Rises keys → start < end → until ≡ end_of keys index end → Walks keys first end start index → (start < until) × (until ≤ end)
+walks-more keys first end start index until rises some is walk = let p = piece keys first end start index until rises some is walk in (p.more, p.within)
+
+pub walks-at : (keys : List ℕ) (first end start index until : ℕ) → Rises keys → start < end → until ≡ end_of keys index end → Walks keys first end start index → (b : ℕ) → start ≤ b → b < until → index ≡ rank keys b
+walks-at keys first end start index until rises some is walk = let p = piece keys first end start index until rises some is walk in p.at
+
+pub walks-within : (keys : List ℕ) (first end start index : ℕ) → start < end → Walks keys first end start index → index ≤ length keys
+walks-within keys first end start index some walk = let here = walk.at some in here.bound
+
+-- ---- questions
+
+-- a question about a range is answered by joining the answers of its pieces
+pub record Question {V A : Type 0} (ask : (ℕ → V) → ℕ → ℕ → A) (join : A → A → A) : Type 0 where
+  pub none : (x : A) (value : ℕ → V) (b : ℕ) → join x (ask value b 0) ≡ x
+  pub same : (v w : ℕ → V) (b n : ℕ) → ((k : ℕ) → b ≤ k → k < b + n → v k ≡ w k) → ask v b n ≡ ask w b n
+  pub split : (value : ℕ → V) (b m n whole middle : ℕ) → whole ≡ m + n → middle ≡ b + m → ask value b whole ≡ join (ask value b m) (ask value middle n)
+  pub assoc : (x y z : A) → join (join x y) z ≡ join x (join y z)
+
+-- the walk has come to start, and knows the answer up to there, joined to what was known before
+pub record Asked {S A : Type 0} (ask : S → ℕ → ℕ → A) (join : A → A → A) (before : A) (keys : List ℕ) (first end start index : ℕ) (so_far : A) : Type 0 where
+  pub walk : Walks keys first end start index
+  pub is : (d : S) → so_far ≡ join before (ask d first (start - first))
+
+module _ {V A : Type 0} {ask : (ℕ → V) → ℕ → ℕ → A} {join : A → A → A} (law : Question ask join) {S : Type 0} (value : S → ℕ → V) (before : A) (keys : List ℕ) (first end : ℕ) where
+  pub asked-start : (index : ℕ) → index ≡ rank keys first → Asked (λ d. ask (value d)) join before keys first end first index before
+  asked-start index at = record {
+    walk = walks-start keys first end index at;
+    is = λ d. let none : first - first ≡ 0 = omega arith in sym (ap (λ n. join before (ask (value d) first n)) none ∙ law.none before (value d) first);
+  }
+
+  pub asked-more : (start index until : ℕ) (so_far new : A) → Rises keys → start < end → until ≡ end_of keys index end →
+      ((d : S) → new ≡ join so_far (ask (value d) start (until - start))) →
+      Asked (λ d. ask (value d)) join before keys first end start index so_far → Asked (λ d. ask (value d)) join before keys first end until (index + 1) new
+  asked-more start index until so_far new rises some is_end more asked =
+      let p = piece keys first end start index until rises some is_end asked.walk in
+      let from = asked.walk.from in
+      let after = p.more in record {
+        walk = p.next;
+        is = λ d.
+            more d ∙ ap (λ x. join x (ask (value d) start (until - start))) (asked.is d)
+            ∙ law.assoc before (ask (value d) first (start - first)) (ask (value d) start (until - start))
+            ∙ ap (join before) (sym (law.split (value d) first (start - first) (until - start) (until - first) start (omega arith) (omega arith)));
+      }
+
+  pub asked-end : (start index : ℕ) (so_far : A) → end ≤ start → Asked (λ d. ask (value d)) join before keys first end start index so_far → (d : S) → so_far ≡ join before (ask (value d) first (end - first))
+  asked-end start index so_far past asked d =
+      let from = asked.walk.from in
+      let upto = asked.walk.upto in
+      let all : start - first ≡ end - first = omega arith in
+      asked.is d ∙ ap (λ n. join before (ask (value d) first n)) all
+
+-- what a run of a leaf answers is what the leaf answers for its numbers
+pub run-asked : {V A : Type 0} {ask : (ℕ → V) → ℕ → ℕ → A} {join : A → A → A} (law : Question ask join) {S : Type 0} (value : S → V) (leaf : Leaf S) (state : S) (v : V) (first end start index until : ℕ) →
+    state ≡ get_or leaf.states.items index state → v ≡ value state → start < end → until ≡ end_of leaf.keys.items index end → Walks leaf.keys.items first end start index →
+    (d : S) → ask (λ b. v) start (until - start) ≡ ask (λ b. value (leaf_state leaf d b)) start (until - start)
+run-asked law value leaf state v first end start index until read at some is walk d =
+    law.same (λ b. v) (λ b. value (leaf_state leaf d b)) start (until - start) (λ k low high.
+    at ∙ ap value (state-read leaf state k index (walks-at leaf.keys.items first end start index until leaf.ordered some is walk k low (omega arith)) read d))
+
+-- ---- the first that passes
+
+-- what was found first, or else what was found then
+abbrev pub first_found : Option ℕ → Option ℕ → Option ℕ
+first_found None y = y
+first_found (Some x) y = Some x
+
+module _ (test : ℕ → Bool) where
+  first_from-split : (b m n : ℕ) (whole middle : ℕ) → whole ≡ m + n → middle ≡ b + m → first_from test b whole ≡ first_found (first_from test b m) (first_from test middle n)
+  unfolding first_from
+  first_from-split b zero n whole middle all at =
+      let same : whole ≡ n = omega arith in
+      let here : middle ≡ b = omega arith in
+      ap (first_from test b) same ∙ ap (λ k. first_from test k n) (sym here)
+  first_from-split b (suc m) n zero middle all at = absurd (omega arith)
+  first_from-split b (suc m) n (suc whole) middle all at =
+      ap (λ o. if test b then Some b else o) (first_from-split (b + 1) m n whole middle (omega arith) (omega arith))
+      ∙ elim (test b) as (λ v. (if v then Some b else first_found (first_from test (b + 1) m) (first_from test middle n)) ≡ first_found (if v then Some b else first_from test (b + 1) m) (first_from test middle n)) [
+        | true ↦ refl
+        | false ↦ refl
+      ]
+
+pub first-law : Question first_from first_found
+unfolding first_from
+first-law = record {
+  none = λ x value b. found-none x;
+  same = first_from-same;
+  split = first_from-split;
+  assoc = found-assoc;
+} where
+  found-none : (x : Option ℕ) → first_found x None ≡ x
+  found-none None = refl
+  found-none (Some x) = refl
+
+  found-assoc : (x y z : Option ℕ) → first_found (first_found x y) z ≡ first_found x (first_found y z)
+  found-assoc None y z = refl
+  found-assoc (Some x) y z = refl
+
+found-some : (o rest : Option ℕ) → is_some o ≡ true → first_found o rest ≡ o
+found-some None rest some = let bad : false ≡ true = some in cc
+found-some (Some x) rest some = refl
+
+-- what a piece has found first is the first of the range, where those before it have none
+pub asked-found : {S : Type 0} (value : S → ℕ → Bool) (keys : List ℕ) (first end start index until : ℕ) (found : Option ℕ) → Rises keys → start < end → until ≡ end_of keys index end →
+    ((d : S) → found ≡ first_from (value d) start (until - start)) → is_some found ≡ true →
+    Asked (λ d. first_from (value d)) first_found None keys first end start index None → (d : S) → found ≡ first_from (value d) first (end - first)
+asked-found value keys first end start index until found rises some is_end more has asked d =
+    let p = piece keys first end start index until rises some is_end asked.walk in
+    let from = asked.walk.from in
+    let after = p.more in
+    let within = p.within in
+    let next = asked-more first-law value None keys first end start index until None found rises some is_end more asked in
+    let rest = first_from (value d) until (end - until) in
+    sym (found-some found rest has) ∙ ap (λ o. first_found o rest) (next.is d)
+    ∙ sym (first_from-split (value d) first (until - first) (end - until) (end - first) until (omega arith) (omega arith))
+
+-- ---- how many pass
+
+pub count-law : Question count_from (λ x y. x + y)
+unfolding count_from
+count-law = record {
+  none = λ x value b. omega arith;
+  same = count_from-same;
+  split = count_from-split;
+  assoc = λ x y z. omega arith;
+}
+
+-- ---- the least key
+
+pub least-law : Question least_from lesser
+unfolding least_from
+least-law = record {
+  none = λ x value b. lesser-none x;
+  same = least_from-same;
+  split = least_from-split;
+  assoc = lesser-assoc;
+}
+
+-- ---- a run whose states all answer alike
+
+pub run-none : {V A : Type 0} {ask : (ℕ → V) → ℕ → ℕ → A} {join : A → A → A} (law : Question ask join) (x : A) (v : V) (first end : ℕ) → end ≤ first → x ≡ join x (ask (λ b. v) first (end - first))
+run-none {ask = ask} {join = join} law x v first end empty =
+    let none : end - first ≡ 0 = omega arith in
+    sym (ap (λ n. join x (ask (λ b. v) first n)) none ∙ law.none x (λ b. v) first)
+
+pub run-first : (v : Bool) (first end : ℕ) → first < end → v ≡ true → Some first ≡ first_from (λ b. v) first (end - first)
+run-first v first end some is = sym (first_from-some (λ b. v) first (end - first) first (record {
+  from = omega arith;
+  within = omega arith;
+  passes = is;
+  before = λ j low high. absurd (omega arith);
+}))
+
+pub run-first_none : (v : Bool) (first end : ℕ) → v ≡ false → None ≡ first_from (λ b. v) first (end - first)
+run-first_none v first end is = sym (first_from-none (λ b. v) first (end - first) (λ k low high. is))
+
+pub run-count : (v : Bool) (first end : ℕ) → v ≡ true → end - first ≡ count_from (λ b. v) first (end - first)
+run-count v first end is = sym (count_from-all (λ b. v) first (end - first) (λ k low high. is))
+
+pub run-count_none : (v : Bool) (first end : ℕ) → v ≡ false → 0 ≡ count_from (λ b. v) first (end - first)
+run-count_none v first end is = sym (count_from-none (λ b. v) first (end - first) (λ k low high. is))
+
+pub run-least : (v : Option ℕ) (first end : ℕ) → first < end → v ≡ least_from (λ b. v) first (end - first)
+run-least v first end some = sym (least_from-alike (λ b. v) first (end - first) v (omega arith) (λ k low high. refl))

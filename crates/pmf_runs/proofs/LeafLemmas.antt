@@ -1,0 +1,175 @@
+-- The states of a leaf, by its keys and states.
+use Rattle.std.proofs.Common.{◌≡◌, ℕ, ◌+◌, ◌-◌, ◌/◌, ◌<◌, ◌≤◌, List, [], ◌∷◌, ◌++◌, length, get_or, set, take, drop, refl, sym, ◌∙◌, ap, subst, arith, inl, inr}
+use Rattle.std.specs.Prelude.{true, false, vec_len, ◌&&◌, nat_le, nat_lt, if◌then◌else◌, Option, IfSome}
+use Rattle.std.proofs.lemmas.Bool.{cases_lt, and_right, false≢true}
+use Rattle.std.specs.List.{insert, remove}
+use Rattle.std.proofs.lemmas.List.{get_or_read, set-get_or, take_rest}
+use Rattle.pmf_runs.specs.declared.leaf.Leaf.{Leaf}
+use Rattle.pmf_runs.specs.Ranks.{rank, at_rank, HasKey, SameStates, ChangesWithin, ChangesItems, low_rank, high_rank, IsTail}
+use Rattle.pmf_runs.specs.Leaves.{leaf_state, leaf_begins, leaf_full, leaf_middle}
+use Rattle.pmf_runs.proofs.RankLemmas.{IsRank, rank-is, at_rank-insert, at_rank-remove, at_rank-changes, at_rank-take, at_rank-drop, insert-has, insert-keeps, le-true, lt-true, le-false, lt-false, last-rank}
+
+pub none-within : (low high k : ℕ) → high ≤ low → (nat_le low k && nat_lt k high) ≡ false
+none-within low high k le = elim (cases_lt k high) [
+  | inl below ↦ ap (λ t. t && nat_lt k high) (le-false low k (omega arith))
+  | inr above ↦ and_right (nat_le low k) (nat_lt k high) (lt-false k high above)
+]
+
+module _ {S : Type 0} where
+  pub state-single : (leaf : Leaf S) (d s : S) (b : ℕ) → leaf.keys.items ≡ [] → leaf.states.items ≡ s ∷ [] → leaf_state leaf d b ≡ s
+  unfolding leaf_state at_rank rank
+  state-single leaf d s b keys states =
+      ap (λ ks. get_or leaf.states.items (rank ks b) d) keys ∙ ap (λ ss. get_or ss 0 d) states
+
+  pub leaf-counted : (leaf : Leaf S) → length leaf.states.items ≡ length leaf.keys.items + 1
+  leaf-counted leaf = let counted = leaf.counted in omega (arith, leaf.states.ok.0, leaf.keys.ok.0)
+
+  pub rank-bound : (leaf : Leaf S) (b : ℕ) → rank leaf.keys.items b < length leaf.states.items
+  rank-bound leaf b = let r = rank-is leaf.keys.items b in let bound = r.bound in let counted = leaf-counted leaf in omega arith
+
+  pub state-read : (leaf : Leaf S) (s : S) (b i : ℕ) → i ≡ rank leaf.keys.items b → s ≡ get_or leaf.states.items i s → (d : S) → s ≡ leaf_state leaf d b
+  unfolding leaf_state at_rank
+  state-read leaf s b i is read d =
+      let bound = rank-bound leaf b in
+      get_or_read leaf.states.items i s (omega arith) read d ∙ ap (λ k. get_or leaf.states.items k d) is
+
+  -- ---- the leaf after a step
+
+  pub same-items : (old new : Leaf S) → new.keys.items ≡ old.keys.items → new.states.items ≡ old.states.items → SameStates (leaf_state old) (leaf_state new)
+  unfolding leaf_state at_rank
+  same-items old new keys states = record {
+    states = λ d b. ap (λ ks. get_or new.states.items (rank ks b) d) keys ∙ ap (λ ss. get_or ss (rank old.keys.items b) d) states;
+  }
+
+  pub begins-kept : (old new : Leaf S) → new.keys.items ≡ old.keys.items → (b : ℕ) → leaf_begins old b → leaf_begins new b
+  unfolding leaf_begins
+  begins-kept old new keys b begins = subst (λ ks. HasKey ks b) (sym keys) begins
+
+  pub begins-is : (leaf : Leaf S) (b : ℕ) → HasKey leaf.keys.items b → leaf_begins leaf b
+  unfolding leaf_begins
+  begins-is leaf b has = has
+
+  pub begins-put : (old new : Leaf S) (p i : ℕ) → i ≡ rank old.keys.items p → new.keys.items ≡ insert old.keys.items i p → leaf_begins new p
+  unfolding leaf_begins
+  begins-put old new p i at keys =
+      let at_p = rank-is old.keys.items p in
+      let bound = at_p.bound in
+      subst (λ ks. HasKey ks p) (sym keys) (insert-has old.keys.items p i (omega arith))
+
+  pub begins-put_kept : (old new : Leaf S) (p i : ℕ) → i ≡ rank old.keys.items p → new.keys.items ≡ insert old.keys.items i p → (b : ℕ) → leaf_begins old b → leaf_begins new b
+  unfolding leaf_begins
+  begins-put_kept old new p i at keys b begins =
+      let at_p = rank-is old.keys.items p in
+      let bound = at_p.bound in
+      subst (λ ks. HasKey ks b) (sym keys) (insert-keeps old.keys.items p i b (omega arith) begins)
+
+  pub same-put : (old new : Leaf S) (p i : ℕ) (s : S) → i ≡ rank old.keys.items p → s ≡ get_or old.states.items i s → new.keys.items ≡ insert old.keys.items i p → new.states.items ≡ insert old.states.items (i + 1) s →
+      SameStates (leaf_state old) (leaf_state new)
+  unfolding leaf_state
+  same-put old new p i s at read keys states = record {
+    states = λ d b.
+        let at_p : IsRank old.keys.items p i = subst (IsRank old.keys.items p) (sym at) (rank-is old.keys.items p) in
+        let counted = leaf-counted old in
+        let bound = at_p.bound in
+        let is = get_or_read old.states.items i s (omega arith) read d in
+        let put : set old.states.items i s ≡ old.states.items = ap (set old.states.items i) is ∙ set-get_or old.states.items i d in
+        ap (λ ks. at_rank ks new.states.items d b) keys
+        ∙ ap (λ ss. at_rank (insert old.keys.items i p) ss d b) (states ∙ ap (λ ss. insert ss (i + 1) s) (sym put))
+        ∙ at_rank-insert old.keys.items old.states.items p i s s d b at_p counted (λ below. is) (λ above. is);
+  }
+
+  pub same-joined : (old new : Leaf S) (i : ℕ) (x y : S) → i < length old.keys.items → x ≡ get_or old.states.items i x → y ≡ get_or old.states.items (i + 1) y → x ≡ y →
+      new.keys.items ≡ remove old.keys.items i → new.states.items ≡ remove old.states.items (i + 1) → SameStates (leaf_state old) (leaf_state new)
+  unfolding leaf_state
+  same-joined old new i x y within read_x read_y same keys states = record {
+    states = λ d b.
+        let counted = leaf-counted old in
+        let is_x = get_or_read old.states.items i x (omega arith) read_x d in
+        let is_y = get_or_read old.states.items (i + 1) y (omega arith) read_y d in
+        ap (λ ks. at_rank ks new.states.items d b) keys
+        ∙ ap (λ ss. at_rank (remove old.keys.items i) ss d b) states
+        ∙ at_rank-remove old.keys.items old.states.items i d b old.ordered within counted (λ _. sym is_x ∙ same ∙ is_y);
+  }
+
+  pub same-both : (a b c : S → ℕ → S) → SameStates a b → SameStates b c → SameStates a c
+  same-both a b c one two = record { states = λ d p. two.states d p ∙ one.states d p }
+
+  pub same-none : (a : S → ℕ → S) → SameStates a a
+  same-none a = record { states = λ d p. refl }
+
+  pub changes-items : (old new : Leaf S) (from end : Option ℕ) (change : S → S) → IfSome from (leaf_begins old) → IfSome end (leaf_begins old) → new.keys.items ≡ old.keys.items →
+      ChangesItems (low_rank old.keys.items from) (high_rank old.keys.items end) change old.states.items new.states.items → ChangesWithin from end change (leaf_state old) (leaf_state new)
+  unfolding leaf_state leaf_begins
+  changes-items old new from end change has_from has_end keys changes = record {
+    states = λ d b.
+        ap (λ ks. at_rank ks new.states.items d b) keys
+        ∙ at_rank-changes old.keys.items old.states.items new.states.items from end change d b old.ordered (leaf-counted old) has_from has_end changes;
+  }
+
+  pub changes-same : (from end : Option ℕ) (change : S → S) (a b c : S → ℕ → S) → ChangesWithin from end change a b → SameStates b c → ChangesWithin from end change a c
+  changes-same from end change a b c one two = record { states = λ d p. two.states d p ∙ one.states d p }
+
+  -- ---- changing the states in place
+
+  pub changes-end : (low high i : ℕ) (change : S → S) (old new : List S) → low ≤ i → high ≤ i → (low < i → i ≤ high) → ChangesItems low i change old new → ChangesItems low high change old new
+  changes-end low high i change old new from past upto changes = elim (cases_lt low i) [
+    | inl some ↦ let le = upto some in let same : i ≡ high = omega arith in subst (λ n. ChangesItems low n change old new) same changes
+    | inr none ↦
+        let same : i ≡ low = omega arith in record {
+          len = changes.len;
+          items = λ k d within.
+              changes.items k d within
+              ∙ ap (λ t. if t then change (get_or old k d) else get_or old k d) (none-within low i k (omega arith) ∙ sym (none-within low high k (omega arith)));
+        }
+  ]
+
+  pub changes-rewritten : (old mid new : Leaf S) (from end : Option ℕ) (change : S → S) → SameStates (leaf_state mid) (leaf_state new) → IfSome from (leaf_begins old) → IfSome end (leaf_begins old) →
+      mid.keys.items ≡ old.keys.items → ChangesItems (low_rank old.keys.items from) (high_rank old.keys.items end) change old.states.items mid.states.items → ChangesWithin from end change (leaf_state old) (leaf_state new)
+  changes-rewritten old mid new from end change same has_from has_end keys changes =
+      changes-same from end change (leaf_state old) (leaf_state mid) (leaf_state new) (changes-items old mid from end change has_from has_end keys changes) same
+
+  -- ---- parting a leaf
+
+  pub parts-low : (old low : Leaf S) (m : ℕ) → m < length old.keys.items → low.keys.items ≡ take m old.keys.items → low.states.items ≡ take (m + 1) old.states.items →
+      (d : S) (b : ℕ) → b < get_or old.keys.items m 0 → leaf_state low d b ≡ leaf_state old d b
+  unfolding leaf_state
+  parts-low old low m within keys states d b below =
+      ap (λ ks. at_rank ks low.states.items d b) keys ∙ ap (λ ss. at_rank (take m old.keys.items) ss d b) states
+      ∙ at_rank-take old.keys.items old.states.items m d b within below
+
+  pub parts-high : (old high : Leaf S) (m : ℕ) → m < length old.keys.items → high.keys.items ≡ drop (m + 1) old.keys.items → high.states.items ≡ drop (m + 1) old.states.items →
+      (d : S) (b : ℕ) → get_or old.keys.items m 0 ≤ b → leaf_state high d b ≡ leaf_state old d b
+  unfolding leaf_state
+  parts-high old high m within keys states d b from =
+      ap (λ ks. at_rank ks high.states.items d b) keys ∙ ap (λ ss. at_rank (drop (m + 1) old.keys.items) ss d b) states
+      ∙ at_rank-drop old.keys.items old.states.items m d b old.ordered within from
+
+-- a copy of the end of a list
+pub rest-copied : (keys now before after : List ℕ) (n : ℕ) → now ≡ keys → before ≡ [] → after ≡ before ++ take (length now - n) (drop n now) → after ≡ drop n keys
+rest-copied keys now before after n is none copied =
+    copied ∙ ap (λ xs. xs ++ take (length now - n) (drop n now)) none ∙ take_rest now n ∙ ap (drop n) is
+
+pub le-is : (a b : ℕ) → nat_le a b ≡ true → a ≤ b
+le-is a b is = elim (cases_lt b a) [
+  | inl below ↦ absurd (false≢true (sym (le-false a b below) ∙ is))
+  | inr above ↦ above
+]
+
+pub full-some : {S : Type 0} (leaf : Leaf S) → leaf_full leaf ≡ true → 1 < vec_len leaf.keys
+full-some leaf full = let many = le-is 62 (vec_len leaf.keys) full in omega arith
+
+pub middle-is : {S : Type 0} (leaf : Leaf S) (m : ℕ) → m ≡ vec_len leaf.keys / 2 → get_or leaf.keys.items m 0 ≡ leaf_middle leaf
+unfolding leaf_middle
+middle-is leaf m is = ap (λ k. get_or leaf.keys.items k 0) is
+
+pub all-within : (low high k : ℕ) → low ≤ k → k < high → (nat_le low k && nat_lt k high) ≡ true
+all-within low high k le lt = ap (λ t. t && nat_lt k high) (le-true low k le) ∙ lt-true k high lt
+
+pub lt-more : (k i : ℕ) → (k ≡ i → ⊥) → nat_lt k i ≡ nat_lt k (i + 1)
+lt-more k i other = elim (cases_lt k i) [
+  | inl below ↦ lt-true k i below ∙ sym (lt-true k (i + 1) (omega arith))
+  | inr above ↦ lt-false k i above ∙ sym (lt-false k (i + 1) (omega arith))
+]
+
+pub leaf-tail : {S : Type 0} (leaf : Leaf S) (s : S) (place last : ℕ) → last ≡ length leaf.keys.items → last ≡ rank leaf.keys.items place → s ≡ get_or leaf.states.items last s → IsTail (leaf_state leaf) place s
+leaf-tail leaf s place last is at read = λ d b from. sym (state-read leaf s b last (last-rank leaf.keys.items place b last is at from) read d)

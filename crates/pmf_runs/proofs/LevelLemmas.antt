@@ -1,0 +1,286 @@
+-- The states of a level, by its keys and parts.
+use Rattle.std.proofs.Common.{◌≡◌, ℕ, zero, suc, ◌+◌, ◌-◌, ◌/◌, ◌<◌, ◌≤◌, Bool, true, List, [], ◌∷◌, length, get_or, set, take, drop, map, refl, sym, ◌∙◌, ap, subst, arith, inl, inr}
+use Rattle.std.specs.Prelude.{vec_len, nat_le, nat_lt, ◌&&◌, false, if◌then◌else◌, Option, None, Some, IfSome}
+use Rattle.std.specs.List.{insert, remove}
+use Rattle.std.proofs.lemmas.Bool.{cases_lt, cases_eq}
+use Rattle.std.proofs.lemmas.List.{get_or-map, get_or-set_same, get_or-set_other, length-set, set-get_or, map-set, length-map, take-map, drop-map}
+use Rattle.pmf_runs.specs.declared.level.Level.{Level}
+use Rattle.pmf_runs.specs.Ranks.{rank, at_rank, HasKey, IsFresh, SameStates, ChangesWithin, Splits, IsInner, reaches, falls_short, is_within, bound_at, IsTail}
+use Rattle.pmf_runs.specs.Levels.{part_states, level_state, level_begins, level_full, level_middle, Rewrites, BeginsAt, GoesOn}
+use Rattle.pmf_runs.proofs.LeafLemmas.{le-is, none-within, all-within, lt-more}
+use Rattle.pmf_runs.proofs.RankLemmas.{IsRank, rank-is, rank-key, bound_at-same, bound_at-other, at_rank-insert, at_rank-remove, at_rank-take, at_rank-drop, last-rank}
+
+map-insert : {X Y : Type 0} (f : X → Y) (xs : List X) (i : ℕ) (x : X) → map f (insert xs i x) ≡ insert (map f xs) i (f x)
+map-insert f xs zero x = refl
+map-insert f [] (suc i) x = refl
+map-insert f (y ∷ ys) (suc i) x = ap (λ zs. f y ∷ zs) (map-insert f ys i x)
+
+module _ {P : Type 0} where
+  pub level-counted : (level : Level P) → length level.parts.items ≡ length level.keys.items + 1
+  level-counted level = let counted = level.counted in omega (arith, level.parts.ok.0, level.keys.ok.0)
+
+  pub level-bound : (level : Level P) (b : ℕ) → rank level.keys.items b < length level.parts.items
+  level-bound level b = let r = rank-is level.keys.items b in let bound = r.bound in let counted = level-counted level in omega arith
+
+  module _ {S : Type 0} (state : P → S → ℕ → S) where
+    pub level-single : (level : Level P) (part : P) → level.keys.items ≡ [] → level.parts.items ≡ part ∷ [] → SameStates (state part) (level_state state level)
+    unfolding level_state at_rank rank
+    level-single level part keys parts = record {
+      states = λ d b.
+          ap (λ ks. get_or (part_states state level.parts.items d b) (rank ks b) d) keys
+          ∙ ap (λ ps. get_or (part_states state ps d b) 0 d) parts;
+    }
+
+    pub level-read : (level : Level P) (part : P) (b i : ℕ) → i ≡ rank level.keys.items b → part ≡ get_or level.parts.items i part → (d : S) → state part d b ≡ level_state state level d b
+    unfolding level_state at_rank
+    level-read level part b i is read d =
+        let bound = level-bound level b in
+        ap (λ p. state p d b) read
+        ∙ sym (get_or-map (λ p. state p d b) level.parts.items i part d (omega arith))
+        ∙ ap (λ k. get_or (part_states state level.parts.items d b) k d) is
+
+    pub states-set : (parts : List P) (part new : P) (i : ℕ) (d : S) (b : ℕ) → i < length parts → part ≡ get_or parts i part → state new d b ≡ state part d b →
+        part_states state (set parts i new) d b ≡ part_states state parts d b
+    states-set parts part new i d b within read same =
+        map-set (λ p. state p d b) parts i new
+        ∙ ap (set (part_states state parts d b) i) (same ∙ ap (λ p. state p d b) read ∙ sym (get_or-map (λ p. state p d b) parts i part d within))
+        ∙ set-get_or (part_states state parts d b) i d
+
+    -- a part takes a new value that has the same states
+    pub level-set : (old new : Level P) (part next : P) (i : ℕ) → i < length old.parts.items → part ≡ get_or old.parts.items i part → SameStates (state part) (state next) →
+        new.keys.items ≡ old.keys.items → new.parts.items ≡ set old.parts.items i next → SameStates (level_state state old) (level_state state new)
+    unfolding level_state
+    level-set old new part next i within read same keys parts = record {
+      states = λ d b.
+          ap (λ ks. at_rank ks (part_states state new.parts.items d b) d b) keys
+          ∙ ap (λ ps. at_rank old.keys.items (part_states state ps d b) d b) parts
+          ∙ ap (λ ss. at_rank old.keys.items ss d b) (states-set old.parts.items part next i d b within read (same.states d b));
+    }
+
+    pub level-same : (old new : Level P) → new.keys.items ≡ old.keys.items → new.parts.items ≡ old.parts.items → SameStates (level_state state old) (level_state state new)
+    unfolding level_state
+    level-same old new keys parts = record {
+      states = λ d b.
+          ap (λ ks. at_rank ks (part_states state new.parts.items d b) d b) keys
+          ∙ ap (λ ps. at_rank old.keys.items (part_states state ps d b) d b) parts;
+    }
+
+    -- a part is split in two at a new key
+    pub level-split : (old new : Level P) (part low high : P) (p i : ℕ) → i ≡ rank old.keys.items p → part ≡ get_or old.parts.items i part →
+        Splits p (state part) (state low) (state high) → new.keys.items ≡ insert old.keys.items i p → new.parts.items ≡ insert (set old.parts.items i low) (i + 1) high →
+        SameStates (level_state state old) (level_state state new)
+    unfolding level_state
+    level-split old new part low high p i at read splits keys parts = record {
+      states = λ d b.
+          let f : P → S = λ q. state q d b in
+          let at_p : IsRank old.keys.items p i = subst (IsRank old.keys.items p) (sym at) (rank-is old.keys.items p) in
+          let counted = level-counted old in
+          let bound = at_p.bound in
+          let here : f part ≡ get_or (map f old.parts.items) i d = ap f read ∙ sym (get_or-map f old.parts.items i part d (omega arith)) in
+          ap (λ ks. at_rank ks (map f new.parts.items) d b) keys
+          ∙ ap (λ ps. at_rank (insert old.keys.items i p) (map f ps) d b) parts
+          ∙ ap (λ ss. at_rank (insert old.keys.items i p) ss d b) (map-insert f (set old.parts.items i low) (i + 1) high ∙ ap (λ ss. insert ss (i + 1) (f high)) (map-set f old.parts.items i low))
+          ∙ at_rank-insert old.keys.items (map f old.parts.items) p i (f low) (f high) d b at_p (length-map old.parts.items f ∙ counted)
+          (λ below. splits.below d b below ∙ here) (λ above. splits.above d b above ∙ here);
+    }
+
+    pub level-low : (old low : Level P) (m : ℕ) → m < length old.keys.items → low.keys.items ≡ take m old.keys.items → low.parts.items ≡ take (m + 1) old.parts.items →
+        (d : S) (b : ℕ) → b < get_or old.keys.items m 0 → level_state state low d b ≡ level_state state old d b
+    unfolding level_state
+    level-low old low m within keys parts d b below =
+        ap (λ ks. at_rank ks (part_states state low.parts.items d b) d b) keys
+        ∙ ap (λ ps. at_rank (take m old.keys.items) (part_states state ps d b) d b) parts
+        ∙ ap (λ ss. at_rank (take m old.keys.items) ss d b) (sym (take-map (λ q. state q d b) (m + 1) old.parts.items))
+        ∙ at_rank-take old.keys.items (part_states state old.parts.items d b) m d b within below
+
+    pub level-high : (old high : Level P) (m : ℕ) → m < length old.keys.items → high.keys.items ≡ drop (m + 1) old.keys.items → high.parts.items ≡ drop (m + 1) old.parts.items →
+        (d : S) (b : ℕ) → get_or old.keys.items m 0 ≤ b → level_state state high d b ≡ level_state state old d b
+    unfolding level_state
+    level-high old high m within keys parts d b from =
+        ap (λ ks. at_rank ks (part_states state high.parts.items d b) d b) keys
+        ∙ ap (λ ps. at_rank (drop (m + 1) old.keys.items) (part_states state ps d b) d b) parts
+        ∙ ap (λ ss. at_rank (drop (m + 1) old.keys.items) ss d b) (sym (drop-map (λ q. state q d b) (m + 1) old.parts.items))
+        ∙ at_rank-drop old.keys.items (part_states state old.parts.items d b) m d b old.ordered within from
+
+  -- ---- where runs begin
+
+  module _ (begins : P → ℕ → Type 0) where
+    pub level-has : (level : Level P) (b : ℕ) → HasKey level.keys.items b → level_begins begins level b
+    unfolding level_begins
+    level-has level b has = inl has
+
+    pub level-begun : (old new : Level P) (next : P) (p i : ℕ) → i ≡ rank old.keys.items p → new.keys.items ≡ old.keys.items → new.parts.items ≡ set old.parts.items i next → begins next p → level_begins begins new p
+    unfolding level_begins
+    level-begun old new next p i at keys parts begun = inr (record {
+      within = λ d.
+          let bound = level-bound old p in
+          let is : get_or new.parts.items (rank new.keys.items p) d ≡ next =
+          ap (λ ks. get_or new.parts.items (rank ks p) d) keys ∙ ap (λ ps. get_or ps (rank old.keys.items p) d) parts
+          ∙ ap (λ k. get_or (set old.parts.items i next) k d) (sym at) ∙ get_or-set_same old.parts.items i next d (omega arith) in
+          subst (λ q. begins q p) (sym is) begun;
+    })
+
+    pub level-kept : (old new : Level P) (part next : P) (i : ℕ) → i < length old.parts.items → part ≡ get_or old.parts.items i part → ((b : ℕ) → begins part b → begins next b) →
+        new.keys.items ≡ old.keys.items → new.parts.items ≡ set old.parts.items i next → (b : ℕ) → level_begins begins old b → level_begins begins new b
+    unfolding level_begins
+    level-kept old new part next i within read kept keys parts b (inl has) = inl (subst (λ ks. HasKey ks b) (sym keys) has)
+    level-kept old new part next i within read kept keys parts b (inr begun) = inr (record {
+      within = λ d.
+          let at : get_or new.parts.items (rank new.keys.items b) d ≡ get_or (set old.parts.items i next) (rank old.keys.items b) d =
+          ap (λ ks. get_or new.parts.items (rank ks b) d) keys ∙ ap (λ ps. get_or ps (rank old.keys.items b) d) parts in
+          elim (cases_eq (rank old.keys.items b) i) [
+            | inl same ↦
+                let is : get_or new.parts.items (rank new.keys.items b) d ≡ next = at ∙ ap (λ k. get_or (set old.parts.items i next) k d) same ∙ get_or-set_same old.parts.items i next d within in
+                let was : get_or old.parts.items (rank old.keys.items b) part ≡ part = ap (λ k. get_or old.parts.items k part) same ∙ sym read in
+                subst (λ q. begins q b) (sym is) (kept b (subst (λ q. begins q b) was (begun.within part)))
+            | inr other ↦
+                let is : get_or new.parts.items (rank new.keys.items b) d ≡ get_or old.parts.items (rank old.keys.items b) d = at ∙ get_or-set_other old.parts.items i (rank old.keys.items b) next d other in
+                subst (λ q. begins q b) (sym is) (begun.within d)
+          ];
+    })
+
+pub same-both : {S : Type 0} (a b c : S → ℕ → S) → SameStates a b → SameStates b c → SameStates a c
+same-both a b c one two = record { states = λ d p. two.states d p ∙ one.states d p }
+
+pub level-some : {P : Type 0} (level : Level P) → level_full level ≡ true → 1 < vec_len level.keys
+level-some level full = let many = le-is 62 (vec_len level.keys) full in omega arith
+
+pub level-middle-is : {P : Type 0} (level : Level P) (m : ℕ) → m ≡ vec_len level.keys / 2 → get_or level.keys.items m 0 ≡ level_middle level
+unfolding level_middle
+level-middle-is level m is = ap (λ k. get_or level.keys.items k 0) is
+
+-- ---- rewriting the parts one after another
+
+begins-fresh : {P : Type 0} (begins : P → ℕ → Type 0) (level : Level P) (p i : ℕ) → i ≡ rank level.keys.items p → IsFresh level.keys.items p → level_begins begins level p → BeginsAt begins level i p
+unfolding level_begins
+begins-fresh begins level p i at fresh (inl has) =
+    let key = rank-key level.keys.items p (rank level.keys.items p) level.ordered has (rank-is level.keys.items p) in
+    let some = key.0 in
+    let is = key.1 in
+    let below = fresh.below (rank level.keys.items p - 1) (omega arith) in absurd (omega arith)
+begins-fresh begins level p i at fresh (inr begun) = record { at = λ d. subst (λ k. begins (get_or level.parts.items k d) p) (sym at) (begun.within d) }
+
+pick : {X : Type 0} (a b c e : Bool) (x y : X) → (if a && c then (if b && e then x else y) else y) ≡ (if (a && b) && (c && e) then x else y)
+pick false b c e x y = refl
+pick true false false e x y = refl
+pick true false true e x y = refl
+pick true true false e x y = refl
+pick true true true e x y = refl
+
+if-true : {X : Type 0} (t : Bool) (x y : X) → t ≡ true → (if t then x else y) ≡ x
+if-true t x y is = ap (λ u. if u then x else y) is
+
+if-false : {X : Type 0} (t : Bool) (x y : X) → t ≡ false → (if t then x else y) ≡ y
+if-false t x y is = ap (λ u. if u then x else y) is
+
+module _ {P S : Type 0} (state : P → S → ℕ → S) (change : S → S) (low last : ℕ) (from end : Option ℕ) where
+  pub rewrites-none : (parts : List P) → Rewrites state change low last from end low parts parts
+  rewrites-none parts = record {
+    len = refl;
+    states = λ d b k within. sym (if-false (nat_le low k && nat_lt k low) _ (get_or (part_states state parts d b) k d) (none-within low low k (omega arith)));
+  }
+
+  pub rewrites-end : (high i : ℕ) (old new : List P) → low ≤ i → high ≤ i → (low < i → i ≤ high) → Rewrites state change low last from end i old new → Rewrites state change low last from end high old new
+  rewrites-end high i old new after past upto so_far = elim (cases_lt low i) [
+    | inl some ↦ let le = upto some in let same : i ≡ high = omega arith in subst (λ n. Rewrites state change low last from end n old new) same so_far
+    | inr none ↦
+        let same : i ≡ low = omega arith in record {
+          len = so_far.len;
+          states = λ d b k within.
+              so_far.states d b k within
+              ∙ ap (λ t. if t then (if is_within (bound_at low k from) (bound_at last k end) b then change (get_or (part_states state old d b) k d) else get_or (part_states state old d b) k d) else get_or (part_states state old d b) k d)
+              (none-within low i k (omega arith) ∙ sym (none-within low high k (omega arith)));
+        }
+  ]
+
+  pub rewrites-more : (old now new : List P) (part next : P) (i : ℕ) → low ≤ i → i < length now → part ≡ get_or now i part →
+      ChangesWithin (bound_at low i from) (bound_at last i end) change (state part) (state next) → new ≡ set now i next →
+      ((d : P) (k : ℕ) → i ≤ k → get_or now k d ≡ get_or old k d) → Rewrites state change low last from end i old now → Rewrites state change low last from end (i + 1) old new
+  rewrites-more old now new part next i after within read changes is rest so_far = record {
+    len = ap length is ∙ length-set now i next ∙ so_far.len;
+    states = λ d b k inside.
+        let f : P → S = λ q. state q d b in
+        let len = so_far.len in
+        let at : get_or (map f new) k d ≡ get_or (set (map f now) i (f next)) k d = ap (λ ps. get_or (map f ps) k d) is ∙ ap (λ ss. get_or ss k d) (map-set f now i next) in
+        elim (cases_eq k i) [
+          | inl same ↦
+              let here : get_or (map f new) k d ≡ f next =
+              at ∙ ap (λ j. get_or (set (map f now) i (f next)) j d) same ∙ get_or-set_same (map f now) i (f next) d (omega (arith, length-map now f)) in
+              let was : f part ≡ get_or (map f old) k d =
+              ap f (read ∙ rest part i (omega arith)) ∙ sym (get_or-map f old i part d (omega arith)) ∙ ap (λ j. get_or (map f old) j d) (sym same) in
+              let bounds : is_within (bound_at low i from) (bound_at last i end) b ≡ is_within (bound_at low k from) (bound_at last k end) b = ap (λ j. is_within (bound_at low j from) (bound_at last j end) b) (sym same) in
+              here ∙ changes.states d b
+              ∙ ap (λ x. if is_within (bound_at low i from) (bound_at last i end) b then change x else x) was
+              ∙ ap (λ t. if t then change (get_or (map f old) k d) else get_or (map f old) k d) bounds
+              ∙ sym (if-true (nat_le low k && nat_lt k (i + 1)) _ (get_or (map f old) k d) (all-within low (i + 1) k (omega arith) (omega arith)))
+          | inr other ↦
+              at ∙ get_or-set_other (map f now) i k (f next) d other ∙ so_far.states d b k inside
+              ∙ ap (λ t. if nat_le low k && t then (if is_within (bound_at low k from) (bound_at last k end) b then change (get_or (map f old) k d) else get_or (map f old) k d) else get_or (map f old) k d) (lt-more k i other)
+        ];
+  }
+
+  pub rest-more : (old now new : List P) (next : P) (i : ℕ) → new ≡ set now i next → ((d : P) (k : ℕ) → i ≤ k → get_or now k d ≡ get_or old k d) → (d : P) (k : ℕ) → i + 1 ≤ k → get_or new k d ≡ get_or old k d
+  rest-more old now new next i is rest d k past = ap (λ ps. get_or ps k d) is ∙ get_or-set_other now i k next d (λ same. omega arith) ∙ rest d k (omega arith)
+
+-- a run begins where a bound is handed down
+pub begins-bound : {P : Type 0} (begins : P → ℕ → Type 0) (level : Level P) (part : P) (index i : ℕ) (bound r : Option ℕ) → r ≡ bound_at index i bound → IfSome bound (λ b. BeginsAt begins level index b) →
+    part ≡ get_or level.parts.items i part → IfSome r (λ b. begins part b)
+begins-bound begins level part index i None r is has read = elim (cases_eq i index) [
+  | inl same ↦ subst (λ o. IfSome o (λ b. begins part b)) (sym (is ∙ bound_at-same index i None same)) tt
+  | inr other ↦ subst (λ o. IfSome o (λ b. begins part b)) (sym (is ∙ bound_at-other index i None other)) tt
+]
+begins-bound begins level part index i (Some p) r is has read = elim (cases_eq i index) [
+  | inl same ↦ subst (λ o. IfSome o (λ b. begins part b)) (sym (is ∙ bound_at-same index i (Some p) same))
+      (subst (λ q. begins q p) (ap (λ j. get_or level.parts.items j part) (sym same) ∙ sym read) (has.at part))
+  | inr other ↦ subst (λ o. IfSome o (λ b. begins part b)) (sym (is ∙ bound_at-other index i (Some p) other)) tt
+]
+
+-- what is handed down begins a run in the part that it is handed to
+pub inner-begins : {P : Type 0} (begins : P → ℕ → Type 0) (level : Level P) (bound inner : Option ℕ) (i : ℕ) → IsInner level.keys.items bound inner → IfSome bound (λ b. i ≡ rank level.keys.items b) → IfSome bound (level_begins begins level) → IfSome inner (λ b. BeginsAt begins level i b)
+inner-begins begins level None inner i is at has = subst (λ o. IfSome o (λ b. BeginsAt begins level i b)) (sym is) tt
+inner-begins begins level (Some p) inner i (inl key) at has = subst (λ o. IfSome o (λ b. BeginsAt begins level i b)) (sym key.0) tt
+inner-begins begins level (Some p) inner i (inr free) at has = subst (λ o. IfSome o (λ b. BeginsAt begins level i b)) (sym free.0) (begins-fresh begins level p i at free.1 has)
+
+-- the bounds that are handed down and the parts that they are handed to say what the bounds say
+pub level-rewritten : {P S : Type 0} (state : P → S → ℕ → S) (change : S → S) (old new : Level P) (low high : ℕ) (from end first last : Option ℕ) →
+    ((b : ℕ) → reaches from b ≡ (nat_le low (rank old.keys.items b) && reaches (bound_at low (rank old.keys.items b) first) b)) →
+    ((b : ℕ) → falls_short end b ≡ (nat_lt (rank old.keys.items b) (high + 1) && falls_short (bound_at high (rank old.keys.items b) last) b)) →
+    new.keys ≡ old.keys → Rewrites state change low high first last (high + 1) old.parts.items new.parts.items → ChangesWithin from end change (level_state state old) (level_state state new)
+unfolding level_state at_rank is_within
+level-rewritten state change old new low high from end first last low_law high_law keys changes = record {
+  states = λ d b.
+      let r = rank old.keys.items b in
+      ap (λ v. get_or (part_states state new.parts.items d b) (rank v.items b) d) keys
+      ∙ changes.states d b r (level-bound old b)
+      ∙ pick (nat_le low r) (reaches (bound_at low r first) b) (nat_lt r (high + 1)) (falls_short (bound_at high r last) b) _ _
+      ∙ ap (λ t. if t && (nat_lt r (high + 1) && falls_short (bound_at high r last) b) then change (get_or (part_states state old.parts.items d b) r d) else get_or (part_states state old.parts.items d b) r d) (sym (low_law b))
+      ∙ ap (λ t. if reaches from b && t then change (get_or (part_states state old.parts.items d b) r d) else get_or (part_states state old.parts.items d b) r d) (sym (high_law b));
+}
+
+map-remove : {X Y : Type 0} (f : X → Y) (xs : List X) (i : ℕ) → map f (remove xs i) ≡ remove (map f xs) i
+map-remove f [] zero = refl
+map-remove f [] (suc i) = refl
+map-remove f (x ∷ xs) zero = refl
+map-remove f (x ∷ xs) (suc i) = ap (λ ys. f x ∷ ys) (map-remove f xs i)
+
+-- a part is taken out that the one before it stands for as well
+pub level-joined : {P S : Type 0} (state : P → S → ℕ → S) (old new : Level P) (part : P) (key : ℕ) → key < length old.keys.items → GoesOn state old key →
+    new.keys.items ≡ remove old.keys.items key → new.parts.items ≡ remove old.parts.items (key + 1) → SameStates (level_state state old) (level_state state new)
+unfolding level_state
+level-joined state old new part key within goes_on keys parts = record {
+  states = λ d b.
+      let f : _ → _ = λ p. state p d b in
+      let counted = level-counted old in
+      ap (λ ks. at_rank ks (map f new.parts.items) d b) keys
+      ∙ ap (λ ps. at_rank (remove old.keys.items key) (map f ps) d b) parts
+      ∙ ap (λ ss. at_rank (remove old.keys.items key) ss d b) (map-remove f old.parts.items (key + 1))
+      ∙ at_rank-remove old.keys.items (map f old.parts.items) key d b old.ordered within (length-map old.parts.items f ∙ counted)
+      (λ from. get_or-map f old.parts.items key part d (omega arith) ∙ goes_on.same part d b from ∙ sym (get_or-map f old.parts.items (key + 1) part d (omega arith)));
+}
+
+-- the last part's tail is the level's
+pub level-tail : {P S : Type 0} (state : P → S → ℕ → S) (level : Level P) (part : P) (place last : ℕ) (tail : Option S) → last ≡ length level.keys.items → last ≡ rank level.keys.items place →
+    part ≡ get_or level.parts.items last part → IfSome tail (IsTail (state part) place) → IfSome tail (IsTail (level_state state level) place)
+level-tail state level part place last None is at read holds = tt
+level-tail state level part place last (Some s) is at read holds = λ d b from.
+    sym (level-read state level part b last (last-rank level.keys.items place b last is at from) read d) ∙ holds d b from

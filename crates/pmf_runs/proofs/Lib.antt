@@ -1,0 +1,12 @@
+pub mod RankLemmas
+pub mod LeafLemmas
+pub mod LevelLemmas
+pub mod ChangingLemmas
+pub mod RunLemmas
+pub mod AskingLemmas
+pub mod LevelAskingLemmas
+pub mod RunAskingLemmas
+pub mod SkipLemmas
+pub mod JoinedLemmas
+pub mod JoinedLevelLemmas
+pub mod RunJoinedLemmas

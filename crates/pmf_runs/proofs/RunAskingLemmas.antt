@@ -1,0 +1,29 @@
+-- What a map of runs answers about a range, by its root.
+use Rattle.std.proofs.Common.{◌≡◌, ℕ, Bool, refl, sym, ◌∙◌, ap}
+use Rattle.std.specs.Prelude.{Option, None, Some}
+use Rattle.pmf_runs.specs.declared.region.Region.{Region}
+use Rattle.pmf_runs.specs.declared.level.Level.{Level}
+use Rattle.pmf_runs.specs.declared.runs.RunMap.{RunMap}
+use Rattle.pmf_runs.specs.declared.state.State.{Ghosts}
+use Rattle.pmf_runs.specs.Runs.{root_state, state_at, passing, keyed}
+use Rattle.pmf_runs.proofs.RunLemmas.{gap-is, root-is}
+use Rattle.pmf_runs.proofs.AskingLemmas.{Question}
+
+pub passing-is : {S M : Type 0} {laws : Ghosts S M} (passes : S → Bool) (runs : RunMap S M laws) (b : ℕ) → passing passes runs b ≡ passes (state_at runs b)
+unfolding passing
+passing-is passes runs b = refl
+
+pub keyed-is : {S M : Type 0} {laws : Ghosts S M} (key : S → Option ℕ) (runs : RunMap S M laws) (b : ℕ) → keyed key runs b ≡ key (state_at runs b)
+unfolding keyed
+keyed-is key runs b = refl
+
+-- without a root each number has the gap's state
+pub gap-asked : {V A : Type 0} {ask : (ℕ → V) → ℕ → ℕ → A} {join : A → A → A} (law : Question ask join) {S M : Type 0} {laws : Ghosts S M} (value : S → V) (asked : ℕ → V) (runs : RunMap S M laws) (v : V) (first n : ℕ) →
+    ((b : ℕ) → asked b ≡ value (state_at runs b)) → v ≡ value runs.gap → runs.root ≡ None → ask (λ b. v) first n ≡ ask asked first n
+gap-asked law value asked runs v first n is at none =
+    law.same (λ b. v) asked first n (λ k low high. at ∙ ap value (sym (gap-is runs k none)) ∙ sym (is k))
+
+pub root-asked : {V A : Type 0} {ask : (ℕ → V) → ℕ → ℕ → A} {join : A → A → A} (law : Question ask join) {S M : Type 0} {laws : Ghosts S M} (value : S → V) (asked : ℕ → V) (runs : RunMap S M laws) (root : Level (Region S M laws)) (first n : ℕ) →
+    ((b : ℕ) → asked b ≡ value (state_at runs b)) → runs.root ≡ Some root → ask (λ b. value (root_state root runs.gap b)) first n ≡ ask asked first n
+root-asked law value asked runs root first n is some =
+    law.same (λ b. value (root_state root runs.gap b)) asked first n (λ k low high. ap value (sym (root-is runs root k some)) ∙ sym (is k))

@@ -1,0 +1,50 @@
+-- Maps whose neighbouring runs differ, by their roots.
+use Rattle.std.proofs.Common.{◌≡◌, sym, ◌∙◌, subst}
+use Rattle.std.specs.Prelude.{None, Some}
+use Rattle.pmf_runs.specs.declared.group.Group.{Group}
+use Rattle.pmf_runs.specs.declared.page.Page.{Page}
+use Rattle.pmf_runs.specs.declared.level.Level.{Level}
+use Rattle.pmf_runs.specs.declared.region.Region.{Region}
+use Rattle.pmf_runs.specs.declared.runs.RunMap.{RunMap}
+use Rattle.pmf_runs.specs.declared.state.State.{Ghosts}
+use Rattle.pmf_runs.specs.Groups.{group_joined, groups_joined}
+use Rattle.pmf_runs.specs.Joined.{Joined, AllJoined}
+use Rattle.pmf_runs.specs.Pages.{page_joined, pages_joined}
+use Rattle.pmf_runs.specs.Runs.{root_joined, IsJoined}
+use Rattle.pmf_runs.proofs.JoinedLemmas.{joined-plain, plain-joined}
+use Rattle.pmf_runs.proofs.JoinedLevelLemmas.{parts-all, all-parts-joined}
+
+some-same : {X : Type 0} (x y : X) → Some x ≡ Some y → x ≡ y
+some-same x y is = cc is
+
+none-other : {X : Type 0} (x : X) → None ≡ Some x → ⊥
+none-other x is = absurd (cc is)
+
+module _ {S M : Type 0} {laws : Ghosts S M} where
+  pages-plain : (level : Level (Page S M laws)) → pages_joined level None None → AllJoined (λ page. Joined page.leaf) level
+  pages-plain level whole = parts-all page_joined (λ page. Joined page.leaf) level (λ page joined. joined-plain page.leaf joined) whole
+
+  plain-pages : (level : Level (Page S M laws)) → AllJoined (λ page. Joined page.leaf) level → pages_joined level None None
+  plain-pages level all = all-parts-joined page_joined (λ page. Joined page.leaf) level (λ page joined. plain-joined page.leaf joined) all
+
+  groups-plain : (level : Level (Group S M laws)) → groups_joined level None None → AllJoined (λ group. AllJoined (λ page. Joined page.leaf) group.level) level
+  groups-plain level whole = parts-all group_joined (λ group. AllJoined (λ page. Joined page.leaf) group.level) level (λ group joined. pages-plain group.level joined) whole
+
+  plain-groups : (level : Level (Group S M laws)) → AllJoined (λ group. AllJoined (λ page. Joined page.leaf) group.level) level → groups_joined level None None
+  plain-groups level all = all-parts-joined group_joined (λ group. AllJoined (λ page. Joined page.leaf) group.level) level (λ group all. plain-pages group.level all) all
+
+  pub joined-root : (runs : RunMap S M laws) (root : Level (Region S M laws)) → runs.root ≡ Some root → root_joined root None None → IsJoined runs
+  joined-root runs root is whole = record {
+    leaves = λ other at.
+        subst (AllJoined (λ region. AllJoined (λ group. AllJoined (λ page. Joined page.leaf) group.level) region.level)) (some-same root other (sym is ∙ at))
+        (parts-all (λ region. groups_joined region.level) (λ region. AllJoined (λ group. AllJoined (λ page. Joined page.leaf) group.level) region.level) root
+        (λ region joined. groups-plain region.level joined) whole);
+  }
+
+  pub root-joined : (runs : RunMap S M laws) (root : Level (Region S M laws)) → runs.root ≡ Some root → IsJoined runs → root_joined root None None
+  root-joined runs root is joined =
+      all-parts-joined (λ region. groups_joined region.level) (λ region. AllJoined (λ group. AllJoined (λ page. Joined page.leaf) group.level) region.level) root
+      (λ region all. plain-groups region.level all) (joined.leaves root is)
+
+  pub joined-gap : (runs : RunMap S M laws) → runs.root ≡ None → IsJoined runs
+  joined-gap runs is = record { leaves = λ root at. absurd (none-other root (sym is ∙ at)) }

@@ -1,0 +1,61 @@
+-- The states of a map of runs, by its root.
+use Rattle.std.proofs.Common.{◌≡◌, ◌≤◌, ℕ, refl, sym, ◌∙◌, ap, if◌then◌else◌}
+use Rattle.std.specs.Prelude.{None, Some, is_some, false, Result, Ok, Err, OnErr}
+use Rattle.pmf_runs.specs.declared.region.Region.{Region}
+use Rattle.pmf_runs.specs.declared.level.Level.{Level}
+use Rattle.pmf_runs.specs.declared.runs.RunMap.{RunMap}
+use Rattle.pmf_runs.specs.declared.state.State.{Ghosts}
+use Rattle.pmf_runs.specs.Ranks.{SameStates, ChangesWithin, is_within}
+use Rattle.pmf_runs.specs.Runs.{root_state, state_within, state_at, is_between, KeepsStates, ChangesBetween}
+use Rattle.pmf_runs.proofs.RankLemmas.{none-is-any}
+use Rattle.pmf_runs.proofs.LeafLemmas.{none-within}
+
+pub on-err : {A E : Type 0} {P : Type 0} (r : Result A E) → P → OnErr r P
+on-err (Ok x) holds = tt
+on-err (Err e) holds = holds
+
+module _ {S M : Type 0} {laws : Ghosts S M} where
+  pub gap-is : (runs : RunMap S M laws) (b : ℕ) → runs.root ≡ None → state_at runs b ≡ runs.gap
+  unfolding state_at
+  gap-is runs b is = ap (λ o. state_within o runs.gap b) is
+
+  pub root-is : (runs : RunMap S M laws) (root : Level (Region S M laws)) (b : ℕ) → runs.root ≡ Some root → state_at runs b ≡ root_state root runs.gap b
+  unfolding state_at
+  root-is runs root b is = ap (λ o. state_within o runs.gap b) is
+
+  pub keeps-root : (old new : RunMap S M laws) (root next : Level (Region S M laws)) → old.root ≡ Some root → new.root ≡ Some next → new.gap ≡ old.gap → SameStates (root_state root) (root_state next) → KeepsStates old new
+  keeps-root old new root next was is gap same = record {
+    states = λ b. root-is new next b is ∙ ap (λ s. root_state next s b) gap ∙ same.states old.gap b ∙ sym (root-is old root b was);
+  }
+
+  pub changes-root : (old new : RunMap S M laws) (root next : Level (Region S M laws)) (first end : ℕ) (change : S → S) → old.root ≡ Some root → new.root ≡ Some next → new.gap ≡ old.gap →
+      ChangesWithin (Some first) (Some end) change (root_state root) (root_state next) → ChangesBetween first end change old new
+  unfolding is_within is_between
+  changes-root old new root next first end change was is gap changes = record {
+    states = λ b.
+        root-is new next b is ∙ ap (λ s. root_state next s b) gap ∙ changes.states old.gap b
+        ∙ ap (λ s. if is_within (Some first) (Some end) b then change s else s) (sym (root-is old root b was));
+  }
+
+  pub keeps-none : (runs : RunMap S M laws) → KeepsStates runs runs
+  keeps-none runs = record { states = λ b. refl }
+
+  pub keeps-both : (a b c : RunMap S M laws) → KeepsStates a b → KeepsStates b c → KeepsStates a c
+  keeps-both a b c one two = record { states = λ p. two.states p ∙ one.states p }
+
+  pub changes-kept : (a b c : RunMap S M laws) (first end : ℕ) (change : S → S) → KeepsStates a b → ChangesBetween first end change b c → ChangesBetween first end change a c
+  changes-kept a b c first end change one two = record {
+    states = λ p. two.states p ∙ ap (λ s. if is_between first end p then change s else s) (one.states p);
+  }
+
+  -- a range that ends where it begins, or before
+  pub changes-empty : (runs : RunMap S M laws) (first end : ℕ) (change : S → S) → end ≤ first → ChangesBetween first end change runs runs
+  unfolding is_between
+  changes-empty runs first end change le = record {
+    states = λ p. sym (ap (λ t. if t then change (state_at runs p) else state_at runs p) (none-within first end p le));
+  }
+
+  pub keeps-made : (old new : RunMap S M laws) (root : Level (Region S M laws)) → is_some old.root ≡ false → new.root ≡ Some root → ((d : S) (b : ℕ) → root_state root d b ≡ old.gap) → KeepsStates old new
+  keeps-made old new root none is same = record {
+    states = λ b. root-is new root b is ∙ same new.gap b ∙ sym (gap-is old b (none-is-any old.root none));
+  }

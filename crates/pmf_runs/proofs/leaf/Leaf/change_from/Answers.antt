@@ -1,0 +1,29 @@
+use Rattle.std.proofs.Common.{refl}
+use Rattle.std.specs.Prelude.{None, Some}
+use Rattle.pmf_runs.specs.Leaves.{leaf_state}
+use Rattle.pmf_runs.proofs.LeafLemmas.{same-items, same-both}
+use Rattle.pmf_runs.proofs.ChangingLemmas.{changes-after}
+use Rattle.pmf_runs.proofs.RunLemmas.{on-err}
+use Rattle.pmf_runs.proofs.JoinedLemmas.{joined-same, joined-swap}
+use Rattle.pmf_runs.proofs.leaf.Leaf.change_from.Goals as goal
+
+pub returns-in_err-begin-clause-unchanged : goal.returns-in_err-begin-clause-unchanged
+returns-in_err-begin-clause-unchanged g c =
+    on-err c.from_residual.result (same-both (leaf_state c.args.self.now) _ _ (same-items c.args.self.now _ refl refl) c.in_err-begin.ensures.same)
+
+pub returns-in_err-begin-2-clause-unchanged : goal.returns-in_err-begin-2-clause-unchanged
+returns-in_err-begin-2-clause-unchanged g c =
+    on-err c.from_residual-in_err-begin-2.result (same-both (leaf_state c.args.self.now) _ _ (same-both (leaf_state c.args.self.now) _ _ (same-items c.args.self.now _ refl refl) c.in_ok-begin.ensures.same) c.in_err-begin-2.ensures.same)
+
+pub returns-clause-ok : goal.returns-clause-ok
+returns-clause-ok g c =
+    changes-after (Some c.args.first) (Some c.args.end) (g.C.Change.changed c.args.change.now) (leaf_state c.args.self.now) _ _
+    (same-both (leaf_state c.args.self.now) _ _ (same-both (leaf_state c.args.self.now) _ _ (same-items c.args.self.now _ refl refl) c.in_ok-begin.ensures.same) c.in_ok-begin-2.ensures.same)
+    c.change_all.ensures.changes
+
+pub change_all-requires-clause-order : goal.change_all-requires-clause-order
+change_all-requires-clause-order g c = c.requires
+
+pub returns-clause-joined : goal.returns-clause-joined
+returns-clause-joined g c = λ joined.
+    c.change_all.ensures.joined (c.in_ok-begin-2.ensures.joined (Some c.args.first) (joined-swap _ _ _ (c.in_ok-begin.ensures.joined None (joined-same c.args.self.now _ None None refl refl joined))))

@@ -1,0 +1,11 @@
+use Rattle.std.proofs.Common.{◌-◌}
+use Rattle.pmf_event.specs.Ranges.{least_from, lesser}
+use Rattle.pmf_runs.specs.Leaves.{leaf_state}
+use Rattle.pmf_runs.proofs.AskingLemmas.{Asked}
+use Rattle.pmf_runs.proofs.leaf.Leaf.find_least.Given as goal
+
+abbrev pub invariant-loop-start : goal.invariant-loop-start
+invariant-loop-start g l = Asked (λ d. least_from (λ b. g.K.Key.key l.key (leaf_state l.self d b))) lesser l.fn.least l.self.keys.items l.first l.end l.start l.index l.lowest
+
+abbrev pub decreases-loop-start : goal.decreases-loop-start
+decreases-loop-start g l = l.end - l.start

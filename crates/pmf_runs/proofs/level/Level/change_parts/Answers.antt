@@ -1,0 +1,55 @@
+use Rattle.std.proofs.Common.{◌+◌, ◌∙◌, arith, refl, sym, subst}
+use Rattle.std.specs.Prelude.{None}
+use Rattle.pmf_runs.specs.Ranks.{ChangesWithin, bound_at}
+use Rattle.pmf_runs.proofs.LevelLemmas.{begins-bound, rewrites-end, rewrites-more, rest-more}
+use Rattle.pmf_runs.proofs.JoinedLevelLemmas.{order-bound, joins-more, joins-end}
+use Rattle.pmf_runs.proofs.level.Level.change_parts.Goals as goal
+
+pub rewrite-requires-clause-from : goal.rewrite-requires-clause-from
+rewrite-requires-clause-from g c =
+    begins-bound g.P.Part.begins c.args.self.now c.index_mut.result.now c.args.low c.loop-i.i c.args.from c.bound_at-first.result c.bound_at-first.ensures c.requires.from
+    (c.index_mut.ensures.value ∙ c.loop-i.invariant.rest c.index_mut.result.now c.loop-i.i (omega arith))
+
+pub rewrite-requires-clause-end : goal.rewrite-requires-clause-end
+rewrite-requires-clause-end g c =
+    begins-bound g.P.Part.begins c.args.self.now c.index_mut.result.now c.args.high c.loop-i.i c.args.end c.bound_at-last.result c.bound_at-last.ensures c.requires.end
+    (c.index_mut.ensures.value ∙ c.loop-i.invariant.rest c.index_mut.result.now c.loop-i.i (omega arith))
+
+pub loop-i-preserved : goal.loop-i-preserved
+loop-i-preserved g c =
+    let change = g.C.Change.changed c.args.change.now in
+    let state = g.P.Part.state in
+    let first : ChangesWithin (bound_at c.args.low c.loop-i.i c.args.from) c.bound_at-last.result change (state c.index_mut.result.now) (state c.rewrite.new.self) =
+    subst (λ o. ChangesWithin o c.bound_at-last.result change (state c.index_mut.result.now) (state c.rewrite.new.self)) c.bound_at-first.ensures c.rewrite.ensures.changes in
+    let both : ChangesWithin (bound_at c.args.low c.loop-i.i c.args.from) (bound_at c.args.high c.loop-i.i c.args.end) change (state c.index_mut.result.now) (state c.rewrite.new.self) =
+    subst (λ o. ChangesWithin (bound_at c.args.low c.loop-i.i c.args.from) o change (state c.index_mut.result.now) (state c.rewrite.new.self)) c.bound_at-last.ensures first in
+    let joined = g.P.Part.joined in
+    let law : joined c.index_mut.result.now (bound_at c.args.low c.loop-i.i c.args.from) (bound_at c.args.high c.loop-i.i c.args.end) → joined c.rewrite.new.self None None = λ was.
+    c.rewrite.ensures.joined (subst (λ o. joined c.index_mut.result.now o c.bound_at-last.result) (sym c.bound_at-first.ensures)
+    (subst (joined c.index_mut.result.now (bound_at c.args.low c.loop-i.i c.args.from)) (sym c.bound_at-last.ensures) was)) in
+    let high = c.requires.high in
+    let test = c.loop-i-test.true in
+    let len = c.loop-i.invariant.parts.len in
+    record {
+      upto = λ more. omega arith;
+      keys = c.loop-i.invariant.keys;
+      rest = rest-more state change c.args.low c.args.high c.args.from c.args.end c.args.self.now.parts.items c.loop-i.self.parts.items _ c.rewrite.new.self c.loop-i.i refl c.loop-i.invariant.rest;
+      parts = rewrites-more state change c.args.low c.args.high c.args.from c.args.end c.args.self.now.parts.items c.loop-i.self.parts.items _ c.index_mut.result.now c.rewrite.new.self c.loop-i.i
+          c.loop-i.auto.i (omega (arith, c.args.self.now.parts.ok.0)) c.index_mut.ensures.value both refl c.loop-i.invariant.rest c.loop-i.invariant.parts;
+      joins = joins-more joined c.args.low c.args.high c.args.from c.args.end c.args.self.now.parts.items c.loop-i.self.parts.items _ c.index_mut.result.now c.rewrite.new.self c.loop-i.i
+          c.loop-i.auto.i (omega (arith, c.args.self.now.parts.ok.0)) c.index_mut.ensures.value law refl c.loop-i.invariant.joins;
+    }
+
+pub returns-clause-parts : goal.returns-clause-parts
+returns-clause-parts g c =
+    rewrites-end g.P.Part.state (g.C.Change.changed c.args.change.now) c.args.low c.args.high c.args.from c.args.end (c.args.high + 1) c.loop-i.i c.args.self.now.parts.items c.loop-i.self.parts.items
+    c.loop-i.auto.i c.loop-i-test.false c.loop-i.invariant.upto c.loop-i.invariant.parts
+
+pub rewrite-requires-clause-order : goal.rewrite-requires-clause-order
+rewrite-requires-clause-order g c =
+    order-bound c.args.low c.args.high c.loop-i.i c.args.from c.args.end c.bound_at-first.result c.bound_at-last.result c.bound_at-first.ensures c.bound_at-last.ensures c.requires.order
+
+pub returns-clause-joins : goal.returns-clause-joins
+returns-clause-joins g c =
+    joins-end g.P.Part.joined c.args.low c.args.high c.args.from c.args.end (c.args.high + 1) c.loop-i.i c.args.self.now.parts.items c.loop-i.self.parts.items
+    c.loop-i.auto.i c.loop-i-test.false c.loop-i.invariant.upto c.loop-i.invariant.joins

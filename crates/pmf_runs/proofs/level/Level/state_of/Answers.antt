@@ -1,0 +1,15 @@
+use Rattle.std.proofs.Common.{◌∙◌, ap, arith}
+use Rattle.pmf_runs.specs.Ranks.{rank}
+use Rattle.pmf_runs.proofs.LevelLemmas.{level-bound, level-read}
+use Rattle.pmf_runs.proofs.level.Level.state_of.Goals as goal
+
+pub index-requires : goal.index-requires
+index-requires g c =
+    let bound = level-bound c.args.self.now c.args.place in
+    let is = ap (λ ks. rank ks c.args.place) c.deref.ensures.value in
+    omega (arith, c.rank_near.ensures, c.args.self.now.parts.ok.0)
+
+pub returns : goal.returns
+returns g c = λ d.
+    let is = c.rank_near.ensures ∙ ap (λ ks. rank ks c.args.place) c.deref.ensures.value in
+    c.at.ensures d ∙ level-read g.P.Part.state c.args.self.now c.index.result.now c.args.place c.rank_near.result is c.index.ensures d

@@ -1,0 +1,19 @@
+use Rattle.std.proofs.Common.{◌-◌, ◌∙◌, arith}
+use Rattle.pmf_runs.proofs.SkipLemmas.{count-empty}
+use Rattle.pmf_runs.specs.Runs.{passing}
+use Rattle.pmf_runs.proofs.AskingLemmas.{count-law}
+use Rattle.pmf_runs.proofs.RunAskingLemmas.{passing-is, gap-asked, root-asked}
+use Rattle.pmf_runs.proofs.runs.RunMap.count_where.Goals as goal
+
+pub returns-in-None : goal.returns-in-None
+returns-in-None g c =
+    c.count_of_run.ensures.is
+    ∙ gap-asked count-law (g.T.Test.passes c.args.test.now) (passing (g.T.Test.passes c.args.test.now) c.args.self.now) c.args.self.now c.passes.result c.args.first (c.args.end - c.args.first) (passing-is (g.T.Test.passes c.args.test.now) c.args.self.now) c.passes.ensures c.in-None.is
+
+pub returns-in-Some : goal.returns-in-Some
+returns-in-Some g c =
+    c.count_passing.ensures.is c.args.self.now.gap
+    ∙ root-asked count-law (g.T.Test.passes c.args.test.now) (passing (g.T.Test.passes c.args.test.now) c.args.self.now) c.args.self.now c.in-Some.root c.args.first (c.args.end - c.args.first) (passing-is (g.T.Test.passes c.args.test.now) c.args.self.now) c.in-Some.is
+
+pub returns-then-end-first : goal.returns-then-end-first
+returns-then-end-first g c = count-empty _ c.args.first (c.args.end - c.args.first) (omega arith)

@@ -1,0 +1,9 @@
+pub mod Ranks
+pub mod Leaves
+pub mod Walks
+pub mod Levels
+pub mod Joined
+pub mod Pages
+pub mod Groups
+pub mod Runs
+pub mod Members

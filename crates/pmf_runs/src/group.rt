@@ -1,0 +1,201 @@
+//! A level of pages with its summary.
+
+ghost use Rattle.std.specs.Prelude.{◌≡◌, ◌≤◌, ℕ, true, false, None, Some, OnOk, OnErr, IfOk, IfSome};
+ghost use Rattle.pmf_runs.specs.Ranks.{SameStates, ChangesWithin, Splits, CoversAll};
+ghost use Rattle.pmf_runs.specs.Joined.{InOrder};
+ghost use Rattle.pmf_runs.specs.Levels.{level_full, level_middle};
+ghost use Rattle.pmf_runs.specs.Pages.{pages_state, pages_begins, pages_joined};
+
+use crate::level::Level;
+use crate::page::Page;
+use crate::part::Part;
+use crate::state::{Change, Effect, Key, State, Test};
+use std::alloc::AllocError;
+
+#[cfg(test)]
+mod counting;
+
+/// A level of pages, and a summary that covers their states.
+#[derive(Drop)]
+pub(crate) struct Group<S: State> {
+    level: Level<Page<S>>,
+    summary: S::Summary,
+    ghost covered: { CoversAll S.covers summary (pages_state level) },
+}
+
+impl<S: State> Group<S> {
+    /// The group around this level.
+    pub(crate) fn around(level: Level<Page<S>>) -> Group<S>
+        ensures same { SameStates (pages_state level) (pages_state result.level) }
+        ensures level { result.level ≡ level }
+    {
+        let summary = level.summary();
+        Group { level, summary }
+    }
+
+    /// Changes the states of a range that lies in the group.
+    fn change_range<C: Change<S>>(
+        &mut self,
+        first: u64,
+        end: u64,
+        change: &C,
+    ) -> Result<Effect, AllocError>
+        requires { first ≤ end }
+        ensures ok { OnOk result (ChangesWithin (Some first) (Some end) (C.changed change.now) (pages_state self.old.level) (pages_state self.new.level)) }
+        ensures unchanged { OnErr result (SameStates (pages_state self.old.level) (pages_state self.new.level)) }
+        ensures joined { OnOk result (pages_joined self.old.level None None → pages_joined self.new.level None None) }
+    {
+        if !change.may_alter(self.summary) {
+            return Ok(Effect::None);
+        }
+        let done = self.level.change_range(first, end, change)?;
+        let (summary, effect) = renewed(&self.level, change.widened(self.summary), done);
+        self.summary = summary;
+        Ok(effect)
+    }
+
+    /// Changes the states between two bounds at which runs begin, and makes the summary anew. A change
+    /// that alters nothing passes over the whole.
+    fn change_whole<C: Change<S>>(&mut self, from: Option<u64>, end: Option<u64>, change: &C)
+        requires from { IfSome from (pages_begins self.old.level) }
+        requires end { IfSome end (pages_begins self.old.level) }
+        requires order { InOrder from end }
+        ensures changes { ChangesWithin from end (C.changed change.now) (pages_state self.old.level) (pages_state self.new.level) }
+        ensures joined { pages_joined self.old.level from end → pages_joined self.new.level None None }
+    {
+        if from.is_none() && end.is_none() && !change.may_alter(self.summary) {
+            return;
+        }
+        self.level.change_all(from, end, change);
+        self.summary = self.level.summary();
+    }
+
+    /// Hands out its second half. After an `Err` nothing is changed.
+    fn halve(&mut self) -> Result<Group<S>, AllocError>
+        requires { level_full self.old.level ≡ true }
+        ensures splits { IfOk result (λ part. Splits (level_middle self.old.level) (pages_state self.old.level) (pages_state self.new.level) (pages_state part.level)) }
+        ensures unchanged { OnErr result (SameStates (pages_state self.old.level) (pages_state self.new.level)) }
+        ensures low { OnOk result (pages_joined self.old.level None None → pages_joined self.new.level None None) }
+        ensures high { IfOk result (λ part. pages_joined self.old.level None None → pages_joined part.level None None) }
+    {
+        let rest = self.level.halve()?;
+        self.summary = self.level.summary();
+        Ok(Group::around(rest))
+    }
+}
+
+/// The summary of the level after a change that the wide one covers, and what becomes of the one above.
+fn renewed<S: State>(
+    level: &Level<Page<S>>,
+    wide: S::Summary,
+    effect: Effect,
+) -> (S::Summary, Effect)
+    requires { CoversAll S.covers wide (pages_state level.now) }
+    ensures { CoversAll S.covers result.0 (pages_state level.now) }
+{
+    match effect {
+        Effect::None => (wide, effect),
+        Effect::Widens => (wide, effect),
+        Effect::Settles => {
+            if level.has_unsettled() {
+                (wide, Effect::Widens)
+            } else {
+                (S::settled(wide), effect)
+            }
+        }
+        Effect::Narrows => {
+            let summary = level.summary();
+            if S::are_alike(summary, wide) {
+                (wide, Effect::Widens)
+            } else {
+                (summary, effect)
+            }
+        }
+    }
+}
+
+impl<S: State> Part<S> for Group<S> {
+    ghost state = { λ group. pages_state group.level };
+
+    ghost begins = { λ group. pages_begins group.level };
+
+    ghost joined = { λ group. pages_joined group.level };
+
+    ghost full = { λ group. level_full group.level };
+
+    ghost middle = { λ group. level_middle group.level };
+
+    fn at(&self, place: u64) -> S {
+        self.level.state_of(place)
+    }
+
+    fn summary(&self) -> S::Summary {
+        self.summary
+    }
+
+    fn tail(&self, place: u64) -> Option<S> {
+        self.level.tail(place)
+    }
+
+    fn is_full(&self) -> bool {
+        self.level.has_many()
+    }
+
+    fn middle(&self) -> u64 {
+        self.level.middle_key()
+    }
+
+    fn split(&mut self) -> Result<Group<S>, AllocError> {
+        self.halve()
+    }
+
+    fn make_space(&mut self, place: u64) -> Result<(), AllocError> {
+        self.level.space_for(place)?;
+        Ok(())
+    }
+
+    fn cut(&mut self, place: u64) -> Result<(), AllocError> {
+        self.level.begin(place)?;
+        Ok(())
+    }
+
+    fn change<C: Change<S>>(
+        &mut self,
+        first: u64,
+        end: u64,
+        change: &C,
+    ) -> Result<Effect, AllocError> {
+        self.change_range(first, end, change)
+    }
+
+    fn rewrite<C: Change<S>>(&mut self, from: Option<u64>, end: Option<u64>, change: &C) {
+        self.change_whole(from, end, change);
+    }
+
+    fn first_where<T: Test<S>>(&self, first: u64, end: u64, test: &T) -> Option<u64> {
+        if !test.may_pass(self.summary) {
+            return None;
+        }
+        self.level.find_first(first, end, test)
+    }
+
+    fn count_where<T: Test<S>>(&self, first: u64, end: u64, test: &T) -> u64 {
+        if !test.may_pass(self.summary) {
+            return 0;
+        }
+        self.level.count_passing(first, end, test)
+    }
+
+    fn least_key<K: Key<S>>(
+        &self,
+        first: u64,
+        end: u64,
+        key: &K,
+        least: Option<u32>,
+    ) -> Option<u32> {
+        if !key.may_lower(self.summary, least) {
+            return least;
+        }
+        self.level.find_least(first, end, key, least)
+    }
+}

@@ -1,0 +1,12 @@
+//! What tests count in a group.
+
+use crate::group::Group;
+use crate::page::Page;
+use crate::state::State;
+
+impl<S: State> Group<S> {
+    /// Its pages.
+    pub(crate) fn pages(&self) -> &[Page<S>] {
+        self.level.parts()
+    }
+}

@@ -1,0 +1,100 @@
+//! The rank of a number among rising keys.
+
+ghost use Rattle.std.specs.Prelude.{◌≡◌, true, false, IfSome};
+ghost use Rattle.pmf_runs.specs.Ranks.{HasKey, IsFresh, IsInner, bound_at, Rises, rank, low_rank, high_rank};
+
+/// How many keys are looked at one after another before the search halves them.
+const FEW: usize = 4;
+
+/// How many of the keys are at most the place.
+pub(crate) fn rank_of(keys: &[u64], place: u64) -> usize
+    requires { Rises keys.now }
+    ensures { result ≡ rank keys.now place }
+{
+    let mut low = 0;
+    let mut high = keys.len();
+    while low < high {
+        let middle = low + (high - low) / 2;
+        if keys[middle] <= place {
+            low = middle + 1;
+        } else {
+            high = middle;
+        }
+    }
+    low
+}
+
+/// How many of the keys are at most the place, where it is likely a few more than the hint.
+pub(crate) fn rank_near(keys: &[u64], place: u64, hint: usize) -> usize
+    requires { Rises keys.now }
+    ensures { result ≡ rank keys.now place }
+{
+    if hint > keys.len() || (hint > 0 && keys[hint - 1] > place) {
+        return rank_of(keys, place);
+    }
+    let mut index = hint;
+    while index < keys.len() && keys[index] <= place {
+        if index == hint + FEW {
+            return rank_of(keys, place);
+        }
+        index += 1;
+    }
+    index
+}
+
+/// The first element that lies from the bound on: the first of all, if there is no bound.
+pub(crate) fn low_rank(keys: &[u64], from: Option<u64>, hint: usize) -> usize
+    requires { Rises keys.now }
+    ensures { result ≡ low_rank keys.now from }
+{
+    match from {
+        None => 0,
+        Some(first) => rank_near(keys, first, hint),
+    }
+}
+
+/// The first element that lies beyond the bound: one past the last, if there is no bound.
+pub(crate) fn high_rank(keys: &[u64], end: Option<u64>, hint: usize) -> usize
+    requires { Rises keys.now }
+    ensures { result ≡ high_rank keys.now end }
+{
+    match end {
+        None => keys.len() + 1,
+        Some(end) => rank_near(keys, end, hint),
+    }
+}
+
+/// Whether the place is one of the keys.
+pub(crate) fn is_key(keys: &[u64], index: usize, place: u64) -> bool
+    requires rises { Rises keys.now }
+    requires rank { index ≡ rank keys.now place }
+    ensures key { result ≡ true → HasKey keys.now place }
+    ensures fresh { result ≡ false → IsFresh keys.now place }
+{
+    index > 0 && keys[index - 1] == place
+}
+
+/// The bound as it is handed down: nothing where a part begins there.
+pub(crate) fn inner_bound(keys: &[u64], index: usize, bound: Option<u64>) -> Option<u64>
+    requires rises { Rises keys.now }
+    requires rank { IfSome bound (λ b. index ≡ rank keys.now b) }
+    ensures { IsInner keys.now bound result }
+{
+    match bound {
+        None => None,
+        Some(place) => {
+            if is_key(keys, index, place) {
+                None
+            } else {
+                Some(place)
+            }
+        }
+    }
+}
+
+/// A bound at one part, and none elsewhere.
+pub(crate) fn bound_at(here: usize, index: usize, bound: Option<u64>) -> Option<u64>
+    ensures { result ≡ bound_at here index bound }
+{
+    if index == here { bound } else { None }
+}

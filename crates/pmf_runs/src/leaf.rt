@@ -1,0 +1,297 @@
+//! The lowest part of a map: at most 64 runs.
+
+ghost use Rattle.std.specs.Prelude.{◌≡◌, false, Option, None, Some, ◌≤◌, ◌<◌, ◌+◌, ◌-◌, ℕ, true, OnOk, OnErr, IfOk, IfSome, get_or, length, vec_len};
+ghost use Rattle.pmf_runs.specs.Ranks.{Rises, rank, SameStates, ChangesWithin, ChangesItems, IsFresh, Splits, AltersWithin, IsStop, IsTail, CoversAll, AllSettled};
+
+use crate::keys::{high_rank, is_key, low_rank, rank_near};
+use crate::state::{Change, Effect, State};
+use std::alloc::{AllocError, Global};
+
+mod asking;
+#[cfg(test)]
+mod counting;
+
+/// Runs of equal states: one state before the first key, and one from each key on.
+#[derive(Debug, Drop)]
+pub(crate) struct Leaf<S> {
+    keys: Vec<u64>,
+    states: Vec<S>,
+    /// The run that was changed last. For speed alone.
+    hint: usize,
+    ghost ordered: { Rises keys.items },
+    ghost counted: { vec_len states ≡ vec_len keys + 1 },
+}
+
+impl<S: State> Leaf<S> {
+    ghost use Rattle.pmf_runs.specs.Leaves.{leaf_state, leaf_begins, leaf_full, leaf_middle};
+    ghost use Rattle.pmf_runs.specs.Joined.{JoinedBut, JoinedBeside, InOrder};
+
+    /// The leaf in which each number has this state.
+    pub(crate) fn new(alloc: Global, state: S) -> Result<Leaf<S>, AllocError>
+        ensures states { IfOk result (λ leaf. (d : S) (b : ℕ) → leaf_state leaf d b ≡ state) }
+        ensures joined { IfOk result (λ leaf. JoinedBut leaf None None) }
+    {
+        let mut states = Vec::new(alloc);
+        states.push(state)?;
+        Ok(Leaf {
+            keys: Vec::new(alloc),
+            states,
+            hint: 0,
+        })
+    }
+
+    /// The state of a number.
+    pub(crate) fn state_of(&self, place: u64) -> S
+        ensures { (d : S) → result ≡ leaf_state self.now d place }
+    {
+        self.states[rank_near(&self.keys, place, self.hint)]
+    }
+
+    /// Makes a run begin at this number, which changes no state.
+    pub(crate) fn begin(&mut self, place: u64) -> Result<(), AllocError>
+        ensures begins { OnOk result (leaf_begins self.new place) }
+        ensures kept { (b : ℕ) → leaf_begins self.old b → leaf_begins self.new b }
+        ensures same { SameStates (leaf_state self.old) (leaf_state self.new) }
+        ensures joined { OnOk result ((other : Option ℕ) → JoinedBut self.old other None → JoinedBut self.new other (Some place)) }
+    {
+        let index = rank_near(&self.keys, place, self.hint);
+        if is_key(&self.keys, index, place) {
+            return Ok(());
+        }
+        self.put_key(index, place)
+    }
+
+    /// Puts in a key at its rank. The same state holds on its two sides.
+    fn put_key(&mut self, index: usize, place: u64) -> Result<(), AllocError>
+        requires rank { index ≡ rank self.old.keys.items place }
+        requires fresh { IsFresh self.old.keys.items place }
+        ensures begins { OnOk result (leaf_begins self.new place) }
+        ensures kept { (b : ℕ) → leaf_begins self.old b → leaf_begins self.new b }
+        ensures same { SameStates (leaf_state self.old) (leaf_state self.new) }
+        ensures joined { OnOk result ((other : Option ℕ) → JoinedBut self.old other None → JoinedBut self.new other (Some place)) }
+    {
+        let state = self.states[index];
+        self.states.reserve(1)?;
+        self.keys.insert(index, place)?;
+        match self.states.insert(index + 1, state) {
+            Ok(()) => Ok(()),
+            Err(_) => unreachable!(),
+        }
+    }
+
+    /// Where the change alters states of the numbers from `first` up to `end`.
+    pub(crate) fn altered<C: Change<S>>(
+        &self,
+        first: u64,
+        end: u64,
+        change: &C,
+        summary: S::Summary,
+    ) -> Altered
+        ensures { AltersWithin first end result.first result.end (C.changed change.now) (leaf_state self.now) }
+    {
+        let mut altered = Altered {
+            first: end,
+            end,
+            effect: Effect::None,
+        };
+        let mut index = rank_near(&self.keys, first, self.hint);
+        let mut start = first;
+        while start < end {
+            let stop = stop_of(&self.keys, index, end);
+            altered = altered.after(start, stop, self.states[index], change, summary);
+            index += 1;
+            start = stop;
+        }
+        altered
+    }
+
+    /// Changes the states of the numbers from `first` up to `end`. After an `Err` no state is changed.
+    pub(crate) fn change_from<C: Change<S>>(
+        &mut self,
+        first: u64,
+        end: u64,
+        change: &C,
+    ) -> Result<(), AllocError>
+        requires { first ≤ end }
+        ensures ok { OnOk result (ChangesWithin (Some first) (Some end) (C.changed change.now) (leaf_state self.old) (leaf_state self.new)) }
+        ensures unchanged { OnErr result (SameStates (leaf_state self.old) (leaf_state self.new)) }
+        ensures joined { OnOk result (JoinedBut self.old None None → JoinedBut self.new None None) }
+    {
+        self.hint = rank_near(&self.keys, first, self.hint);
+        self.begin(first)?;
+        self.begin(end)?;
+        self.change_all(Some(first), Some(end), change);
+        Ok(())
+    }
+
+    /// A summary of the states.
+    pub(crate) fn summary(&self) -> S::Summary
+        ensures { CoversAll S.covers result (leaf_state self.now) }
+    {
+        let mut summary = self.states[0].summary();
+        for i in 1..self.states.len() {
+            summary = S::joined(summary, self.states[i].summary());
+        }
+        summary
+    }
+
+    /// Whether a state is unsettled.
+    pub(crate) fn has_unsettled(&self) -> bool
+        ensures { result ≡ false → AllSettled S.unsettled (leaf_state self.now) }
+    {
+        for i in 0..self.states.len() {
+            if self.states[i].is_unsettled() {
+                return true;
+            }
+        }
+        false
+    }
+
+    /// Changes the states between two bounds at which runs begin, and joins neighbours of equal state.
+    /// It takes no memory.
+    pub(crate) fn change_all<C: Change<S>>(
+        &mut self,
+        from: Option<u64>,
+        end: Option<u64>,
+        change: &C,
+    )
+        requires from { IfSome from (leaf_begins self.old) }
+        requires end { IfSome end (leaf_begins self.old) }
+        requires order { InOrder from end }
+        ensures changes { ChangesWithin from end (C.changed change.now) (leaf_state self.old) (leaf_state self.new) }
+        ensures joined { JoinedBut self.old from end → JoinedBut self.new None None }
+    {
+        let low = low_rank(&self.keys, from, self.hint);
+        let high = high_rank(&self.keys, end, self.hint);
+        change_between(&mut self.states, low, high, change);
+        self.join_between(low, high);
+    }
+
+    /// Joins the runs from the one before `low` up to the one of `high` where neighbours are equal.
+    fn join_between(&mut self, low: usize, high: usize)
+        ensures same { SameStates (leaf_state self.old) (leaf_state self.new) }
+        ensures joined { JoinedBeside self.old low high → JoinedBut self.new None None }
+    {
+        let mut key = high.min(self.keys.len());
+        while key > 0 && key >= low {
+            key -= 1;
+            self.join_at(key);
+        }
+    }
+
+    /// Takes out a key where the states on its two sides are equal.
+    fn join_at(&mut self, key: usize)
+        requires { key < vec_len self.old.keys }
+        ensures same { SameStates (leaf_state self.old) (leaf_state self.new) }
+        ensures len { vec_len self.old.keys ≤ vec_len self.new.keys + 1 }
+        ensures joined { (low : ℕ) → low ≤ key + 1 → JoinedBeside self.old low (key + 1) → JoinedBeside self.new low key }
+    {
+        let (before, after) = (self.states[key], self.states[key + 1]);
+        if before.is_same(after) {
+            self.keys.remove(key);
+            self.states.remove(key + 1);
+        }
+    }
+
+    /// The state of all numbers from this one on, where it is one.
+    pub(crate) fn tail(&self, place: u64) -> Option<S>
+        ensures { IfSome result (IsTail (leaf_state self.now) place) }
+    {
+        let last = self.keys.len();
+        if rank_near(&self.keys, place, last) == last {
+            Some(self.states[last])
+        } else {
+            None
+        }
+    }
+
+    /// Whether it should be split before more is put in.
+    pub(crate) fn has_many(&self) -> bool
+        ensures { result ≡ leaf_full self.now }
+    {
+        self.keys.len() >= 62
+    }
+
+    /// The key at which its second half begins.
+    pub(crate) fn middle_key(&self) -> u64
+        requires { leaf_full self.now ≡ true }
+        ensures { result ≡ leaf_middle self.now }
+    {
+        self.keys[self.keys.len() / 2]
+    }
+
+    /// Hands out its second half. After an `Err` nothing is changed.
+    pub(crate) fn halve(&mut self) -> Result<Leaf<S>, AllocError>
+        requires { leaf_full self.old ≡ true }
+        ensures splits { IfOk result (λ part. Splits (leaf_middle self.old) (leaf_state self.old) (leaf_state self.new) (leaf_state part)) }
+        ensures unchanged { OnErr result (SameStates (leaf_state self.old) (leaf_state self.new)) }
+        ensures low { OnOk result (JoinedBut self.old None None → JoinedBut self.new None None) }
+        ensures high { IfOk result (λ part. JoinedBut self.old None None → JoinedBut part None None) }
+    {
+        let half = self.keys.len() / 2;
+        let mut keys = Vec::new(*self.keys.allocator());
+        keys.extend_from_slice(&self.keys[half + 1..])?;
+        let states = self.states.split_off(half + 1)?;
+        self.keys.truncate(half);
+        Ok(Leaf {
+            keys,
+            states,
+            hint: 0,
+        })
+    }
+}
+
+fn change_between<S: State, C: Change<S>>(states: &mut [S], low: usize, high: usize, change: &C)
+    requires { high ≤ length states.old }
+    ensures { ChangesItems low high (C.changed change.now) states.old states.new }
+{
+    for i in low..high {
+        states[i] = change.changed(states[i]);
+    }
+}
+
+/// Where a change alters states, and what becomes of their summary.
+#[derive(Clone, Copy, Debug, Drop)]
+pub(crate) struct Altered {
+    /// The first number whose state is altered.
+    pub(crate) first: u64,
+    /// The number after the last one. No state is altered unless it is above the first.
+    pub(crate) end: u64,
+    /// What becomes of the summary.
+    pub(crate) effect: Effect,
+}
+
+impl Altered {
+    ghost use Rattle.pmf_runs.specs.Ranks.{Sees};
+
+    /// The same after the next run, which begins at `start` and ends before `stop`.
+    fn after<S: State, C: Change<S>>(
+        self,
+        start: u64,
+        stop: u64,
+        state: S,
+        change: &C,
+        summary: S::Summary,
+    ) -> Altered
+        ensures { Sees start stop state (C.changed change.now) self.first self.end result.first result.end }
+    {
+        if change.changed(state).is_same(state) {
+            return self;
+        }
+        Altered {
+            first: self.first.min(start),
+            end: stop,
+            effect: self.effect.or(change.effect(summary, state)),
+        }
+    }
+}
+
+/// Where the run of this index ends, or the range.
+fn stop_of(keys: &[u64], index: usize, end: u64) -> u64
+    ensures { IsStop keys.now index end result }
+{
+    if index < keys.len() && keys[index] < end {
+        return keys[index];
+    }
+    end
+}

@@ -1,0 +1,10 @@
+//! What tests count in a leaf.
+
+use crate::leaf::Leaf;
+
+impl<S> Leaf<S> {
+    /// How many keys it has.
+    pub(crate) fn key_count(&self) -> usize {
+        self.keys.len()
+    }
+}

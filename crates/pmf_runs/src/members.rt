@@ -1,0 +1,64 @@
+//! Sets of numbers: maps whose states say whether a number is a member.
+
+ghost use Rattle.std.specs.Prelude.{◌≡◌, false};
+ghost use Rattle.pmf_runs.specs.Members.{both, has_either};
+
+use crate::state::State;
+
+/// Whether some numbers are members, and whether some are not.
+#[derive(Clone, Copy, Debug, PartialEq, Eq)]
+pub struct Members {
+    /// Whether there may be a member.
+    pub some_in: bool,
+    /// Whether there may be a number that is no member.
+    pub some_out: bool,
+}
+
+impl State for bool {
+    type Summary = Members;
+
+    ghost covers = { has_either };
+
+    ghost unsettled = { λ member. false };
+
+    fn summary(&self) -> Members {
+        let member = *self;
+        Members {
+            some_in: member,
+            some_out: !member,
+        }
+    }
+
+    fn joined(one: Members, other: Members) -> Members {
+        both(one, other)
+    }
+
+    fn is_unsettled(&self) -> bool {
+        false
+    }
+
+    fn may_be_unsettled(_summary: Members) -> bool {
+        false
+    }
+
+    fn settled(summary: Members) -> Members {
+        summary
+    }
+
+    fn is_same(&self, other: bool) -> bool {
+        *self == other
+    }
+
+    fn are_alike(one: Members, other: Members) -> bool {
+        one == other
+    }
+}
+
+fn both(one: Members, other: Members) -> Members
+    ensures { result ≡ both one other }
+{
+    Members {
+        some_in: one.some_in || other.some_in,
+        some_out: one.some_out || other.some_out,
+    }
+}

@@ -1,0 +1,198 @@
+//! A leaf with its summary.
+
+ghost use Rattle.std.specs.Prelude.{◌≡◌, ◌≤◌, ℕ, true, false, None, Some, OnOk, OnErr, IfOk, IfSome};
+ghost use Rattle.pmf_runs.specs.Ranks.{SameStates, ChangesWithin, Splits, CoversAll};
+ghost use Rattle.pmf_runs.specs.Joined.{JoinedBut, InOrder};
+ghost use Rattle.pmf_runs.specs.Leaves.{leaf_state, leaf_begins, leaf_full, leaf_middle};
+
+use crate::leaf::Leaf;
+use crate::part::Part;
+use crate::state::{Change, Effect, Key, State, Test};
+use std::alloc::AllocError;
+
+#[cfg(test)]
+mod counting;
+
+/// A leaf, and a summary that covers its states.
+#[derive(Drop)]
+pub(crate) struct Page<S: State> {
+    leaf: Leaf<S>,
+    summary: S::Summary,
+    ghost covered: { CoversAll S.covers summary (leaf_state leaf) },
+}
+
+impl<S: State> Page<S> {
+    /// The page around this leaf.
+    pub(crate) fn around(leaf: Leaf<S>) -> Page<S>
+        ensures same { SameStates (leaf_state leaf) (leaf_state result.leaf) }
+        ensures leaf { result.leaf ≡ leaf }
+    {
+        let summary = leaf.summary();
+        Page { leaf, summary }
+    }
+
+    /// Changes the states of a range that lies in the page.
+    fn change_range<C: Change<S>>(
+        &mut self,
+        first: u64,
+        end: u64,
+        change: &C,
+    ) -> Result<Effect, AllocError>
+        requires { first ≤ end }
+        ensures ok { OnOk result (ChangesWithin (Some first) (Some end) (C.changed change.now) (leaf_state self.old.leaf) (leaf_state self.new.leaf)) }
+        ensures unchanged { OnErr result (SameStates (leaf_state self.old.leaf) (leaf_state self.new.leaf)) }
+        ensures joined { OnOk result (JoinedBut self.old.leaf None None → JoinedBut self.new.leaf None None) }
+    {
+        if !change.may_alter(self.summary) {
+            return Ok(Effect::None);
+        }
+        let altered = self.leaf.altered(first, end, change, self.summary);
+        if altered.first >= altered.end {
+            return Ok(Effect::None);
+        }
+        self.leaf.change_from(altered.first, altered.end, change)?;
+        let (summary, effect) = renewed(&self.leaf, change.widened(self.summary), altered.effect);
+        self.summary = summary;
+        Ok(effect)
+    }
+
+    /// Changes the states between two bounds at which runs begin, and makes the summary anew. A change
+    /// that alters nothing passes over the whole.
+    fn change_whole<C: Change<S>>(&mut self, from: Option<u64>, end: Option<u64>, change: &C)
+        requires from { IfSome from (leaf_begins self.old.leaf) }
+        requires end { IfSome end (leaf_begins self.old.leaf) }
+        requires order { InOrder from end }
+        ensures changes { ChangesWithin from end (C.changed change.now) (leaf_state self.old.leaf) (leaf_state self.new.leaf) }
+        ensures joined { JoinedBut self.old.leaf from end → JoinedBut self.new.leaf None None }
+    {
+        if from.is_none() && end.is_none() && !change.may_alter(self.summary) {
+            return;
+        }
+        self.leaf.change_all(from, end, change);
+        self.summary = self.leaf.summary();
+    }
+
+    /// Hands out its second half. After an `Err` nothing is changed.
+    fn halve(&mut self) -> Result<Page<S>, AllocError>
+        requires { leaf_full self.old.leaf ≡ true }
+        ensures splits { IfOk result (λ part. Splits (leaf_middle self.old.leaf) (leaf_state self.old.leaf) (leaf_state self.new.leaf) (leaf_state part.leaf)) }
+        ensures unchanged { OnErr result (SameStates (leaf_state self.old.leaf) (leaf_state self.new.leaf)) }
+        ensures low { OnOk result (JoinedBut self.old.leaf None None → JoinedBut self.new.leaf None None) }
+        ensures high { IfOk result (λ part. JoinedBut self.old.leaf None None → JoinedBut part.leaf None None) }
+    {
+        let rest = self.leaf.halve()?;
+        self.summary = self.leaf.summary();
+        Ok(Page::around(rest))
+    }
+}
+
+/// The summary of the leaf after a change that the wide one covers, and what becomes of the one above.
+fn renewed<S: State>(leaf: &Leaf<S>, wide: S::Summary, effect: Effect) -> (S::Summary, Effect)
+    requires { CoversAll S.covers wide (leaf_state leaf.now) }
+    ensures { CoversAll S.covers result.0 (leaf_state leaf.now) }
+{
+    match effect {
+        Effect::None => (wide, effect),
+        Effect::Widens => (wide, effect),
+        Effect::Settles => {
+            if leaf.has_unsettled() {
+                (wide, Effect::Widens)
+            } else {
+                (S::settled(wide), effect)
+            }
+        }
+        Effect::Narrows => {
+            let summary = leaf.summary();
+            if S::are_alike(summary, wide) {
+                (wide, Effect::Widens)
+            } else {
+                (summary, effect)
+            }
+        }
+    }
+}
+
+impl<S: State> Part<S> for Page<S> {
+    ghost state = { λ page. leaf_state page.leaf };
+
+    ghost begins = { λ page. leaf_begins page.leaf };
+
+    ghost joined = { λ page. JoinedBut page.leaf };
+
+    ghost full = { λ page. leaf_full page.leaf };
+
+    ghost middle = { λ page. leaf_middle page.leaf };
+
+    fn at(&self, place: u64) -> S {
+        self.leaf.state_of(place)
+    }
+
+    fn summary(&self) -> S::Summary {
+        self.summary
+    }
+
+    fn tail(&self, place: u64) -> Option<S> {
+        self.leaf.tail(place)
+    }
+
+    fn is_full(&self) -> bool {
+        self.leaf.has_many()
+    }
+
+    fn middle(&self) -> u64 {
+        self.leaf.middle_key()
+    }
+
+    fn split(&mut self) -> Result<Page<S>, AllocError> {
+        self.halve()
+    }
+
+    fn make_space(&mut self, _place: u64) -> Result<(), AllocError> {
+        Ok(())
+    }
+
+    fn cut(&mut self, place: u64) -> Result<(), AllocError> {
+        self.leaf.begin(place)?;
+        Ok(())
+    }
+
+    fn change<C: Change<S>>(
+        &mut self,
+        first: u64,
+        end: u64,
+        change: &C,
+    ) -> Result<Effect, AllocError> {
+        self.change_range(first, end, change)
+    }
+
+    fn rewrite<C: Change<S>>(&mut self, from: Option<u64>, end: Option<u64>, change: &C) {
+        self.change_whole(from, end, change);
+    }
+
+    fn first_where<T: Test<S>>(&self, first: u64, end: u64, test: &T) -> Option<u64> {
+        if !test.may_pass(self.summary) {
+            return None;
+        }
+        self.leaf.find_first(first, end, test)
+    }
+
+    fn count_where<T: Test<S>>(&self, first: u64, end: u64, test: &T) -> u64 {
+        if !test.may_pass(self.summary) {
+            return 0;
+        }
+        self.leaf.count_passing(first, end, test)
+    }
+
+    fn least_key<K: Key<S>>(
+        &self,
+        first: u64,
+        end: u64,
+        key: &K,
+        least: Option<u32>,
+    ) -> Option<u32> {
+        if !key.may_lower(self.summary, least) {
+            return least;
+        }
+        self.leaf.find_least(first, end, key, least)
+    }
+}

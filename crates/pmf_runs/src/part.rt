@@ -1,0 +1,100 @@
+//! What the levels of a map are made of.
+
+ghost use Rattle.std.specs.Prelude.{◌≡◌, ◌≤◌, ◌-◌, ℕ, Bool, true, Option, None, Some, IfOk, OnOk, OnErr, IfSome};
+ghost use Rattle.pmf_event.specs.Ranges.{first_from, count_from, least_from, lesser};
+ghost use Rattle.pmf_runs.specs.Ranks.{SameStates, ChangesWithin, CoversAll, IsTail, Splits};
+ghost use Rattle.pmf_runs.specs.Joined.{InOrder};
+
+use crate::state::{Change, Effect, Key, State, Test};
+use std::alloc::AllocError;
+
+/// A part of a map. It has a state for each number, and is asked for those that are handed to it.
+pub(crate) trait Part<S: State>: Drop {
+    ghost state: { Self → S → ℕ → S };
+
+    ghost begins: { Self → ℕ → Type 0 };
+
+    ghost joined: { Self → Option ℕ → Option ℕ → Type 0 };
+
+    ghost full: { Self → Bool };
+
+    ghost middle: { Self → ℕ };
+
+    /// The state of a number.
+    fn at(&self, place: u64) -> S
+        ensures { (d : S) → result ≡ state self.now d place };
+
+    /// A summary that covers its states.
+    fn summary(&self) -> S::Summary
+        ensures { CoversAll S.covers result (state self.now) };
+
+    /// The state of all numbers from this one on, where it is one.
+    fn tail(&self, place: u64) -> Option<S>
+        ensures { IfSome result (IsTail (state self.now) place) };
+
+    /// Whether it should be split before more is put in.
+    fn is_full(&self) -> bool
+        ensures { result ≡ full self.now };
+
+    /// The number at which its second half begins.
+    fn middle(&self) -> u64
+        requires { full self.now ≡ true }
+        ensures { result ≡ middle self.now };
+
+    /// Hands out its second half.
+    fn split(&mut self) -> Result<Self, AllocError>
+        requires { full self.old ≡ true }
+        ensures splits { IfOk result (λ part. Splits (middle self.old) (state self.old) (state self.new) (state part)) }
+        ensures unchanged { OnErr result (SameStates (state self.old) (state self.new)) }
+        ensures low { OnOk result (joined self.old None None → joined self.new None None) }
+        ensures high { IfOk result (λ part. joined self.old None None → joined part None None) };
+
+    /// Splits what is full on the way to the number.
+    fn make_space(&mut self, place: u64) -> Result<(), AllocError>
+        ensures same { SameStates (state self.old) (state self.new) }
+        ensures joined { OnOk result (joined self.old None None → joined self.new None None) };
+
+    /// Makes a run begin at the number, which changes no state.
+    fn cut(&mut self, place: u64) -> Result<(), AllocError>
+        ensures begins { OnOk result (begins self.new place) }
+        ensures kept { (b : ℕ) → begins self.old b → begins self.new b }
+        ensures same { SameStates (state self.old) (state self.new) }
+        ensures first { OnOk result (joined self.old None None → joined self.new (Some place) None) }
+        ensures second { OnOk result ((from : Option ℕ) → joined self.old from None → joined self.new from (Some place)) };
+
+    /// Changes the states of the numbers from `first` up to `end`, and tells what becomes of a summary.
+    /// After an `Err`, which is want of memory, each number has the state that it had.
+    fn change<C: Change<S>>(
+        &mut self,
+        first: u64,
+        end: u64,
+        change: &C,
+    ) -> Result<Effect, AllocError>
+        requires { first ≤ end }
+        ensures ok { OnOk result (ChangesWithin (Some first) (Some end) (C.changed change.now) (state self.old) (state self.new)) }
+        ensures unchanged { OnErr result (SameStates (state self.old) (state self.new)) }
+        ensures joined { OnOk result (joined self.old None None → joined self.new None None) };
+
+    /// Changes the states between two bounds at which runs begin. It takes no memory.
+    fn rewrite<C: Change<S>>(&mut self, from: Option<u64>, end: Option<u64>, change: &C)
+        requires from { IfSome from (begins self.old) }
+        requires end { IfSome end (begins self.old) }
+        requires order { InOrder from end }
+        ensures changes { ChangesWithin from end (C.changed change.now) (state self.old) (state self.new) }
+        ensures joined { joined self.old from end → joined self.new None None };
+
+    /// The least number from `first` up to `end` whose state passes. An empty range has none, also one
+    /// whose end is below its first number.
+    fn first_where<T: Test<S>>(&self, first: u64, end: u64, test: &T) -> Option<u64>
+        ensures { (d : S) → result ≡ first_from (λ b. T.passes test.now (state self.now d b)) first (end - first) };
+
+    /// How many of the numbers from `first` up to `end` have a state that passes.
+    fn count_where<T: Test<S>>(&self, first: u64, end: u64, test: &T) -> u64
+        ensures is { (d : S) → result ≡ count_from (λ b. T.passes test.now (state self.now d b)) first (end - first) }
+        ensures bound { result ≤ end - first };
+
+    /// The lesser of the least so far and the least key that a state of the numbers from `first` up to
+    /// `end` has.
+    fn least_key<K: Key<S>>(&self, first: u64, end: u64, key: &K, least: Option<u32>) -> Option<u32>
+        ensures { (d : S) → result ≡ lesser least (least_from (λ b. K.key key.now (state self.now d b)) first (end - first)) };
+}

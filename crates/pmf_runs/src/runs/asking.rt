@@ -1,0 +1,53 @@
+//! Questions about the states of a range. Each is one walk over the runs that lie in it.
+
+ghost use Rattle.std.specs.Prelude.{◌≡◌, ◌-◌};
+
+use crate::runs::RunMap;
+use crate::state::{Key, State, Test};
+use crate::walk::{count_of_run, first_of_run, least_of_run};
+
+impl<S: State> RunMap<S> {
+    ghost use Rattle.pmf_event.specs.Ranges.{first_from, count_from, least_from};
+    ghost use Rattle.pmf_runs.specs.Runs.{passing, keyed};
+
+    /// The least number from `first` up to `end` whose state passes. An empty range has none, also one
+    /// whose end is below its first number. The walk ends at the first run that passes.
+    pub fn first_where<T: Test<S>>(&self, first: u64, end: u64, test: &T) -> Option<u64>
+        ensures { result ≡ first_from (passing (T.passes test.now) self.now) first (end - first) }
+    {
+        if end <= first {
+            return None;
+        }
+        match &self.root {
+            None => first_of_run(first, end, test.passes(self.gap)),
+            Some(root) => root.find_first(first, end, test),
+        }
+    }
+
+    /// How many of the numbers from `first` up to `end` have a state that passes.
+    pub fn count_where<T: Test<S>>(&self, first: u64, end: u64, test: &T) -> u64
+        ensures { result ≡ count_from (passing (T.passes test.now) self.now) first (end - first) }
+    {
+        if end <= first {
+            return 0;
+        }
+        match &self.root {
+            None => count_of_run(first, end, test.passes(self.gap)),
+            Some(root) => root.count_passing(first, end, test),
+        }
+    }
+
+    /// The least key that a state of the numbers from `first` up to `end` has, if one of them has any.
+    /// The key of a run is asked once.
+    pub fn least_key<K: Key<S>>(&self, first: u64, end: u64, key: &K) -> Option<u32>
+        ensures { result ≡ least_from (keyed (K.key key.now) self.now) first (end - first) }
+    {
+        if end <= first {
+            return None;
+        }
+        match &self.root {
+            None => least_of_run(first, end, key.key(self.gap)),
+            Some(root) => root.find_least(first, end, key, None),
+        }
+    }
+}

@@ -1,0 +1,45 @@
+//! What tests count in a map.
+
+use crate::runs::RunMap;
+use crate::state::State;
+
+impl<S: State> RunMap<S> {
+    /// How many groups it has.
+    pub(crate) fn group_count(&self) -> usize {
+        let mut count = 0usize;
+        if let Some(root) = &self.root {
+            for region in root.parts() {
+                count = count.wrapping_add(region.groups().len());
+            }
+        }
+        count
+    }
+
+    /// How many leaves its groups have.
+    pub(crate) fn leaf_count(&self) -> usize {
+        let mut count = 0usize;
+        if let Some(root) = &self.root {
+            for region in root.parts() {
+                for group in region.groups() {
+                    count = count.wrapping_add(group.pages().len());
+                }
+            }
+        }
+        count
+    }
+
+    /// How many keys its leaves have.
+    pub(crate) fn key_count(&self) -> usize {
+        let mut count = 0usize;
+        if let Some(root) = &self.root {
+            for region in root.parts() {
+                for group in region.groups() {
+                    for page in group.pages() {
+                        count = count.wrapping_add(page.key_count());
+                    }
+                }
+            }
+        }
+        count
+    }
+}

@@ -1,0 +1,423 @@
+//! A map of runs, its changes and its questions.
+
+ghost use Rattle.std.specs.Prelude.{◌≤◌};
+
+use crate::{Change, RunMap};
+use std::alloc::{AllocError, Global};
+use std::process::Abort;
+use std::test::Fail;
+
+mod colour;
+mod member;
+mod plain;
+
+use colour::{Colour, Is, Next, Number, To};
+use member::{Holds, Put};
+use plain::Plain;
+
+/// How many places the small array has.
+const PLACES: u64 = 64;
+
+/// A change of some numbers.
+#[derive(Clone, Copy, Debug)]
+enum Brush {
+    To(Colour),
+    Next,
+}
+
+impl Brush {
+    fn paint(self, map: &mut RunMap<Colour>, first: u64, end: u64) -> Result<(), AllocError> {
+        match self {
+            Brush::To(colour) => map.change(first, end, &To(colour)),
+            Brush::Next => map.change(first, end, &Next),
+        }
+    }
+
+    fn paint_plain(self, plain: &mut Plain, first: u64, end: u64) {
+        match self {
+            Brush::To(colour) => plain.change(first, end, &To(colour)),
+            Brush::Next => plain.change(first, end, &Next),
+        }
+    }
+}
+
+#[test]
+fn a_new_map_has_one_state_and_no_run(rt: HostRuntime) {
+    let map = RunMap::new(rt.alloc(), Colour::Green);
+    for place in [0, 1, 1 << 63, u64::MAX] {
+        assert_eq!(rt; map.at(place), Colour::Green);
+    }
+    assert_eq!(rt; map.key_count(), 0);
+    assert_eq!(rt; map.leaf_count(), 0);
+}
+
+#[test]
+fn a_set_holds_what_was_put_in_last(rt: HostRuntime) -> Result<(), Fail> {
+    let top = u64::MAX;
+    for (changes, members, keys, what) in [
+        ([].as_slice(), [].as_slice(), 0, "none"),
+        (
+            [(8, 16, true)].as_slice(),
+            [(8, 16)].as_slice(),
+            2,
+            "one range",
+        ),
+        (
+            [(8, 8, true)].as_slice(),
+            [].as_slice(),
+            0,
+            "an empty range",
+        ),
+        (
+            [(16, 8, true)].as_slice(),
+            [].as_slice(),
+            0,
+            "a range whose end is below its first number",
+        ),
+        (
+            [(0, 4, true)].as_slice(),
+            [(0, 4)].as_slice(),
+            2,
+            "from 0 on",
+        ),
+        (
+            [(0, top, true)].as_slice(),
+            [(0, top)].as_slice(),
+            2,
+            "all but the last number",
+        ),
+        (
+            [(8, 16, true), (8, 16, true)].as_slice(),
+            [(8, 16)].as_slice(),
+            2,
+            "twice",
+        ),
+        (
+            [(8, 16, true), (8, 16, false)].as_slice(),
+            [].as_slice(),
+            0,
+            "put in and taken out",
+        ),
+        (
+            [(8, 16, true), (0, 32, false)].as_slice(),
+            [].as_slice(),
+            0,
+            "taken out with more",
+        ),
+        (
+            [(8, 16, true), (16, 24, true)].as_slice(),
+            [(8, 24)].as_slice(),
+            2,
+            "neighbours are one run",
+        ),
+        (
+            [(16, 24, true), (8, 16, true)].as_slice(),
+            [(8, 24)].as_slice(),
+            2,
+            "neighbours the other way round",
+        ),
+        (
+            [(8, 24, true), (12, 16, false)].as_slice(),
+            [(8, 12), (16, 24)].as_slice(),
+            4,
+            "a hole",
+        ),
+        (
+            [(8, 24, true), (12, 16, false), (12, 16, true)].as_slice(),
+            [(8, 24)].as_slice(),
+            2,
+            "a hole is filled",
+        ),
+        (
+            [(8, 16, true), (20, 24, true), (0, 32, true)].as_slice(),
+            [(0, 32)].as_slice(),
+            2,
+            "over two runs",
+        ),
+        (
+            [(8, 16, true), (20, 24, true), (12, 22, true)].as_slice(),
+            [(8, 24)].as_slice(),
+            2,
+            "from within one run into another",
+        ),
+        (
+            [(8, 16, true), (20, 24, true), (12, 22, false)].as_slice(),
+            [(8, 12), (22, 24)].as_slice(),
+            4,
+            "cut at both sides",
+        ),
+    ] {
+        let mut set = RunMap::new(rt.alloc(), false);
+        for (first, end, state) in changes {
+            set.change(*first, *end, &Put(*state))?;
+        }
+        let mut at = 0;
+        let mut count = 0u64;
+        for (first, end) in members {
+            assert_eq!(rt;
+                set.first_where(at, top, &Holds(true)),
+                Some(*first),
+                "{what}"
+            );
+            assert_eq!(rt;
+                set.first_where(*first, top, &Holds(false)).unwrap_or(top),
+                *end,
+                "{what}"
+            );
+            count = count.wrapping_add(end.wrapping_sub(*first));
+            at = *end;
+        }
+        assert_eq!(rt; set.first_where(at, top, &Holds(true)), None, "{what}");
+        assert_eq!(rt; set.count_where(0, top, &Holds(true)), count, "{what}");
+        assert_eq!(rt; set.key_count(), keys, "{what}");
+    }
+    Ok(())
+}
+
+/// 10 to 20 green, 20 to 30 blue, 40 to 50 green, the rest red.
+fn painted(alloc: Global) -> Result<RunMap<Colour>, AllocError> {
+    let mut map = RunMap::new(alloc, Colour::Red);
+    map.change(10, 20, &To(Colour::Green))?;
+    map.change(20, 30, &To(Colour::Blue))?;
+    map.change(40, 50, &To(Colour::Green))?;
+    Ok(map)
+}
+
+#[test]
+fn a_change_follows_each_state_of_its_range(rt: HostRuntime) -> Result<(), Fail> {
+    let mut map = painted(rt.alloc())?;
+    map.change(15, 25, &Next)?;
+    for (place, want) in [
+        (9, Colour::Red),
+        (10, Colour::Green),
+        (14, Colour::Green),
+        (15, Colour::Blue),
+        (19, Colour::Blue),
+        (20, Colour::Red),
+        (24, Colour::Red),
+        (25, Colour::Blue),
+        (29, Colour::Blue),
+        (30, Colour::Red),
+        (39, Colour::Red),
+        (40, Colour::Green),
+        (49, Colour::Green),
+        (50, Colour::Red),
+    ] {
+        assert_eq!(rt; map.at(place), want, "at {place}");
+    }
+    assert_eq!(rt; map.key_count(), 7);
+    Ok(())
+}
+
+#[test]
+fn questions_are_about_their_range_alone(rt: HostRuntime) -> Result<(), Fail> {
+    let map = painted(rt.alloc())?;
+    for (first, end, blue, greens, least) in [
+        (0, 10, None, 0, None),
+        (0, 11, None, 1, Some(5)),
+        (10, 20, None, 10, Some(5)),
+        (12, 21, Some(20), 8, Some(3)),
+        (20, 30, Some(20), 0, Some(3)),
+        (25, 26, Some(25), 0, Some(3)),
+        (25, 45, Some(25), 5, Some(3)),
+        (30, 40, None, 0, None),
+        (30, 41, None, 1, Some(5)),
+        (45, 45, None, 0, None),
+        (45, 10, None, 0, None),
+        (0, u64::MAX, Some(20), 20, Some(3)),
+    ] {
+        assert_eq!(rt;
+            map.first_where(first, end, &Is(Colour::Blue)),
+            blue,
+            "{first} to {end}"
+        );
+        assert_eq!(rt;
+            map.count_where(first, end, &Is(Colour::Green)),
+            greens,
+            "{first} to {end}"
+        );
+        assert_eq!(rt;
+            map.least_key(first, end, &Number),
+            least,
+            "{first} to {end}"
+        );
+    }
+    Ok(())
+}
+
+#[test]
+fn the_size_of_a_range_costs_nothing(rt: HostRuntime) -> Result<(), Fail> {
+    let end = 1 << 63;
+    let mut map = RunMap::new(rt.alloc(), Colour::Red);
+    map.change(0, end, &To(Colour::Blue))?;
+    map.change(end / 2, end / 2 + 1, &To(Colour::Green))?;
+    assert_eq!(rt; map.first_where(0, end, &Is(Colour::Green)), Some(end / 2));
+    assert_eq!(rt; map.count_where(0, end, &Is(Colour::Blue)), end - 1);
+    assert_eq!(rt; map.least_key(0, end, &Number), Some(3));
+    map.change(0, u64::MAX, &To(Colour::Red))?;
+    assert_eq!(rt; map.key_count(), 0);
+    Ok(())
+}
+
+/// Numbers that look random, the same ones in each run of the test.
+#[derive(Debug, Drop)]
+struct Numbers(u64);
+
+impl Numbers {
+    fn next(&mut self) -> u64 {
+        self.0 = self
+            .0
+            .wrapping_mul(6_364_136_223_846_793_005)
+            .wrapping_add(1_442_695_040_888_963_407);
+        self.0 >> 33
+    }
+
+    fn colour(&mut self) -> Colour {
+        match self.next() % 3 {
+            0 => Colour::Red,
+            1 => Colour::Green,
+            _ => Colour::Blue,
+        }
+    }
+
+    fn brush(&mut self) -> Brush {
+        if self.next() % 3 == 0 {
+            Brush::Next
+        } else {
+            Brush::To(self.colour())
+        }
+    }
+
+    /// Two of so many places, the lesser first.
+    fn range(&mut self, places: u64) -> (u64, u64)
+        ensures { result.0 ≤ result.1 }
+    {
+        let one = self.below(places);
+        let other = self.below(places);
+        (one.min(other), one.max(other))
+    }
+
+    /// A number up to this one.
+    fn below(&mut self, places: u64) -> u64 {
+        self.next() % places.saturating_add(1).max(1)
+    }
+}
+
+/// The map has the states of the array.
+fn assert_states(rt: &impl Abort, map: &RunMap<Colour>, plain: &Plain) {
+    for place in 0..plain.places().saturating_add(2) {
+        assert_eq!(rt; map.at(place), plain.at(place), "at {place}");
+    }
+}
+
+fn assert_answers(rt: &impl Abort, map: &RunMap<Colour>, plain: &Plain, numbers: &mut Numbers) {
+    let (first, end) = numbers.range(plain.places());
+    let test = Is(numbers.colour());
+    assert_eq!(rt;
+        map.first_where(first, end, &test),
+        plain.first_where(first, end, &test)
+    );
+    assert_eq!(rt;
+        map.count_where(first, end, &test),
+        plain.count_where(first, end, &test)
+    );
+    assert_eq!(rt;
+        map.least_key(first, end, &Number),
+        plain.least_key(first, end, &Number)
+    );
+}
+
+/// Paints a range of both. Where memory is refused the map has the states that it had.
+fn paint_both(
+    rt: &impl Abort,
+    map: &mut RunMap<Colour>,
+    plain: &mut Plain,
+    brush: Brush,
+    first: u64,
+    end: u64,
+) -> Result<(), AllocError> {
+    let painted = brush.paint(map, first, end);
+    if painted.is_err() {
+        assert_states(rt, map, plain);
+    }
+    painted?;
+    brush.paint_plain(plain, first, end);
+    Ok(())
+}
+
+#[test]
+fn a_map_answers_as_an_array_does(rt: HostRuntime) -> Result<(), Fail> {
+    let mut numbers = Numbers(1);
+    for _list in 0..1000 {
+        let mut map = RunMap::new(rt.alloc(), Colour::Red);
+        let mut plain = Plain::new(rt.alloc(), PLACES)?;
+        let changes = numbers.next() % 12;
+        for _change in 0..changes {
+            let (first, end) = numbers.range(PLACES);
+            let brush = numbers.brush();
+            paint_both(&rt, &mut map, &mut plain, brush, first, end)?;
+            assert_answers(&rt, &map, &plain, &mut numbers);
+        }
+        assert_states(&rt, &map, &plain);
+        assert_eq!(rt; map.key_count(), plain.borders());
+    }
+    Ok(())
+}
+
+/// A map that took so many small changes at random places, and the array beside it.
+fn scattered(
+    rt: &impl Abort,
+    alloc: Global,
+    places: u64,
+    changes: u64,
+    numbers: &mut Numbers,
+) -> Result<(RunMap<Colour>, Plain), AllocError> {
+    let mut map = RunMap::new(alloc, Colour::Red);
+    let mut plain = Plain::new(alloc, places)?;
+    for _change in 0..changes {
+        let first = numbers.below(places);
+        let end = first.saturating_add(numbers.next() % 5).min(places);
+        let brush = numbers.brush();
+        paint_both(rt, &mut map, &mut plain, brush, first, end)?;
+    }
+    Ok((map, plain))
+}
+
+#[test]
+fn a_map_of_many_groups_answers_as_an_array_does(rt: HostRuntime) -> Result<(), Fail> {
+    let mut numbers = Numbers(2);
+    let (mut map, mut plain) = scattered(&rt, rt.alloc(), 20_000, 20_000, &mut numbers)?;
+    assert!(rt; map.leaf_count() > 100);
+    assert!(rt; map.group_count() > 2);
+    assert_states(&rt, &map, &plain);
+    for _wide in 0..100 {
+        let (first, end) = numbers.range(20_000);
+        assert_answers(&rt, &map, &plain, &mut numbers);
+        paint_both(&rt, &mut map, &mut plain, Brush::Next, first, end)?;
+        assert_answers(&rt, &map, &plain, &mut numbers);
+    }
+    assert_states(&rt, &map, &plain);
+    Ok(())
+}
+
+#[test]
+fn emptied_parts_are_taken_out(rt: HostRuntime) -> Result<(), Fail> {
+    let mut numbers = Numbers(3);
+    let (mut map, mut plain) = scattered(&rt, rt.alloc(), 20_000, 20_000, &mut numbers)?;
+    let before = map.leaf_count();
+    paint_both(
+        &rt,
+        &mut map,
+        &mut plain,
+        Brush::To(Colour::Green),
+        5_000,
+        15_000,
+    )?;
+    assert!(rt; map.leaf_count() < before);
+    assert_states(&rt, &map, &plain);
+    map.change(0, u64::MAX, &To(Colour::Red))?;
+    assert_eq!(rt; map.group_count(), 1);
+    assert_eq!(rt; map.leaf_count(), 1);
+    assert_eq!(rt; map.key_count(), 0);
+    Ok(())
+}

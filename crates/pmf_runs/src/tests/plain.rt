@@ -1,0 +1,97 @@
+//! The map by an array of states, a number at a time.
+
+use super::Colour;
+use crate::state::{Change, Key, Test};
+use std::alloc::{AllocError, Global};
+
+#[derive(Debug, Drop)]
+pub(super) struct Plain {
+    states: Vec<Colour>,
+}
+
+impl Plain {
+    /// So many places, all red.
+    pub(super) fn new(alloc: Global, places: u64) -> Result<Plain, AllocError> {
+        let mut states = Vec::new(alloc);
+        for _place in 0..places {
+            states.push(Colour::Red)?;
+        }
+        Ok(Plain { states })
+    }
+
+    pub(super) fn places(&self) -> u64 {
+        self.states.len() as u64
+    }
+
+    pub(super) fn at(&self, place: u64) -> Colour {
+        if place < self.states.len() as u64 {
+            self.states[place as usize]
+        } else {
+            Colour::Red
+        }
+    }
+
+    fn put(&mut self, place: u64, state: Colour) {
+        if place < self.states.len() as u64 {
+            self.states[place as usize] = state;
+        }
+    }
+
+    pub(super) fn change<C: Change<Colour>>(&mut self, first: u64, end: u64, change: &C) {
+        for place in first..end {
+            let state = change.changed(self.at(place));
+            self.put(place, state);
+        }
+    }
+
+    pub(super) fn first_where<T: Test<Colour>>(
+        &self,
+        first: u64,
+        end: u64,
+        test: &T,
+    ) -> Option<u64> {
+        for place in first..end {
+            if test.passes(self.at(place)) {
+                return Some(place);
+            }
+        }
+        None
+    }
+
+    pub(super) fn count_where<T: Test<Colour>>(&self, first: u64, end: u64, test: &T) -> u64 {
+        let mut count = 0u64;
+        for place in first..end {
+            if test.passes(self.at(place)) {
+                count = count.wrapping_add(1);
+            }
+        }
+        count
+    }
+
+    pub(super) fn least_key<K: Key<Colour>>(&self, first: u64, end: u64, key: &K) -> Option<u32> {
+        let mut least: Option<u32> = None;
+        for place in first..end {
+            if let Some(found) = key.key(self.at(place)) {
+                least = match least {
+                    Some(so_far) if so_far < found => least,
+                    _ => Some(found),
+                };
+            }
+        }
+        least
+    }
+
+    /// How many places have another state than the one before them, with red before and after all.
+    pub(super) fn borders(&self) -> usize {
+        let mut count = 0usize;
+        let mut before = Colour::Red;
+        for place in 0..self.places().saturating_add(1) {
+            let state = self.at(place);
+            if state != before {
+                count = count.wrapping_add(1);
+            }
+            before = state;
+        }
+        count
+    }
+}

@@ -1,0 +1,74 @@
+//! The steps of a walk over the runs of a range.
+
+ghost use Rattle.std.specs.Prelude.{◌≡◌, ◌≤◌, ◌-◌};
+ghost use Rattle.pmf_event.specs.Ranges.{first_from, count_from, least_from, lesser};
+ghost use Rattle.pmf_runs.specs.Ranks.{Rises, rank};
+ghost use Rattle.pmf_runs.specs.Walks.{end_of};
+
+use crate::keys::rank_near;
+
+/// The element at which a walk begins, which is the first of all where no key is reached yet: a walk that
+/// goes on in a next part comes there without a search.
+pub(crate) fn start_of(keys: &[u64], first: u64, hint: usize) -> usize
+    requires { Rises keys.now }
+    ensures { result ≡ rank keys.now first }
+{
+    if keys.is_empty() {
+        return 0;
+    }
+    if first < keys[0] {
+        return 0;
+    }
+    rank_near(keys, first, hint)
+}
+
+/// Where the numbers of an element end: at its key, or at the range's end if that comes first.
+#[tactic(auto, unfolding(crate::specs::Walks::end_of))]
+pub(crate) fn end_of(keys: &[u64], index: usize, end: u64) -> u64
+    ensures { result ≡ end_of keys.now index end }
+{
+    if index < keys.len() {
+        end.min(keys[index])
+    } else {
+        end
+    }
+}
+
+/// The least number of a run, if it has any and its state passes.
+pub(crate) fn first_of_run(first: u64, end: u64, passes: bool) -> Option<u64>
+    ensures { result ≡ first_from (λ b. passes) first (end - first) }
+{
+    if end <= first {
+        return None;
+    }
+    if passes { Some(first) } else { None }
+}
+
+/// How many numbers a run has, if its state passes.
+pub(crate) fn count_of_run(first: u64, end: u64, passes: bool) -> u64
+    ensures is { result ≡ count_from (λ b. passes) first (end - first) }
+    ensures bound { result ≤ end - first }
+{
+    if end <= first {
+        return 0;
+    }
+    if passes { end - first } else { 0 }
+}
+
+/// The key of a run's state, if it has any number.
+pub(crate) fn least_of_run(first: u64, end: u64, key: Option<u32>) -> Option<u32>
+    ensures { result ≡ least_from (λ b. key) first (end - first) }
+{
+    if end <= first { None } else { key }
+}
+
+/// The lesser of two values, either of which may be missing.
+pub(crate) fn lesser(one: Option<u32>, other: Option<u32>) -> Option<u32>
+    ensures { result ≡ lesser one other }
+{
+    match (one, other) {
+        (None, _) => other,
+        (_, None) => one,
+        (Some(x), Some(y)) => Some(x.min(y)),
+    }
+}

@@ -1,0 +1,416 @@
+-- Lines by a test on their bytes: the least, how many, and what a stretch of bytes that pass says of them.
+use Rattle.std.proofs.Common.{◌≡◌, ℕ, zero, suc, ◌+◌, ◌-◌, ◌*◌, ◌/◌, ◌<◌, ◌≤◌, Bool, true, false, not, ◌&&◌, if◌then◌else◌, refl, sym, ◌∙◌, ap, arith, inl, inr}
+use Rattle.std.specs.Prelude.{◌↔◌, Option, Some, None, is_some}
+use Rattle.std.proofs.lemmas.Bool.{cases_lt, cases_eq, and_parts, and_from, and_left, and_right, not_from_true, not_from_false, not-true, true_from_ne_false}
+use Rattle.std.specs.Cmp.{both_ways}
+use Rattle.pmf_event.specs.Span.{Extent}
+use Rattle.pmf_event.specs.Ranges.{first_from, count_from}
+use Rattle.pmf_event.specs.FlushWarnings.{numbered, first_line, line_count, lines_from, lines_where}
+use Rattle.pmf_event.specs.LineBytes.{SomeByteOf, NoByteOf}
+use Rattle.pmf_event.proofs.RangeLemmas.{NonePass, some-from, none-from, first-passes, none-passes, first_from-none, first_from-some, first_from-same, count_from-same, count_from-split, count_from-bound, count_from-all, count_from-none, count_from-first}
+use Rattle.pmf_shadow.specs.Stretches.{line_has, line_lacks, line_has_but, AllHave, lines_by}
+
+-- ---- one line
+
+module _ (test : ℕ → Bool) where
+  line_has-from : (n b : ℕ) → n * 64 ≤ b → b < n * 64 + 64 → test b ≡ true → line_has test n ≡ true
+  unfolding line_has
+  line_has-from n b low high is = true_from_ne_false (is_some (first_from test (n * 64) 64)) (λ none.
+      let fails = none-passes test (n * 64) 64 (none-from (first_from test (n * 64) 64) none) b low high in
+      let bad : true ≡ false = sym is ∙ fails in cc)
+
+  line_has-none : (n : ℕ) → NonePass test (n * 64) 64 → line_has test n ≡ false
+  unfolding line_has
+  line_has-none n none = ap (λ (o : Option ℕ). is_some o) (first_from-none test (n * 64) 64 none)
+
+  line_has-some : (n : ℕ) → line_has test n ≡ true → (b : ℕ) × (n * 64 ≤ b) × (b < n * 64 + 64) × (test b ≡ true)
+  unfolding line_has
+  line_has-some n has =
+      let found = some-from (first_from test (n * 64) 64) has in
+      let first = first-passes test (n * 64) 64 found.0 found.1 in
+      (found.0, first.from, first.within, first.passes)
+
+  line_has-not : (n : ℕ) → line_has test n ≡ false → NonePass test (n * 64) 64
+  unfolding line_has
+  line_has-not n lacks = none-passes test (n * 64) 64 (none-from (first_from test (n * 64) 64) lacks)
+
+  -- the answer to a question about the line's bytes
+  pub line_has-is : (n size : ℕ) (found : Option ℕ) (has : Bool) → size ≡ 64 → found ≡ first_from test (n * 64) size → has ≡ is_some found → has ≡ line_has test n
+  unfolding line_has
+  line_has-is n size found has whole asked is =
+      is ∙ ap (λ (o : Option ℕ). is_some o) (asked ∙ ap (first_from test (n * 64)) whole)
+
+  -- ---- the least line with a byte that passes, from the least such byte
+
+  pub least_with-none : (first end : ℕ) → first ≤ end → first_from test (first * 64) (end * 64 - first * 64) ≡ None → None ≡ first_from (line_has test) first (end - first)
+  least_with-none first end ordered none =
+      let all = none-passes test (first * 64) (end * 64 - first * 64) none in
+      sym (first_from-none (line_has test) first (end - first) (λ n low high. line_has-none n (λ b from within. all b (omega arith) (omega arith))))
+
+  pub least_with-some : (first end b : ℕ) → first ≤ end → first_from test (first * 64) (end * 64 - first * 64) ≡ Some b → Some (b / 64) ≡ first_from (line_has test) first (end - first)
+  least_with-some first end b ordered found =
+      let least = first-passes test (first * 64) (end * 64 - first * 64) b found in
+      let low = least.from in
+      let high = least.within in
+      sym (first_from-some (line_has test) first (end - first) (b / 64) (record {
+        from = omega arith;
+        within = omega arith;
+        passes = line_has-from (b / 64) b (omega arith) (omega arith) least.passes;
+        before = λ n from until. line_has-none n (λ k lower upper. least.before k (omega arith) (omega arith));
+      }))
+
+  -- ---- a stretch of bytes that pass
+
+  stretch-has : (first end stop : ℕ) → end * 64 < stop + 64 → ((b : ℕ) → first * 64 ≤ b → b < stop → not (test b) ≡ false) → AllHave test first end
+  stretch-has first end stop covers passes n low high =
+      line_has-from n (n * 64) (omega arith) (omega arith) (true_from_ne_false (test (n * 64)) (λ fails.
+      let bad : true ≡ false = sym (not_from_false (test (n * 64)) fails) ∙ passes (n * 64) (omega arith) (omega arith) in cc))
+
+  pub stretch-none : (fails : ℕ → Bool) (first end : ℕ) → ((b : ℕ) → fails b ≡ not (test b)) → first ≤ end →
+      first_from fails (first * 64) (end * 64 - first * 64) ≡ None → AllHave test first end
+  stretch-none fails first end is ordered none =
+      let all = none-passes fails (first * 64) (end * 64 - first * 64) none in
+      stretch-has first end (end * 64) (omega arith) (λ b low high. sym (is b) ∙ all b low (omega arith))
+
+  pub stretch-some : (fails : ℕ → Bool) (first end b : ℕ) → ((b : ℕ) → fails b ≡ not (test b)) → first ≤ end →
+      first_from fails (first * 64) (end * 64 - first * 64) ≡ Some b →
+      (first ≤ (b + 63) / 64) × ((b + 63) / 64 ≤ end) × AllHave test first ((b + 63) / 64)
+  stretch-some fails first end b is ordered found =
+      let least = first-passes fails (first * 64) (end * 64 - first * 64) b found in
+      let low = least.from in
+      let high = least.within in
+      (omega arith, omega arith, stretch-has first ((b + 63) / 64) b (omega arith) (λ k from until. sym (is k) ∙ least.before k from until))
+
+  -- ---- lines that are counted stretch by stretch
+
+  -- the lines before this one are counted
+  pub record CountsTo (first end line count : ℕ) : Type 0 where
+    pub from : first ≤ line
+    pub within : line ≤ end
+    pub count_is : count ≡ count_from (line_has test) first (line - first)
+
+  pub counts-none : (first end : ℕ) → first ≤ end → CountsTo first end first 0
+  counts-none first end ordered = record {
+    from = omega arith;
+    within = ordered;
+    count_is = sym (count_from-none (line_has test) first (first - first) (λ k low high. absurd (omega arith)));
+  }
+
+  -- the least line that is found, and those of its stretch
+  pub counts-more : (first end line count found next : ℕ) → CountsTo first end line count → Some found ≡ first_from (line_has test) line (end - line) →
+      found + 1 ≤ next → next ≤ end → AllHave test (found + 1) next → CountsTo first end next (count + (next - found))
+  counts-more first end line count found next so_far asked after upto has =
+      let least = first-passes (line_has test) line (end - line) found (sym asked) in
+      let from = so_far.from in
+      let low = least.from in
+      let is = so_far.count_is in
+      let before = count_from-none (line_has test) line (found - line) (λ k lower upper. least.before k lower (omega arith)) in
+      let stretch = count_from-all (line_has test) found (next - found) (λ k lower upper. elim (cases_eq k found) [
+        | inl same ↦ ap (line_has test) same ∙ least.passes
+        | inr other ↦ has k (omega arith) (omega arith)
+      ]) in
+      let one = count_from-split (line_has test) first (line - first) (next - line) (next - first) line (omega arith) (omega arith) in
+      let two = count_from-split (line_has test) line (found - line) (next - found) (next - line) found (omega arith) (omega arith) in
+      record {
+        from = omega arith;
+        within = upto;
+        count_is = omega arith;
+      }
+
+  pub counts-fits : (first end line count found next : ℕ) → CountsTo first end line count → Some found ≡ first_from (line_has test) line (end - line) →
+      found + 1 ≤ next → next ≤ end → count + (next - found) ≤ end
+  counts-fits first end line count found next so_far asked after upto =
+      let least = first-passes (line_has test) line (end - line) found (sym asked) in
+      let from = so_far.from in
+      let low = least.from in
+      let is = so_far.count_is in
+      let bound = count_from-bound (line_has test) first (line - first) in omega arith
+
+  pub counts-end : (first end line count : ℕ) → CountsTo first end line count → None ≡ first_from (line_has test) line (end - line) →
+      count ≡ count_from (line_has test) first (end - first)
+  counts-end first end line count so_far asked =
+      let from = so_far.from in
+      let within = so_far.within in
+      let is = so_far.count_is in
+      let rest = count_from-none (line_has test) line (end - line) (none-passes (line_has test) line (end - line) (sym asked)) in
+      let split = count_from-split (line_has test) first (line - first) (end - line) (end - first) line (omega arith) (omega arith) in
+      omega arith
+
+-- ---- a search over lines that has passed some by
+
+-- no line before this one passes
+pub record NoneBefore (test : ℕ → Bool) (first end line : ℕ) : Type 0 where
+  pub from : first ≤ line
+  pub within : line ≤ end
+  pub fails : (n : ℕ) → first ≤ n → n < line → test n ≡ false
+
+module _ (test : ℕ → Bool) (first end : ℕ) where
+  pub none_before-end : (line : ℕ) → NoneBefore test first end line → NonePass test line (end - line) → None ≡ first_from test first (end - first)
+  none_before-end line passed none =
+      let from = passed.from in
+      let within = passed.within in
+      sym (first_from-none test first (end - first) (λ n low high. elim (cases_lt n line) [
+        | inl below ↦ passed.fails n low below
+        | inr above ↦ none n above (omega arith)
+      ]))
+
+  pub none_before-found : (line found : ℕ) → NoneBefore test first end line → line ≤ found → found < end → ((n : ℕ) → line ≤ n → n < found → test n ≡ false) →
+      test found ≡ true → Some found ≡ first_from test first (end - first)
+  none_before-found line found passed after below between is =
+      let from = passed.from in
+      sym (first_from-some test first (end - first) found (record {
+        from = omega arith;
+        within = omega arith;
+        passes = is;
+        before = λ n low high. elim (cases_lt n line) [
+          | inl earlier ↦ passed.fails n low earlier
+          | inr later ↦ between n later high
+        ];
+      }))
+
+  pub none_before-more : (line next : ℕ) → NoneBefore test first end line → line ≤ next → next ≤ end → ((n : ℕ) → line ≤ n → n < next → test n ≡ false) →
+      NoneBefore test first end next
+  none_before-more line next passed after upto between =
+      let from = passed.from in record {
+        from = omega arith;
+        within = upto;
+        fails = λ n low high. elim (cases_lt n line) [
+          | inl earlier ↦ passed.fails n low earlier
+          | inr later ↦ between n later high
+        ];
+      }
+
+-- ---- lines without a byte that passes
+
+module _ (test : ℕ → Bool) where
+  pub lacks-from : (n : ℕ) → line_has test n ≡ false → line_lacks test n ≡ true
+  unfolding line_lacks
+  lacks-from n lacks = not_from_false (line_has test n) lacks
+
+  lacks-not : (n : ℕ) → line_has test n ≡ true → line_lacks test n ≡ false
+  unfolding line_lacks
+  lacks-not n has = not_from_true (line_has test n) has
+
+  lacks-parts : (n : ℕ) → line_lacks test n ≡ true → line_has test n ≡ false
+  unfolding line_lacks
+  lacks-parts n lacks = not-true (line_has test n) lacks
+
+  -- a stretch after a line that has a byte
+  pub stretch-fails : (line next : ℕ) → line_has test line ≡ true → AllHave test (line + 1) next → (n : ℕ) → line ≤ n → n < next → line_lacks test n ≡ false
+  stretch-fails line next here has n low high = lacks-not n (elim (cases_eq n line) [
+    | inl same ↦ ap (line_has test) same ∙ here
+    | inr other ↦ has n (omega arith) high
+  ])
+
+  -- those without and those with are all
+  lacks-count : (b n : ℕ) → count_from (line_lacks test) b n + count_from (line_has test) b n ≡ n
+  unfolding count_from line_lacks
+  lacks-count b zero = refl
+  lacks-count b (suc n) =
+      let rest = lacks-count (b + 1) n in
+      elim (line_has test b) as (λ v. (if not v then suc (count_from (line_lacks test) (b + 1) n) else count_from (line_lacks test) (b + 1) n)
+      + (if v then suc (count_from (line_has test) (b + 1) n) else count_from (line_has test) (b + 1) n) ≡ suc n) [ true ↦ omega arith | false ↦ omega arith ]
+
+-- ---- lines with a byte that passes and without one that passes the other test
+
+module _ (test other : ℕ → Bool) where
+  but-from : (n : ℕ) → line_has test n ≡ true → line_has other n ≡ false → line_has_but test other n ≡ true
+  unfolding line_has_but
+  but-from n has lacks = and_from _ _ has (not_from_false (line_has other n) lacks)
+
+  but-parts : (n : ℕ) → line_has_but test other n ≡ true → (line_has test n ≡ true) × (line_has other n ≡ false)
+  unfolding line_has_but
+  but-parts n is = let both = and_parts (line_has test n) (not (line_has other n)) is in (both.0, not-true (line_has other n) both.1)
+
+  but-without : (n : ℕ) → line_has test n ≡ false → line_has_but test other n ≡ false
+  unfolding line_has_but
+  but-without n lacks = and_left (line_has test n) (not (line_has other n)) lacks
+
+  but-other : (n : ℕ) → line_has other n ≡ true → line_has_but test other n ≡ false
+  unfolding line_has_but
+  but-other n has = and_right (line_has test n) (not (line_has other n)) (not_from_true (line_has other n) has)
+
+  -- where each byte that passes the other test passes the one, those with the one are these and those with the other
+  module _ (weaker : (b : ℕ) → other b ≡ true → test b ≡ true) where
+    has-weaker : (n : ℕ) → line_has other n ≡ true → line_has test n ≡ true
+    has-weaker n has = let b = line_has-some other n has in line_has-from test n b.0 b.1 b.2 (weaker b.0 b.3)
+
+    but-cases : (one two : Bool) (c d e : ℕ) → (two ≡ true → one ≡ true) → c + d ≡ e →
+        (if one && not two then suc c else c) + (if two then suc d else d) ≡ (if one then suc e else e)
+    but-cases true true c d e implies sum = omega arith
+    but-cases true false c d e implies sum = omega arith
+    but-cases false true c d e implies sum = let bad : false ≡ true = implies refl in cc
+    but-cases false false c d e implies sum = sum
+
+    but-count : (b n : ℕ) → count_from (line_has_but test other) b n + count_from (line_has other) b n ≡ count_from (line_has test) b n
+    unfolding count_from line_has_but
+    but-count b zero = refl
+    but-count b (suc n) = but-cases (line_has test b) (line_has other b) (count_from (line_has_but test other) (b + 1) n) (count_from (line_has other) (b + 1) n)
+        (count_from (line_has test) (b + 1) n) (has-weaker b) (but-count (b + 1) n)
+
+  -- ---- the least of them: the least line without the other, and from it the least with the one
+
+  -- a line that lacks no byte of the other
+  other-from : (n : ℕ) → line_lacks other n ≡ false → line_has other n ≡ true
+  unfolding line_lacks
+  other-from n is = true_from_ne_false (line_has other n) (λ lacks. let bad : true ≡ false = sym (not_from_false (line_has other n) lacks) ∙ is in cc)
+
+  but-passed : (line end without upto : ℕ) → Some without ≡ first_from (line_lacks other) line (end - line) →
+      ((n : ℕ) → without ≤ n → n < upto → line_has test n ≡ false) → (n : ℕ) → line ≤ n → n < upto → line_has_but test other n ≡ false
+  but-passed line end without upto asked lacks n low high =
+      let least = first-passes (line_lacks other) line (end - line) without (sym asked) in
+      elim (cases_lt n without) [
+        | inl below ↦ but-other n (other-from n (least.before n low below))
+        | inr above ↦ but-without n (lacks n above high)
+      ]
+
+  pub but-none : (line end without : ℕ) → Some without ≡ first_from (line_lacks other) line (end - line) →
+      None ≡ first_from (line_has test) without (end - without) → NonePass (line_has_but test other) line (end - line)
+  but-none line end without asked none n low high =
+      but-passed line end without end asked (λ k from until. none-passes (line_has test) without (end - without) (sym none) k from (omega arith)) n low (omega arith)
+
+  pub but-upto : (line end without found : ℕ) → Some without ≡ first_from (line_lacks other) line (end - line) →
+      Some found ≡ first_from (line_has test) without (end - without) → (n : ℕ) → line ≤ n → n < found → line_has_but test other n ≡ false
+  but-upto line end without found asked next n low high =
+      but-passed line end without found asked (first-passes (line_has test) without (end - without) found (sym next)).before n low high
+
+  pub but-here : (line end without found : ℕ) → Some without ≡ first_from (line_lacks other) line (end - line) →
+      Some found ≡ first_from (line_has test) without (end - without) → found ≡ without → line_has_but test other found ≡ true
+  but-here line end without found asked next same =
+      let lacks = (first-passes (line_lacks other) line (end - line) without (sym asked)).passes in
+      but-from found (first-passes (line_has test) without (end - without) found (sym next)).passes (ap (line_has other) same ∙ lacks-parts other without lacks)
+
+  pub but-never : (line end : ℕ) → None ≡ first_from (line_lacks other) line (end - line) → NonePass (line_has_but test other) line (end - line)
+  but-never line end none n low high = but-other n (other-from n (none-passes (line_lacks other) line (end - line) (sym none) n low high))
+
+-- a line with a byte that passes the one test alone has one that passes the third
+pub has-alone : (test other alone : ℕ → Bool) → ((b : ℕ) → test b ≡ true → other b ≡ false → alone b ≡ true) → (n : ℕ) → line_has alone n ≡ false → line_has_but test other n ≡ false
+has-alone test other alone passes n lacks = elim (line_has test n) as (λ v. line_has test n ≡ v → line_has_but test other n ≡ false) [
+  | false ↦ λ without. but-without test other n without
+  | true ↦ λ has. elim (line_has other n) as (λ v. line_has other n ≡ v → line_has_but test other n ≡ false) [
+    | true ↦ λ both. but-other test other n both
+    | false ↦ λ only.
+        let b = line_has-some test n has in
+        let bad : true ≡ false = sym (passes b.0 b.3 (line_has-not other n only b.0 b.1 b.2)) ∙ line_has-not alone n lacks b.0 b.1 b.2 in cc
+  ] refl
+] refl
+
+-- the search for such a line may begin at the first that has a byte that passes the third test
+pub alone-none : (test other alone : ℕ → Bool) → ((b : ℕ) → test b ≡ true → other b ≡ false → alone b ≡ true) → (first end : ℕ) →
+    None ≡ first_from (line_has alone) first (end - first) → None ≡ first_from (line_has_but test other) first (end - first)
+alone-none test other alone passes first end none =
+    sym (first_from-none (line_has_but test other) first (end - first) (λ n low high. has-alone test other alone passes n (none-passes (line_has alone) first (end - first) (sym none) n low high)))
+
+pub alone-from : (test other alone : ℕ → Bool) → ((b : ℕ) → test b ≡ true → other b ≡ false → alone b ≡ true) → (first end line : ℕ) (found : Option ℕ) →
+    Some line ≡ first_from (line_has alone) first (end - first) → found ≡ first_from (line_has_but test other) line (end - line) → found ≡ first_from (line_has_but test other) first (end - first)
+alone-from test other alone passes first end line None asked next =
+    let least = first-passes (line_has alone) first (end - first) line (sym asked) in
+    let low = least.from in
+    let high = least.within in
+    none_before-end (line_has_but test other) first end line
+    (record { from = low; within = omega arith; fails = λ n from below. has-alone test other alone passes n (least.before n from below) })
+    (none-passes (line_has_but test other) line (end - line) (sym next))
+alone-from test other alone passes first end line (Some found) asked next =
+    let least = first-passes (line_has alone) first (end - first) line (sym asked) in
+    let low = least.from in
+    let high = least.within in
+    let here = first-passes (line_has_but test other) line (end - line) found (sym next) in
+    let from = here.from in
+    let within = here.within in
+    none_before-found (line_has_but test other) first end line found
+    (record { from = low; within = omega arith; fails = λ n after below. has-alone test other alone passes n (least.before n after below) })
+    from (omega arith) here.before here.passes
+
+-- ---- the lines of a span, found by their numbers
+
+pub found-below : (test : ℕ → Bool) (line end found : ℕ) → Some found ≡ first_from test line (end - line) → (line ≤ found) × (found + 1 ≤ end)
+found-below test line end found asked =
+    let least = first-passes test line (end - line) found (sym asked) in
+    let low = least.from in
+    let high = least.within in (low, omega arith)
+
+-- the lines from the least on: the least itself, and those behind it
+count-behind : (test : ℕ → Bool) (first end least : ℕ) → Some least ≡ first_from test first (end - first) → (first ≤ least) × (least < end) × (count_from test first (end - first) ≡ 1 + count_from test (least + 1) (end - (least + 1)))
+count-behind test first end least asked =
+    let found = first-passes test first (end - first) least (sym asked) in
+    let low = found.from in
+    let high = found.within in
+    let here = count_from-first test first (end - first) least found in
+    let rest : first + (end - first) - least ≡ end - least = omega arith in
+    let split = count_from-split test least 1 (end - (least + 1)) (end - least) (least + 1) (omega arith) (omega arith) in
+    let one = count_from-all test least 1 (λ k lower upper. let same : k ≡ least = omega arith in ap test same ∙ found.passes) in
+    let whole = here ∙ ap (count_from test least) rest in
+    (low, omega arith, omega arith)
+
+-- those without, by those with behind the least
+pub count-lacks : (test : ℕ → Bool) (first end least others : ℕ) → Some least ≡ first_from (line_lacks test) first (end - first) →
+    others ≡ count_from (line_has test) (least + 1) (end - (least + 1)) → (least + others < end) × (end - least - others ≡ count_from (line_lacks test) first (end - first))
+count-lacks test first end least others asked counted =
+    let behind = count-behind (line_lacks test) first end least asked in
+    let all = lacks-count test (least + 1) (end - (least + 1)) in
+    let below = behind.1 in
+    let whole = behind.2 in (omega arith, omega arith)
+
+-- those with the one and without the other, by those with each behind the least
+pub count-but : (test other : ℕ → Bool) (first end least one two : ℕ) → ((b : ℕ) → other b ≡ true → test b ≡ true) →
+    Some least ≡ first_from (line_has_but test other) first (end - first) →
+    one ≡ count_from (line_has test) (least + 1) (end - (least + 1)) → two ≡ count_from (line_has other) (least + 1) (end - (least + 1)) →
+    (least < end) × (one ≤ end) × (two ≤ one) × (1 + one - two ≡ count_from (line_has_but test other) first (end - first))
+count-but test other first end least one two weaker asked ones twos =
+    let behind = count-behind (line_has_but test other) first end least asked in
+    let all = but-count test other weaker (least + 1) (end - (least + 1)) in
+    let bound = count_from-bound (line_has test) (least + 1) (end - (least + 1)) in
+    let below = behind.1 in
+    let whole = behind.2 in (omega arith, omega arith, omega arith, omega arith)
+
+lines_by-is : (test : ℕ → Bool) (s : Extent) (first end : ℕ) → first ≡ s.first / 64 → end ≡ (s.first + s.size - 1) / 64 + 1 →
+    lines_by test s ≡ lines_from (first_from test first (end - first)) (count_from test first (end - first))
+unfolding lines_by
+lines_by-is test s first end at_first at_end =
+    sym (ap (λ e. lines_from (first_from test first (e - first)) (count_from test first (e - first))) at_end
+    ∙ ap (λ k. lines_from (first_from test k ((s.first + s.size - 1) / 64 + 1 - k)) (count_from test k ((s.first + s.size - 1) / 64 + 1 - k))) at_first)
+
+pub lines_by-none : (test : ℕ → Bool) (s : Extent) (first end : ℕ) → first ≡ s.first / 64 → end ≡ (s.first + s.size - 1) / 64 + 1 →
+    None ≡ first_from test first (end - first) → None ≡ lines_by test s
+lines_by-none test s first end at_first at_end none =
+    sym (lines_by-is test s first end at_first at_end ∙ ap (λ o. lines_from o (count_from test first (end - first))) (sym none))
+
+pub lines_by-some : (test : ℕ → Bool) (s : Extent) (first end least count : ℕ) → first ≡ s.first / 64 → end ≡ (s.first + s.size - 1) / 64 + 1 →
+    Some least ≡ first_from test first (end - first) → count ≡ count_from test first (end - first) →
+    Some (record { least = least * 64; count = count }) ≡ lines_by test s
+lines_by-some test s first end least count at_first at_end found counted =
+    sym (lines_by-is test s first end at_first at_end ∙ ap (λ o. lines_from o (count_from test first (end - first))) (sym found)
+    ∙ ap (λ c. Some (record { least = least * 64; count = c })) (sym counted))
+
+-- tests that agree on each line find the same
+pub lines_by-same : (test want : ℕ → Bool) (s : Extent) → ((n : ℕ) → test n ≡ want (n * 64)) → lines_by test s ≡ lines_where want s
+unfolding numbered lines_by lines_where
+lines_by-same test want s same =
+    ap (λ o. lines_from o (count_from test (first_line s) (line_count s))) (first_from-same _ _ (first_line s) (line_count s) (λ n low high. same n))
+    ∙ ap (lines_from (first_from (numbered want) (first_line s) (line_count s))) (count_from-same _ _ (first_line s) (line_count s) (λ n low high. same n))
+
+-- ---- a line by what its bytes are
+
+module _ (want : ℕ → Bool) (n : ℕ) where
+  has-same : (test : ℕ → Bool) → ((b : ℕ) → test b ≡ want b) → line_has test n ≡ true → SomeByteOf (n * 64) want
+  has-same test same has = let b = line_has-some test n has in (b.0, b.1, b.2, sym (same b.0) ∙ b.3)
+
+  same-has : (test : ℕ → Bool) → ((b : ℕ) → test b ≡ want b) → SomeByteOf (n * 64) want → line_has test n ≡ true
+  same-has test same some = line_has-from test n some.0 some.1 some.2 (same some.0 ∙ some.3)
+
+  lacks-same : (test : ℕ → Bool) → ((b : ℕ) → test b ≡ want b) → line_has test n ≡ false → NoByteOf (n * 64) want
+  lacks-same test same lacks = λ b low high. sym (same b) ∙ line_has-not test n lacks b low high
+
+  same-lacks : (test : ℕ → Bool) → ((b : ℕ) → test b ≡ want b) → NoByteOf (n * 64) want → line_has test n ≡ false
+  same-lacks test same none = line_has-none test n (λ b low high. same b ∙ none b low high)
+
+pub clean-by : (want : ℕ → Bool) (n : ℕ) (clean : Bool) (test : ℕ → Bool) → ((b : ℕ) → test b ≡ want b) → (clean ≡ true) ↔ NoByteOf (n * 64) want → line_lacks test n ≡ clean
+clean-by want n clean test same follows = both_ways _ _
+    (λ lacks. follows.1 (lacks-same want n test same (lacks-parts test n lacks)))
+    (λ is. lacks-from test n (same-lacks want n test same (follows.0 is)))
+
+pub pending-by : (want rest : ℕ → Bool) (n : ℕ) (pending : Bool) (test other : ℕ → Bool) → ((b : ℕ) → test b ≡ want b) → ((b : ℕ) → other b ≡ rest b) →
+    (pending ≡ true) ↔ (SomeByteOf (n * 64) want × NoByteOf (n * 64) rest) → line_has_but test other n ≡ pending
+pending-by want rest n pending test other same alike follows = both_ways _ _
+    (λ but. let parts = but-parts test other n but in follows.1 (has-same want n test same parts.0, lacks-same rest n other alike parts.1))
+    (λ is. let parts = follows.0 is in but-from test other n (same-has want n test same parts.0) (same-lacks rest n other alike parts.1))

@@ -1,0 +1,226 @@
+//! Cache lines by their bytes: those with a byte that passes a test, counted in stretches of such bytes.
+
+ghost use Rattle.std.specs.Prelude.{◌≡◌, ℕ, ◌+◌, ◌-◌, ◌*◌, ◌/◌, ◌<◌, ◌≤◌, Bool, true, false};
+ghost use Rattle.pmf_event.specs.declared.span.TheConstants.{ADDRESS_LIMIT, LINE_SIZE};
+ghost use Rattle.pmf_event.specs.Span.{IsValidExtent};
+ghost use Rattle.pmf_event.specs.Ranges.{count_from, first_from};
+ghost use Rattle.pmf_event.specs.FlushWarnings.{first_line};
+ghost use Rattle.pmf_shadow.specs.declared.byte.ByteState.{ByteState};
+ghost use Rattle.pmf_runs.specs.Runs.{passing};
+ghost use Rattle.pmf_shadow.specs.Stretches.{AllHave, line_has, line_has_but, line_lacks, lines_by};
+
+use crate::byte::{ByteState, Fails};
+use crate::shadow::{Shadow, end_of};
+use pmf_event::{LINE_SIZE, Lines, Span};
+use pmf_runs::Test;
+
+impl Shadow {
+    /// Of the lines that the span meets, those without a byte that passes: the least, and how many.
+    pub(crate) fn lines_without<T: Test<ByteState> + Copy>(
+        &self,
+        span: &Span,
+        test: &T,
+    ) -> Option<Lines>
+        ensures { result ≡ lines_by (line_lacks (passing (T.passes test.now) self.now.bytes)) span.now }
+    {
+        let (first, end) = lines_of(span);
+        let least = self.least_line_without(first, end, test)?;
+        let others = self.count_with(least + 1, end, test);
+        Some(Lines {
+            least: least * LINE_SIZE,
+            count: end - least - others,
+        })
+    }
+
+    /// Of the lines that the span meets, those with a byte that passes and without one that passes the
+    /// other test: the least, and how many. What passes the other test passes the one, and what passes
+    /// the one alone passes the third.
+    pub(crate) fn lines_with_but<
+        T: Test<ByteState> + Copy,
+        U: Test<ByteState> + Copy,
+        V: Test<ByteState>,
+    >(&self, span: &Span, test: &T, other: &U, alone: &V) -> Option<Lines>
+        requires both { (s : ByteState) → U.passes other.now s ≡ true → T.passes test.now s ≡ true }
+        requires alone { (s : ByteState) → T.passes test.now s ≡ true → U.passes other.now s ≡ false
+            → V.passes alone.now s ≡ true }
+        ensures { result ≡ lines_by (line_has_but (passing (T.passes test.now) self.now.bytes)
+            (passing (U.passes other.now) self.now.bytes)) span.now }
+    {
+        let (first, end) = lines_of(span);
+        let least = self.least_line_alone(first, end, test, other, alone)?;
+        let with_one = self.count_with(least + 1, end, test);
+        let with_other = self.count_with(least + 1, end, other);
+        Some(Lines {
+            least: least * LINE_SIZE,
+            count: 1 + with_one - with_other,
+        })
+    }
+
+    // How many of the lines have a byte that passes. Each is counted in the stretch that it is met by
+    // first: the next search begins behind the last line of a stretch.
+    fn count_with<T: Test<ByteState> + Copy>(&self, first: u64, end: u64, test: &T) -> u64
+        requires ordered { first ≤ end }
+        requires room { end * LINE_SIZE ≤ ADDRESS_LIMIT }
+        ensures { result ≡ count_from (line_has (passing (T.passes test.now) self.now.bytes))
+            first (end - first) }
+    {
+        let mut count = 0;
+        let mut line = first;
+        while let Some(found) = self.least_line_with(line, end, test) {
+            let next = self.stretch_behind(line, found, end, test);
+            count += next - found;
+            line = next;
+        }
+        count
+    }
+
+    // The same as `least_line_but`. It begins at the first byte that passes the third test, and most often
+    // there is none.
+    fn least_line_alone<T: Test<ByteState> + Copy, U: Test<ByteState> + Copy, V: Test<ByteState>>(
+        &self,
+        first: u64,
+        end: u64,
+        test: &T,
+        other: &U,
+        alone: &V,
+    ) -> Option<u64>
+        requires ordered { first ≤ end }
+        requires room { end * LINE_SIZE ≤ ADDRESS_LIMIT }
+        requires alone { (s : ByteState) → T.passes test.now s ≡ true → U.passes other.now s ≡ false
+            → V.passes alone.now s ≡ true }
+        ensures { result ≡ first_from (line_has_but (passing (T.passes test.now) self.now.bytes)
+            (passing (U.passes other.now) self.now.bytes)) first (end - first) }
+    {
+        let line = self.least_line_with(first, end, alone)?;
+        self.least_line_but(line, end, test, other)
+    }
+
+    // The least of the lines that has a byte that passes, and none that passes the other test.
+    fn least_line_but<T: Test<ByteState> + Copy, U: Test<ByteState> + Copy>(
+        &self,
+        first: u64,
+        end: u64,
+        test: &T,
+        other: &U,
+    ) -> Option<u64>
+        requires ordered { first ≤ end }
+        requires room { end * LINE_SIZE ≤ ADDRESS_LIMIT }
+        ensures { result ≡ first_from (line_has_but (passing (T.passes test.now) self.now.bytes)
+            (passing (U.passes other.now) self.now.bytes)) first (end - first) }
+    {
+        let mut line = first;
+        while let Some(without) = self.least_line_without(line, end, other) {
+            match self.least_line_with(without, end, test) {
+                None => return None,
+                Some(found) => {
+                    if found == without {
+                        return Some(found);
+                    }
+                    line = found;
+                }
+            }
+        }
+        None
+    }
+
+    // The least of the lines that has no byte that passes.
+    fn least_line_without<T: Test<ByteState> + Copy>(
+        &self,
+        first: u64,
+        end: u64,
+        test: &T,
+    ) -> Option<u64>
+        requires ordered { first ≤ end }
+        requires room { end * LINE_SIZE ≤ ADDRESS_LIMIT }
+        ensures { result ≡ first_from (line_lacks (passing (T.passes test.now) self.now.bytes))
+            first (end - first) }
+    {
+        let mut line = first;
+        while line < end {
+            if !self.has_on(line, test) {
+                return Some(line);
+            }
+            line = self.stretch_end(line + 1, end, test);
+        }
+        None
+    }
+
+    // The least of the lines that has a byte that passes.
+    fn least_line_with<T: Test<ByteState>>(&self, first: u64, end: u64, test: &T) -> Option<u64>
+        requires ordered { first ≤ end }
+        requires room { end * LINE_SIZE ≤ ADDRESS_LIMIT }
+        ensures { result ≡ first_from (line_has (passing (T.passes test.now) self.now.bytes))
+            first (end - first) }
+    {
+        match self
+            .bytes
+            .first_where(first * LINE_SIZE, end * LINE_SIZE, test)
+        {
+            None => None,
+            Some(byte) => Some(byte / LINE_SIZE),
+        }
+    }
+
+    // Whether a byte of the line passes.
+    fn has_on<T: Test<ByteState>>(&self, line: u64, test: &T) -> bool
+        requires { (line + 1) * LINE_SIZE ≤ ADDRESS_LIMIT }
+        ensures { result ≡ line_has (passing (T.passes test.now) self.now.bytes) line }
+    {
+        let first = line * LINE_SIZE;
+        self.bytes
+            .first_where(first, first + LINE_SIZE, test)
+            .is_some()
+    }
+
+    // The line after the stretch of a line that was found. Only where it was found right away, as in the
+    // midst of such lines, is a stretch looked for: else the line is one by itself.
+    fn stretch_behind<T: Test<ByteState> + Copy>(
+        &self,
+        line: u64,
+        found: u64,
+        end: u64,
+        test: &T,
+    ) -> u64
+        requires below { found < end }
+        requires room { end * LINE_SIZE ≤ ADDRESS_LIMIT }
+        ensures from { found + 1 ≤ result }
+        ensures within { result ≤ end }
+        ensures has { AllHave (passing (T.passes test.now) self.now.bytes) (found + 1) result }
+    {
+        if found == line {
+            self.stretch_end(found + 1, end, test)
+        } else {
+            found + 1
+        }
+    }
+
+    // Where the bytes that pass end, from the first of the lines on: the line after those they meet.
+    fn stretch_end<T: Test<ByteState> + Copy>(&self, first: u64, end: u64, test: &T) -> u64
+        requires ordered { first ≤ end }
+        requires room { end * LINE_SIZE ≤ ADDRESS_LIMIT }
+        ensures from { first ≤ result }
+        ensures within { result ≤ end }
+        ensures has { AllHave (passing (T.passes test.now) self.now.bytes) first result }
+    {
+        let until = end * LINE_SIZE;
+        match self
+            .bytes
+            .first_where(first * LINE_SIZE, until, &Fails(*test))
+        {
+            None => end,
+            Some(byte) => (byte + (LINE_SIZE - 1)) / LINE_SIZE,
+        }
+    }
+}
+
+/// The number of the first line that the span meets, and the number after that of the last.
+pub(crate) fn lines_of(span: &Span) -> (u64, u64)
+    ensures first { result.0 ≡ first_line span.now }
+    ensures end { result.1 ≡ (span.now.first + span.now.size - 1) / LINE_SIZE + 1 }
+    ensures ordered { result.0 < result.1 }
+    ensures room { result.1 * LINE_SIZE ≤ ADDRESS_LIMIT }
+    ensures valid { IsValidExtent span.now.first span.now.size }
+{
+    let last = end_of(span) - 1;
+    (span.first() / LINE_SIZE, last / LINE_SIZE + 1)
+}
