@@ -1,15 +1,11 @@
 //! Shadow memory: what is kept of each byte while a section is checked.
 //!
-//! A [`RunMap`] is a total function from numbers to states that holds one entry for each run of equal
-//! states, by `specs/Runs`. What it answers about a range is a search of `pmf_event`'s
-//! `specs/Ranges` over the states.
-//!
-//! A [`Shadow`] keeps such a map of the bytes, and stands for the first `p` events of a list by
-//! `specs/Shadow`: then its questions are answered as `pmf_event`'s definitions answer them for those
+//! A [`Shadow`] keeps the states of bytes in a map of runs (`pmf_runs`), and stands for the first `p`
+//! events of a list by `specs/Shadow`: then its questions are answered as `pmf_event`'s definitions answer them for those
 //! events. What a cache line is, is asked of its bytes. A [`ByteState`] takes 16 bytes, and [`Bounds`] of
 //! some states tell whether a change or a question may meet one of them.
 //!
-//! Not promised here: how much memory a map takes, and that neighbours of equal state are one run.
+//! Not promised here: how much memory a shadow takes.
 #![tactic(auto)]
 
 mod byte;
