@@ -1,5 +1,5 @@
 -- Spans of bytes: the first address and how many bytes. The limits are the project's own.
-use Rattle.std.specs.Prelude.{ℕ, ◌+◌, ◌<◌, ◌≤◌, Bool, nat_lt, nat_le, ◌&&◌, ◌==◌, List, codes, Result, Ok, Err, if◌then◌else◌}
+use Rattle.std.specs.Prelude.{ℕ, ◌≡◌, length, get_or, ◌+◌, ◌<◌, ◌≤◌, Bool, nat_lt, nat_le, ◌&&◌, ◌==◌, List, codes, Result, Ok, Err, if◌then◌else◌}
 use Rattle.pmf_event.specs.declared.span.TheConstants.{SPAN_LIMIT, ADDRESS_LIMIT}
 use Rattle.pmf_event.specs.declared.span.SpanFault.{SpanFault}
 use Rattle.pmf_event.specs.declared.span.SpanFault.TheVariants.{ZeroSize, TooLarge, PastEnd}
@@ -14,6 +14,11 @@ pub record IsValidExtent (first size : ℕ) : Type 0 where
   pub not_empty : 0 < size
   pub small : size ≤ SPAN_LIMIT
   pub ends : first + size ≤ ADDRESS_LIMIT
+
+-- the bytes of a number that takes so many
+pub record IsNumeral (count : ℕ) (bytes : List ℕ) : Type 0 where
+  pub length : length bytes ≡ count
+  pub small : (i : ℕ) → get_or bytes i 0 < 256
 
 -- the span of these two numbers, or the first fault that applies
 abbrev pub extent_of : ℕ → ℕ → Result Extent SpanFault

@@ -19,20 +19,69 @@ pub const SPAN_LIMIT: u64 = 1 << 32;
 pub const ADDRESS_LIMIT: u64 = 1 << 63;
 
 /// A range of bytes: the first one's address and how many there are, at least one.
-#[derive(Clone, Copy, Debug, PartialEq, Eq)]
+///
+/// It takes 12 bytes and no alignment, so that an event takes 25: the numbers are kept as bytes, the
+/// least significant first.
+#[derive(Clone, Copy)]
 pub struct Span {
-    first: u64,
-    size: u64,
+    /// The address of the first byte.
+    first: [u8; 8],
+    /// How many bytes follow it.
+    others: [u8; 4],
 }
 
 impl Model for Span {
+    ghost use Rattle.std.specs.Prelude.{◌≡◌, ◌+◌, ◌-◌};
+    ghost use Rattle.std.specs.Int.{w32, w64, to_le_bytes, from_le_bytes};
+    ghost use Rattle.pmf_event.specs.Span.{Extent, IsNumeral, IsValidExtent};
+    ghost use Rattle.std.proofs.lemmas.Nat.{le_bytes_4, le_bytes_8};
+    ghost use Rattle.std.proofs.Common.{arith};
+
     ghost Value = { Extent };
 
-    ghost view = { λ s. record { first = s.first; size = s.size } };
+    ghost view = { λ s. record { first = from_le_bytes w64 s.first; size = from_le_bytes w32 s.others + 1 } };
 
-    ghost invariant = { λ s. IsValidExtent s.first s.size };
+    ghost invariant = { λ s. IsNumeral 8 s.first × IsNumeral 4 s.others
+        × IsValidExtent (from_le_bytes w64 s.first) (from_le_bytes w32 s.others + 1) };
 
-    ghost inverse = { λ e. record { first = e.first; size = e.size } };
+    ghost inverse = { λ e. record { first = to_le_bytes w64 e.first; others = to_le_bytes w32 (e.size - 1) } };
+
+    ghost inverse_ok = { λ s h i. record {
+      first = le_bytes_8 s.first (from_le_bytes w64 s.first) h.0.length h.0.small (omega (arith)) i;
+      others = le_bytes_4 s.others (from_le_bytes w32 s.others + 1 - 1) h.1.length h.1.small (omega (arith)) i;
+    } };
+}
+
+impl PartialEq for Span {
+    ghost use Rattle.std.proofs.Common.{rules};
+    ghost use Rattle.std.specs.Cmp.Rules.{comparing};
+    ghost use Rattle.std.specs.Ordering.{on, eq_of_both};
+    ghost use Rattle.std.specs.Prelude.{nat_eq};
+    ghost use Rattle.pmf_event.specs.Span.{Extent};
+
+    ghost eq = { eq_of_both (on (λ (s : Extent). s.first) nat_eq) (on (λ (s : Extent). s.size) nat_eq) };
+
+    ghost laws = { Prim.search (comparing, rules) };
+
+    fn eq(&self, other: &Span) -> bool {
+        self.first() == other.first() && self.size() == other.size()
+    }
+}
+
+impl Eq for Span {
+    ghost use Rattle.std.proofs.Common.{rules};
+    ghost use Rattle.std.specs.Cmp.Rules.{comparing};
+
+    ghost laws = { Prim.search (comparing, rules) };
+}
+
+impl fmt::Debug for Span {
+    fn fmt<W: fmt::Write>(&self, f: &mut fmt::Formatter<W>) -> fmt::Result {
+        f.debug_struct("Span")
+            .field("first", &self.first())
+            .field("size", &self.size())
+            .finish()
+    }
 }
 
 /// Why two numbers are no span: the first that applies, in this order.
@@ -77,7 +126,7 @@ impl Span {
         if first > ADDRESS_LIMIT - size {
             return Err(SpanFault::PastEnd);
         }
-        Ok(Span { first, size })
+        Ok(Span::of(first, size))
     }
 
     /// The span of the bytes from `first` up to `end`, which is not one of them, or of the first
@@ -87,9 +136,16 @@ impl Span {
         requires ends { end ≤ ADDRESS_LIMIT }
         ensures { result ≡ record { first = first; size = min (end - first) SPAN_LIMIT } }
     {
+        Span::of(first, (end - first).min(SPAN_LIMIT))
+    }
+
+    fn of(first: u64, size: u64) -> Span
+        requires { IsValidExtent first size }
+        ensures { result ≡ record { first = first; size = size } }
+    {
         Span {
-            first,
-            size: (end - first).min(SPAN_LIMIT),
+            first: first.to_le_bytes(),
+            others: ((size - 1) as u32).to_le_bytes(),
         }
     }
 
@@ -98,7 +154,7 @@ impl Span {
         ensures value { result ≡ self.now.first }
         ensures valid { IsValidExtent self.now.first self.now.size }
     {
-        self.first
+        u64::from_le_bytes(self.first)
     }
 
     /// How many bytes there are.
@@ -106,21 +162,22 @@ impl Span {
         ensures value { result ≡ self.now.size }
         ensures valid { IsValidExtent self.now.first self.now.size }
     {
-        self.size
+        u64::from(u32::from_le_bytes(self.others)) + 1
     }
 
     /// Whether the byte at this address is one of the span's.
     pub fn covers(&self, byte: u64) -> bool
         ensures { result ≡ covers_byte self.now byte }
     {
-        byte >= self.first && byte - self.first < self.size
+        byte >= self.first() && byte - self.first() < self.size()
     }
 
     /// Whether the two spans have a byte in common.
     pub fn meets(&self, other: &Span) -> bool
         ensures { result ≡ meets_span self.now other.now }
     {
-        other.first < self.first + self.size && self.first < other.first + other.size
+        let (end, other_end) = (self.first() + self.size(), other.first() + other.size());
+        other.first() < end && self.first() < other_end
     }
 }
 

@@ -1,6 +1,7 @@
 //! Spans, lines, names and sections at their limits.
 
 use super::*;
+use std::alloc::Global;
 use std::cmp::Ordering;
 use std::test::Fail;
 
@@ -32,6 +33,14 @@ fn a_section_holds_its_events_in_order(rt: HostRuntime) -> Result<(), Fail> {
     Ok(())
 }
 
+fn section_of(alloc: Global, name: Name, events: &[Event]) -> Result<Section, SectionFault> {
+    let mut section = Section::new(alloc, name);
+    for event in events {
+        section.push(*event)?;
+    }
+    Ok(section)
+}
+
 #[test]
 fn sections_are_the_same_with_equal_names_and_equal_events(rt: HostRuntime) -> Result<(), Fail> {
     let fence = [Event::Fence];
@@ -49,10 +58,7 @@ fn sections_are_the_same_with_equal_names_and_equal_events(rt: HostRuntime) -> R
         (FIRST, both.as_slice(), false, "one event more"),
         (FIRST, &fence[..0], false, "one event fewer"),
     ] {
-        let mut other = Section::new(rt.alloc(), name);
-        for event in events {
-            other.push(*event)?;
-        }
+        let other = section_of(rt.alloc(), name, events)?;
         assert_eq!(rt; section.same_as(&other), want, "{what}");
         assert_eq!(rt; other.same_as(&section), want, "{what}, the other way");
     }
