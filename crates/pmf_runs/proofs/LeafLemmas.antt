@@ -6,7 +6,7 @@ use Rattle.std.specs.List.{insert, remove}
 use Rattle.std.proofs.lemmas.List.{get_or_read, set-get_or, take_rest}
 use Rattle.pmf_runs.specs.declared.leaf.Leaf.{Leaf}
 use Rattle.pmf_runs.specs.Ranks.{rank, at_rank, HasKey, SameStates, ChangesWithin, ChangesItems, low_rank, high_rank, IsTail}
-use Rattle.pmf_runs.specs.Leaves.{leaf_state, leaf_begins, leaf_full, leaf_middle}
+use Rattle.pmf_runs.specs.Leaves.{leaf_state, leaf_begins, leaf_full, leaf_middle, parting}
 use Rattle.pmf_runs.proofs.RankLemmas.{IsRank, rank-is, at_rank-insert, at_rank-remove, at_rank-changes, at_rank-take, at_rank-drop, insert-has, insert-keeps, le-true, lt-true, le-false, lt-false, last-rank}
 
 pub none-within : (low high k : ℕ) → high ≤ low → (nat_le low k && nat_lt k high) ≡ false
@@ -158,9 +158,19 @@ le-is a b is = elim (cases_lt b a) [
 pub full-some : {S : Type 0} (leaf : Leaf S) → leaf_full leaf ≡ true → 1 < vec_len leaf.keys
 full-some leaf full = let many = le-is 62 (vec_len leaf.keys) full in omega arith
 
-pub middle-is : {S : Type 0} (leaf : Leaf S) (m : ℕ) → m ≡ vec_len leaf.keys / 2 → get_or leaf.keys.items m 0 ≡ leaf_middle leaf
+pub middle-is : {S : Type 0} (leaf : Leaf S) (m place : ℕ) → m ≡ parting leaf.keys.items place → get_or leaf.keys.items m 0 ≡ leaf_middle leaf place
 unfolding leaf_middle
-middle-is leaf m is = ap (λ k. get_or leaf.keys.items k 0) is
+middle-is leaf m place is = ap (λ k. get_or leaf.keys.items k 0) is
+
+pub parted-last : (keys : List ℕ) (place last key : ℕ) → last ≡ length keys - 1 → key ≡ get_or keys last 0 → key ≤ place → last ≡ parting keys place
+unfolding parting
+parted-last keys place last key is at le =
+    is ∙ sym (ap (λ t. if t then length keys - 1 else length keys / 2) (le-true (get_or keys (length keys - 1) 0) place (subst (λ k. k ≤ place) (at ∙ ap (λ n. get_or keys n 0) is) le)))
+
+pub parted-middle : (keys : List ℕ) (place last key half : ℕ) → last ≡ length keys - 1 → half ≡ length keys / 2 → key ≡ get_or keys last 0 → place < key → half ≡ parting keys place
+unfolding parting
+parted-middle keys place last key half is halves at lt =
+    halves ∙ sym (ap (λ t. if t then length keys - 1 else length keys / 2) (le-false (get_or keys (length keys - 1) 0) place (subst (λ k. place < k) (at ∙ ap (λ n. get_or keys n 0) is) lt)))
 
 pub all-within : (low high k : ℕ) → low ≤ k → k < high → (nat_le low k && nat_lt k high) ≡ true
 all-within low high k le lt = ap (λ t. t && nat_lt k high) (le-true low k le) ∙ lt-true k high lt

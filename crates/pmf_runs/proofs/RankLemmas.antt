@@ -55,8 +55,6 @@ rank-is (key ∷ keys) b = elim (cases_lt b key) [
   | inr above ↦ subst (λ t. IsRank (key ∷ keys) b (if t then suc (rank keys b) else 0)) (sym (le-true key b above)) (rank-more key keys b (rank keys b) above (rank-is keys b))
 ]
 
--- ---- ranks and keys
-
 pub rises-le : (keys : List ℕ) (i j : ℕ) → Rises keys → i ≤ j → j < length keys → get_or keys i 0 ≤ get_or keys j 0
 rises-le keys i j rises le within = elim (cases_lt i j) [
   | inl lt ↦ let order = rises.order i j lt within in omega arith
@@ -64,6 +62,17 @@ rises-le keys i j rises le within = elim (cases_lt i j) [
 ]
 
 -- a number that is not below another has no lower rank
+-- ---- the search of a rank
+
+pub rank-told : (keys : List ℕ) (b i : ℕ) → Rises keys → i ≤ length keys → (0 < i → get_or keys (i - 1) 0 ≤ b) → (i < length keys → b < get_or keys i 0) → i ≡ rank keys b
+rank-told keys b i rises bound low high = sym (rank-unique keys b i (record {
+  bound = bound;
+  upto = λ k lt. let before = rises-le keys k (i - 1) rises (omega arith) (omega arith) in let last = low (omega arith) in omega arith;
+  beyond = high;
+}))
+
+-- ---- ranks and keys
+
 pub rank-above : (keys : List ℕ) (p b i r : ℕ) → IsRank keys p i → IsRank keys b r → p ≤ b → i ≤ r
 rank-above keys p b i r at_p at_b le = elim (cases_lt r i) [
   | inl below ↦

@@ -1,7 +1,7 @@
 -- What a map of runs answers about a range, by its root.
 use Rattle.std.proofs.Common.{◌≡◌, ℕ, Bool, refl, sym, ◌∙◌, ap}
 use Rattle.std.specs.Prelude.{Option, None, Some}
-use Rattle.pmf_runs.specs.declared.region.Region.{Region}
+use Rattle.pmf_runs.specs.declared.group.Group.{Group}
 use Rattle.pmf_runs.specs.declared.level.Level.{Level}
 use Rattle.pmf_runs.specs.declared.runs.RunMap.{RunMap}
 use Rattle.pmf_runs.specs.declared.state.State.{Ghosts}
@@ -23,7 +23,7 @@ pub gap-asked : {V A : Type 0} {ask : (ℕ → V) → ℕ → ℕ → A} {join :
 gap-asked law value asked runs v first n is at none =
     law.same (λ b. v) asked first n (λ k low high. at ∙ ap value (sym (gap-is runs k none)) ∙ sym (is k))
 
-pub root-asked : {V A : Type 0} {ask : (ℕ → V) → ℕ → ℕ → A} {join : A → A → A} (law : Question ask join) {S M : Type 0} {laws : Ghosts S M} (value : S → V) (asked : ℕ → V) (runs : RunMap S M laws) (root : Level (Region S M laws)) (first n : ℕ) →
+pub root-asked : {V A : Type 0} {ask : (ℕ → V) → ℕ → ℕ → A} {join : A → A → A} (law : Question ask join) {S M : Type 0} {laws : Ghosts S M} (value : S → V) (asked : ℕ → V) (runs : RunMap S M laws) (root : Level (Group S M laws)) (first n : ℕ) →
     ((b : ℕ) → asked b ≡ value (state_at runs b)) → runs.root ≡ Some root → ask (λ b. value (root_state root runs.gap b)) first n ≡ ask asked first n
 root-asked law value asked runs root first n is some =
     law.same (λ b. value (root_state root runs.gap b)) asked first n (λ k low high. ap value (sym (root-is runs root k some)) ∙ sym (is k))

@@ -4,7 +4,6 @@ use Rattle.std.specs.Prelude.{None, Some}
 use Rattle.pmf_runs.specs.declared.group.Group.{Group}
 use Rattle.pmf_runs.specs.declared.page.Page.{Page}
 use Rattle.pmf_runs.specs.declared.level.Level.{Level}
-use Rattle.pmf_runs.specs.declared.region.Region.{Region}
 use Rattle.pmf_runs.specs.declared.runs.RunMap.{RunMap}
 use Rattle.pmf_runs.specs.declared.state.State.{Ghosts}
 use Rattle.pmf_runs.specs.Groups.{group_joined, groups_joined}
@@ -33,18 +32,14 @@ module _ {S M : Type 0} {laws : Ghosts S M} where
   plain-groups : (level : Level (Group S M laws)) → AllJoined (λ group. AllJoined (λ page. Joined page.leaf) group.level) level → groups_joined level None None
   plain-groups level all = all-parts-joined group_joined (λ group. AllJoined (λ page. Joined page.leaf) group.level) level (λ group all. plain-pages group.level all) all
 
-  pub joined-root : (runs : RunMap S M laws) (root : Level (Region S M laws)) → runs.root ≡ Some root → root_joined root None None → IsJoined runs
+  pub joined-root : (runs : RunMap S M laws) (root : Level (Group S M laws)) → runs.root ≡ Some root → root_joined root None None → IsJoined runs
   joined-root runs root is whole = record {
     leaves = λ other at.
-        subst (AllJoined (λ region. AllJoined (λ group. AllJoined (λ page. Joined page.leaf) group.level) region.level)) (some-same root other (sym is ∙ at))
-        (parts-all (λ region. groups_joined region.level) (λ region. AllJoined (λ group. AllJoined (λ page. Joined page.leaf) group.level) region.level) root
-        (λ region joined. groups-plain region.level joined) whole);
+        subst (AllJoined (λ group. AllJoined (λ page. Joined page.leaf) group.level)) (some-same root other (sym is ∙ at)) (groups-plain root whole);
   }
 
-  pub root-joined : (runs : RunMap S M laws) (root : Level (Region S M laws)) → runs.root ≡ Some root → IsJoined runs → root_joined root None None
-  root-joined runs root is joined =
-      all-parts-joined (λ region. groups_joined region.level) (λ region. AllJoined (λ group. AllJoined (λ page. Joined page.leaf) group.level) region.level) root
-      (λ region all. plain-groups region.level all) (joined.leaves root is)
+  pub root-joined : (runs : RunMap S M laws) (root : Level (Group S M laws)) → runs.root ≡ Some root → IsJoined runs → root_joined root None None
+  root-joined runs root is joined = plain-groups root (joined.leaves root is)
 
   pub joined-gap : (runs : RunMap S M laws) → runs.root ≡ None → IsJoined runs
   joined-gap runs is = record { leaves = λ root at. absurd (none-other root (sym is ∙ at)) }

@@ -1,7 +1,7 @@
 -- The states of a map of runs, by its root.
 use Rattle.std.proofs.Common.{◌≡◌, ◌≤◌, ℕ, refl, sym, ◌∙◌, ap, if◌then◌else◌}
 use Rattle.std.specs.Prelude.{None, Some, is_some, false, Result, Ok, Err, OnErr}
-use Rattle.pmf_runs.specs.declared.region.Region.{Region}
+use Rattle.pmf_runs.specs.declared.group.Group.{Group}
 use Rattle.pmf_runs.specs.declared.level.Level.{Level}
 use Rattle.pmf_runs.specs.declared.runs.RunMap.{RunMap}
 use Rattle.pmf_runs.specs.declared.state.State.{Ghosts}
@@ -19,16 +19,16 @@ module _ {S M : Type 0} {laws : Ghosts S M} where
   unfolding state_at
   gap-is runs b is = ap (λ o. state_within o runs.gap b) is
 
-  pub root-is : (runs : RunMap S M laws) (root : Level (Region S M laws)) (b : ℕ) → runs.root ≡ Some root → state_at runs b ≡ root_state root runs.gap b
+  pub root-is : (runs : RunMap S M laws) (root : Level (Group S M laws)) (b : ℕ) → runs.root ≡ Some root → state_at runs b ≡ root_state root runs.gap b
   unfolding state_at
   root-is runs root b is = ap (λ o. state_within o runs.gap b) is
 
-  pub keeps-root : (old new : RunMap S M laws) (root next : Level (Region S M laws)) → old.root ≡ Some root → new.root ≡ Some next → new.gap ≡ old.gap → SameStates (root_state root) (root_state next) → KeepsStates old new
+  pub keeps-root : (old new : RunMap S M laws) (root next : Level (Group S M laws)) → old.root ≡ Some root → new.root ≡ Some next → new.gap ≡ old.gap → SameStates (root_state root) (root_state next) → KeepsStates old new
   keeps-root old new root next was is gap same = record {
     states = λ b. root-is new next b is ∙ ap (λ s. root_state next s b) gap ∙ same.states old.gap b ∙ sym (root-is old root b was);
   }
 
-  pub changes-root : (old new : RunMap S M laws) (root next : Level (Region S M laws)) (first end : ℕ) (change : S → S) → old.root ≡ Some root → new.root ≡ Some next → new.gap ≡ old.gap →
+  pub changes-root : (old new : RunMap S M laws) (root next : Level (Group S M laws)) (first end : ℕ) (change : S → S) → old.root ≡ Some root → new.root ≡ Some next → new.gap ≡ old.gap →
       ChangesWithin (Some first) (Some end) change (root_state root) (root_state next) → ChangesBetween first end change old new
   unfolding is_within is_between
   changes-root old new root next first end change was is gap changes = record {
@@ -55,7 +55,7 @@ module _ {S M : Type 0} {laws : Ghosts S M} where
     states = λ p. sym (ap (λ t. if t then change (state_at runs p) else state_at runs p) (none-within first end p le));
   }
 
-  pub keeps-made : (old new : RunMap S M laws) (root : Level (Region S M laws)) → is_some old.root ≡ false → new.root ≡ Some root → ((d : S) (b : ℕ) → root_state root d b ≡ old.gap) → KeepsStates old new
+  pub keeps-made : (old new : RunMap S M laws) (root : Level (Group S M laws)) → is_some old.root ≡ false → new.root ≡ Some root → ((d : S) (b : ℕ) → root_state root d b ≡ old.gap) → KeepsStates old new
   keeps-made old new root none is same = record {
     states = λ b. root-is new root b is ∙ same new.gap b ∙ sym (gap-is old b (none-is-any old.root none));
   }

@@ -1,5 +1,5 @@
 -- The states of the numbers in a leaf.
-use Rattle.std.specs.Prelude.{ℕ, ◌/◌, Bool, nat_le, get_or, vec_len}
+use Rattle.std.specs.Prelude.{ℕ, ◌-◌, ◌/◌, Bool, nat_le, if◌then◌else◌, List, length, get_or, vec_len}
 use Rattle.pmf_runs.specs.declared.leaf.Leaf.{Leaf}
 use Rattle.pmf_runs.specs.Ranks.{at_rank, HasKey}
 
@@ -15,6 +15,10 @@ leaf_begins leaf b = HasKey leaf.keys.items b
 abbrev pub leaf_full : {S : Type 0} → Leaf S → Bool
 leaf_full leaf = nat_le 62 (vec_len leaf.keys)
 
--- the key at which its second half begins
-unfoldable pub leaf_middle : {S : Type 0} → Leaf S → ℕ
-leaf_middle leaf = get_or leaf.keys.items (vec_len leaf.keys / 2) 0
+-- which of the keys a leaf is parted at before more is put in at a place: the last, if the place lies from there on, else the middle one
+unfoldable pub parting : List ℕ → ℕ → ℕ
+parting keys place = if nat_le (get_or keys (length keys - 1) 0) place then length keys - 1 else length keys / 2
+
+-- the key that it is parted at
+unfoldable pub leaf_middle : {S : Type 0} → Leaf S → ℕ → ℕ
+leaf_middle leaf place = get_or leaf.keys.items (parting leaf.keys.items place) 0

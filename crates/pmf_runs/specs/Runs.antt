@@ -1,12 +1,11 @@
 -- The states of the numbers in a map of runs.
 use Rattle.std.specs.Prelude.{◌≡◌, ℕ, Bool, ◌&&◌, nat_le, nat_lt, Option, None, Some, if◌then◌else◌}
+use Rattle.pmf_runs.specs.declared.group.Group.{Group}
 use Rattle.pmf_runs.specs.declared.level.Level.{Level}
-use Rattle.pmf_runs.specs.declared.region.Region.{Region}
 use Rattle.pmf_runs.specs.declared.runs.RunMap.{RunMap}
 use Rattle.pmf_runs.specs.declared.state.State.{Ghosts}
 use Rattle.pmf_runs.specs.Groups.{groups_state, groups_joined}
-use Rattle.pmf_runs.specs.Joined.{Joined, AllJoined, PartsJoined}
-use Rattle.pmf_runs.specs.Levels.{level_state}
+use Rattle.pmf_runs.specs.Joined.{Joined, AllJoined}
 
 -- whether the number lies from first up to the end
 unfoldable pub is_between : ℕ → ℕ → ℕ → Bool
@@ -14,11 +13,11 @@ is_between first end b = nat_le first b && nat_lt b end
 
 module _ {S M : Type 0} {laws : Ghosts S M} where
   -- the state that the root gives a number
-  abbrev pub root_state : Level (Region S M laws) → S → ℕ → S
-  root_state root = level_state (λ region. groups_state region.level) root
+  abbrev pub root_state : Level (Group S M laws) → S → ℕ → S
+  root_state = groups_state
 
   -- the state that the root gives a number, or the gap's where there is none
-  abbrev pub state_within : Option (Level (Region S M laws)) → S → ℕ → S
+  abbrev pub state_within : Option (Level (Group S M laws)) → S → ℕ → S
   state_within None gap b = gap
   state_within (Some root) gap b = root_state root gap b
 
@@ -43,10 +42,10 @@ module _ {S M : Type 0} {laws : Ghosts S M} where
   keyed key runs b = key (state_at runs b)
 
   -- the runs of each leaf under a root differ, but where one was cut at the numbers
-  abbrev pub root_joined : Level (Region S M laws) → Option ℕ → Option ℕ → Type 0
-  root_joined = PartsJoined (λ region. groups_joined region.level)
+  abbrev pub root_joined : Level (Group S M laws) → Option ℕ → Option ℕ → Type 0
+  root_joined = groups_joined
 
   -- no two neighbouring states of a leaf are equal
   pub record IsJoined (runs : RunMap S M laws) : Type 0 where
-    pub leaves : (root : Level (Region S M laws)) → runs.root ≡ Some root →
-        AllJoined (λ region. AllJoined (λ group. AllJoined (λ page. Joined page.leaf) group.level) region.level) root
+    pub leaves : (root : Level (Group S M laws)) → runs.root ≡ Some root →
+        AllJoined (λ group. AllJoined (λ page. Joined page.leaf) group.level) root

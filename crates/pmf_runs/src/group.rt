@@ -123,7 +123,7 @@ impl<S: State> Part<S> for Group<S> {
 
     ghost full = { λ group. level_full group.level };
 
-    ghost middle = { λ group. level_middle group.level };
+    ghost middle = { λ group place. level_middle group.level };
 
     fn at(&self, place: u64) -> S {
         self.level.state_of(place)
@@ -141,11 +141,11 @@ impl<S: State> Part<S> for Group<S> {
         self.level.has_many()
     }
 
-    fn middle(&self) -> u64 {
+    fn middle(&self, _place: u64) -> u64 {
         self.level.middle_key()
     }
 
-    fn split(&mut self) -> Result<Group<S>, AllocError> {
+    fn split(&mut self, _place: u64) -> Result<Group<S>, AllocError> {
         self.halve()
     }
 

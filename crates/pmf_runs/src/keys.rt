@@ -1,6 +1,6 @@
 //! The rank of a number among rising keys.
 
-ghost use Rattle.std.specs.Prelude.{◌≡◌, true, false, IfSome};
+ghost use Rattle.std.specs.Prelude.{◌≡◌, ◌<◌, ◌≤◌, ◌-◌, true, false, IfSome, length, get_or};
 ghost use Rattle.pmf_runs.specs.Ranks.{HasKey, IsFresh, IsInner, bound_at, Rises, rank, low_rank, high_rank};
 
 /// How many keys are looked at one after another before the search halves them.
@@ -24,8 +24,55 @@ pub(crate) fn rank_of(keys: &[u64], place: u64) -> usize
     low
 }
 
-/// How many of the keys are at most the place, where it is likely a few more than the hint.
+/// How many of the keys are at most the place, which is likely the hint.
+#[inline(always)]
 pub(crate) fn rank_near(keys: &[u64], place: u64, hint: usize) -> usize
+    requires { Rises keys.now }
+    ensures { result ≡ rank keys.now place }
+{
+    if is_rank(keys, hint, place) {
+        hint
+    } else {
+        rank_from(keys, place, hint)
+    }
+}
+
+/// Whether so many of the keys are at most the place.
+#[inline(always)]
+fn is_rank(keys: &[u64], count: usize, place: u64) -> bool
+    requires { Rises keys.now }
+    ensures { result ≡ true → count ≡ rank keys.now place }
+{
+    if count > keys.len() {
+        return false;
+    }
+    if reaches(keys, count, place) {
+        falls_short(keys, count, place)
+    } else {
+        false
+    }
+}
+
+/// Whether the place reaches the last of so many keys.
+#[inline(always)]
+fn reaches(keys: &[u64], count: usize, place: u64) -> bool
+    requires { count ≤ length keys.now }
+    ensures { result ≡ true → 0 < count → get_or keys.now (count - 1) 0 ≤ place }
+{
+    count == 0 || keys[count - 1] <= place
+}
+
+/// Whether the place lies below the key after so many, if there is one.
+#[inline(always)]
+fn falls_short(keys: &[u64], count: usize, place: u64) -> bool
+    requires { count ≤ length keys.now }
+    ensures { result ≡ true → count < length keys.now → place < get_or keys.now count 0 }
+{
+    count == keys.len() || place < keys[count]
+}
+
+/// The same, where it is likely a few more than the hint.
+fn rank_from(keys: &[u64], place: u64, hint: usize) -> usize
     requires { Rises keys.now }
     ensures { result ≡ rank keys.now place }
 {

@@ -11,6 +11,9 @@ mod asking;
 #[cfg(test)]
 mod counting;
 
+/// How many runs behind the last change are looked at before all others.
+const NEAR: usize = 8;
+
 /// Runs of equal states: one state before the first key, and one from each key on.
 #[derive(Debug, Drop)]
 pub(crate) struct Leaf<S> {
@@ -23,7 +26,7 @@ pub(crate) struct Leaf<S> {
 }
 
 impl<S: State> Leaf<S> {
-    ghost use Rattle.pmf_runs.specs.Leaves.{leaf_state, leaf_begins, leaf_full, leaf_middle};
+    ghost use Rattle.pmf_runs.specs.Leaves.{leaf_state, leaf_begins, leaf_full, leaf_middle, parting};
     ghost use Rattle.pmf_runs.specs.Joined.{JoinedBut, JoinedBeside, InOrder};
 
     /// The leaf in which each number has this state.
@@ -62,6 +65,7 @@ impl<S: State> Leaf<S> {
     }
 
     /// Puts in a key at its rank. The same state holds on its two sides.
+    #[inline(never)]
     fn put_key(&mut self, index: usize, place: u64) -> Result<(), AllocError>
         requires rank { index ≡ rank self.old.keys.items place }
         requires fresh { IsFresh self.old.keys.items place }
@@ -89,12 +93,13 @@ impl<S: State> Leaf<S> {
     ) -> Altered
         ensures { AltersWithin first end result.first result.end (C.changed change.now) (leaf_state self.now) }
     {
+        let mut index = rank_near(&self.keys, first, self.hint);
         let mut altered = Altered {
             first: end,
             end,
             effect: Effect::None,
+            near: index,
         };
-        let mut index = rank_near(&self.keys, first, self.hint);
         let mut start = first;
         while start < end {
             let stop = stop_of(&self.keys, index, end);
@@ -105,11 +110,13 @@ impl<S: State> Leaf<S> {
         altered
     }
 
-    /// Changes the states of the numbers from `first` up to `end`. After an `Err` no state is changed.
+    /// Changes the states of the numbers from `first` up to `end`, the first of them likely in the run
+    /// `near` or a few behind it. After an `Err` no state is changed.
     pub(crate) fn change_from<C: Change<S>>(
         &mut self,
         first: u64,
         end: u64,
+        near: usize,
         change: &C,
     ) -> Result<(), AllocError>
         requires { first ≤ end }
@@ -117,7 +124,7 @@ impl<S: State> Leaf<S> {
         ensures unchanged { OnErr result (SameStates (leaf_state self.old) (leaf_state self.new)) }
         ensures joined { OnOk result (JoinedBut self.old None None → JoinedBut self.new None None) }
     {
-        self.hint = rank_near(&self.keys, first, self.hint);
+        self.hint = rank_near(&self.keys, first, near);
         self.begin(first)?;
         self.begin(end)?;
         self.change_all(Some(first), Some(end), change);
@@ -139,7 +146,22 @@ impl<S: State> Leaf<S> {
     pub(crate) fn has_unsettled(&self) -> bool
         ensures { result ≡ false → AllSettled S.unsettled (leaf_state self.now) }
     {
+        if self.has_unsettled_near() {
+            return true;
+        }
         for i in 0..self.states.len() {
+            if self.states[i].is_unsettled() {
+                return true;
+            }
+        }
+        false
+    }
+
+    /// Whether one of the states a little behind the last change is unsettled, as most often one is where
+    /// any is. For speed alone.
+    fn has_unsettled_near(&self) -> bool {
+        let end = self.states.len().min(self.hint.saturating_add(NEAR));
+        for i in self.hint..end {
             if self.states[i].is_unsettled() {
                 return true;
             }
@@ -188,9 +210,21 @@ impl<S: State> Leaf<S> {
     {
         let (before, after) = (self.states[key], self.states[key + 1]);
         if before.is_same(after) {
-            self.keys.remove(key);
-            self.states.remove(key + 1);
+            self.take_out(key);
         }
+    }
+
+    /// Takes out a key with equal states on its two sides. Apart, so that the search for one is small.
+    #[inline(never)]
+    fn take_out(&mut self, key: usize)
+        requires within { key < vec_len self.old.keys }
+        requires equal { (d : S) → get_or self.old.states.items key d ≡ get_or self.old.states.items (key + 1) d }
+        ensures same { SameStates (leaf_state self.old) (leaf_state self.new) }
+        ensures len { vec_len self.old.keys ≤ vec_len self.new.keys + 1 }
+        ensures joined { (low : ℕ) → low ≤ key + 1 → JoinedBeside self.old low (key + 1) → JoinedBeside self.new low key }
+    {
+        self.keys.remove(key);
+        self.states.remove(key + 1);
     }
 
     /// The state of all numbers from this one on, where it is one.
@@ -212,23 +246,38 @@ impl<S: State> Leaf<S> {
         self.keys.len() >= 62
     }
 
-    /// The key at which its second half begins.
-    pub(crate) fn middle_key(&self) -> u64
+    /// Which key it is split at before more is put in at this place: the last one, where the place lies
+    /// from there on, so that rising places leave full leaves behind; and else the middle one.
+    fn parting(&self, place: u64) -> usize
         requires { leaf_full self.now ≡ true }
-        ensures { result ≡ leaf_middle self.now }
+        ensures is { result ≡ parting self.now.keys.items place }
+        ensures within { result < vec_len self.now.keys }
     {
-        self.keys[self.keys.len() / 2]
+        let last = self.keys.len() - 1;
+        if self.keys[last] <= place {
+            last
+        } else {
+            self.keys.len() / 2
+        }
     }
 
-    /// Hands out its second half. After an `Err` nothing is changed.
-    pub(crate) fn halve(&mut self) -> Result<Leaf<S>, AllocError>
+    /// The key that it is split at before more is put in at this place.
+    pub(crate) fn middle_key(&self, place: u64) -> u64
+        requires { leaf_full self.now ≡ true }
+        ensures { result ≡ leaf_middle self.now place }
+    {
+        self.keys[self.parting(place)]
+    }
+
+    /// Hands out what lies from that key on. After an `Err` nothing is changed.
+    pub(crate) fn halve(&mut self, place: u64) -> Result<Leaf<S>, AllocError>
         requires { leaf_full self.old ≡ true }
-        ensures splits { IfOk result (λ part. Splits (leaf_middle self.old) (leaf_state self.old) (leaf_state self.new) (leaf_state part)) }
+        ensures splits { IfOk result (λ part. Splits (leaf_middle self.old place) (leaf_state self.old) (leaf_state self.new) (leaf_state part)) }
         ensures unchanged { OnErr result (SameStates (leaf_state self.old) (leaf_state self.new)) }
         ensures low { OnOk result (JoinedBut self.old None None → JoinedBut self.new None None) }
         ensures high { IfOk result (λ part. JoinedBut self.old None None → JoinedBut part None None) }
     {
-        let half = self.keys.len() / 2;
+        let half = self.parting(place);
         let mut keys = Vec::new(*self.keys.allocator());
         keys.extend_from_slice(&self.keys[half + 1..])?;
         let states = self.states.split_off(half + 1)?;
@@ -259,6 +308,8 @@ pub(crate) struct Altered {
     pub(crate) end: u64,
     /// What becomes of the summary.
     pub(crate) effect: Effect,
+    /// The run of the first number of the range. For speed alone.
+    pub(crate) near: usize,
 }
 
 impl Altered {
@@ -282,6 +333,7 @@ impl Altered {
             first: self.first.min(start),
             end: stop,
             effect: self.effect.or(change.effect(summary, state)),
+            near: self.near,
         }
     }
 }

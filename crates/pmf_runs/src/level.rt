@@ -78,13 +78,13 @@ impl<P> Level<P> {
         ensures joined { OnOk result (PartsJoined P.joined self.old None None → PartsJoined P.joined self.new None None) }
     {
         let full = rank_of(&self.keys, place);
-        self.split_full(full)?;
+        self.split_full(full, place)?;
         let index = rank_of(&self.keys, place);
         self.parts[index].make_space(place)
     }
 
-    /// Splits the part in two if it is full.
-    fn split_full<S: State>(&mut self, index: usize) -> Result<(), AllocError>
+    /// Splits the part in two if it is full, before more is put in at this place.
+    fn split_full<S: State>(&mut self, index: usize, place: u64) -> Result<(), AllocError>
     where
         P: Part<S>,
         requires { index < vec_len self.old.parts }
@@ -94,21 +94,26 @@ impl<P> Level<P> {
         if !self.parts[index].is_full() {
             return Ok(());
         }
-        let middle = self.parts[index].middle();
+        let middle = self.parts[index].middle(place);
         if rank_of(&self.keys, middle) != index {
             return Ok(());
         }
         if is_key(&self.keys, index, middle) {
             return Ok(());
         }
-        self.split_at(index, middle)
+        self.split_at(index, middle, place)
     }
 
     /// Splits a full part at its middle.
-    fn split_at<S: State>(&mut self, index: usize, middle: u64) -> Result<(), AllocError>
+    fn split_at<S: State>(
+        &mut self,
+        index: usize,
+        middle: u64,
+        place: u64,
+    ) -> Result<(), AllocError>
     where
         P: Part<S>,
-        requires full { IsFullAt P.full P.middle self.old index middle }
+        requires full { IsFullAt P.full (λ part. P.middle part place) self.old index middle }
         requires rank { index ≡ rank self.old.keys.items middle }
         requires fresh { IsFresh self.old.keys.items middle }
         ensures same { SameStates (level_state P.state self.old) (level_state P.state self.new) }
@@ -116,7 +121,7 @@ impl<P> Level<P> {
     {
         self.keys.reserve(1)?;
         self.parts.reserve(1)?;
-        let part = self.parts[index].split()?;
+        let part = self.parts[index].split(place)?;
         match self.keys.insert(index, middle) {
             Ok(()) => {}
             Err(_) => unreachable!(),
@@ -312,14 +317,60 @@ impl<P> Level<P> {
         ensures joined { OnOk result (PartsJoined P.joined self.old None None → PartsJoined P.joined self.new None None) }
     {
         let index = rank_near(&self.keys, first, self.hint);
-        if !is_before(&self.keys, index, end) || self.parts[index].is_full() {
+        if self.parts[index].is_full() {
+            return self.change_full(index, first, end, change);
+        }
+        self.change_at(index, first, end, change)
+    }
+
+    /// The same where the part of the first number is full.
+    #[cold]
+    #[inline(never)]
+    fn change_full<S: State, C: Change<S>>(
+        &mut self,
+        index: usize,
+        first: u64,
+        end: u64,
+        change: &C,
+    ) -> Result<Effect, AllocError>
+    where
+        P: Part<S>,
+        requires order { first ≤ end }
+        requires rank { index ≡ rank self.old.keys.items first }
+        ensures ok { OnOk result (ChangesWithin (Some first) (Some end) (C.changed change.now) (level_state P.state self.old) (level_state P.state self.new)) }
+        ensures unchanged { OnErr result (SameStates (level_state P.state self.old) (level_state P.state self.new)) }
+        ensures joined { OnOk result (PartsJoined P.joined self.old None None → PartsJoined P.joined self.new None None) }
+    {
+        self.split_full(index, first)?;
+        let index = rank_near(&self.keys, first, index);
+        self.change_at(index, first, end, change)
+    }
+
+    /// The same where the part of the first number has room.
+    fn change_at<S: State, C: Change<S>>(
+        &mut self,
+        index: usize,
+        first: u64,
+        end: u64,
+        change: &C,
+    ) -> Result<Effect, AllocError>
+    where
+        P: Part<S>,
+        requires order { first ≤ end }
+        requires rank { index ≡ rank self.old.keys.items first }
+        ensures ok { OnOk result (ChangesWithin (Some first) (Some end) (C.changed change.now) (level_state P.state self.old) (level_state P.state self.new)) }
+        ensures unchanged { OnErr result (SameStates (level_state P.state self.old) (level_state P.state self.new)) }
+        ensures joined { OnOk result (PartsJoined P.joined self.old None None → PartsJoined P.joined self.new None None) }
+    {
+        if !is_before(&self.keys, index, end) {
             return self.change_across(first, end, change);
         }
         self.hint = index;
         self.parts[index].change(first, end, change)
     }
 
-    /// The same where the range is not of one part, or the part is full.
+    /// The same where the range is not of one part.
+    #[inline(never)]
     fn change_across<S: State, C: Change<S>>(
         &mut self,
         first: u64,

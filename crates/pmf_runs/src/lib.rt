@@ -15,7 +15,6 @@ mod level;
 mod members;
 mod page;
 mod part;
-mod region;
 mod runs;
 mod state;
 #[cfg(test)]

@@ -50,7 +50,8 @@ impl<S: State> Page<S> {
         if altered.first >= altered.end {
             return Ok(Effect::None);
         }
-        self.leaf.change_from(altered.first, altered.end, change)?;
+        self.leaf
+            .change_from(altered.first, altered.end, altered.near, change)?;
         let (summary, effect) = renewed(&self.leaf, change.widened(self.summary), altered.effect);
         self.summary = summary;
         Ok(effect)
@@ -72,15 +73,15 @@ impl<S: State> Page<S> {
         self.summary = self.leaf.summary();
     }
 
-    /// Hands out its second half. After an `Err` nothing is changed.
-    fn halve(&mut self) -> Result<Page<S>, AllocError>
+    /// Hands out what lies from that key on. After an `Err` nothing is changed.
+    fn halve(&mut self, place: u64) -> Result<Page<S>, AllocError>
         requires { leaf_full self.old.leaf ≡ true }
-        ensures splits { IfOk result (λ part. Splits (leaf_middle self.old.leaf) (leaf_state self.old.leaf) (leaf_state self.new.leaf) (leaf_state part.leaf)) }
+        ensures splits { IfOk result (λ part. Splits (leaf_middle self.old.leaf place) (leaf_state self.old.leaf) (leaf_state self.new.leaf) (leaf_state part.leaf)) }
         ensures unchanged { OnErr result (SameStates (leaf_state self.old.leaf) (leaf_state self.new.leaf)) }
         ensures low { OnOk result (JoinedBut self.old.leaf None None → JoinedBut self.new.leaf None None) }
         ensures high { IfOk result (λ part. JoinedBut self.old.leaf None None → JoinedBut part.leaf None None) }
     {
-        let rest = self.leaf.halve()?;
+        let rest = self.leaf.halve(place)?;
         self.summary = self.leaf.summary();
         Ok(Page::around(rest))
     }
@@ -121,7 +122,7 @@ impl<S: State> Part<S> for Page<S> {
 
     ghost full = { λ page. leaf_full page.leaf };
 
-    ghost middle = { λ page. leaf_middle page.leaf };
+    ghost middle = { λ page place. leaf_middle page.leaf place };
 
     fn at(&self, place: u64) -> S {
         self.leaf.state_of(place)
@@ -139,12 +140,12 @@ impl<S: State> Part<S> for Page<S> {
         self.leaf.has_many()
     }
 
-    fn middle(&self) -> u64 {
-        self.leaf.middle_key()
+    fn middle(&self, place: u64) -> u64 {
+        self.leaf.middle_key(place)
     }
 
-    fn split(&mut self) -> Result<Page<S>, AllocError> {
-        self.halve()
+    fn split(&mut self, place: u64) -> Result<Page<S>, AllocError> {
+        self.halve(place)
     }
 
     fn make_space(&mut self, _place: u64) -> Result<(), AllocError> {

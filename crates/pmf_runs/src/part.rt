@@ -18,7 +18,7 @@ pub(crate) trait Part<S: State>: Drop {
 
     ghost full: { Self → Bool };
 
-    ghost middle: { Self → ℕ };
+    ghost middle: { Self → ℕ → ℕ };
 
     /// The state of a number.
     fn at(&self, place: u64) -> S
@@ -36,15 +36,15 @@ pub(crate) trait Part<S: State>: Drop {
     fn is_full(&self) -> bool
         ensures { result ≡ full self.now };
 
-    /// The number at which its second half begins.
-    fn middle(&self) -> u64
+    /// The number at which it is split before more is put in at this place.
+    fn middle(&self, place: u64) -> u64
         requires { full self.now ≡ true }
-        ensures { result ≡ middle self.now };
+        ensures { result ≡ middle self.now place };
 
-    /// Hands out its second half.
-    fn split(&mut self) -> Result<Self, AllocError>
+    /// Hands out what lies from that number on.
+    fn split(&mut self, place: u64) -> Result<Self, AllocError>
         requires { full self.old ≡ true }
-        ensures splits { IfOk result (λ part. Splits (middle self.old) (state self.old) (state self.new) (state part)) }
+        ensures splits { IfOk result (λ part. Splits (middle self.old place) (state self.old) (state self.new) (state part)) }
         ensures unchanged { OnErr result (SameStates (state self.old) (state self.new)) }
         ensures low { OnOk result (joined self.old None None → joined self.new None None) }
         ensures high { IfOk result (λ part. joined self.old None None → joined part None None) };

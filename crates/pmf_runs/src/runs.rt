@@ -6,7 +6,6 @@ use crate::group::Group;
 use crate::leaf::Leaf;
 use crate::level::Level;
 use crate::page::Page;
-use crate::region::Region;
 use crate::state::{Change, State};
 use std::alloc::{AllocError, Global};
 use std::fmt::{self, Debug, Formatter};
@@ -22,7 +21,7 @@ pub struct RunMap<S: State> {
     /// The state of each number before the first change.
     gap: S,
     /// The groups of leaves, from the first change on.
-    root: Option<Level<Region<S>>>,
+    root: Option<Level<Group<S>>>,
 }
 
 impl<S: State> RunMap<S> {
@@ -86,14 +85,13 @@ impl<S: State> RunMap<S> {
     }
 
     /// A root in which each number has the gap's state.
-    fn first_root(&self) -> Result<Level<Region<S>>, AllocError>
+    fn first_root(&self) -> Result<Level<Group<S>>, AllocError>
         ensures states { IfOk result (λ root. (d : S) (b : ℕ) → root_state root d b ≡ self.now.gap) }
         ensures joined { IfOk result (λ root. root_joined root None None) }
     {
         let leaf = Leaf::new(self.alloc, self.gap)?;
         let level = Level::new(self.alloc, Page::around(leaf))?;
-        let groups = Level::new(self.alloc, Group::around(level))?;
-        let root = Level::new(self.alloc, Region::around(groups))?;
+        let root = Level::new(self.alloc, Group::around(level))?;
         Ok(root)
     }
 

@@ -259,6 +259,18 @@ fn the_size_of_a_range_costs_nothing(rt: HostRuntime) -> Result<(), Fail> {
     Ok(())
 }
 
+/// 62 keys make a leaf full, and one of them goes on to the level above where it is split.
+#[test]
+fn rising_changes_leave_full_leaves_behind(rt: HostRuntime) -> Result<(), Fail> {
+    let mut map = RunMap::new(rt.alloc(), Colour::Red);
+    for step in 0..10_000u64 {
+        map.change(step * 4, step * 4 + 2, &To(Colour::Green))?;
+    }
+    assert!(rt; map.key_count() > 19_000, "{}", map.key_count());
+    assert!(rt; map.leaf_count() <= 20_000 / 60, "{}", map.leaf_count());
+    Ok(())
+}
+
 /// Numbers that look random, the same ones in each run of the test.
 #[derive(Debug, Drop)]
 struct Numbers(u64);

@@ -8,9 +8,7 @@ impl<S: State> RunMap<S> {
     pub(crate) fn group_count(&self) -> usize {
         let mut count = 0usize;
         if let Some(root) = &self.root {
-            for region in root.parts() {
-                count = count.wrapping_add(region.groups().len());
-            }
+            count = root.parts().len();
         }
         count
     }
@@ -19,10 +17,8 @@ impl<S: State> RunMap<S> {
     pub(crate) fn leaf_count(&self) -> usize {
         let mut count = 0usize;
         if let Some(root) = &self.root {
-            for region in root.parts() {
-                for group in region.groups() {
-                    count = count.wrapping_add(group.pages().len());
-                }
+            for group in root.parts() {
+                count = count.wrapping_add(group.pages().len());
             }
         }
         count
@@ -32,11 +28,9 @@ impl<S: State> RunMap<S> {
     pub(crate) fn key_count(&self) -> usize {
         let mut count = 0usize;
         if let Some(root) = &self.root {
-            for region in root.parts() {
-                for group in region.groups() {
-                    for page in group.pages() {
-                        count = count.wrapping_add(page.key_count());
-                    }
+            for group in root.parts() {
+                for page in group.pages() {
+                    count = count.wrapping_add(page.key_count());
                 }
             }
         }

@@ -1,29 +1,17 @@
-use Rattle.std.proofs.Common.{◌<◌, length, sym, ◌∙◌, arith, subst}
+use Rattle.std.proofs.Common.{◌<◌, ◌+◌, length, sym, ◌∙◌, arith}
 use Rattle.std.proofs.lemmas.Bool.{false≢true}
-use Rattle.pmf_runs.specs.Ranks.{Rises}
-use Rattle.pmf_runs.proofs.RankLemmas.{remove-rises}
-use Rattle.pmf_runs.proofs.LeafLemmas.{same-joined}
-use Rattle.pmf_runs.proofs.JoinedLemmas.{beside-apart, beside-taken}
+use Rattle.std.proofs.lemmas.List.{get_or_read}
+use Rattle.pmf_runs.proofs.JoinedLemmas.{beside-apart}
 use Rattle.pmf_runs.proofs.leaf.Leaf.join_at.Goals as goal
 
-pub invariant_of-self : goal.invariant_of-self
-invariant_of-self g c =
-    let within : c.args.key < length c.args.self.now.keys.items = omega (arith, c.args.self.now.keys.ok.0, c.requires) in
+pub take_out-requires-clause-equal : goal.take_out-requires-clause-equal
+take_out-requires-clause-equal g c = λ d.
+    let states = c.args.self.now.states in
     let counted = c.args.self.now.counted in
-    record {
-      ordered = subst Rises (sym c.remove.ensures.items) (remove-rises c.args.self.now.keys.items c.args.key c.args.self.now.ordered within);
-      counted = omega (arith, c.remove.ensures.len, c.remove-then-is_same.ensures.len);
-    }
-
-pub returns-then-is_same-clause-same : goal.returns-then-is_same-clause-same
-returns-then-is_same-clause-same g c =
-    let within : c.args.key < length c.args.self.now.keys.items = omega (arith, c.args.self.now.keys.ok.0, c.requires) in
-    same-joined c.args.self.now _ c.args.key c.index.result.now c.index-2.result.now within c.index.ensures c.index-2.ensures (c.is_same.ensures.0 c.if-is_same.true) c.remove.ensures.items c.remove-then-is_same.ensures.items
-
-pub returns-then-is_same-clause-joined : goal.returns-then-is_same-clause-joined
-returns-then-is_same-clause-joined g c = λ low upto beside.
-    let within : c.args.key < length c.args.self.now.keys.items = omega (arith, c.args.self.now.keys.ok.0, c.requires) in
-    beside-taken c.args.self.now _ low c.args.key c.index.result.now c.index-2.result.now within c.index.ensures c.index-2.ensures (c.is_same.ensures.0 c.if-is_same.true) upto c.remove.ensures.items c.remove-then-is_same.ensures.items beside
+    let low : c.args.key < length states.items = omega (arith, states.ok.0, c.requires) in
+    let high : c.args.key + 1 < length states.items = omega (arith, states.ok.0, c.requires) in
+    sym (get_or_read states.items c.args.key c.index.result.now low c.index.ensures d) ∙ c.is_same.ensures.0 c.if-is_same.true
+    ∙ get_or_read states.items (c.args.key + 1) c.index-2.result.now high c.index-2.ensures d
 
 pub returns-else-is_same-clause-joined : goal.returns-else-is_same-clause-joined
 returns-else-is_same-clause-joined g c = λ low upto beside.

@@ -33,7 +33,7 @@ invariant_of-self-2 g c =
 pub returns-clause-same : goal.returns-clause-same
 returns-clause-same g c =
     let read = subst (λ ps. c.index_mut.result.now ≡ get_or ps c.args.index c.index_mut.result.now) c.reserve-2.ensures.items c.index_mut.ensures.value in
-    let at : g.P.Part.middle c.index_mut.result.now ≡ c.args.middle = ap g.P.Part.middle read ∙ c.requires.full.is_middle c.index_mut.result.now in
+    let at : g.P.Part.middle c.index_mut.result.now c.args.place ≡ c.args.middle = ap (λ p. g.P.Part.middle p c.args.place) read ∙ c.requires.full.is_middle c.index_mut.result.now in
     let splits = subst (λ p. Splits p (g.P.Part.state c.index_mut.result.now) (g.P.Part.state c.split.new.self) (g.P.Part.state c.in_ok-part.part)) at c.in_ok-part.ensures.splits in
     level-split g.P.Part.state c.args.self.now _ c.index_mut.result.now c.split.new.self c.in_ok-part.part c.args.middle c.args.index c.requires.rank read splits
     (c.in-Ok.ensures.items ∙ ap (λ ks. insert ks c.args.index c.args.middle) c.reserve.ensures.items)

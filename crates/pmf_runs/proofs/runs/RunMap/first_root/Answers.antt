@@ -1,16 +1,14 @@
 use Rattle.std.proofs.Common.{sym, ◌∙◌, subst}
 use Rattle.std.specs.Prelude.{None}
-use Rattle.pmf_runs.specs.Groups.{groups_joined}
 use Rattle.pmf_runs.specs.Joined.{JoinedBut}
 use Rattle.pmf_runs.specs.Pages.{pages_joined}
 use Rattle.pmf_runs.proofs.runs.RunMap.first_root.Goals as goal
 
 pub returns-clause-states : goal.returns-clause-states
 returns-clause-states g c = λ d b.
-    c.in_ok-root.ensures.same.states d b ∙ c.around-3.ensures.same.states d b ∙ c.in_ok-groups.ensures.same.states d b ∙ c.around-2.ensures.same.states d b ∙ c.in_ok-level.ensures.same.states d b ∙ c.around.ensures.same.states d b ∙ c.in_ok-leaf.ensures.states d b
+    c.in_ok-root.ensures.same.states d b ∙ c.around-2.ensures.same.states d b ∙ c.in_ok-level.ensures.same.states d b ∙ c.around.ensures.same.states d b ∙ c.in_ok-leaf.ensures.states d b
 
 pub returns-clause-joined : goal.returns-clause-joined
 returns-clause-joined g c =
     let page = subst (λ l. JoinedBut l None None) (sym c.around.ensures.leaf) c.in_ok-leaf.ensures.joined in
-    let group = subst (λ l. pages_joined l None None) (sym c.around-2.ensures.level) (c.in_ok-level.ensures.joined page) in
-    c.in_ok-root.ensures.joined (subst (λ l. groups_joined l None None) (sym c.around-3.ensures.level) (c.in_ok-groups.ensures.joined group))
+    c.in_ok-root.ensures.joined (subst (λ l. pages_joined l None None) (sym c.around-2.ensures.level) (c.in_ok-level.ensures.joined page))

@@ -1,6 +1,6 @@
 use Rattle.std.proofs.Common.{sym, arith}
 use Rattle.pmf_runs.proofs.RankLemmas.{rank-unique}
-use Rattle.pmf_runs.proofs.keys.rank_near.Goals as goal
+use Rattle.pmf_runs.proofs.keys.rank_from.Goals as goal
 
 pub returns-else-keys-index : goal.returns-else-keys-index
 returns-else-keys-index c =

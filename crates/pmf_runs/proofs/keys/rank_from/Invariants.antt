@@ -1,5 +1,5 @@
 use Rattle.std.proofs.Common.{◌-◌, ℕ, ◌<◌, ◌≤◌, length, get_or}
-use Rattle.pmf_runs.proofs.keys.rank_near.Given as goal
+use Rattle.pmf_runs.proofs.keys.rank_from.Given as goal
 
 abbrev pub invariant-loop-index : goal.invariant-loop-index
 invariant-loop-index l = record {
