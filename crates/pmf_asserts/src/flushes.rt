@@ -26,14 +26,15 @@ pub fn check_flush(shadow: &Shadow, span: Span) -> FlushFindings
     ensures needless { (es : List Event) (p : ℕ) → StandsFor shadow.now es p
         → result.needless ≡ needless_finding (lines_where (is_clean es p) span) }
 {
-    let doubled = match shadow.pending_lines(span) {
+    let lines = shadow.flush_lines(span);
+    let doubled = match lines.pending {
         None => None,
         Some(lines) => Some(Finding::FlushDoubled {
             line: lines.least,
             lines: lines.count,
         }),
     };
-    let needless = match shadow.clean_lines(span) {
+    let needless = match lines.clean {
         None => None,
         Some(lines) => Some(Finding::FlushNeedless {
             line: lines.least,

@@ -4,11 +4,12 @@ use Rattle.std.specs.Prelude.{◌↔◌, Option, Some, None, is_some}
 use Rattle.std.proofs.lemmas.Bool.{cases_lt, cases_eq, and_parts, and_from, and_left, and_right, not_from_true, not_from_false, not-true, true_from_ne_false}
 use Rattle.std.specs.Cmp.{both_ways}
 use Rattle.pmf_event.specs.Span.{Extent}
+use Rattle.pmf_event.specs.declared.lines.Lines.{Lines}
 use Rattle.pmf_event.specs.Ranges.{first_from, count_from}
 use Rattle.pmf_event.specs.FlushWarnings.{numbered, first_line, line_count, lines_from, lines_where}
 use Rattle.pmf_event.specs.LineBytes.{SomeByteOf, NoByteOf}
-use Rattle.pmf_event.proofs.RangeLemmas.{NonePass, some-from, none-from, first-passes, none-passes, first_from-none, first_from-some, first_from-same, count_from-same, count_from-split, count_from-bound, count_from-all, count_from-none, count_from-first}
-use Rattle.pmf_shadow.specs.Stretches.{line_has, line_lacks, line_has_but, AllHave, lines_by}
+use Rattle.pmf_event.proofs.RangeLemmas.{NonePass, some-from, none-from, first-passes, none-passes, first_from-none, first_from-some, first_from-same, count_from-same, count_from-split, count_from-bound, count_from-all, count_from-none}
+use Rattle.pmf_shadow.specs.Stretches.{line_has, line_lacks, line_has_but, AllHave, lines_at, lines_by}
 
 -- ---- one line
 
@@ -329,58 +330,38 @@ found-below test line end found asked =
     let low = least.from in
     let high = least.within in (low, omega arith)
 
--- the lines from the least on: the least itself, and those behind it
-count-behind : (test : ℕ → Bool) (first end least : ℕ) → Some least ≡ first_from test first (end - first) → (first ≤ least) × (least < end) × (count_from test first (end - first) ≡ 1 + count_from test (least + 1) (end - (least + 1)))
-count-behind test first end least asked =
-    let found = first-passes test first (end - first) least (sym asked) in
-    let low = found.from in
-    let high = found.within in
-    let here = count_from-first test first (end - first) least found in
-    let rest : first + (end - first) - least ≡ end - least = omega arith in
-    let split = count_from-split test least 1 (end - (least + 1)) (end - least) (least + 1) (omega arith) (omega arith) in
-    let one = count_from-all test least 1 (λ k lower upper. let same : k ≡ least = omega arith in ap test same ∙ found.passes) in
-    let whole = here ∙ ap (count_from test least) rest in
-    (low, omega arith, omega arith)
+-- those without are the others
+pub count-lacks : (test : ℕ → Bool) (first n with : ℕ) → with ≡ count_from (line_has test) first n → (with ≤ n) × (n - with ≡ count_from (line_lacks test) first n)
+count-lacks test first n with counted = let all = lacks-count test first n in (omega arith, omega arith)
 
--- those without, by those with behind the least
-pub count-lacks : (test : ℕ → Bool) (first end least others : ℕ) → Some least ≡ first_from (line_lacks test) first (end - first) →
-    others ≡ count_from (line_has test) (least + 1) (end - (least + 1)) → (least + others < end) × (end - least - others ≡ count_from (line_lacks test) first (end - first))
-count-lacks test first end least others asked counted =
-    let behind = count-behind (line_lacks test) first end least asked in
-    let all = lacks-count test (least + 1) (end - (least + 1)) in
-    let below = behind.1 in
-    let whole = behind.2 in (omega arith, omega arith)
+-- those with the one and without the other are what those with the other leave
+pub count-but : (test other : ℕ → Bool) (first n one two : ℕ) → ((b : ℕ) → other b ≡ true → test b ≡ true) → one ≡ count_from (line_has test) first n → two ≡ count_from (line_has other) first n →
+    (two ≤ one) × (one - two ≡ count_from (line_has_but test other) first n)
+count-but test other first n one two weaker ones twos = let all = but-count test other weaker first n in (omega arith, omega arith)
 
--- those with the one and without the other, by those with each behind the least
-pub count-but : (test other : ℕ → Bool) (first end least one two : ℕ) → ((b : ℕ) → other b ≡ true → test b ≡ true) →
-    Some least ≡ first_from (line_has_but test other) first (end - first) →
-    one ≡ count_from (line_has test) (least + 1) (end - (least + 1)) → two ≡ count_from (line_has other) (least + 1) (end - (least + 1)) →
-    (least < end) × (one ≤ end) × (two ≤ one) × (1 + one - two ≡ count_from (line_has_but test other) first (end - first))
-count-but test other first end least one two weaker asked ones twos =
-    let behind = count-behind (line_has_but test other) first end least asked in
-    let all = but-count test other weaker (least + 1) (end - (least + 1)) in
-    let bound = count_from-bound (line_has test) (least + 1) (end - (least + 1)) in
-    let below = behind.1 in
-    let whole = behind.2 in (omega arith, omega arith, omega arith, omega arith)
+pub lines-none : (test : ℕ → Bool) (first n : ℕ) → None ≡ first_from test first n → None ≡ lines_at test first n
+lines-none test first n none = ap (λ o. lines_from o (count_from test first n)) none
 
-lines_by-is : (test : ℕ → Bool) (s : Extent) (first end : ℕ) → first ≡ s.first / 64 → end ≡ (s.first + s.size - 1) / 64 + 1 →
-    lines_by test s ≡ lines_from (first_from test first (end - first)) (count_from test first (end - first))
+pub lines-some : (test : ℕ → Bool) (first n least count : ℕ) → Some least ≡ first_from test first n → count ≡ count_from test first n → Some (record { least = least * 64; count = count }) ≡ lines_at test first n
+lines-some test first n least count found counted =
+    ap (λ o. lines_from o count) found ∙ ap (lines_from (first_from test first n)) counted
+
+-- one line, with a byte that passes the other test
+module _ (test other : ℕ → Bool) (weaker : (b : ℕ) → other b ≡ true → test b ≡ true) (first end : ℕ) (one : end - first ≡ 1) (has : line_has other first ≡ true) where
+  pub one-but : None ≡ lines_at (line_has_but test other) first (end - first)
+  one-but = lines-none (line_has_but test other) first (end - first) (sym (first_from-none (line_has_but test other) first (end - first) (λ k low high.
+      let same : k ≡ first = omega arith in ap (line_has_but test other) same ∙ but-other test other first has)))
+
+  pub one-lacks : None ≡ lines_at (line_lacks test) first (end - first)
+  one-lacks = lines-none (line_lacks test) first (end - first) (sym (first_from-none (line_lacks test) first (end - first) (λ k low high.
+      let same : k ≡ first = omega arith in ap (line_lacks test) same ∙ lacks-not test first (has-weaker test other weaker first has))))
+
+-- the lines of a span are those from its first line to its last
+pub lines_by-is : (test : ℕ → Bool) (s : Extent) (first end : ℕ) (found : Option Lines) → first ≡ s.first / 64 → end ≡ (s.first + s.size - 1) / 64 + 1 →
+    found ≡ lines_at test first (end - first) → found ≡ lines_by test s
 unfolding lines_by
-lines_by-is test s first end at_first at_end =
-    sym (ap (λ e. lines_from (first_from test first (e - first)) (count_from test first (e - first))) at_end
-    ∙ ap (λ k. lines_from (first_from test k ((s.first + s.size - 1) / 64 + 1 - k)) (count_from test k ((s.first + s.size - 1) / 64 + 1 - k))) at_first)
-
-pub lines_by-none : (test : ℕ → Bool) (s : Extent) (first end : ℕ) → first ≡ s.first / 64 → end ≡ (s.first + s.size - 1) / 64 + 1 →
-    None ≡ first_from test first (end - first) → None ≡ lines_by test s
-lines_by-none test s first end at_first at_end none =
-    sym (lines_by-is test s first end at_first at_end ∙ ap (λ o. lines_from o (count_from test first (end - first))) (sym none))
-
-pub lines_by-some : (test : ℕ → Bool) (s : Extent) (first end least count : ℕ) → first ≡ s.first / 64 → end ≡ (s.first + s.size - 1) / 64 + 1 →
-    Some least ≡ first_from test first (end - first) → count ≡ count_from test first (end - first) →
-    Some (record { least = least * 64; count = count }) ≡ lines_by test s
-lines_by-some test s first end least count at_first at_end found counted =
-    sym (lines_by-is test s first end at_first at_end ∙ ap (λ o. lines_from o (count_from test first (end - first))) (sym found)
-    ∙ ap (λ c. Some (record { least = least * 64; count = c })) (sym counted))
+lines_by-is test s first end found at_first at_end is =
+    is ∙ ap (λ e. lines_at test first (e - first)) at_end ∙ ap (λ k. lines_at test k ((s.first + s.size - 1) / 64 + 1 - k)) at_first
 
 -- tests that agree on each line find the same
 pub lines_by-same : (test want : ℕ → Bool) (s : Extent) → ((n : ℕ) → test n ≡ want (n * 64)) → lines_by test s ≡ lines_where want s

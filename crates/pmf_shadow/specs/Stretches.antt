@@ -22,6 +22,10 @@ line_has_but test other n = line_has test n && not (line_has other n)
 abbrev pub AllHave : (ℕ → Bool) → ℕ → ℕ → Type 0
 AllHave test first end = (n : ℕ) → first ≤ n → n < end → line_has test n ≡ true
 
+-- of so many lines from a number on, those that pass, if one does: the least, and how many
+abbrev pub lines_at : (ℕ → Bool) → ℕ → ℕ → Option Lines
+lines_at test first count = lines_from (first_from test first count) (count_from test first count)
+
 -- of the lines of a span, by their numbers, those that pass, if one does: the least, and how many
 unfoldable pub lines_by : (ℕ → Bool) → Extent → Option Lines
-lines_by test s = lines_from (first_from test (first_line s) (line_count s)) (count_from test (first_line s) (line_count s))
+lines_by test s = lines_at test (first_line s) (line_count s)

@@ -15,7 +15,7 @@ mod shadow;
 mod stretches;
 
 pub use byte::{Bounds, ByteState, Stored};
-pub use shadow::Shadow;
+pub use shadow::{FlushLines, Shadow};
 
 #[cfg(test)]
 mod tests;

@@ -34,6 +34,15 @@ pub struct Shadow {
     fences: u32,
 }
 
+/// Of the lines that a span meets, those of which a write-back warns.
+#[derive(Clone, Copy, Debug, PartialEq, Eq)]
+pub struct FlushLines {
+    /// Those with a write-back that no fence has completed.
+    pub pending: Option<Lines>,
+    /// Those with nothing to write back.
+    pub clean: Option<Lines>,
+}
+
 impl Shadow {
     /// The shadow of no events. Takes no memory.
     pub fn new(alloc: Global) -> Shadow
@@ -157,9 +166,7 @@ impl Shadow {
         ensures { (es : List Event) (p : ℕ) → StandsFor self.now es p
             → result ≡ lines_where (is_pending es p) span }
     {
-        let undurable = IsUndurable { epoch: self.fences };
-        let pending = IsPending { epoch: self.fences };
-        self.lines_with_but(&span, &undurable, &IsUnwritten, &pending)
+        self.flush_lines(span).pending
     }
 
     /// Of the lines that the span meets, those with nothing to write back: the least, and how many.
@@ -167,7 +174,21 @@ impl Shadow {
         ensures { (es : List Event) (p : ℕ) → StandsFor self.now es p
             → result ≡ lines_where (is_clean es p) span }
     {
-        self.lines_without(&span, &IsUndurable { epoch: self.fences })
+        self.flush_lines(span).clean
+    }
+
+    /// What a write-back of the span's lines would find: both of these at once, so that lines are counted
+    /// once.
+    pub fn flush_lines(&self, span: Span) -> FlushLines
+        ensures pending { (es : List Event) (p : ℕ) → StandsFor self.now es p
+            → result.pending ≡ lines_where (is_pending es p) span }
+        ensures clean { (es : List Event) (p : ℕ) → StandsFor self.now es p
+            → result.clean ≡ lines_where (is_clean es p) span }
+    {
+        let undurable = IsUndurable { epoch: self.fences };
+        let alone = IsPending { epoch: self.fences };
+        let (pending, clean) = self.lines_apart(&span, &undurable, &IsUnwritten, &alone);
+        FlushLines { pending, clean }
     }
 
     pub(crate) fn first_in<T: Test<ByteState>>(&self, span: &Span, test: &T) -> Option<u64>

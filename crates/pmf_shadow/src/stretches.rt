@@ -7,7 +7,7 @@ ghost use Rattle.pmf_event.specs.Ranges.{count_from, first_from};
 ghost use Rattle.pmf_event.specs.FlushWarnings.{first_line};
 ghost use Rattle.pmf_shadow.specs.declared.byte.ByteState.{ByteState};
 ghost use Rattle.pmf_runs.specs.Runs.{passing};
-ghost use Rattle.pmf_shadow.specs.Stretches.{AllHave, line_has, line_has_but, line_lacks, lines_by};
+ghost use Rattle.pmf_shadow.specs.Stretches.{AllHave, line_has, line_has_but, line_lacks, lines_at, lines_by};
 
 use crate::byte::{ByteState, Fails};
 use crate::shadow::{Shadow, end_of};
@@ -15,44 +15,78 @@ use pmf_event::{LINE_SIZE, Lines, Span};
 use pmf_runs::Test;
 
 impl Shadow {
-    /// Of the lines that the span meets, those without a byte that passes: the least, and how many.
-    pub(crate) fn lines_without<T: Test<ByteState> + Copy>(
-        &self,
-        span: &Span,
-        test: &T,
-    ) -> Option<Lines>
-        ensures { result ≡ lines_by (line_lacks (passing (T.passes test.now) self.now.bytes)) span.now }
-    {
-        let (first, end) = lines_of(span);
-        let least = self.least_line_without(first, end, test)?;
-        let others = self.count_with(least + 1, end, test);
-        Some(Lines {
-            least: least * LINE_SIZE,
-            count: end - least - others,
-        })
-    }
-
     /// Of the lines that the span meets, those with a byte that passes and without one that passes the
-    /// other test: the least, and how many. What passes the other test passes the one, and what passes
-    /// the one alone passes the third.
-    pub(crate) fn lines_with_but<
+    /// other test, and those without a byte that passes: the least, and how many. What passes the other
+    /// test passes the one, and what passes the one alone passes the third. Most often the span meets one
+    /// line, and a byte of it passes the other test.
+    pub(crate) fn lines_apart<
         T: Test<ByteState> + Copy,
         U: Test<ByteState> + Copy,
         V: Test<ByteState>,
-    >(&self, span: &Span, test: &T, other: &U, alone: &V) -> Option<Lines>
+    >(&self, span: &Span, test: &T, other: &U, alone: &V) -> (Option<Lines>, Option<Lines>)
         requires both { (s : ByteState) → U.passes other.now s ≡ true → T.passes test.now s ≡ true }
         requires alone { (s : ByteState) → T.passes test.now s ≡ true → U.passes other.now s ≡ false
             → V.passes alone.now s ≡ true }
-        ensures { result ≡ lines_by (line_has_but (passing (T.passes test.now) self.now.bytes)
+        ensures but { result.0 ≡ lines_by (line_has_but (passing (T.passes test.now) self.now.bytes)
             (passing (U.passes other.now) self.now.bytes)) span.now }
+        ensures without { result.1 ≡ lines_by (line_lacks (passing (T.passes test.now) self.now.bytes)) span.now }
     {
         let (first, end) = lines_of(span);
-        let least = self.least_line_alone(first, end, test, other, alone)?;
-        let with_one = self.count_with(least + 1, end, test);
-        let with_other = self.count_with(least + 1, end, other);
+        if end - first == 1 && self.has_on(first, other) {
+            return (None, None);
+        }
+        let with = self.count_with(first, end, test);
+        let but = self.lines_with_but(first, end, with, test, other, alone);
+        let without = self.lines_without(first, end, with, test);
+        (but, without)
+    }
+
+    // The lines without a byte that passes, where so many have one.
+    fn lines_without<T: Test<ByteState> + Copy>(
+        &self,
+        first: u64,
+        end: u64,
+        with: u64,
+        test: &T,
+    ) -> Option<Lines>
+        requires ordered { first ≤ end }
+        requires room { end * LINE_SIZE ≤ ADDRESS_LIMIT }
+        requires counted { with ≡ count_from (line_has (passing (T.passes test.now) self.now.bytes))
+            first (end - first) }
+        ensures { result ≡ lines_at (line_lacks (passing (T.passes test.now) self.now.bytes)) first (end - first) }
+    {
+        let least = self.least_line_without(first, end, test)?;
         Some(Lines {
             least: least * LINE_SIZE,
-            count: 1 + with_one - with_other,
+            count: end - first - with,
+        })
+    }
+
+    // The lines with a byte that passes and without one that passes the other test, where so many have one
+    // that passes.
+    fn lines_with_but<T: Test<ByteState> + Copy, U: Test<ByteState> + Copy, V: Test<ByteState>>(
+        &self,
+        first: u64,
+        end: u64,
+        with: u64,
+        test: &T,
+        other: &U,
+        alone: &V,
+    ) -> Option<Lines>
+        requires ordered { first ≤ end }
+        requires room { end * LINE_SIZE ≤ ADDRESS_LIMIT }
+        requires counted { with ≡ count_from (line_has (passing (T.passes test.now) self.now.bytes))
+            first (end - first) }
+        requires both { (s : ByteState) → U.passes other.now s ≡ true → T.passes test.now s ≡ true }
+        requires alone { (s : ByteState) → T.passes test.now s ≡ true → U.passes other.now s ≡ false
+            → V.passes alone.now s ≡ true }
+        ensures { result ≡ lines_at (line_has_but (passing (T.passes test.now) self.now.bytes)
+            (passing (U.passes other.now) self.now.bytes)) first (end - first) }
+    {
+        let least = self.least_line_alone(first, end, test, other, alone)?;
+        Some(Lines {
+            least: least * LINE_SIZE,
+            count: with - self.count_with(first, end, other),
         })
     }
 
