@@ -64,15 +64,15 @@ number_of-address n small =
 abbrev pub NoFieldEnd : List ℕ → Type 0
 NoFieldEnd xs = AllByRecursion (λ c. is_field_end c ≡ false) xs
 
-not_digit : (c : ℕ) → digit_value c < 16 → is_field_end c ≡ false
-not_digit c digit = elim (cases_eq c 59) [
+pub no_field_end : (c : ℕ) → digit_value c < 36 → is_field_end c ≡ false
+no_field_end c digit = elim (cases_eq c 59) [
   | inl same ↦ let large : digit_value c ≡ 36 = ap digit_value same in absurd (omega arith)
   | inr other ↦ elim (c == 59) as (λ v. (c == 59) ≡ v → v ≡ false) [ true ↦ λ is. absurd (other ((Decides-eqb c 59).0 is)) | false ↦ λ is. refl ] refl
 ]
 
 pub digits-NoFieldEnd : (ds : List ℕ) → AllDigits 16 ds → NoFieldEnd ds
 digits-NoFieldEnd [] each = tt
-digits-NoFieldEnd (d ∷ ds) each = (not_digit d each.0, digits-NoFieldEnd ds each.1)
+digits-NoFieldEnd (d ∷ ds) each = (no_field_end d (omega (arith, each.0)), digits-NoFieldEnd ds each.1)
 
 pub address-NoFieldEnd : (n : ℕ) → n < 2 ^ 64 → NoFieldEnd (address n)
 address-NoFieldEnd n small =

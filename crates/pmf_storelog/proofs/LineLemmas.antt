@@ -28,7 +28,7 @@ end_kept line filled close =
 pub trimmed-plain : (line : List ℕ) → IsPlain line → trimmed line ≡ line
 trimmed-plain line plain = ap without_end_blanks (front_kept line plain.close) ∙ end_kept line plain.filled plain.close
 
-records_in-plain : (line : List ℕ) → IsPlain line → records_in (line ∷ []) ≡ line ∷ []
+pub records_in-plain : (line : List ℕ) → IsPlain line → records_in (line ∷ []) ≡ line ∷ []
 unfolding records_in
 records_in-plain line plain = rw (trimmed-plain line plain, lt-ltb 0 (length line) plain.filled) refl
 

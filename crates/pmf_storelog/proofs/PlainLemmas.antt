@@ -26,8 +26,8 @@ none-append : (p : ℕ → Bool) (xs ys : List ℕ) → NoneIn p xs → NoneIn p
 none-append p [] ys none more = more
 none-append p (x ∷ xs) ys none more = (none.0, none-append p xs ys none.1 more)
 
--- a byte that is no digit is none of the digits
-not_digit : (m c : ℕ) → digit_value m ≡ 36 → digit_value c < 16 → (c == m) ≡ false
+-- a byte that is no letter or digit is none of them
+not_digit : (m c : ℕ) → digit_value m ≡ 36 → digit_value c < 36 → (c == m) ≡ false
 not_digit m c stop digit = elim (cases_eq c m) [
   | inl same ↦ let large : digit_value c ≡ 36 = ap digit_value same ∙ stop in absurd (omega arith)
   | inr other ↦ elim (c == m) as (λ v. (c == m) ≡ v → v ≡ false) [ true ↦ λ is. absurd (other ((Decides-eqb c m).0 is)) | false ↦ λ is. refl ] refl
@@ -52,10 +52,10 @@ AllFit CheckEnd = ⊤
 abbrev pub text_of_event : Event → List ℕ
 text_of_event event = name_of event ++ fields_of_event event
 
-module _ (p : ℕ → Bool) (digit : (c : ℕ) → digit_value c < 16 → p c ≡ false) (x : p 120 ≡ false) (semicolon : p 59 ≡ false) (named : (event : Event) → NoneIn p (name_of event)) where
+module _ (p : ℕ → Bool) (digit : (c : ℕ) → digit_value c < 36 → p c ≡ false) (x : p 120 ≡ false) (semicolon : p 59 ≡ false) (named : (event : Event) → NoneIn p (name_of event)) where
   none-digits : (ds : List ℕ) → AllDigits 16 ds → NoneIn p ds
   none-digits [] each = tt
-  none-digits (d ∷ ds) each = (digit d each.0, none-digits ds each.1)
+  none-digits (d ∷ ds) each = (digit d (omega (arith, each.0)), none-digits ds each.1)
 
   none-address : (n : ℕ) → n < 2 ^ 64 → NoneIn p (address n)
   none-address n small =
@@ -91,10 +91,10 @@ module _ (p : ℕ → Bool) (digit : (c : ℕ) → digit_value c < 16 → p c �
   none-text : (event : Event) → AllFit event → NoneIn p (text_of_event event)
   none-text event fit = none-append p (name_of event) (fields_of_event event) (named event) (none-fields event fit)
 
-no_separator : (c : ℕ) → digit_value c < 16 → is_separator c ≡ false
+pub no_separator : (c : ℕ) → digit_value c < 36 → is_separator c ≡ false
 no_separator c digit = rw (not_digit 124 c refl digit, not_digit 10 c refl digit, not_digit 13 c refl digit) refl
 
-no_blank : (c : ℕ) → digit_value c < 16 → is_blank c ≡ false
+pub no_blank : (c : ℕ) → digit_value c < 36 → is_blank c ≡ false
 no_blank c digit = rw (not_digit 32 c refl digit, not_digit 9 c refl digit) refl
 
 separators_named : (event : Event) → NoneIn is_separator (name_of event)

@@ -1,6 +1,6 @@
 -- What the quick reading finds, it finds as the definition of a record says.
-use Rattle.std.proofs.Common.{◌≡◌, ℕ, ◌-◌, length-drop, get_or, append_assoc, append-nil, ◌^◌, ◌<◌, ◌≤◌, List, [], ◌∷◌, ◌++◌, Some, Bool, true, false, ◌==◌, rules, length, take, drop, refl, sym, ap, ◌∙◌, arith}
-use Rattle.std.specs.Prelude.{codes, Ok, nat_eq}
+use Rattle.std.proofs.Common.{◌≡◌, ℕ, ◌+◌, ◌-◌, length-drop, get_or, append_assoc, append-nil, length-append, ◌^◌, ◌<◌, ◌≤◌, List, [], ◌∷◌, ◌++◌, Bool, true, false, ◌==◌, rules, length, take, drop, refl, sym, ap, subst, ◌∙◌, arith}
+use Rattle.std.specs.Prelude.{codes, Result, Ok, nat_eq}
 use Rattle.std.specs.List.{starts_with, slice_split}
 use Rattle.std.specs.Str.{bytes_eq}
 use Rattle.std.proofs.lemmas.Slice.Eq.{starts_is, bytes_eq-Decides}
@@ -8,14 +8,21 @@ use Rattle.std.proofs.lemmas.Bool.Decides.{Decides-eqb}
 use Rattle.std.specs.Str.Parse.{AllDigits, digits_value}
 use Rattle.std.proofs.Math.Nat.{pow-le-pow_right}
 use Rattle.std.proofs.lemmas.Int.Digits.{digits_value-lt}
-use Rattle.std.proofs.lemmas.List.{length-take-le, take-append-drop, take_all}
+use Rattle.std.proofs.lemmas.List.{length-take-le, take-append-drop, take_all, nil_from_length, take_at, drop_at, drop_more}
+use Rattle.std.proofs.lemmas.List.Elements.{All-from_recursion}
+use Rattle.std.proofs.lemmas.List.Splits.{slice_split_at}
 use Rattle.pmf_storelog.specs.Numbers.{number_of}
 use Rattle.pmf_event.specs.Span.{Extent, extent_of}
-use Rattle.pmf_event.specs.declared.event.Event.TheVariants.{Store, Flush, Fence}
+use Rattle.pmf_event.specs.declared.event.Event.{Event}
+use Rattle.pmf_event.specs.declared.event.Event.TheVariants.{Store, Flush, Fence, Persist, Ordered, TxAdd}
 use Rattle.pmf_storelog.specs.declared.record.Saying.TheVariants.{Happens, Skipped}
-use Rattle.pmf_storelog.specs.Records.{is_field_end, fields_of, record_of, saying_of, transaction_of, saying_of_fields, other_name, event_over, span_of_fields, span_of_texts, stored_span}
-use Rattle.pmf_storelog.specs.Quick.{BeginsWithDigits, BeginsWithNumber}
-use Rattle.pmf_storelog.proofs.CanonicalLemmas.{numeral_of-digits, NoFieldEnd, digits-NoFieldEnd, fields_of-more, fields_of-last}
+use Rattle.pmf_storelog.specs.Records.{is_field_end, fields_of, record_of, saying_of, transaction_of, saying_of_fields, other_name, event_over, order_of_fields, order_of_texts, span_of_fields, span_of_texts, stored_span}
+use Rattle.pmf_storelog.specs.declared.fault.Cause.{Cause}
+use Rattle.pmf_storelog.specs.Separators.{is_separator, is_blank, parts_of}
+use Rattle.pmf_storelog.specs.Quick.{BeginsWithDigits, BeginsWithEvent, BeginsWithField, BeginsWithFields, BeginsWithNumber, BeginsWithPart, HasFields, IsClean}
+use Rattle.pmf_storelog.proofs.CanonicalLemmas.{numeral_of-digits, NoFieldEnd, no_field_end, fields_of-more, fields_of-last}
+use Rattle.pmf_storelog.proofs.LineLemmas.{IsPlain, records_in-plain}
+use Rattle.pmf_storelog.proofs.PlainLemmas.{no_separator, no_blank}
 
 -- fewer than 16 digits leave room for one more
 pub room_for_a_digit : (text : List ℕ) (count : ℕ) → count < 16 → count ≤ length text → AllDigits 16 (take count text) → digits_value 16 (take count text) < 1152921504606846976
@@ -54,62 +61,169 @@ pub some_left : (xs : List ℕ) (b : Bool) → b ≡ (length xs == 0) → b ≡ 
 some_left [] b read is = let both : true ≡ false = sym read ∙ is in cc
 some_left (x ∷ xs) b read is = omega arith
 
--- a list whose first byte is known
-pub first_is : (c : ℕ) (xs : List ℕ) → 0 < length xs → get_or xs 0 0 ≡ c → xs ≡ c ∷ take (length xs - 1) (drop 1 xs)
-first_is c [] some is = absurd (omega arith)
-first_is c (x ∷ xs) some is = rw (slice_tail 1 (x ∷ xs), is) refl
+-- the text after a semicolon that it begins with
+pub after_semicolon : (xs : List ℕ) → 0 < length xs → get_or xs 0 0 ≡ 59 → xs ≡ 59 ∷ take (length xs - 1) (drop 1 xs)
+after_semicolon [] some is = absurd (omega arith)
+after_semicolon (x ∷ xs) some is = rw (slice_tail 1 (x ∷ xs), is) refl
+
+-- letters and digits end no field, and are clean
+word-NoFieldEnd : (cs : List ℕ) → AllDigits 36 cs → NoFieldEnd cs
+word-NoFieldEnd [] word = tt
+word-NoFieldEnd (c ∷ cs) word = (no_field_end c word.0, word-NoFieldEnd cs word.1)
+
+word-IsClean : (cs : List ℕ) → AllDigits 36 cs → IsClean cs
+word-IsClean [] word = tt
+word-IsClean (c ∷ cs) word = ((no_separator c word.0, no_blank c word.0), word-IsClean cs word.1)
+
+digits-word : (ds : List ℕ) → AllDigits 16 ds → AllDigits 36 ds
+digits-word [] each = tt
+digits-word (d ∷ ds) each = (omega (arith, each.0), digits-word ds each.1)
+
+clean-append : (xs ys : List ℕ) → IsClean xs → IsClean ys → IsClean (xs ++ ys)
+clean-append [] ys clean more = more
+clean-append (x ∷ xs) ys clean more = (clean.0, clean-append xs ys clean.1 more)
 
 -- a field of 0x and digits
-module _ (text digits rest : List ℕ) (value count : ℕ) (hex : text ≡ codes "0x" ++ digits) (cut : digits ≡ take count digits ++ rest) (begins : BeginsWithDigits digits value count) where
-  field_value : number_of (codes "0x" ++ take count digits) ≡ Some value
-  unfolding number_of
-  field_value = begins.value_is
+pub number_found : (text digits rest : List ℕ) (value count : ℕ) → text ≡ codes "0x" ++ digits → digits ≡ take count digits ++ rest → BeginsWithDigits digits value count → BeginsWithNumber text value rest
+unfolding number_of
+number_found text digits rest value count hex cut begins = record {
+  field = codes "0x" ++ take count digits;
+  whole = hex ∙ ap (λ ds. codes "0x" ++ ds) cut;
+  word = (omega arith, (omega arith, digits-word (take count digits) begins.digits));
+  value_is = begins.value_is;
+}
 
-  field_plain : NoFieldEnd (codes "0x" ++ take count digits)
-  field_plain = (refl, (refl, digits-NoFieldEnd (take count digits) begins.digits))
+-- a last field
+last_field : (text field rest : List ℕ) → text ≡ field ++ rest → AllDigits 36 field → HasFields text (field ∷ []) rest
+last_field text field rest whole word =
+    record { line = field; whole = whole; clean = word-IsClean field word; fields_are = fields_of-last field (word-NoFieldEnd field word) }
 
-  text_is : text ≡ (codes "0x" ++ take count digits) ++ rest
-  text_is = hex ∙ ap (λ ds. codes "0x" ++ ds) cut
+-- a field before others
+next_field : (text field more : List ℕ) (fields : List (List ℕ)) (rest : List ℕ) → text ≡ field ++ 59 ∷ more → AllDigits 36 field → HasFields more fields rest → HasFields text (field ∷ fields) rest
+next_field text field more fields rest whole word others = record {
+  line = field ++ 59 ∷ others.line;
+  whole = whole ∙ ap (λ l. field ++ 59 ∷ l) others.whole ∙ sym (append_assoc field (59 ∷ others.line) rest);
+  clean = clean-append field (59 ∷ others.line) (word-IsClean field word) ((refl, refl), others.clean);
+  fields_are = fields_of-more field others.line (word-NoFieldEnd field word) ∙ ap (λ fs. field ∷ fs) others.fields_are;
+}
 
-  pub number_more : (more : List ℕ) → rest ≡ 59 ∷ more → BeginsWithNumber (fields_of text) value (fields_of more)
-  number_more more is = record {
-    field = codes "0x" ++ take count digits;
-    whole = ap fields_of (text_is ∙ ap (λ r. (codes "0x" ++ take count digits) ++ r) is) ∙ fields_of-more (codes "0x" ++ take count digits) more field_plain;
-    value_is = field_value;
-  }
+last_number : (text : List ℕ) (value : ℕ) (rest : List ℕ) (n : BeginsWithNumber text value rest) → HasFields text (n.field ∷ []) rest
+last_number text value rest n = last_field text n.field rest n.whole n.word
 
-  pub number_last : rest ≡ [] → BeginsWithNumber (fields_of text) value []
-  number_last is = record {
-    field = codes "0x" ++ take count digits;
-    whole = ap fields_of (text_is ∙ ap (λ r. (codes "0x" ++ take count digits) ++ r) is ∙ append-nil (codes "0x" ++ take count digits)) ∙ fields_of-last (codes "0x" ++ take count digits) field_plain;
-    value_is = field_value;
-  }
+next_number : (text : List ℕ) (value : ℕ) (more rest : List ℕ) (fields : List (List ℕ)) (n : BeginsWithNumber text value (59 ∷ more)) → HasFields more fields rest → HasFields text (n.field ∷ fields) rest
+next_number text value more rest fields n others = next_field text n.field more fields rest n.whole n.word others
+
+-- what fields spell
+fields_found : {A : Type 0} (read : List (List ℕ) → Result A Cause) (text rest : List ℕ) (fields : List (List ℕ)) (value : A) → HasFields text fields rest → read fields ≡ Ok value → BeginsWithFields read text value (length text - length rest)
+fields_found read text rest fields value begins spells = record {
+  fields = fields;
+  rest = rest;
+  begins = begins;
+  long = omega (arith, ap length begins.whole, length-append begins.line rest);
+  spells = spells;
+}
 
 -- the spans of numbers that were read
-module _ (fields others last : List (List ℕ)) (first size : ℕ) (span : Extent) (a : BeginsWithNumber fields first others) (valid : extent_of first size ≡ Ok span) where
-  pub span_of_numbers_read : BeginsWithNumber others size last → span_of_fields fields ≡ Ok span
+module _ (text more last : List ℕ) (first size : ℕ) (span : Extent) (a : BeginsWithNumber text first (59 ∷ more)) (valid : extent_of first size ≡ Ok span) where
+  pub span_found : BeginsWithNumber more size last → BeginsWithFields span_of_fields text span (length text - length last)
   unfolding span_of_fields span_of_texts
-  span_of_numbers_read b = rw (a.whole, b.whole, a.value_is, b.value_is, valid) refl
+  span_found b =
+      fields_found span_of_fields text last _ span (next_number text first more last _ a (last_number more size last b)) (rw (a.value_is, b.value_is, valid) refl)
 
-  pub stored_span_of_numbers_read : (value : List ℕ) (rest : List (List ℕ)) → others ≡ value ∷ rest → BeginsWithNumber rest size last → stored_span fields ≡ Ok span
+  pub stored_found : (rest : List ℕ) → BeginsWithField more rest → BeginsWithNumber rest size last → BeginsWithFields stored_span text span (length text - length last)
   unfolding stored_span span_of_texts
-  stored_span_of_numbers_read value rest is b = rw (a.whole, is, b.whole, a.value_is, b.value_is, valid) refl
+  stored_found rest v b =
+      fields_found stored_span text last _ span
+      (next_number text first more last _ a (next_field more v.field rest _ last v.whole v.word (last_number rest size last b)))
+      (rw (a.value_is, b.value_is, valid) refl)
 
--- the records of the usual spelling
-module _ (text rest : List ℕ) (span : Extent) where
-  pub record_of-stored : text ≡ codes "STORE;" ++ rest → stored_span (fields_of rest) ≡ Ok span → record_of text ≡ Ok (Happens (Store span))
-  unfolding record_of saying_of
-  record_of-stored is spells =
-      ap record_of is ∙ ap saying_of_fields (fields_of-more (codes "STORE") rest (search rules)) ∙ ap (event_over Store) spells
+  pub order_found : (rest others : List ℕ) (other_first other_size : ℕ) (other : Extent) → BeginsWithNumber more size (59 ∷ rest) → BeginsWithNumber rest other_first (59 ∷ others) → BeginsWithNumber others other_size last →
+      extent_of other_first other_size ≡ Ok other → BeginsWithFields order_of_fields text (Happens (Ordered span other)) (length text - length last)
+  unfolding order_of_fields order_of_texts
+  order_found rest others other_first other_size other b c d fits =
+      fields_found order_of_fields text last _ (Happens (Ordered span other))
+      (next_number text first more last _ a (next_number more size rest last _ b (next_number rest other_first others last _ c (last_number others other_size last d))))
+      (rw (a.value_is, b.value_is, c.value_is, d.value_is, valid, fits) refl)
 
-  pub record_of-flushed : text ≡ codes "FLUSH;" ++ rest → span_of_fields (fields_of rest) ≡ Ok span → record_of text ≡ Ok (Happens (Flush span))
-  unfolding record_of saying_of
-  record_of-flushed is spells =
-      ap record_of is ∙ ap saying_of_fields (fields_of-more (codes "FLUSH") rest (search rules)) ∙ ap (event_over Flush) spells
+-- an event of a name and fields
+event_found : (name text rest : List ℕ) {A : Type 0} (read : List (List ℕ) → Result A Cause) (value : A) (len : ℕ) (event : Event) → 0 < length name → IsClean name → NoFieldEnd name → text ≡ name ++ 59 ∷ rest →
+    BeginsWithFields read rest value len → ((fields : List (List ℕ)) → read fields ≡ Ok value → saying_of name fields ≡ Ok (Happens event)) → BeginsWithEvent text event (length name + 1 + len)
+unfolding record_of
+event_found name text rest read value len event filled clean one is found means =
+    let begins = found.begins in
+    record {
+      line = name ++ 59 ∷ begins.line;
+      rest = found.rest;
+      whole = is ∙ ap (λ l. name ++ 59 ∷ l) begins.whole ∙ sym (append_assoc name (59 ∷ begins.line) found.rest);
+      long = omega (arith, found.long, ap length begins.whole, length-append begins.line found.rest, length-append name (59 ∷ begins.line));
+      filled = omega (arith, length-append name (59 ∷ begins.line));
+      clean = clean-append name (59 ∷ begins.line) clean ((refl, refl), begins.clean);
+      says = ap saying_of_fields (fields_of-more name begins.line one) ∙ ap (saying_of name) begins.fields_are ∙ means found.fields found.spells;
+    }
 
-pub record_of-fenced : (text : List ℕ) → text ≡ codes "FENCE" → record_of text ≡ Ok (Happens Fence)
+-- the events of the usual spelling
+module _ (text rest : List ℕ) (span : Extent) (len : ℕ) where
+  pub store_found : text ≡ codes "STORE;" ++ rest → BeginsWithFields stored_span rest span len → BeginsWithEvent text (Store span) (6 + len)
+  unfolding saying_of
+  store_found is found = event_found (codes "STORE") text rest stored_span span len (Store span) (omega arith) (search rules) (search rules) is found (λ fields spells. ap (event_over Store) spells)
+
+  pub flush_found : text ≡ codes "FLUSH;" ++ rest → BeginsWithFields span_of_fields rest span len → BeginsWithEvent text (Flush span) (6 + len)
+  unfolding saying_of
+  flush_found is found = event_found (codes "FLUSH") text rest span_of_fields span len (Flush span) (omega arith) (search rules) (search rules) is found (λ fields spells. ap (event_over Flush) spells)
+
+  pub persist_found : text ≡ codes "PMT.PERSIST;" ++ rest → BeginsWithFields span_of_fields rest span len → BeginsWithEvent text (Persist span) (12 + len)
+  unfolding saying_of
+  persist_found is found = event_found (codes "PMT.PERSIST") text rest span_of_fields span len (Persist span) (omega arith) (search rules) (search rules) is found (λ fields spells. ap (event_over Persist) spells)
+
+  pub addition_found : text ≡ codes "PMT.TXADD;" ++ rest → BeginsWithFields span_of_fields rest span len → BeginsWithEvent text (TxAdd span) (10 + len)
+  unfolding saying_of transaction_of
+  addition_found is found = event_found (codes "PMT.TXADD") text rest span_of_fields span len (TxAdd span) (omega arith) (search rules) (search rules) is found (λ fields spells. ap (event_over TxAdd) spells)
+
+pub ordered_found : (text rest : List ℕ) (event : Event) (len : ℕ) → text ≡ codes "PMT.ORDERED;" ++ rest → BeginsWithFields order_of_fields rest (Happens event) len → BeginsWithEvent text event (12 + len)
+unfolding saying_of
+ordered_found text rest event len is found = event_found (codes "PMT.ORDERED") text rest order_of_fields (Happens event) len event (omega arith) (search rules) (search rules) is found (λ fields spells. spells)
+
+pub fence_found : (text rest : List ℕ) → text ≡ codes "FENCE" ++ rest → BeginsWithEvent text Fence 5
 unfolding record_of saying_of
-record_of-fenced text is = ap record_of is ∙ ap saying_of_fields (fields_of-last (codes "FENCE") (search rules))
+fence_found text rest is = record {
+  line = codes "FENCE";
+  rest = rest;
+  whole = is;
+  long = refl;
+  filled = omega arith;
+  clean = search rules;
+  says = ap saying_of_fields (fields_of-last (codes "FENCE") (search rules));
+}
+
+-- a record with nothing after it
+pub whole_record : (text : List ℕ) (event : Event) (len : ℕ) → BeginsWithEvent text event len → length text ≤ len → record_of text ≡ Ok (Happens event)
+whole_record text event len found all =
+    let none : found.rest ≡ [] = nil_from_length found.rest (omega (arith, ap length found.whole, found.long, length-append found.line found.rest)) in
+    ap record_of (found.whole ∙ ap (λ l. found.line ++ l) none ∙ append-nil found.line) ∙ found.says
+
+-- a record with a separator after it
+part_of : (line more : List ℕ) (c : ℕ) (event : Event) → IsPlain line → is_separator c ≡ true → record_of line ≡ Ok (Happens event) → BeginsWithPart (line ++ c ∷ more) event (length line)
+unfolding parts_of
+part_of line more c event plain ends says =
+    let same : take (length line) (line ++ c ∷ more) ≡ line = take_at line (c ∷ more) _ refl in
+    let one : take (length line + 1) (line ++ c ∷ more) ≡ line ++ c ∷ [] =
+    ap (take (length line + 1)) (sym (append_assoc line (c ∷ []) more)) ∙ take_at (line ++ c ∷ []) more (length line + 1) (omega (arith, length-append line (c ∷ []))) in
+    record {
+      within = omega (arith, length-append line (c ∷ more));
+      ends = rw (same, one) (slice_split_at is_separator line c [] plain.whole ends);
+      part = rw same (record { alone = records_in-plain line plain; says = says });
+    }
+
+pub part_found : (text : List ℕ) (event : Event) (len : ℕ) → BeginsWithEvent text event len → len < length text → is_separator (get_or text len 0) ≡ true → BeginsWithPart text event len
+part_found text event len found within ends =
+    let each = All-from_recursion (λ b. (is_separator b ≡ false) × (is_blank b ≡ false)) found.line found.clean in
+    let plain : IsPlain found.line = record { filled = found.filled; whole = λ k d l. (each k d l).0; close = λ k d l. (each k d l).1 } in
+    let rest : found.rest ≡ get_or text len 0 ∷ drop (len + 1) text =
+    sym (drop_at found.line found.rest len (sym found.long)) ∙ ap (drop len) (sym found.whole) ∙ drop_more text len 0 within in
+    let whole : text ≡ found.line ++ get_or text len 0 ∷ drop (len + 1) text = found.whole ∙ ap (λ l. found.line ++ l) rest in
+    subst (λ t. BeginsWithPart t event len) (sym whole)
+    (subst (λ n. BeginsWithPart (found.line ++ get_or text len 0 ∷ drop (len + 1) text) event n) (sym found.long)
+    (part_of found.line (drop (len + 1) text) (get_or text len 0) event plain ends found.says))
 
 -- the first part of a list stands at its start
 record FirstPart (p : ℕ → Bool) (xs : List ℕ) : Type 0 where

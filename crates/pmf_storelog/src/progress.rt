@@ -1,11 +1,14 @@
 //! How far a log was read: the records that ended, and the one that a piece cut.
 
 ghost use Rattle.std.specs.Prelude.{◌≡◌, ◌+◌, ◌<◌, ◌≤◌, ◌^◌, ℕ, List, [], ◌∷◌, ◌++◌, length, take, MatchOption, OnOk, IfOk, IfErr, IfSome};
+ghost use Rattle.pmf_storelog.specs.Quick.{SaysAlone};
 ghost use Rattle.pmf_storelog.specs.Separators.{ended_records, parts_of};
 
 use crate::fault::LogFault;
+use crate::quick::read_part;
 use crate::tally::Tally;
 use memchr::memchr3;
+use pmf_event::Event;
 use std::alloc::Global;
 
 /// What is kept of the bytes so far: the tally of the ended records, and the unfinished part.
@@ -41,17 +44,18 @@ impl Progress {
             → IfErr result (λ fault. IsShown fault (first_fault (ended_records (bytes ++ piece.now)))) }
     {
         let mut start = 0;
-        while let Some(len) = next_separator(&piece[start..]) {
-            self.end_part(&piece[start..start + len])?;
+        while let Some((len, says)) = next_part(&piece[start..]) {
+            self.end_part(&piece[start..start + len], says)?;
             start += len + 1;
         }
         Ok(&piece[start..])
     }
 
-    // Takes the part that ends with these bytes.
+    // Takes the part that ends with these bytes; they may be known to say an event.
     #[inline]
-    fn end_part(&mut self, end: &[u8]) -> Result<(), LogFault>
-        requires { self.old.tally.records + 1 < 2 ^ 64 }
+    fn end_part(&mut self, end: &[u8], says: Option<Event>) -> Result<(), LogFault>
+        requires room { self.old.tally.records + 1 < 2 ^ 64 }
+        requires says { IfSome says (SaysAlone end.now) }
         ensures grows { self.new.tally.records ≤ self.old.tally.records + 1 }
         ensures ok { (run : ℕ) (bytes piece : List ℕ) → HasParsed run bytes self.old
             → parts_of piece ≡ end.now ∷ [] ∷ []
@@ -61,7 +65,7 @@ impl Progress {
             → IfErr result (λ fault. IsShown fault (first_fault (ended_records (bytes ++ piece)))) }
     {
         if self.carry.is_empty() {
-            return self.tally.take_part(end);
+            return self.tally.take_alone(end, says);
         }
         self.carry.extend_from_slice(end)?;
         self.tally.take_part(&self.carry)?;
@@ -78,6 +82,22 @@ impl Progress {
         self.carry.extend_from_slice(rest)?;
         Ok(())
     }
+}
+
+// How long the first part is that a separator ends, and the event that it says where that is known.
+#[inline]
+fn next_part(text: &[u8]) -> Option<(usize, Option<Event>)>
+    ensures cases { MatchOption result (parts_of text.now ≡ text.now ∷ [])
+        (λ part. parts_of (take (part.0 + 1) text.now)
+        ≡ take part.0 text.now ∷ [] ∷ []) }
+    ensures within { IfSome result (λ part. part.0 < length text.now) }
+    ensures says { IfSome result (λ part. IfSome part.1 (SaysAlone (take part.0 text.now))) }
+{
+    if let Some((event, len)) = read_part(text) {
+        return Some((len, Some(event)));
+    }
+    let len = next_separator(text)?;
+    Some((len, None))
 }
 
 // Where the first separator stands.

@@ -1,13 +1,12 @@
 //! The quick reading of the records that a log has most of, in their usual spelling. Where it answers
 //! nothing, the plain reading decides.
 
-ghost use Rattle.std.specs.Prelude.{◌≡◌, Ok, IfSome};
-ghost use Rattle.std.specs.Option.{option_copied};
-ghost use Rattle.pmf_storelog.specs.Fields.{fields_left};
-ghost use Rattle.pmf_storelog.specs.Quick.{BeginsWithDigits, BeginsWithNumber};
-ghost use Rattle.pmf_storelog.specs.Records.{fields_of, record_of, span_of_fields, stored_span};
+ghost use Rattle.std.specs.Prelude.{◌≡◌, ◌≤◌, ◌∷◌, length, Ok, IfSome};
+ghost use Rattle.pmf_storelog.specs.Quick.{BeginsWithDigits, BeginsWithEvent, BeginsWithField, BeginsWithFields, BeginsWithNumber, BeginsWithPart};
+ghost use Rattle.pmf_storelog.specs.Records.{order_of_fields, record_of, span_of_fields, stored_span};
+ghost use Rattle.pmf_storelog.specs.Separators.{is_separator};
+ghost use Rattle.pmf_storelog.specs.declared.record.Saying.TheVariants.{Happens};
 
-use crate::fields::cut;
 use crate::number::digit_of;
 use crate::record::Saying;
 use pmf_event::{Event, Span};
@@ -17,18 +16,66 @@ use pmf_event::{Event, Span};
 pub(crate) fn read_quickly(text: &[u8]) -> Option<Saying>
     ensures { IfSome result (λ saying. record_of text.now ≡ Ok saying) }
 {
+    match read_event(text) {
+        Some((event, len)) => {
+            if len < text.len() {
+                return None;
+            }
+            Some(Saying::Happens(event))
+        }
+        None => read_other(text),
+    }
+}
+
+/// The event of the text's first part, and how long the part is, if it is a record of the usual
+/// spelling that isn't refused, has no blanks around it, and is ended by a separator.
+#[inline]
+pub(crate) fn read_part(text: &[u8]) -> Option<(Event, usize)>
+    ensures { IfSome result (λ found. BeginsWithPart text.now found.0 found.1) }
+{
+    let (event, len) = read_event(text)?;
+    if len >= text.len() || !separator(text[len]) {
+        return None;
+    }
+    Some((event, len))
+}
+
+#[inline]
+fn separator(byte: u8) -> bool
+    ensures { result ≡ is_separator byte }
+{
+    byte == b'|' || byte == b'\n' || byte == b'\r'
+}
+
+// The event of the usual spelling that the text begins with, and how long its record is.
+#[inline(always)]
+fn read_event(text: &[u8]) -> Option<(Event, usize)>
+    ensures { IfSome result (λ found. BeginsWithEvent text.now found.0 found.1) }
+{
     if text.starts_with(b"STORE;") {
-        let span = read_stored(&text[6..])?;
-        return Some(Saying::Happens(Event::Store(span)));
+        let (span, len) = read_stored(&text[6..])?;
+        return Some((Event::Store(span), 6 + len));
     }
     if text.starts_with(b"FLUSH;") {
-        let span = read_span(&text[6..])?;
-        return Some(Saying::Happens(Event::Flush(span)));
+        let (span, len) = read_span(&text[6..])?;
+        return Some((Event::Flush(span), 6 + len));
     }
-    if text == b"FENCE".as_slice() {
-        return Some(Saying::Happens(Event::Fence));
+    if text.starts_with(b"FENCE") {
+        return Some((Event::Fence, 5));
     }
-    read_other(text)
+    if text.starts_with(b"PMT.PERSIST;") {
+        let (span, len) = read_span(&text[12..])?;
+        return Some((Event::Persist(span), 12 + len));
+    }
+    if text.starts_with(b"PMT.ORDERED;") {
+        let (event, len) = read_order(&text[12..])?;
+        return Some((event, 12 + len));
+    }
+    if text.starts_with(b"PMT.TXADD;") {
+        let (span, len) = read_span(&text[10..])?;
+        return Some((Event::TxAdd(span), 10 + len));
+    }
+    None
 }
 
 // A record whose text doesn't even begin as one of the names does, without a search for its name.
@@ -45,59 +92,103 @@ fn read_other(text: &[u8]) -> Option<Saying>
     Some(Saying::Skipped)
 }
 
+// The span of a store's fields, and how long they are.
 #[inline]
-fn read_stored(text: &[u8]) -> Option<Span>
-    ensures { IfSome result (λ span. stored_span (fields_of text.now) ≡ Ok span) }
+fn read_stored(text: &[u8]) -> Option<(Span, usize)>
+    ensures { IfSome result (λ found. BeginsWithFields stored_span text.now found.0 found.1) }
 {
     let (first, rest) = read_number(text)?;
-    let (_, rest) = cut(rest?);
-    let (size, _) = read_number(rest?)?;
+    let rest = skip_field(after_field(rest)?)?;
+    let (size, rest) = read_number(rest)?;
     match Span::make(first, size) {
-        Ok(span) => Some(span),
+        Ok(span) => Some((span, text.len() - rest.len())),
         Err(_) => None,
     }
 }
 
+// The span of a record's two fields, and how long they are.
 #[inline]
-fn read_span(text: &[u8]) -> Option<Span>
-    ensures { IfSome result (λ span. span_of_fields (fields_of text.now) ≡ Ok span) }
+fn read_span(text: &[u8]) -> Option<(Span, usize)>
+    ensures { IfSome result (λ found. BeginsWithFields span_of_fields text.now found.0 found.1) }
 {
     let (first, rest) = read_number(text)?;
-    let (size, _) = read_number(rest?)?;
+    let (size, rest) = read_number(after_field(rest)?)?;
     match Span::make(first, size) {
-        Ok(span) => Some(span),
+        Ok(span) => Some((span, text.len() - rest.len())),
         Err(_) => None,
     }
 }
 
-// The number that the first field spells, and the text after it where a semicolon ends it.
+// The order of the two spans of four fields, and how long these are.
 #[inline]
-#[tactic(auto, unfolding(crate::specs::Fields::fields_left))]
-fn read_number(text: &[u8]) -> Option<(u64, Option<&[u8]>)>
-    ensures { IfSome result
-        (λ r. BeginsWithNumber (fields_of text.now) r.0 (fields_left (option_copied r.1))) }
+fn read_order(text: &[u8]) -> Option<(Event, usize)>
+    ensures { IfSome result (λ found. BeginsWithFields order_of_fields text.now (Happens found.0) found.1) }
+{
+    let (first, rest) = read_number(text)?;
+    let (size, rest) = read_number(after_field(rest)?)?;
+    let (other_first, rest) = read_number(after_field(rest)?)?;
+    let (other_size, rest) = read_number(after_field(rest)?)?;
+    match (Span::make(first, size), Span::make(other_first, other_size)) {
+        (Ok(before), Ok(after)) => Some((Event::Ordered(before, after), text.len() - rest.len())),
+        _ => None,
+    }
+}
+
+// The text after the semicolon that it begins with.
+#[inline]
+fn after_field(text: &[u8]) -> Option<&[u8]>
+    ensures { IfSome result (λ rest. text.now ≡ 59 ∷ rest.now) }
+{
+    if text.is_empty() || text[0] != b';' {
+        return None;
+    }
+    Some(&text[1..])
+}
+
+// The text after a field of letters and digits, and after the semicolon that ends it.
+#[inline]
+fn skip_field(text: &[u8]) -> Option<&[u8]>
+    ensures { IfSome result (λ rest. BeginsWithField text.now rest.now) }
+{
+    let mut end = 0;
+    while end < text.len() && digit_of(text[end]) < 36 {
+        end += 1;
+    }
+    after_field(&text[end..])
+}
+
+// The number that `0x` and the digits after it spell, and the text after them.
+#[inline(always)]
+fn read_number(text: &[u8]) -> Option<(u64, &[u8])>
+    ensures { IfSome result (λ found. BeginsWithNumber text.now found.0 found.1.now) }
 {
     if !text.starts_with(b"0x") {
         return None;
     }
     let digits = &text[2..];
     let (value, count) = read_digits(digits)?;
-    let rest = &digits[count..];
-    if rest.is_empty() {
-        return Some((value, None));
-    }
-    if rest[0] != b';' {
-        return None;
-    }
-    Some((value, Some(&rest[1..])))
+    Some((value, &digits[count..]))
 }
 
-// The number that the digits at the start of the text spell, and how many they are: 1 to 16.
-#[inline]
+// The number that the digits at the start of the text spell, and how many they are: 1 to 16. The bound is
+// a constant where it can be, so that the loop is unrolled.
+#[inline(always)]
 fn read_digits(text: &[u8]) -> Option<(u64, usize)>
     ensures { IfSome result (λ r. BeginsWithDigits text.now r.0 r.1) }
 {
-    let most = text.len().min(16);
+    if text.len() < 16 {
+        return read_digits_up_to(text, text.len());
+    }
+    read_digits_up_to(text, 16)
+}
+
+// The same of so many bytes at most.
+#[inline(always)]
+fn read_digits_up_to(text: &[u8], most: usize) -> Option<(u64, usize)>
+    requires few { most ≤ 16 }
+    requires within { most ≤ length text.now }
+    ensures { IfSome result (λ r. BeginsWithDigits text.now r.0 r.1) }
+{
     let mut value: u64 = 0;
     let mut count = 0;
     while count < most {

@@ -1,12 +1,13 @@
 //! What the ended records of a log gave so far.
 
-ghost use Rattle.std.specs.Prelude.{◌≡◌, ◌≢◌, ◌+◌, ◌<◌, ◌≤◌, ◌^◌, ℕ, List, [], ◌∷◌, ◌++◌, OnOk, IfOk, IfErr, IsOk};
+ghost use Rattle.std.specs.Prelude.{◌≡◌, ◌≢◌, ◌+◌, ◌<◌, ◌≤◌, ◌^◌, ℕ, List, [], ◌∷◌, ◌++◌, Ok, OnOk, IfOk, IfErr, IfSome, IsOk};
 
 use crate::fault::{Cause, LogFault};
 use crate::log::Log;
 use crate::record::{Saying, read_record};
 use crate::sections::OpenSections;
 use crate::trimming::trim;
+use pmf_event::Event;
 use std::alloc::Global;
 
 /// What the ended records of a log gave so far.
@@ -25,7 +26,10 @@ impl Tally {
     ghost use Rattle.pmf_storelog.specs.Separators.{records_in};
     ghost use Rattle.pmf_storelog.specs.LogText.{first_fault, out_of_memory, sections_of, skipped_of};
     ghost use Rattle.pmf_storelog.specs.Answers.{IsShown};
+    ghost use Rattle.pmf_storelog.specs.Quick.{SaysAlone};
+    ghost use Rattle.pmf_storelog.specs.Records.{record_of};
     ghost use Rattle.pmf_storelog.specs.Tally.{AddsRecord, AddsSkipped, HasTaken, IsFaultFor};
+    ghost use Rattle.pmf_storelog.specs.declared.record.Saying.TheVariants.{Happens};
 
     /// The tally of no record.
     pub(crate) fn new(alloc: Global, run: u64) -> Tally
@@ -56,6 +60,23 @@ impl Tally {
         self.take_record(text)
     }
 
+    /// The same, where the part may be known to say an event as it stands.
+    #[inline]
+    pub(crate) fn take_alone(&mut self, part: &[u8], says: Option<Event>) -> Result<(), LogFault>
+        requires room { self.old.records + 1 < 2 ^ 64 }
+        requires says { IfSome says (SaysAlone part.now) }
+        ensures grows { self.new.records ≤ self.old.records + 1 }
+        ensures ok { (run : ℕ) (records : List (List ℕ)) → HasTaken run records self.old
+            → OnOk result (HasTaken run (records ++ records_in (part.now ∷ [])) self.new) }
+        ensures err { (run : ℕ) (records : List (List ℕ)) → HasTaken run records self.old
+            → IfErr result (λ fault. IsShown fault (first_fault (records ++ records_in (part.now ∷ [])))) }
+    {
+        match says {
+            Some(event) => self.take_event(event),
+            None => self.take_part(part),
+        }
+    }
+
     #[inline]
     fn take_record(&mut self, text: &[u8]) -> Result<(), LogFault>
         requires { self.old.records + 1 < 2 ^ 64 }
@@ -66,10 +87,7 @@ impl Tally {
             → IfErr result (λ fault. IsShown fault (first_fault (records ++ text.now ∷ []))) }
     {
         match read_record(text) {
-            Ok(Saying::Happens(event)) => {
-                let added = self.sections.add(event);
-                self.count(added)
-            }
+            Ok(Saying::Happens(event)) => self.take_event(event),
             Ok(Saying::Enters(number)) => {
                 let entered = self.sections.enter(number);
                 self.count(entered)
@@ -80,6 +98,22 @@ impl Tally {
             }
             Err(cause) => Err(self.fault(cause)),
         }
+    }
+
+    /// Takes a record that says this event, whatever its text.
+    #[inline]
+    pub(crate) fn take_event(&mut self, event: Event) -> Result<(), LogFault>
+        requires { self.old.records + 1 < 2 ^ 64 }
+        ensures grows { self.new.records ≤ self.old.records + 1 }
+        ensures ok { (run : ℕ) (records : List (List ℕ)) (text : List ℕ) → HasTaken run records self.old
+            → record_of text ≡ Ok (Happens event)
+            → OnOk result (HasTaken run (records ++ text ∷ []) self.new) }
+        ensures err { (run : ℕ) (records : List (List ℕ)) (text : List ℕ) → HasTaken run records self.old
+            → record_of text ≡ Ok (Happens event)
+            → IfErr result (λ fault. IsShown fault (first_fault (records ++ text ∷ []))) }
+    {
+        let added = self.sections.add(event);
+        self.count(added)
     }
 
     // Counts a record whose section took it, or tells its fault.

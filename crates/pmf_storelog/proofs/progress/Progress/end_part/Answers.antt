@@ -8,12 +8,12 @@ use Rattle.pmf_storelog.proofs.progress.Progress.end_part.Goals as goal
 pub returns-then-is_empty-clause-ok : goal.returns-then-is_empty-clause-ok
 returns-then-is_empty-clause-ok c = λ run bytes piece parsed ends.
     let none : c.args.self.now.carry.items ≡ [] = nil_from_length c.args.self.now.carry.items (grind (arith, common_steps)) in
-    first_ended_ok run bytes c.args.self.now parsed piece c.args.end.now _ c.take_part.result ends none none (c.take_part.ensures.ok run _ parsed.taken)
+    first_ended_ok run bytes c.args.self.now parsed piece c.args.end.now _ c.take_alone.result ends none none (c.take_alone.ensures.ok run _ parsed.taken)
 
 pub returns-then-is_empty-clause-err : goal.returns-then-is_empty-clause-err
 returns-then-is_empty-clause-err c = λ run bytes piece parsed ends.
     let none : c.args.self.now.carry.items ≡ [] = nil_from_length c.args.self.now.carry.items (grind (arith, common_steps)) in
-    first_ended_err run bytes c.args.self.now parsed piece c.args.end.now c.take_part.result ends none (c.take_part.ensures.err run _ parsed.taken)
+    first_ended_err run bytes c.args.self.now parsed piece c.args.end.now c.take_alone.result ends none (c.take_alone.ensures.err run _ parsed.taken)
 
 pub returns-in_err-take_part-clause-err : goal.returns-in_err-take_part-clause-err
 returns-in_err-take_part-clause-err c = λ run bytes piece parsed ends.

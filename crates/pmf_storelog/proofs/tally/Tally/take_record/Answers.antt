@@ -1,32 +1,30 @@
 use Rattle.std.proofs.Common.{◌≡◌, Ok, Err, Some, sym, ap, ◌∙◌, refl}
 use Rattle.pmf_storelog.specs.declared.record.Saying.TheVariants.{Happens, Enters, Skipped}
 use Rattle.pmf_storelog.specs.Records.{record_of}
-use Rattle.pmf_storelog.proofs.TallyLemmas.{happened_ok, happened_err, entered_ok, entered_err, taken_nothing, shown_cause}
+use Rattle.pmf_storelog.proofs.TallyLemmas.{entered_ok, entered_err, taken_nothing, shown_cause}
 use Rattle.pmf_storelog.proofs.tally.Tally.take_record.Goals as goal
 
 pub returns-in-Ok-Happens-clause-ok : goal.returns-in-Ok-Happens-clause-ok
 returns-in-Ok-Happens-clause-ok c = λ run records taken.
     let says : record_of c.args.text.now ≡ Ok (Happens c.in-Ok-Happens.event) = cc in
-    happened_ok run records c.args.text.now c.args.self.now taken c.in-Ok-Happens.event _ c.count.new.self c.add-added.result c.count.result says refl refl
-    (c.add-added.ensures.ok run _ _ _ taken.sections) (c.add-added.ensures.room run _ _ _ taken.sections) c.count.ensures.ok
+    c.take_event.ensures.ok run records c.args.text.now taken says
 
 pub returns-in-Ok-Happens-clause-err : goal.returns-in-Ok-Happens-clause-err
 returns-in-Ok-Happens-clause-err c = λ run records taken.
     let says : record_of c.args.text.now ≡ Ok (Happens c.in-Ok-Happens.event) = cc in
-    happened_err run records c.args.text.now c.args.self.now taken c.in-Ok-Happens.event _ c.add-added.result c.count.result says refl
-    (c.add-added.ensures.err run _ _ _ taken.sections) c.count.ensures.err
+    c.take_event.ensures.err run records c.args.text.now taken says
 
 pub returns-in-Ok-Enters-clause-ok : goal.returns-in-Ok-Enters-clause-ok
 returns-in-Ok-Enters-clause-ok c = λ run records taken.
     let says : record_of c.args.text.now ≡ Ok (Enters c.in-Ok-Enters.number) = cc in
-    entered_ok run records c.args.text.now c.args.self.now taken c.in-Ok-Enters.number _ c.count-in-Ok-Enters.new.self c.enter-entered.result c.count-in-Ok-Enters.result says refl refl
-    (c.enter-entered.ensures.ok run _ _ _ taken.sections) (c.enter-entered.ensures.room run _ _ _ taken.sections) c.count-in-Ok-Enters.ensures.ok
+    entered_ok run records c.args.text.now c.args.self.now taken c.in-Ok-Enters.number _ c.count.new.self c.enter-entered.result c.count.result says refl refl
+    (c.enter-entered.ensures.ok run _ _ _ taken.sections) (c.enter-entered.ensures.room run _ _ _ taken.sections) c.count.ensures.ok
 
 pub returns-in-Ok-Enters-clause-err : goal.returns-in-Ok-Enters-clause-err
 returns-in-Ok-Enters-clause-err c = λ run records taken.
     let says : record_of c.args.text.now ≡ Ok (Enters c.in-Ok-Enters.number) = cc in
-    entered_err run records c.args.text.now c.args.self.now taken c.in-Ok-Enters.number _ c.enter-entered.result c.count-in-Ok-Enters.result says refl
-    (c.enter-entered.ensures.err run _ _ _ taken.sections) c.count-in-Ok-Enters.ensures.err
+    entered_err run records c.args.text.now c.args.self.now taken c.in-Ok-Enters.number _ c.enter-entered.result c.count.result says refl
+    (c.enter-entered.ensures.err run _ _ _ taken.sections) c.count.ensures.err
 
 pub returns-in-Ok-Skipped-clause-ok : goal.returns-in-Ok-Skipped-clause-ok
 returns-in-Ok-Skipped-clause-ok c = λ run records taken.
