@@ -47,6 +47,13 @@ impl Rows {
         Ok(())
     }
 
+    /// Gives back the memory that the rows don't need, where the allocator takes it.
+    pub fn shrink_to_fit(&mut self)
+        ensures { self.new ≡ self.old }
+    {
+        self.rows.shrink_to_fit();
+    }
+
     /// The rows in order.
     pub fn as_slice(&self) -> &[Row]
         ensures { result.now ≡ self.now }

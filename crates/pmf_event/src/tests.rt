@@ -79,6 +79,7 @@ fn rows_hold_what_was_added_in_order(rt: HostRuntime) -> Result<(), Fail> {
     assert_eq!(rt; rows.as_slice().len(), 0);
     rows.push(pass)?;
     rows.push(fail)?;
+    rows.shrink_to_fit();
     assert!(rt; rows.as_slice() == [pass, fail].as_slice());
     Ok(())
 }

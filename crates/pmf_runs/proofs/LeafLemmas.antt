@@ -5,8 +5,8 @@ use Rattle.std.proofs.lemmas.Bool.{cases_lt, and_right, false≢true}
 use Rattle.std.specs.List.{insert, remove}
 use Rattle.std.proofs.lemmas.List.{get_or_read, set-get_or, take_rest}
 use Rattle.pmf_runs.specs.declared.leaf.Leaf.{Leaf}
-use Rattle.pmf_runs.specs.Ranks.{rank, at_rank, HasKey, SameStates, ChangesWithin, ChangesItems, low_rank, high_rank, IsTail}
-use Rattle.pmf_runs.specs.Leaves.{leaf_state, leaf_begins, leaf_full, leaf_middle, parting}
+use Rattle.pmf_runs.specs.Ranks.{rank, at_rank, HasKey, SameStates, ChangesWithin, ChangesItems, low_rank, high_rank, IsTail, parting}
+use Rattle.pmf_runs.specs.Leaves.{leaf_state, leaf_begins, leaf_full, leaf_middle}
 use Rattle.pmf_runs.proofs.RankLemmas.{IsRank, rank-is, at_rank-insert, at_rank-remove, at_rank-changes, at_rank-take, at_rank-drop, insert-has, insert-keeps, le-true, lt-true, le-false, lt-false, last-rank}
 
 pub none-within : (low high k : ℕ) → high ≤ low → (nat_le low k && nat_lt k high) ≡ false
@@ -154,9 +154,6 @@ le-is a b is = elim (cases_lt b a) [
   | inl below ↦ absurd (false≢true (sym (le-false a b below) ∙ is))
   | inr above ↦ above
 ]
-
-pub full-some : {S : Type 0} (leaf : Leaf S) → leaf_full leaf ≡ true → 1 < vec_len leaf.keys
-full-some leaf full = let many = le-is 62 (vec_len leaf.keys) full in omega arith
 
 pub middle-is : {S : Type 0} (leaf : Leaf S) (m place : ℕ) → m ≡ parting leaf.keys.items place → get_or leaf.keys.items m 0 ≡ leaf_middle leaf place
 unfolding leaf_middle

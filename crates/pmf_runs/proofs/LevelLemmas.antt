@@ -5,7 +5,7 @@ use Rattle.std.specs.List.{insert, remove}
 use Rattle.std.proofs.lemmas.Bool.{cases_lt, cases_eq}
 use Rattle.std.proofs.lemmas.List.{get_or-map, get_or-set_same, get_or-set_other, length-set, set-get_or, map-set, length-map, take-map, drop-map}
 use Rattle.pmf_runs.specs.declared.level.Level.{Level}
-use Rattle.pmf_runs.specs.Ranks.{rank, at_rank, HasKey, IsFresh, SameStates, ChangesWithin, Splits, IsInner, reaches, falls_short, is_within, bound_at, IsTail}
+use Rattle.pmf_runs.specs.Ranks.{rank, at_rank, HasKey, IsFresh, SameStates, ChangesWithin, Splits, IsInner, reaches, falls_short, is_within, bound_at, IsTail, parting}
 use Rattle.pmf_runs.specs.Levels.{part_states, level_state, level_begins, level_full, level_middle, Rewrites, BeginsAt, GoesOn}
 use Rattle.pmf_runs.proofs.LeafLemmas.{le-is, none-within, all-within, lt-more}
 use Rattle.pmf_runs.proofs.RankLemmas.{IsRank, rank-is, rank-key, bound_at-same, bound_at-other, at_rank-insert, at_rank-remove, at_rank-take, at_rank-drop, last-rank}
@@ -142,12 +142,9 @@ module _ {P : Type 0} where
 pub same-both : {S : Type 0} (a b c : S → ℕ → S) → SameStates a b → SameStates b c → SameStates a c
 same-both a b c one two = record { states = λ d p. two.states d p ∙ one.states d p }
 
-pub level-some : {P : Type 0} (level : Level P) → level_full level ≡ true → 1 < vec_len level.keys
-level-some level full = let many = le-is 62 (vec_len level.keys) full in omega arith
-
-pub level-middle-is : {P : Type 0} (level : Level P) (m : ℕ) → m ≡ vec_len level.keys / 2 → get_or level.keys.items m 0 ≡ level_middle level
+pub level-middle-is : {P : Type 0} (level : Level P) (m place : ℕ) → m ≡ parting level.keys.items place → get_or level.keys.items m 0 ≡ level_middle level place
 unfolding level_middle
-level-middle-is level m is = ap (λ k. get_or level.keys.items k 0) is
+level-middle-is level m place is = ap (λ k. get_or level.keys.items k 0) is
 
 -- ---- rewriting the parts one after another
 

@@ -1,7 +1,7 @@
 -- The states of the numbers in a leaf.
-use Rattle.std.specs.Prelude.{ℕ, ◌-◌, ◌/◌, Bool, nat_le, if◌then◌else◌, List, length, get_or, vec_len}
+use Rattle.std.specs.Prelude.{ℕ, Bool, nat_le, get_or, vec_len}
 use Rattle.pmf_runs.specs.declared.leaf.Leaf.{Leaf}
-use Rattle.pmf_runs.specs.Ranks.{at_rank, HasKey}
+use Rattle.pmf_runs.specs.Ranks.{at_rank, HasKey, parting}
 
 -- the state of a number is the one at its rank
 unfoldable pub leaf_state : {S : Type 0} → Leaf S → S → ℕ → S
@@ -14,10 +14,6 @@ leaf_begins leaf b = HasKey leaf.keys.items b
 -- whether the leaf is to be parted
 abbrev pub leaf_full : {S : Type 0} → Leaf S → Bool
 leaf_full leaf = nat_le 62 (vec_len leaf.keys)
-
--- which of the keys a leaf is parted at before more is put in at a place: the last, if the place lies from there on, else the middle one
-unfoldable pub parting : List ℕ → ℕ → ℕ
-parting keys place = if nat_le (get_or keys (length keys - 1) 0) place then length keys - 1 else length keys / 2
 
 -- the key that it is parted at
 unfoldable pub leaf_middle : {S : Type 0} → Leaf S → ℕ → ℕ

@@ -1,7 +1,7 @@
 -- The states of the numbers in a level: each number is handed to the part at its rank.
-use Rattle.std.specs.Prelude.{◌≡◌, ◌⊎◌, ◌<◌, ◌≤◌, ◌+◌, ◌/◌, ℕ, Bool, true, ◌&&◌, nat_lt, if◌then◌else◌, Option, nat_le, List, length, map, get_or, vec_len}
+use Rattle.std.specs.Prelude.{◌≡◌, ◌⊎◌, ◌<◌, ◌≤◌, ◌+◌, ℕ, Bool, true, ◌&&◌, nat_lt, if◌then◌else◌, Option, nat_le, List, length, map, get_or, vec_len}
 use Rattle.pmf_runs.specs.declared.level.Level.{Level}
-use Rattle.pmf_runs.specs.Ranks.{rank, at_rank, HasKey, is_within, bound_at}
+use Rattle.pmf_runs.specs.Ranks.{rank, at_rank, HasKey, is_within, bound_at, parting}
 
 -- the state that each part gives a number
 abbrev pub part_states : {P S : Type 0} → (P → S → ℕ → S) → List P → S → ℕ → List S
@@ -23,11 +23,11 @@ level_begins begins level b = HasKey level.keys.items b ⊎ BeginsWithin begins 
 abbrev pub level_full : {P : Type 0} → Level P → Bool
 level_full level = nat_le 62 (vec_len level.keys)
 
--- the key at which its second half begins
-unfoldable pub level_middle : {P : Type 0} → Level P → ℕ
-level_middle level = get_or level.keys.items (vec_len level.keys / 2) 0
+-- the key that it is parted at before more is put in at a place
+unfoldable pub level_middle : {P : Type 0} → Level P → ℕ → ℕ
+level_middle level place = get_or level.keys.items (parting level.keys.items place) 0
 
--- the part at an index is full, and this is the number at which its second half begins
+-- the part at an index is full, and this is the number at which it is parted
 pub record IsFullAt {P : Type 0} (full : P → Bool) (middle : P → ℕ) (level : Level P) (index place : ℕ) : Type 0 where
   pub within : index < vec_len level.parts
   pub is_full : (d : P) → full (get_or level.parts.items index d) ≡ true

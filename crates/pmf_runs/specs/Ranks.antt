@@ -1,5 +1,5 @@
 -- Which element of a list a number is handed to, by the keys between the elements.
-use Rattle.std.specs.Prelude.{◌≡◌, ◌⊎◌, false, min, ◌==◌, ℕ, suc, ◌+◌, ◌<◌, ◌≤◌, Bool, true, ◌&&◌, nat_le, nat_lt, List, [], ◌∷◌, length, get_or, Option, None, Some, if◌then◌else◌}
+use Rattle.std.specs.Prelude.{◌≡◌, ◌⊎◌, false, min, ◌==◌, ℕ, suc, ◌+◌, ◌<◌, ◌≤◌, Bool, true, ◌&&◌, nat_le, nat_lt, ◌-◌, ◌/◌, List, [], ◌∷◌, length, get_or, Option, None, Some, if◌then◌else◌}
 
 -- how many keys from the front are at most the number
 unfoldable pub rank : List ℕ → ℕ → ℕ
@@ -103,3 +103,7 @@ AllSettled unsettled state = (d : _) (b : ℕ) → unsettled (state d b) ≡ fal
 -- each number from this one on has the state
 abbrev pub IsTail : {S : Type 0} → (S → ℕ → S) → ℕ → S → Type 0
 IsTail state place s = (d : _) (b : ℕ) → place ≤ b → state d b ≡ s
+
+-- which of the keys a leaf or a level is parted at before more is put in at a place: the last, if the place lies from there on, else the middle one
+unfoldable pub parting : List ℕ → ℕ → ℕ
+parting keys place = if nat_le (get_or keys (length keys - 1) 0) place then length keys - 1 else length keys / 2

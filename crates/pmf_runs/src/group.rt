@@ -70,15 +70,15 @@ impl<S: State> Group<S> {
         self.summary = self.level.summary();
     }
 
-    /// Hands out its second half. After an `Err` nothing is changed.
-    fn halve(&mut self) -> Result<Group<S>, AllocError>
+    /// Hands out what lies from that key on. After an `Err` nothing is changed.
+    fn halve(&mut self, place: u64) -> Result<Group<S>, AllocError>
         requires { level_full self.old.level ≡ true }
-        ensures splits { IfOk result (λ part. Splits (level_middle self.old.level) (pages_state self.old.level) (pages_state self.new.level) (pages_state part.level)) }
+        ensures splits { IfOk result (λ part. Splits (level_middle self.old.level place) (pages_state self.old.level) (pages_state self.new.level) (pages_state part.level)) }
         ensures unchanged { OnErr result (SameStates (pages_state self.old.level) (pages_state self.new.level)) }
         ensures low { OnOk result (pages_joined self.old.level None None → pages_joined self.new.level None None) }
         ensures high { IfOk result (λ part. pages_joined self.old.level None None → pages_joined part.level None None) }
     {
-        let rest = self.level.halve()?;
+        let rest = self.level.halve(place)?;
         self.summary = self.level.summary();
         Ok(Group::around(rest))
     }
@@ -123,7 +123,7 @@ impl<S: State> Part<S> for Group<S> {
 
     ghost full = { λ group. level_full group.level };
 
-    ghost middle = { λ group place. level_middle group.level };
+    ghost middle = { λ group place. level_middle group.level place };
 
     fn at(&self, place: u64) -> S {
         self.level.state_of(place)
@@ -141,12 +141,12 @@ impl<S: State> Part<S> for Group<S> {
         self.level.has_many()
     }
 
-    fn middle(&self, _place: u64) -> u64 {
-        self.level.middle_key()
+    fn middle(&self, place: u64) -> u64 {
+        self.level.middle_key(place)
     }
 
-    fn split(&mut self, _place: u64) -> Result<Group<S>, AllocError> {
-        self.halve()
+    fn split(&mut self, place: u64) -> Result<Group<S>, AllocError> {
+        self.halve(place)
     }
 
     fn make_space(&mut self, place: u64) -> Result<(), AllocError> {

@@ -1,7 +1,7 @@
 //! The rank of a number among rising keys.
 
 ghost use Rattle.std.specs.Prelude.{◌≡◌, ◌<◌, ◌≤◌, ◌-◌, true, false, IfSome, length, get_or};
-ghost use Rattle.pmf_runs.specs.Ranks.{HasKey, IsFresh, IsInner, bound_at, Rises, rank, low_rank, high_rank};
+ghost use Rattle.pmf_runs.specs.Ranks.{HasKey, IsFresh, IsInner, bound_at, Rises, rank, low_rank, high_rank, parting};
 
 /// How many keys are looked at one after another before the search halves them.
 const FEW: usize = 4;
@@ -119,6 +119,21 @@ pub(crate) fn is_key(keys: &[u64], index: usize, place: u64) -> bool
     ensures fresh { result ≡ false → IsFresh keys.now place }
 {
     index > 0 && keys[index - 1] == place
+}
+
+/// Which key a list is parted at before more is put in at this place: the last one, where the place lies from
+/// there on, so that rising places leave full lists behind; and else the middle one.
+pub(crate) fn parting(keys: &[u64], place: u64) -> usize
+    requires { 0 < length keys.now }
+    ensures is { result ≡ parting keys.now place }
+    ensures within { result < length keys.now }
+{
+    let last = keys.len() - 1;
+    if keys[last] <= place {
+        last
+    } else {
+        keys.len() / 2
+    }
 }
 
 /// The bound as it is handed down: nothing where a part begins there.

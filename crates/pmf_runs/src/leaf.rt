@@ -3,7 +3,8 @@
 ghost use Rattle.std.specs.Prelude.{◌≡◌, false, Option, None, Some, ◌≤◌, ◌<◌, ◌+◌, ◌-◌, ℕ, true, OnOk, OnErr, IfOk, IfSome, get_or, length, vec_len};
 ghost use Rattle.pmf_runs.specs.Ranks.{Rises, rank, SameStates, ChangesWithin, ChangesItems, IsFresh, Splits, AltersWithin, IsStop, IsTail, CoversAll, AllSettled};
 
-use crate::keys::{high_rank, is_key, low_rank, rank_near};
+use crate::keys::{high_rank, is_key, low_rank, parting, rank_near};
+use crate::room::make_room;
 use crate::state::{Change, Effect, State};
 use std::alloc::{AllocError, Global};
 
@@ -26,7 +27,7 @@ pub(crate) struct Leaf<S> {
 }
 
 impl<S: State> Leaf<S> {
-    ghost use Rattle.pmf_runs.specs.Leaves.{leaf_state, leaf_begins, leaf_full, leaf_middle, parting};
+    ghost use Rattle.pmf_runs.specs.Leaves.{leaf_state, leaf_begins, leaf_full, leaf_middle};
     ghost use Rattle.pmf_runs.specs.Joined.{JoinedBut, JoinedBeside, InOrder};
 
     /// The leaf in which each number has this state.
@@ -75,7 +76,8 @@ impl<S: State> Leaf<S> {
         ensures joined { OnOk result ((other : Option ℕ) → JoinedBut self.old other None → JoinedBut self.new other (Some place)) }
     {
         let state = self.states[index];
-        self.states.reserve(1)?;
+        make_room(&mut self.states)?;
+        make_room(&mut self.keys)?;
         self.keys.insert(index, place)?;
         match self.states.insert(index + 1, state) {
             Ok(()) => Ok(()),
@@ -142,19 +144,18 @@ impl<S: State> Leaf<S> {
         summary
     }
 
-    /// Whether a state is unsettled.
+    /// Whether a state is unsettled. Most often none is, and all are asked without a branch for each.
     pub(crate) fn has_unsettled(&self) -> bool
         ensures { result ≡ false → AllSettled S.unsettled (leaf_state self.now) }
     {
         if self.has_unsettled_near() {
             return true;
         }
+        let mut found = false;
         for i in 0..self.states.len() {
-            if self.states[i].is_unsettled() {
-                return true;
-            }
+            found |= self.states[i].is_unsettled();
         }
-        false
+        found
     }
 
     /// Whether one of the states a little behind the last change is unsettled, as most often one is where
@@ -246,27 +247,12 @@ impl<S: State> Leaf<S> {
         self.keys.len() >= 62
     }
 
-    /// Which key it is split at before more is put in at this place: the last one, where the place lies
-    /// from there on, so that rising places leave full leaves behind; and else the middle one.
-    fn parting(&self, place: u64) -> usize
-        requires { leaf_full self.now ≡ true }
-        ensures is { result ≡ parting self.now.keys.items place }
-        ensures within { result < vec_len self.now.keys }
-    {
-        let last = self.keys.len() - 1;
-        if self.keys[last] <= place {
-            last
-        } else {
-            self.keys.len() / 2
-        }
-    }
-
     /// The key that it is split at before more is put in at this place.
     pub(crate) fn middle_key(&self, place: u64) -> u64
         requires { leaf_full self.now ≡ true }
         ensures { result ≡ leaf_middle self.now place }
     {
-        self.keys[self.parting(place)]
+        self.keys[parting(&self.keys, place)]
     }
 
     /// Hands out what lies from that key on. After an `Err` nothing is changed.
@@ -277,7 +263,7 @@ impl<S: State> Leaf<S> {
         ensures low { OnOk result (JoinedBut self.old None None → JoinedBut self.new None None) }
         ensures high { IfOk result (λ part. JoinedBut self.old None None → JoinedBut part None None) }
     {
-        let half = self.parting(place);
+        let half = parting(&self.keys, place);
         let mut keys = Vec::new(*self.keys.allocator());
         keys.extend_from_slice(&self.keys[half + 1..])?;
         let states = self.states.split_off(half + 1)?;

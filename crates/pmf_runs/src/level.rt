@@ -3,8 +3,11 @@
 ghost use Rattle.std.specs.Prelude.{◌≡◌, false, Option, None, Some, ◌≤◌, ◌<◌, ◌+◌, ◌-◌, ℕ, true, OnOk, OnErr, IfOk, IfSome, get_or, length, vec_len};
 ghost use Rattle.pmf_runs.specs.Ranks.{Rises, rank, SameStates, ChangesWithin, IsFresh, Splits, CoversAll, IsTail, AllSettled};
 
-use crate::keys::{bound_at, high_rank, inner_bound, is_key, low_rank, rank_near, rank_of};
+use crate::keys::{
+    bound_at, high_rank, inner_bound, is_key, low_rank, parting, rank_near, rank_of,
+};
 use crate::part::Part;
+use crate::room::make_room;
 use crate::state::{Change, Effect, State};
 use std::alloc::{AllocError, Global};
 
@@ -119,8 +122,8 @@ impl<P> Level<P> {
         ensures same { SameStates (level_state P.state self.old) (level_state P.state self.new) }
         ensures joined { OnOk result (PartsJoined P.joined self.old None None → PartsJoined P.joined self.new None None) }
     {
-        self.keys.reserve(1)?;
-        self.parts.reserve(1)?;
+        make_room(&mut self.keys)?;
+        make_room(&mut self.parts)?;
         let part = self.parts[index].split(place)?;
         match self.keys.insert(index, middle) {
             Ok(()) => {}
@@ -153,25 +156,25 @@ impl<P> Level<P> {
         self.keys.len() >= 62
     }
 
-    /// The key at which its second half begins.
-    pub(crate) fn middle_key(&self) -> u64
+    /// The key that it is split at before more is put in at this place.
+    pub(crate) fn middle_key(&self, place: u64) -> u64
         requires { level_full self.now ≡ true }
-        ensures { result ≡ level_middle self.now }
+        ensures { result ≡ level_middle self.now place }
     {
-        self.keys[self.keys.len() / 2]
+        self.keys[parting(&self.keys, place)]
     }
 
-    /// Hands out its second half. After an `Err` nothing is changed.
-    pub(crate) fn halve<S: State>(&mut self) -> Result<Level<P>, AllocError>
+    /// Hands out what lies from that key on. After an `Err` nothing is changed.
+    pub(crate) fn halve<S: State>(&mut self, place: u64) -> Result<Level<P>, AllocError>
     where
         P: Part<S>,
         requires { level_full self.old ≡ true }
-        ensures splits { IfOk result (λ part. Splits (level_middle self.old) (level_state P.state self.old) (level_state P.state self.new) (level_state P.state part)) }
+        ensures splits { IfOk result (λ part. Splits (level_middle self.old place) (level_state P.state self.old) (level_state P.state self.new) (level_state P.state part)) }
         ensures unchanged { OnErr result (SameStates (level_state P.state self.old) (level_state P.state self.new)) }
         ensures low { OnOk result (PartsJoined P.joined self.old None None → PartsJoined P.joined self.new None None) }
         ensures high { IfOk result (λ part. PartsJoined P.joined self.old None None → PartsJoined P.joined part None None) }
     {
-        let half = self.keys.len() / 2;
+        let half = parting(&self.keys, place);
         let mut keys = Vec::new(*self.keys.allocator());
         keys.extend_from_slice(&self.keys[half + 1..])?;
         let parts = self.parts.split_off(half + 1)?;

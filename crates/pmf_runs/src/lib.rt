@@ -15,6 +15,7 @@ mod level;
 mod members;
 mod page;
 mod part;
+mod room;
 mod runs;
 mod state;
 #[cfg(test)]

@@ -268,6 +268,21 @@ fn rising_changes_leave_full_leaves_behind(rt: HostRuntime) -> Result<(), Fail> 
     }
     assert!(rt; map.key_count() > 19_000, "{}", map.key_count());
     assert!(rt; map.leaf_count() <= 20_000 / 60, "{}", map.leaf_count());
+    assert!(rt; map.group_count() <= 7, "{}", map.group_count());
+    Ok(())
+}
+
+/// A list has room for what a full leaf holds, and for no more, also after its leaf was split at the middle.
+#[test]
+fn no_list_outgrows_a_full_leaf(rt: HostRuntime) -> Result<(), Fail> {
+    let mut map = RunMap::new(rt.alloc(), Colour::Red);
+    let mut numbers = Numbers(11);
+    for _ in 0..10_000 {
+        let place = numbers.next() % 100_000 * 4;
+        map.change(place, place + 2, &To(Colour::Green))?;
+    }
+    assert!(rt; map.leaf_count() > 200, "{}", map.leaf_count());
+    assert!(rt; map.most_room() == 64, "{}", map.most_room());
     Ok(())
 }
 

@@ -149,7 +149,9 @@ fn rows_for(alloc: Global, events: &[Event], profile: Profile) -> Result<Rows, A
     }
     let found = walk.transactions.close_section();
     walk.say_if_any(events.len() as u32 + 1, found)?;
-    Ok(walk.rows)
+    let mut rows = walk.rows;
+    rows.shrink_to_fit();
+    Ok(rows)
 }
 
 /// Checks the section by the profile. The only refusal is [`CheckFault::OutOfMemory`], and the section

@@ -9,4 +9,9 @@ impl<S: State> Group<S> {
     pub(crate) fn pages(&self) -> &[Page<S>] {
         self.level.parts()
     }
+
+    /// The most elements that one of its level's lists has room for.
+    pub(crate) fn room(&self) -> usize {
+        self.level.room()
+    }
 }

@@ -7,4 +7,9 @@ impl<S> Leaf<S> {
     pub(crate) fn key_count(&self) -> usize {
         self.keys.len()
     }
+
+    /// The most elements that one of its lists has room for.
+    pub(crate) fn room(&self) -> usize {
+        self.keys.capacity().max(self.states.capacity())
+    }
 }

@@ -7,4 +7,9 @@ impl<P> Level<P> {
     pub(crate) fn parts(&self) -> &[P] {
         &self.parts
     }
+
+    /// The most elements that one of its lists has room for.
+    pub(crate) fn room(&self) -> usize {
+        self.keys.capacity().max(self.parts.capacity())
+    }
 }

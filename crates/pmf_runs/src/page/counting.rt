@@ -8,4 +8,9 @@ impl<S: State> Page<S> {
     pub(crate) fn key_count(&self) -> usize {
         self.leaf.key_count()
     }
+
+    /// The most elements that one of its leaf's lists has room for.
+    pub(crate) fn room(&self) -> usize {
+        self.leaf.room()
+    }
 }

@@ -24,6 +24,20 @@ impl<S: State> RunMap<S> {
         count
     }
 
+    /// The most elements that a list of its groups and leaves has room for.
+    pub(crate) fn most_room(&self) -> usize {
+        let mut most = 0usize;
+        if let Some(root) = &self.root {
+            for group in root.parts() {
+                most = most.max(group.room());
+                for page in group.pages() {
+                    most = most.max(page.room());
+                }
+            }
+        }
+        most
+    }
+
     /// How many keys its leaves have.
     pub(crate) fn key_count(&self) -> usize {
         let mut count = 0usize;
