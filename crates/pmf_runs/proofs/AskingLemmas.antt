@@ -2,14 +2,16 @@
 use Rattle.std.proofs.Common.{◌≡◌, ℕ, zero, suc, ◌+◌, ◌-◌, ◌<◌, ◌≤◌, min, max, Bool, true, false, if◌then◌else◌, List, length, get_or, refl, sym, ◌∙◌, ap, subst, arith, inl, inr}
 use Rattle.std.specs.Prelude.{Option, Some, None, is_some}
 use Rattle.std.proofs.lemmas.Bool.{cases_lt}
-use Rattle.pmf_event.specs.Ranges.{first_from, count_from, lesser, least_from}
-use Rattle.pmf_event.proofs.RangeLemmas.{first_from-none, first_from-some, first_from-same, count_from-same, count_from-split, count_from-all, count_from-none, least_from-same, least_from-split, least_from-alike, lesser-none, lesser-assoc}
+use Rattle.pmf_event.specs.Ranges.{first_from, lesser, least_from}
+use Rattle.pmf_event.proofs.RangeLemmas.{first_from-none, first_from-some, first_from-same, least_from-same, least_from-split, least_from-alike, lesser-none, lesser-assoc}
 use Rattle.pmf_runs.specs.declared.leaf.Leaf.{Leaf}
 use Rattle.pmf_runs.specs.Ranks.{rank, Rises}
 use Rattle.pmf_runs.specs.Walks.{end_of}
 use Rattle.pmf_runs.specs.Leaves.{leaf_state}
 use Rattle.pmf_runs.proofs.RankLemmas.{IsRank, rank-is, rank-unique, rises-le, lt-true, lt-false}
 use Rattle.pmf_runs.proofs.LeafLemmas.{state-read}
+use Rattle.pmf_runs.specs.Lines.{counted_from}
+use Rattle.pmf_runs.proofs.LineLemmas.{counted-same, counted-split}
 
 -- ---- where a walk begins, and where an element ends
 
@@ -44,7 +46,7 @@ record Piece (keys : List ℕ) (first end start index until : ℕ) : Type 0 wher
   at : (b : ℕ) → start ≤ b → b < until → index ≡ rank keys b
   next : Walks keys first end until (index + 1)
 
-walks-start : (keys : List ℕ) (first end index : ℕ) → index ≡ rank keys first → Walks keys first end first index
+pub walks-start : (keys : List ℕ) (first end index : ℕ) → index ≡ rank keys first → Walks keys first end first index
 walks-start keys first end index at = record {
   from = omega arith;
   upto = omega arith;
@@ -106,25 +108,24 @@ walks-within keys first end start index some walk = let here = walk.at some in h
 -- ---- questions
 
 -- a question about a range is answered by joining the answers of its pieces
-pub record Question {V A : Type 0} (ask : (ℕ → V) → ℕ → ℕ → A) (join : A → A → A) : Type 0 where
-  pub none : (x : A) (value : ℕ → V) (b : ℕ) → join x (ask value b 0) ≡ x
+pub record Question {V A X : Type 0} (ask : (ℕ → V) → ℕ → ℕ → A) (join : X → A → X) : Type 0 where
+  pub none : (x : X) (value : ℕ → V) (b : ℕ) → join x (ask value b 0) ≡ x
   pub same : (v w : ℕ → V) (b n : ℕ) → ((k : ℕ) → b ≤ k → k < b + n → v k ≡ w k) → ask v b n ≡ ask w b n
-  pub split : (value : ℕ → V) (b m n whole middle : ℕ) → whole ≡ m + n → middle ≡ b + m → ask value b whole ≡ join (ask value b m) (ask value middle n)
-  pub assoc : (x y z : A) → join (join x y) z ≡ join x (join y z)
+  pub split : (x : X) (value : ℕ → V) (b m n whole middle : ℕ) → whole ≡ m + n → middle ≡ b + m → join x (ask value b whole) ≡ join (join x (ask value b m)) (ask value middle n)
 
 -- the walk has come to start, and knows the answer up to there, joined to what was known before
-pub record Asked {S A : Type 0} (ask : S → ℕ → ℕ → A) (join : A → A → A) (before : A) (keys : List ℕ) (first end start index : ℕ) (so_far : A) : Type 0 where
+pub record Asked {S A X : Type 0} (ask : S → ℕ → ℕ → A) (join : X → A → X) (before : X) (keys : List ℕ) (first end start index : ℕ) (so_far : X) : Type 0 where
   pub walk : Walks keys first end start index
   pub is : (d : S) → so_far ≡ join before (ask d first (start - first))
 
-module _ {V A : Type 0} {ask : (ℕ → V) → ℕ → ℕ → A} {join : A → A → A} (law : Question ask join) {S : Type 0} (value : S → ℕ → V) (before : A) (keys : List ℕ) (first end : ℕ) where
+module _ {V A X : Type 0} {ask : (ℕ → V) → ℕ → ℕ → A} {join : X → A → X} (law : Question ask join) {S : Type 0} (value : S → ℕ → V) (before : X) (keys : List ℕ) (first end : ℕ) where
   pub asked-start : (index : ℕ) → index ≡ rank keys first → Asked (λ d. ask (value d)) join before keys first end first index before
   asked-start index at = record {
     walk = walks-start keys first end index at;
     is = λ d. let none : first - first ≡ 0 = omega arith in sym (ap (λ n. join before (ask (value d) first n)) none ∙ law.none before (value d) first);
   }
 
-  pub asked-more : (start index until : ℕ) (so_far new : A) → Rises keys → start < end → until ≡ end_of keys index end →
+  pub asked-more : (start index until : ℕ) (so_far new : X) → Rises keys → start < end → until ≡ end_of keys index end →
       ((d : S) → new ≡ join so_far (ask (value d) start (until - start))) →
       Asked (λ d. ask (value d)) join before keys first end start index so_far → Asked (λ d. ask (value d)) join before keys first end until (index + 1) new
   asked-more start index until so_far new rises some is_end more asked =
@@ -134,11 +135,10 @@ module _ {V A : Type 0} {ask : (ℕ → V) → ℕ → ℕ → A} {join : A → 
         walk = p.next;
         is = λ d.
             more d ∙ ap (λ x. join x (ask (value d) start (until - start))) (asked.is d)
-            ∙ law.assoc before (ask (value d) first (start - first)) (ask (value d) start (until - start))
-            ∙ ap (join before) (sym (law.split (value d) first (start - first) (until - start) (until - first) start (omega arith) (omega arith)));
+            ∙ sym (law.split before (value d) first (start - first) (until - start) (until - first) start (omega arith) (omega arith));
       }
 
-  pub asked-end : (start index : ℕ) (so_far : A) → end ≤ start → Asked (λ d. ask (value d)) join before keys first end start index so_far → (d : S) → so_far ≡ join before (ask (value d) first (end - first))
+  pub asked-end : (start index : ℕ) (so_far : X) → end ≤ start → Asked (λ d. ask (value d)) join before keys first end start index so_far → (d : S) → so_far ≡ join before (ask (value d) first (end - first))
   asked-end start index so_far past asked d =
       let from = asked.walk.from in
       let upto = asked.walk.upto in
@@ -146,7 +146,7 @@ module _ {V A : Type 0} {ask : (ℕ → V) → ℕ → ℕ → A} {join : A → 
       asked.is d ∙ ap (λ n. join before (ask (value d) first n)) all
 
 -- what a run of a leaf answers is what the leaf answers for its numbers
-pub run-asked : {V A : Type 0} {ask : (ℕ → V) → ℕ → ℕ → A} {join : A → A → A} (law : Question ask join) {S : Type 0} (value : S → V) (leaf : Leaf S) (state : S) (v : V) (first end start index until : ℕ) →
+pub run-asked : {V A X : Type 0} {ask : (ℕ → V) → ℕ → ℕ → A} {join : X → A → X} (law : Question ask join) {S : Type 0} (value : S → V) (leaf : Leaf S) (state : S) (v : V) (first end start index until : ℕ) →
     state ≡ get_or leaf.states.items index state → v ≡ value state → start < end → until ≡ end_of leaf.keys.items index end → Walks leaf.keys.items first end start index →
     (d : S) → ask (λ b. v) start (until - start) ≡ ask (λ b. value (leaf_state leaf d b)) start (until - start)
 run-asked law value leaf state v first end start index until read at some is walk d =
@@ -180,8 +180,8 @@ unfolding first_from
 first-law = record {
   none = λ x value b. found-none x;
   same = first_from-same;
-  split = first_from-split;
-  assoc = found-assoc;
+  split = λ x value b m n whole middle all at.
+      ap (first_found x) (first_from-split value b m n whole middle all at) ∙ sym (found-assoc x (first_from value b m) (first_from value middle n));
 } where
   found-none : (x : Option ℕ) → first_found x None ≡ x
   found-none None = refl
@@ -209,15 +209,14 @@ asked-found value keys first end start index until found rises some is_end more 
     sym (found-some found rest has) ∙ ap (λ o. first_found o rest) (next.is d)
     ∙ sym (first_from-split (value d) first (until - first) (end - until) (end - first) until (omega arith) (omega arith))
 
--- ---- how many pass
+-- ---- how many lines
 
-pub count-law : Question count_from (λ x y. x + y)
-unfolding count_from
-count-law = record {
-  none = λ x value b. omega arith;
-  same = count_from-same;
-  split = count_from-split;
-  assoc = λ x y z. omega arith;
+pub lines-law : Question counted_from (λ so_far count. count so_far)
+unfolding counted_from
+lines-law = record {
+  none = λ x value b. refl;
+  same = counted-same;
+  split = counted-split;
 }
 
 -- ---- the least key
@@ -227,13 +226,13 @@ unfolding least_from
 least-law = record {
   none = λ x value b. lesser-none x;
   same = least_from-same;
-  split = least_from-split;
-  assoc = lesser-assoc;
+  split = λ x value b m n whole middle all at.
+      ap (lesser x) (least_from-split value b m n whole middle all at) ∙ sym (lesser-assoc x (least_from value b m) (least_from value middle n));
 }
 
 -- ---- a run whose states all answer alike
 
-pub run-none : {V A : Type 0} {ask : (ℕ → V) → ℕ → ℕ → A} {join : A → A → A} (law : Question ask join) (x : A) (v : V) (first end : ℕ) → end ≤ first → x ≡ join x (ask (λ b. v) first (end - first))
+pub run-none : {V A X : Type 0} {ask : (ℕ → V) → ℕ → ℕ → A} {join : X → A → X} (law : Question ask join) (x : X) (v : V) (first end : ℕ) → end ≤ first → x ≡ join x (ask (λ b. v) first (end - first))
 run-none {ask = ask} {join = join} law x v first end empty =
     let none : end - first ≡ 0 = omega arith in
     sym (ap (λ n. join x (ask (λ b. v) first n)) none ∙ law.none x (λ b. v) first)
@@ -248,12 +247,6 @@ run-first v first end some is = sym (first_from-some (λ b. v) first (end - firs
 
 pub run-first_none : (v : Bool) (first end : ℕ) → v ≡ false → None ≡ first_from (λ b. v) first (end - first)
 run-first_none v first end is = sym (first_from-none (λ b. v) first (end - first) (λ k low high. is))
-
-pub run-count : (v : Bool) (first end : ℕ) → v ≡ true → end - first ≡ count_from (λ b. v) first (end - first)
-run-count v first end is = sym (count_from-all (λ b. v) first (end - first) (λ k low high. is))
-
-pub run-count_none : (v : Bool) (first end : ℕ) → v ≡ false → 0 ≡ count_from (λ b. v) first (end - first)
-run-count_none v first end is = sym (count_from-none (λ b. v) first (end - first) (λ k low high. is))
 
 pub run-least : (v : Option ℕ) (first end : ℕ) → first < end → v ≡ least_from (λ b. v) first (end - first)
 run-least v first end some = sym (least_from-alike (λ b. v) first (end - first) v (omega arith) (λ k low high. refl))

@@ -3,9 +3,11 @@ pub mod LeafLemmas
 pub mod LevelLemmas
 pub mod ChangingLemmas
 pub mod RunLemmas
+pub mod LineLemmas
 pub mod AskingLemmas
 pub mod LevelAskingLemmas
 pub mod RunAskingLemmas
+pub mod OnwardLemmas
 pub mod SkipLemmas
 pub mod JoinedLemmas
 pub mod JoinedLevelLemmas

@@ -18,12 +18,12 @@ unfolding keyed
 keyed-is key runs b = refl
 
 -- without a root each number has the gap's state
-pub gap-asked : {V A : Type 0} {ask : (ℕ → V) → ℕ → ℕ → A} {join : A → A → A} (law : Question ask join) {S M : Type 0} {laws : Ghosts S M} (value : S → V) (asked : ℕ → V) (runs : RunMap S M laws) (v : V) (first n : ℕ) →
+pub gap-asked : {V A X : Type 0} {ask : (ℕ → V) → ℕ → ℕ → A} {join : X → A → X} (law : Question ask join) {S M : Type 0} {laws : Ghosts S M} (value : S → V) (asked : ℕ → V) (runs : RunMap S M laws) (v : V) (first n : ℕ) →
     ((b : ℕ) → asked b ≡ value (state_at runs b)) → v ≡ value runs.gap → runs.root ≡ None → ask (λ b. v) first n ≡ ask asked first n
 gap-asked law value asked runs v first n is at none =
     law.same (λ b. v) asked first n (λ k low high. at ∙ ap value (sym (gap-is runs k none)) ∙ sym (is k))
 
-pub root-asked : {V A : Type 0} {ask : (ℕ → V) → ℕ → ℕ → A} {join : A → A → A} (law : Question ask join) {S M : Type 0} {laws : Ghosts S M} (value : S → V) (asked : ℕ → V) (runs : RunMap S M laws) (root : Level (Group S M laws)) (first n : ℕ) →
+pub root-asked : {V A X : Type 0} {ask : (ℕ → V) → ℕ → ℕ → A} {join : X → A → X} (law : Question ask join) {S M : Type 0} {laws : Ghosts S M} (value : S → V) (asked : ℕ → V) (runs : RunMap S M laws) (root : Level (Group S M laws)) (first n : ℕ) →
     ((b : ℕ) → asked b ≡ value (state_at runs b)) → runs.root ≡ Some root → ask (λ b. value (root_state root runs.gap b)) first n ≡ ask asked first n
 root-asked law value asked runs root first n is some =
     law.same (λ b. value (root_state root runs.gap b)) asked first n (λ k low high. ap value (sym (root-is runs root k some)) ∙ sym (is k))

@@ -2,17 +2,12 @@
 use Rattle.std.proofs.Common.{◌≡◌, ℕ, zero, suc, ◌+◌, Bool, false, refl, sym, ◌∙◌, ap}
 use Rattle.std.specs.Prelude.{if◌then◌else◌, Option, None, Some}
 use Rattle.pmf_event.proofs.RangeLemmas.{lesser-none, lesser-assoc}
-use Rattle.pmf_event.specs.Ranges.{first_from, count_from, least_from, lesser}
+use Rattle.pmf_event.specs.Ranges.{first_from, least_from, lesser}
 
 pub first-none : (test : ℕ → Bool) (b n : ℕ) → ((k : ℕ) → test k ≡ false) → first_from test b n ≡ None
 unfolding first_from
 first-none test b zero fails = refl
 first-none test b (suc n) fails = ap (λ t. if t then Some b else first_from test (b + 1) n) (fails b) ∙ first-none test (b + 1) n fails
-
-pub count-none : (test : ℕ → Bool) (b n : ℕ) → ((k : ℕ) → test k ≡ false) → count_from test b n ≡ 0
-unfolding count_from
-count-none test b zero fails = refl
-count-none test b (suc n) fails = ap (λ t. if t then suc (count_from test (b + 1) n) else count_from test (b + 1) n) (fails b) ∙ count-none test (b + 1) n fails
 
 pub least-none : (key : ℕ → Option ℕ) (least : Option ℕ) (b n : ℕ) → ((k : ℕ) → lesser least (key k) ≡ least) → lesser least (least_from key b n) ≡ least
 unfolding least_from
@@ -23,10 +18,6 @@ least-none key least b (suc n) same = sym (lesser-assoc least (key b) (least_fro
 pub first-empty : (test : ℕ → Bool) (b n : ℕ) → n ≡ 0 → None ≡ first_from test b n
 unfolding first_from
 first-empty test b n none = sym (ap (first_from test b) none)
-
-pub count-empty : (test : ℕ → Bool) (b n : ℕ) → n ≡ 0 → 0 ≡ count_from test b n
-unfolding count_from
-count-empty test b n none = sym (ap (count_from test b) none)
 
 pub least-empty : (key : ℕ → Option ℕ) (b n : ℕ) → n ≡ 0 → None ≡ least_from key b n
 unfolding least_from

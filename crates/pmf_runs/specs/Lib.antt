@@ -1,6 +1,7 @@
 pub mod Ranks
 pub mod Leaves
 pub mod Walks
+pub mod Lines
 pub mod Levels
 pub mod Joined
 pub mod Pages

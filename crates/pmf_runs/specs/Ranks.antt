@@ -24,6 +24,10 @@ pub record HasKey (keys : List ℕ) (b : ℕ) : Type 0 where
 pub record IsFresh (keys : List ℕ) (b : ℕ) : Type 0 where
   pub below : (k : ℕ) → k < rank keys b → get_or keys k 0 < b
 
+-- the number is above all keys
+pub record IsBeyond (keys : List ℕ) (b : ℕ) : Type 0 where
+  pub above : (k : ℕ) → k < length keys → get_or keys k 0 < b
+
 -- whether the number is not below the bound, if there is one
 abbrev pub reaches : Option ℕ → ℕ → Bool
 reaches None b = true

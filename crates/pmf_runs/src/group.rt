@@ -10,6 +10,7 @@ use crate::level::Level;
 use crate::page::Page;
 use crate::part::Part;
 use crate::state::{Change, Effect, Key, State, Test};
+use crate::walk::Counted;
 use std::alloc::AllocError;
 
 #[cfg(test)]
@@ -179,11 +180,11 @@ impl<S: State> Part<S> for Group<S> {
         self.level.find_first(first, end, test)
     }
 
-    fn count_where<T: Test<S>>(&self, first: u64, end: u64, test: &T) -> u64 {
+    fn count_lines<T: Test<S>>(&self, first: u64, end: u64, test: &T, so_far: Counted) -> Counted {
         if !test.may_pass(self.summary) {
-            return 0;
+            return so_far;
         }
-        self.level.count_passing(first, end, test)
+        self.level.count_lines(first, end, test, so_far)
     }
 
     fn least_key<K: Key<S>>(

@@ -1,7 +1,7 @@
 //! The rank of a number among rising keys.
 
 ghost use Rattle.std.specs.Prelude.{◌≡◌, ◌<◌, ◌≤◌, ◌-◌, true, false, IfSome, length, get_or};
-ghost use Rattle.pmf_runs.specs.Ranks.{HasKey, IsFresh, IsInner, bound_at, Rises, rank, low_rank, high_rank, parting};
+ghost use Rattle.pmf_runs.specs.Ranks.{HasKey, IsBeyond, IsFresh, IsInner, bound_at, Rises, rank, low_rank, high_rank, parting};
 
 /// How many keys are looked at one after another before the search halves them.
 const FEW: usize = 4;
@@ -134,6 +134,14 @@ pub(crate) fn parting(keys: &[u64], place: u64) -> usize
     } else {
         keys.len() / 2
     }
+}
+
+/// Whether the place lies beyond all keys.
+pub(crate) fn is_beyond(keys: &[u64], place: u64) -> bool
+    requires { Rises keys.now }
+    ensures { result ≡ true → IsBeyond keys.now place }
+{
+    keys.is_empty() || keys[keys.len() - 1] < place
 }
 
 /// The bound as it is handed down: nothing where a part begins there.

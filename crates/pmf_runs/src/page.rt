@@ -8,6 +8,7 @@ ghost use Rattle.pmf_runs.specs.Leaves.{leaf_state, leaf_begins, leaf_full, leaf
 use crate::leaf::Leaf;
 use crate::part::Part;
 use crate::state::{Change, Effect, Key, State, Test};
+use crate::walk::Counted;
 use std::alloc::AllocError;
 
 #[cfg(test)]
@@ -177,11 +178,11 @@ impl<S: State> Part<S> for Page<S> {
         self.leaf.find_first(first, end, test)
     }
 
-    fn count_where<T: Test<S>>(&self, first: u64, end: u64, test: &T) -> u64 {
+    fn count_lines<T: Test<S>>(&self, first: u64, end: u64, test: &T, so_far: Counted) -> Counted {
         if !test.may_pass(self.summary) {
-            return 0;
+            return so_far;
         }
-        self.leaf.count_passing(first, end, test)
+        self.leaf.count_lines(first, end, test, so_far)
     }
 
     fn least_key<K: Key<S>>(

@@ -1,11 +1,13 @@
 //! What the levels of a map are made of.
 
 ghost use Rattle.std.specs.Prelude.{◌≡◌, ◌≤◌, ◌-◌, ℕ, Bool, true, Option, None, Some, IfOk, OnOk, OnErr, IfSome};
-ghost use Rattle.pmf_event.specs.Ranges.{first_from, count_from, least_from, lesser};
+ghost use Rattle.pmf_event.specs.Ranges.{first_from, least_from, lesser};
+ghost use Rattle.pmf_runs.specs.Lines.{counted_from};
 ghost use Rattle.pmf_runs.specs.Ranks.{SameStates, ChangesWithin, CoversAll, IsTail, Splits};
 ghost use Rattle.pmf_runs.specs.Joined.{InOrder};
 
 use crate::state::{Change, Effect, Key, State, Test};
+use crate::walk::Counted;
 use std::alloc::AllocError;
 
 /// A part of a map. It has a state for each number, and is asked for those that are handed to it.
@@ -88,10 +90,11 @@ pub(crate) trait Part<S: State>: Drop {
     fn first_where<T: Test<S>>(&self, first: u64, end: u64, test: &T) -> Option<u64>
         ensures { (d : S) → result ≡ first_from (λ b. T.passes test.now (state self.now d b)) first (end - first) };
 
-    /// How many of the numbers from `first` up to `end` have a state that passes.
-    fn count_where<T: Test<S>>(&self, first: u64, end: u64, test: &T) -> u64
-        ensures is { (d : S) → result ≡ count_from (λ b. T.passes test.now (state self.now d b)) first (end - first) }
-        ensures bound { result ≤ end - first };
+    /// The count of lines with those that have a number from `first` up to `end` whose state passes.
+    fn count_lines<T: Test<S>>(&self, first: u64, end: u64, test: &T, so_far: Counted) -> Counted
+        requires { so_far.count ≤ so_far.next }
+        ensures is { (d : S) → result ≡ counted_from (λ b. T.passes test.now (state self.now d b)) first (end - first) so_far }
+        ensures bound { result.count ≤ result.next };
 
     /// The lesser of the least so far and the least key that a state of the numbers from `first` up to
     /// `end` has.

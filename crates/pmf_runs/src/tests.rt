@@ -3,6 +3,7 @@
 ghost use Rattle.std.specs.Prelude.{◌≤◌};
 
 use crate::{Change, RunMap};
+use pmf_event::LINE_SIZE;
 use std::alloc::{AllocError, Global};
 use std::process::Abort;
 use std::test::Fail;
@@ -15,8 +16,8 @@ use colour::{Colour, Is, Next, Number, To};
 use member::{Holds, Put};
 use plain::Plain;
 
-/// How many places the small array has.
-const PLACES: u64 = 64;
+/// How many places the small array has: four lines.
+const PLACES: u64 = 256;
 
 /// A change of some numbers.
 #[derive(Clone, Copy, Debug)]
@@ -152,7 +153,6 @@ fn a_set_holds_what_was_put_in_last(rt: HostRuntime) -> Result<(), Fail> {
             set.change(*first, *end, &Put(*state))?;
         }
         let mut at = 0;
-        let mut count = 0u64;
         for (first, end) in members {
             assert_eq!(rt;
                 set.first_where(at, top, &Holds(true)),
@@ -164,11 +164,9 @@ fn a_set_holds_what_was_put_in_last(rt: HostRuntime) -> Result<(), Fail> {
                 *end,
                 "{what}"
             );
-            count = count.wrapping_add(end.wrapping_sub(*first));
             at = *end;
         }
         assert_eq!(rt; set.first_where(at, top, &Holds(true)), None, "{what}");
-        assert_eq!(rt; set.count_where(0, top, &Holds(true)), count, "{what}");
         assert_eq!(rt; set.key_count(), keys, "{what}");
     }
     Ok(())
@@ -212,19 +210,19 @@ fn a_change_follows_each_state_of_its_range(rt: HostRuntime) -> Result<(), Fail>
 #[test]
 fn questions_are_about_their_range_alone(rt: HostRuntime) -> Result<(), Fail> {
     let map = painted(rt.alloc())?;
-    for (first, end, blue, greens, least) in [
-        (0, 10, None, 0, None),
-        (0, 11, None, 1, Some(5)),
-        (10, 20, None, 10, Some(5)),
-        (12, 21, Some(20), 8, Some(3)),
-        (20, 30, Some(20), 0, Some(3)),
-        (25, 26, Some(25), 0, Some(3)),
-        (25, 45, Some(25), 5, Some(3)),
-        (30, 40, None, 0, None),
-        (30, 41, None, 1, Some(5)),
-        (45, 45, None, 0, None),
-        (45, 10, None, 0, None),
-        (0, u64::MAX, Some(20), 20, Some(3)),
+    for (first, end, blue, least) in [
+        (0, 10, None, None),
+        (0, 11, None, Some(5)),
+        (10, 20, None, Some(5)),
+        (12, 21, Some(20), Some(3)),
+        (20, 30, Some(20), Some(3)),
+        (25, 26, Some(25), Some(3)),
+        (25, 45, Some(25), Some(3)),
+        (30, 40, None, None),
+        (30, 41, None, Some(5)),
+        (45, 45, None, None),
+        (45, 10, None, None),
+        (0, u64::MAX, Some(20), Some(3)),
     ] {
         assert_eq!(rt;
             map.first_where(first, end, &Is(Colour::Blue)),
@@ -232,13 +230,60 @@ fn questions_are_about_their_range_alone(rt: HostRuntime) -> Result<(), Fail> {
             "{first} to {end}"
         );
         assert_eq!(rt;
-            map.count_where(first, end, &Is(Colour::Green)),
+            map.least_key(first, end, &Number),
+            least,
+            "{first} to {end}"
+        );
+    }
+    Ok(())
+}
+
+/// How many of the lines from one number up to another have a place of the colour.
+fn lines_with(map: &RunMap<Colour>, first: u32, end: u32, colour: Colour) -> u64 {
+    map.count_lines(
+        u64::from(first) * LINE_SIZE,
+        u64::from(end) * LINE_SIZE,
+        &Is(colour),
+    )
+}
+
+/// Line 0 has two green runs, the next run lies on lines 1 and 2, another on line 2, and the last fills
+/// lines 4 to 7.
+#[test]
+fn a_line_that_runs_share_is_counted_once(rt: HostRuntime) -> Result<(), Fail> {
+    let mut map = painted(rt.alloc())?;
+    assert_eq!(rt;
+        lines_with(&RunMap::new(rt.alloc(), Colour::Green), 3, 8, Colour::Green),
+        5
+    );
+    map.change(120, 140, &To(Colour::Green))?;
+    map.change(150, 160, &To(Colour::Green))?;
+    map.change(256, 512, &To(Colour::Green))?;
+    for (first, end, greens, blues, reds) in [
+        (0, 1, 1, 1, 1),
+        (0, 2, 2, 1, 2),
+        (0, 3, 3, 1, 3),
+        (1, 3, 2, 0, 2),
+        (2, 3, 1, 0, 1),
+        (3, 4, 0, 0, 1),
+        (3, 6, 2, 0, 1),
+        (0, 9, 7, 1, 5),
+        (4, 4, 0, 0, 0),
+        (4, 0, 0, 0, 0),
+    ] {
+        assert_eq!(rt;
+            lines_with(&map, first, end, Colour::Green),
             greens,
             "{first} to {end}"
         );
         assert_eq!(rt;
-            map.least_key(first, end, &Number),
-            least,
+            lines_with(&map, first, end, Colour::Blue),
+            blues,
+            "{first} to {end}"
+        );
+        assert_eq!(rt;
+            lines_with(&map, first, end, Colour::Red),
+            reds,
             "{first} to {end}"
         );
     }
@@ -252,7 +297,8 @@ fn the_size_of_a_range_costs_nothing(rt: HostRuntime) -> Result<(), Fail> {
     map.change(0, end, &To(Colour::Blue))?;
     map.change(end / 2, end / 2 + 1, &To(Colour::Green))?;
     assert_eq!(rt; map.first_where(0, end, &Is(Colour::Green)), Some(end / 2));
-    assert_eq!(rt; map.count_where(0, end, &Is(Colour::Blue)), end - 1);
+    assert_eq!(rt; map.count_lines(0, end, &Is(Colour::Blue)), end / LINE_SIZE);
+    assert_eq!(rt; map.count_lines(0, end, &Is(Colour::Green)), 1);
     assert_eq!(rt; map.least_key(0, end, &Number), Some(3));
     map.change(0, u64::MAX, &To(Colour::Red))?;
     assert_eq!(rt; map.key_count(), 0);
@@ -344,9 +390,10 @@ fn assert_answers(rt: &impl Abort, map: &RunMap<Colour>, plain: &Plain, numbers:
         map.first_where(first, end, &test),
         plain.first_where(first, end, &test)
     );
+    let (begins, ends) = (first / LINE_SIZE * LINE_SIZE, end / LINE_SIZE * LINE_SIZE);
     assert_eq!(rt;
-        map.count_where(first, end, &test),
-        plain.count_where(first, end, &test)
+        map.count_lines(begins, ends, &test),
+        plain.count_lines(begins, ends, &test)
     );
     assert_eq!(rt;
         map.least_key(first, end, &Number),

@@ -1,11 +1,20 @@
 //! The steps of a walk over the runs of a range.
 
 ghost use Rattle.std.specs.Prelude.{◌≡◌, ◌≤◌, ◌-◌};
-ghost use Rattle.pmf_event.specs.Ranges.{first_from, count_from, least_from, lesser};
+ghost use Rattle.pmf_event.specs.Ranges.{first_from, least_from, lesser};
+ghost use Rattle.pmf_runs.specs.Lines.{counted_from};
 ghost use Rattle.pmf_runs.specs.Ranks.{Rises, rank};
 ghost use Rattle.pmf_runs.specs.Walks.{end_of};
 
 use crate::keys::rank_near;
+use pmf_event::LINE_SIZE;
+
+/// How many cache lines are counted, in rising order, and the number after that of the last of them.
+#[derive(Clone, Copy, Debug, Drop)]
+pub(crate) struct Counted {
+    pub(crate) count: u64,
+    pub(crate) next: u64,
+}
 
 /// The element at which a walk begins, which is the first of all where no key is reached yet: a walk that
 /// goes on in a next part comes there without a search.
@@ -44,15 +53,27 @@ pub(crate) fn first_of_run(first: u64, end: u64, passes: bool) -> Option<u64>
     if passes { Some(first) } else { None }
 }
 
-/// How many numbers a run has, if its state passes.
-pub(crate) fn count_of_run(first: u64, end: u64, passes: bool) -> u64
-    ensures is { result ≡ count_from (λ b. passes) first (end - first) }
-    ensures bound { result ≤ end - first }
+/// The count of lines with those of a run, if its state passes.
+pub(crate) fn lines_of_run(first: u64, end: u64, passes: bool, so_far: Counted) -> Counted
+    requires { so_far.count ≤ so_far.next }
+    ensures is { result ≡ counted_from (λ b. passes) first (end - first) so_far }
+    ensures bound { result.count ≤ result.next }
 {
     if end <= first {
-        return 0;
+        return so_far;
     }
-    if passes { end - first } else { 0 }
+    if !passes {
+        return so_far;
+    }
+    let last = (end - 1) / LINE_SIZE;
+    if last < so_far.next {
+        return so_far;
+    }
+    let line = so_far.next.max(first / LINE_SIZE);
+    Counted {
+        count: so_far.count + (last - line + 1),
+        next: last + 1,
+    }
 }
 
 /// The key of a run's state, if it has any number.

@@ -8,8 +8,9 @@ use Rattle.pmf_event.specs.declared.lines.Lines.{Lines}
 use Rattle.pmf_event.specs.Ranges.{first_from, count_from}
 use Rattle.pmf_event.specs.FlushWarnings.{numbered, first_line, line_count, lines_from, lines_where}
 use Rattle.pmf_event.specs.LineBytes.{SomeByteOf, NoByteOf}
-use Rattle.pmf_event.proofs.RangeLemmas.{NonePass, some-from, none-from, first-passes, none-passes, first_from-none, first_from-some, first_from-same, count_from-same, count_from-split, count_from-bound, count_from-all, count_from-none}
-use Rattle.pmf_shadow.specs.Stretches.{line_has, line_lacks, line_has_but, AllHave, lines_at, lines_by}
+use Rattle.pmf_event.proofs.RangeLemmas.{NonePass, some-from, none-from, first-passes, none-passes, first_from-none, first_from-some, first_from-same, count_from-same}
+use Rattle.pmf_runs.specs.Lines.{line_has}
+use Rattle.pmf_shadow.specs.Stretches.{line_lacks, line_has_but, AllHave, lines_at, lines_by}
 
 -- ---- one line
 
@@ -81,61 +82,6 @@ module _ (test : ℕ → Bool) where
       let low = least.from in
       let high = least.within in
       (omega arith, omega arith, stretch-has first ((b + 63) / 64) b (omega arith) (λ k from until. sym (is k) ∙ least.before k from until))
-
-  -- ---- lines that are counted stretch by stretch
-
-  -- the lines before this one are counted
-  pub record CountsTo (first end line count : ℕ) : Type 0 where
-    pub from : first ≤ line
-    pub within : line ≤ end
-    pub count_is : count ≡ count_from (line_has test) first (line - first)
-
-  pub counts-none : (first end : ℕ) → first ≤ end → CountsTo first end first 0
-  counts-none first end ordered = record {
-    from = omega arith;
-    within = ordered;
-    count_is = sym (count_from-none (line_has test) first (first - first) (λ k low high. absurd (omega arith)));
-  }
-
-  -- the least line that is found, and those of its stretch
-  pub counts-more : (first end line count found next : ℕ) → CountsTo first end line count → Some found ≡ first_from (line_has test) line (end - line) →
-      found + 1 ≤ next → next ≤ end → AllHave test (found + 1) next → CountsTo first end next (count + (next - found))
-  counts-more first end line count found next so_far asked after upto has =
-      let least = first-passes (line_has test) line (end - line) found (sym asked) in
-      let from = so_far.from in
-      let low = least.from in
-      let is = so_far.count_is in
-      let before = count_from-none (line_has test) line (found - line) (λ k lower upper. least.before k lower (omega arith)) in
-      let stretch = count_from-all (line_has test) found (next - found) (λ k lower upper. elim (cases_eq k found) [
-        | inl same ↦ ap (line_has test) same ∙ least.passes
-        | inr other ↦ has k (omega arith) (omega arith)
-      ]) in
-      let one = count_from-split (line_has test) first (line - first) (next - line) (next - first) line (omega arith) (omega arith) in
-      let two = count_from-split (line_has test) line (found - line) (next - found) (next - line) found (omega arith) (omega arith) in
-      record {
-        from = omega arith;
-        within = upto;
-        count_is = omega arith;
-      }
-
-  pub counts-fits : (first end line count found next : ℕ) → CountsTo first end line count → Some found ≡ first_from (line_has test) line (end - line) →
-      found + 1 ≤ next → next ≤ end → count + (next - found) ≤ end
-  counts-fits first end line count found next so_far asked after upto =
-      let least = first-passes (line_has test) line (end - line) found (sym asked) in
-      let from = so_far.from in
-      let low = least.from in
-      let is = so_far.count_is in
-      let bound = count_from-bound (line_has test) first (line - first) in omega arith
-
-  pub counts-end : (first end line count : ℕ) → CountsTo first end line count → None ≡ first_from (line_has test) line (end - line) →
-      count ≡ count_from (line_has test) first (end - first)
-  counts-end first end line count so_far asked =
-      let from = so_far.from in
-      let within = so_far.within in
-      let is = so_far.count_is in
-      let rest = count_from-none (line_has test) line (end - line) (none-passes (line_has test) line (end - line) (sym asked)) in
-      let split = count_from-split (line_has test) first (line - first) (end - line) (end - first) line (omega arith) (omega arith) in
-      omega arith
 
 -- ---- a search over lines that has passed some by
 

@@ -1,16 +1,12 @@
 -- Cache lines by number and by a test on their bytes. No public clause cites this.
-use Rattle.std.specs.Prelude.{◌≡◌, ℕ, ◌*◌, ◌<◌, ◌≤◌, Bool, true, not, ◌&&◌, Option, is_some}
-use Rattle.pmf_event.specs.declared.span.TheConstants.{LINE_SIZE}
+use Rattle.std.specs.Prelude.{◌≡◌, ℕ, ◌<◌, ◌≤◌, Bool, true, not, ◌&&◌, Option}
 use Rattle.pmf_event.specs.declared.lines.Lines.{Lines}
 use Rattle.pmf_event.specs.Span.{Extent}
 use Rattle.pmf_event.specs.Ranges.{first_from, count_from}
 use Rattle.pmf_event.specs.FlushWarnings.{first_line, line_count, lines_from}
+use Rattle.pmf_runs.specs.Lines.{line_has}
 
--- whether some byte of the line with this number passes
-unfoldable pub line_has : (ℕ → Bool) → ℕ → Bool
-line_has test n = is_some (first_from test (n * LINE_SIZE) LINE_SIZE)
-
--- whether none does
+-- whether no byte of the line with this number passes
 unfoldable pub line_lacks : (ℕ → Bool) → ℕ → Bool
 line_lacks test n = not (line_has test n)
 

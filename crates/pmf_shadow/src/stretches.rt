@@ -1,4 +1,4 @@
-//! Cache lines by their bytes: those with a byte that passes a test, counted in stretches of such bytes.
+//! Cache lines by their bytes: those with a byte that passes a test, found by stretches of such bytes.
 
 ghost use Rattle.std.specs.Prelude.{◌≡◌, ℕ, ◌+◌, ◌-◌, ◌*◌, ◌/◌, ◌<◌, ◌≤◌, Bool, true, false};
 ghost use Rattle.pmf_event.specs.declared.span.TheConstants.{ADDRESS_LIMIT, LINE_SIZE};
@@ -7,7 +7,8 @@ ghost use Rattle.pmf_event.specs.Ranges.{count_from, first_from};
 ghost use Rattle.pmf_event.specs.FlushWarnings.{first_line};
 ghost use Rattle.pmf_shadow.specs.declared.byte.ByteState.{ByteState};
 ghost use Rattle.pmf_runs.specs.Runs.{passing};
-ghost use Rattle.pmf_shadow.specs.Stretches.{AllHave, line_has, line_has_but, line_lacks, lines_at, lines_by};
+ghost use Rattle.pmf_runs.specs.Lines.{line_has};
+ghost use Rattle.pmf_shadow.specs.Stretches.{AllHave, line_has_but, line_lacks, lines_at, lines_by};
 
 use crate::byte::{ByteState, Fails};
 use crate::shadow::{Shadow, end_of};
@@ -90,22 +91,15 @@ impl Shadow {
         })
     }
 
-    // How many of the lines have a byte that passes. Each is counted in the stretch that it is met by
-    // first: the next search begins behind the last line of a stretch.
-    fn count_with<T: Test<ByteState> + Copy>(&self, first: u64, end: u64, test: &T) -> u64
+    // How many of the lines have a byte that passes.
+    fn count_with<T: Test<ByteState>>(&self, first: u64, end: u64, test: &T) -> u64
         requires ordered { first ≤ end }
         requires room { end * LINE_SIZE ≤ ADDRESS_LIMIT }
         ensures { result ≡ count_from (line_has (passing (T.passes test.now) self.now.bytes))
             first (end - first) }
     {
-        let mut count = 0;
-        let mut line = first;
-        while let Some(found) = self.least_line_with(line, end, test) {
-            let next = self.stretch_behind(line, found, end, test);
-            count += next - found;
-            line = next;
-        }
-        count
+        self.bytes
+            .count_lines(first * LINE_SIZE, end * LINE_SIZE, test)
     }
 
     // The same as `least_line_but`. It begins at the first byte that passes the third test, and most often
@@ -204,28 +198,6 @@ impl Shadow {
         self.bytes
             .first_where(first, first + LINE_SIZE, test)
             .is_some()
-    }
-
-    // The line after the stretch of a line that was found. Only where it was found right away, as in the
-    // midst of such lines, is a stretch looked for: else the line is one by itself.
-    fn stretch_behind<T: Test<ByteState> + Copy>(
-        &self,
-        line: u64,
-        found: u64,
-        end: u64,
-        test: &T,
-    ) -> u64
-        requires below { found < end }
-        requires room { end * LINE_SIZE ≤ ADDRESS_LIMIT }
-        ensures from { found + 1 ≤ result }
-        ensures within { result ≤ end }
-        ensures has { AllHave (passing (T.passes test.now) self.now.bytes) (found + 1) result }
-    {
-        if found == line {
-            self.stretch_end(found + 1, end, test)
-        } else {
-            found + 1
-        }
     }
 
     // Where the bytes that pass end, from the first of the lines on: the line after those they meet.

@@ -1,20 +1,26 @@
 //! Questions about the states of a range in a leaf, each one walk over its runs.
 
-ghost use Rattle.std.specs.Prelude.{◌≡◌, ◌≤◌, ◌-◌};
+ghost use Rattle.std.specs.Prelude.{◌≡◌, ◌<◌, ◌≤◌, ◌-◌, ℕ};
+ghost use Rattle.pmf_runs.specs.Ranks.{rank, IsBeyond};
 
+use crate::keys::is_beyond;
 use crate::leaf::Leaf;
 use crate::state::{Key, State, Test};
-use crate::walk::{count_of_run, end_of, first_of_run, least_of_run, lesser, start_of};
+use crate::walk::{Counted, end_of, first_of_run, least_of_run, lesser, lines_of_run, start_of};
 
 impl<S: State> Leaf<S> {
-    ghost use Rattle.pmf_event.specs.Ranges.{first_from, count_from, least_from, lesser};
+    ghost use Rattle.pmf_event.specs.Ranges.{first_from, least_from, lesser};
     ghost use Rattle.pmf_runs.specs.Leaves.{leaf_state};
+    ghost use Rattle.pmf_runs.specs.Lines.{counted_from};
 
     /// The least number from `first` up to `end` whose state passes.
     pub(crate) fn find_first<T: Test<S>>(&self, first: u64, end: u64, test: &T) -> Option<u64>
         ensures { (d : S) → result ≡ first_from (λ b. T.passes test.now (leaf_state self.now d b)) first (end - first) }
     {
         let mut index = start_of(&self.keys, first, self.hint);
+        if first < end && is_beyond(&self.keys, end) {
+            return self.first_onward(index, first, test);
+        }
         let mut start = first;
         while start < end {
             let until = end_of(&self.keys, index, end);
@@ -29,22 +35,46 @@ impl<S: State> Leaf<S> {
         None
     }
 
-    /// How many of the numbers from `first` up to `end` have a state that passes.
-    pub(crate) fn count_passing<T: Test<S>>(&self, first: u64, end: u64, test: &T) -> u64
-        ensures is { (d : S) → result ≡ count_from (λ b. T.passes test.now (leaf_state self.now d b)) first (end - first) }
-        ensures bound { result ≤ end - first }
+    /// The least number from `first` on whose state passes, where a range ends beyond all keys and so meets
+    /// each run from that of `first` on.
+    fn first_onward<T: Test<S>>(&self, index: usize, first: u64, test: &T) -> Option<u64>
+        requires { index ≡ rank self.now.keys.items first }
+        ensures { (d : S) (end : ℕ) → first < end → IsBeyond self.now.keys.items end → result ≡ first_from (λ b. T.passes test.now (leaf_state self.now d b)) first (end - first) }
+    {
+        for i in index..self.states.len() {
+            if test.passes(self.states[i]) {
+                if i == index {
+                    return Some(first);
+                }
+                return Some(self.keys[i - 1]);
+            }
+        }
+        None
+    }
+
+    /// The count of lines with those that have a number from `first` up to `end` whose state passes.
+    pub(crate) fn count_lines<T: Test<S>>(
+        &self,
+        first: u64,
+        end: u64,
+        test: &T,
+        so_far: Counted,
+    ) -> Counted
+        requires { so_far.count ≤ so_far.next }
+        ensures is { (d : S) → result ≡ counted_from (λ b. T.passes test.now (leaf_state self.now d b)) first (end - first) so_far }
+        ensures bound { result.count ≤ result.next }
     {
         let mut index = start_of(&self.keys, first, self.hint);
         let mut start = first;
-        let mut count = 0;
+        let mut counted = so_far;
         while start < end {
             let until = end_of(&self.keys, index, end);
             let passes = test.passes(self.states[index]);
-            count += count_of_run(start, until, passes);
+            counted = lines_of_run(start, until, passes, counted);
             index += 1;
             start = until;
         }
-        count
+        counted
     }
 
     /// The lesser of the least so far and the least key that a state of the numbers from `first` up to

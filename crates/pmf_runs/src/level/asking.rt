@@ -1,15 +1,18 @@
 //! Questions about the states of a range in a level, each one walk over its parts.
 
-ghost use Rattle.std.specs.Prelude.{◌≡◌, ◌≤◌, ◌-◌};
+ghost use Rattle.std.specs.Prelude.{◌≡◌, ◌<◌, ◌≤◌, ◌-◌};
+ghost use Rattle.pmf_runs.specs.Ranks.{rank};
+ghost use Rattle.pmf_runs.specs.Walks.{end_of};
 
 use crate::level::Level;
 use crate::part::Part;
 use crate::state::{Key, State, Test};
-use crate::walk::{end_of, start_of};
+use crate::walk::{Counted, end_of, start_of};
 
 impl<P> Level<P> {
-    ghost use Rattle.pmf_event.specs.Ranges.{first_from, count_from, least_from, lesser};
+    ghost use Rattle.pmf_event.specs.Ranges.{first_from, least_from, lesser};
     ghost use Rattle.pmf_runs.specs.Levels.{level_state};
+    ghost use Rattle.pmf_runs.specs.Lines.{counted_from};
 
     /// The least number from `first` up to `end` whose state passes.
     pub(crate) fn find_first<S: State, T: Test<S>>(
@@ -25,34 +28,66 @@ impl<P> Level<P> {
         let mut index = start_of(&self.keys, first, self.hint);
         let mut start = first;
         while start < end {
-            let until = end_of(&self.keys, index, end);
-            let found = self.parts[index].first_where(start, until, test);
+            let found = self.first_in_part(index, start, end, test);
             if found.is_some() {
                 return found;
             }
+            if index == self.keys.len() {
+                return None;
+            }
+            start = self.keys[index];
             index += 1;
-            start = until;
         }
         None
     }
 
-    /// How many of the numbers from `first` up to `end` have a state that passes.
-    pub(crate) fn count_passing<S: State, T: Test<S>>(&self, first: u64, end: u64, test: &T) -> u64
+    /// The least number whose state passes, from `start` up to `end` in the part of `start`, which is not
+    /// asked where no state of it may pass.
+    #[inline(always)]
+    fn first_in_part<S: State, T: Test<S>>(
+        &self,
+        index: usize,
+        start: u64,
+        end: u64,
+        test: &T,
+    ) -> Option<u64>
     where
         P: Part<S>,
-        ensures is { (d : S) → result ≡ count_from (λ b. T.passes test.now (level_state P.state self.now d b)) first (end - first) }
-        ensures bound { result ≤ end - first }
+        requires some { start < end }
+        requires rank { index ≡ rank self.now.keys.items start }
+        ensures { (d : S) → result ≡ first_from (λ b. T.passes test.now (level_state P.state self.now d b)) start (end_of self.now.keys.items index end - start) }
+    {
+        let part = &self.parts[index];
+        if !test.may_pass(part.summary()) {
+            return None;
+        }
+        part.first_where(start, end_of(&self.keys, index, end), test)
+    }
+
+    /// The count of lines with those that have a number from `first` up to `end` whose state passes.
+    pub(crate) fn count_lines<S: State, T: Test<S>>(
+        &self,
+        first: u64,
+        end: u64,
+        test: &T,
+        so_far: Counted,
+    ) -> Counted
+    where
+        P: Part<S>,
+        requires { so_far.count ≤ so_far.next }
+        ensures is { (d : S) → result ≡ counted_from (λ b. T.passes test.now (level_state P.state self.now d b)) first (end - first) so_far }
+        ensures bound { result.count ≤ result.next }
     {
         let mut index = start_of(&self.keys, first, self.hint);
         let mut start = first;
-        let mut count = 0;
+        let mut counted = so_far;
         while start < end {
             let until = end_of(&self.keys, index, end);
-            count += self.parts[index].count_where(start, until, test);
+            counted = self.parts[index].count_lines(start, until, test, counted);
             index += 1;
             start = until;
         }
-        count
+        counted
     }
 
     /// The lesser of the least so far and the least key that a state of the numbers from `first` up to

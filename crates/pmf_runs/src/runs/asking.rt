@@ -1,14 +1,16 @@
 //! Questions about the states of a range. Each is one walk over the runs that lie in it.
 
-ghost use Rattle.std.specs.Prelude.{◌≡◌, ◌-◌};
+ghost use Rattle.std.specs.Prelude.{◌≡◌, ◌-◌, ◌/◌, ◌%◌};
 
 use crate::runs::RunMap;
 use crate::state::{Key, State, Test};
-use crate::walk::{count_of_run, first_of_run, least_of_run};
+use crate::walk::{Counted, first_of_run, least_of_run, lines_of_run};
 
 impl<S: State> RunMap<S> {
     ghost use Rattle.pmf_event.specs.Ranges.{first_from, count_from, least_from};
     ghost use Rattle.pmf_runs.specs.Runs.{passing, keyed};
+    ghost use Rattle.pmf_runs.specs.Lines.{line_has};
+    ghost use Rattle.pmf_event.specs.declared.span.TheConstants.{LINE_SIZE};
 
     /// The least number from `first` up to `end` whose state passes. An empty range has none, also one
     /// whose end is below its first number. The walk ends at the first run that passes.
@@ -24,16 +26,18 @@ impl<S: State> RunMap<S> {
         }
     }
 
-    /// How many of the numbers from `first` up to `end` have a state that passes.
-    pub fn count_where<T: Test<S>>(&self, first: u64, end: u64, test: &T) -> u64
-        ensures { result ≡ count_from (passing (T.passes test.now) self.now) first (end - first) }
+    /// How many of the cache lines from `first` up to `end`, at each of which a line begins, have a number
+    /// whose state passes.
+    pub fn count_lines<T: Test<S>>(&self, first: u64, end: u64, test: &T) -> u64
+        requires first { first % LINE_SIZE ≡ 0 }
+        requires end { end % LINE_SIZE ≡ 0 }
+        ensures { result ≡ count_from (line_has (passing (T.passes test.now) self.now))
+            (first / LINE_SIZE) (end / LINE_SIZE - first / LINE_SIZE) }
     {
-        if end <= first {
-            return 0;
-        }
+        let none = Counted { count: 0, next: 0 };
         match &self.root {
-            None => count_of_run(first, end, test.passes(self.gap)),
-            Some(root) => root.count_passing(first, end, test),
+            None => lines_of_run(first, end, test.passes(self.gap), none).count,
+            Some(root) => root.count_lines(first, end, test, none).count,
         }
     }
 

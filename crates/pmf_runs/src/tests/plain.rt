@@ -2,6 +2,7 @@
 
 use super::Colour;
 use crate::state::{Change, Key, Test};
+use pmf_event::LINE_SIZE;
 use std::alloc::{AllocError, Global};
 
 #[derive(Debug, Drop)]
@@ -58,11 +59,14 @@ impl Plain {
         None
     }
 
-    pub(super) fn count_where<T: Test<Colour>>(&self, first: u64, end: u64, test: &T) -> u64 {
+    pub(super) fn count_lines<T: Test<Colour>>(&self, first: u64, end: u64, test: &T) -> u64 {
         let mut count = 0u64;
+        let mut last = None;
         for place in first..end {
-            if test.passes(self.at(place)) {
+            let line = Some(place / LINE_SIZE);
+            if test.passes(self.at(place)) && last != line {
                 count = count.wrapping_add(1);
+                last = line;
             }
         }
         count

@@ -1,6 +1,6 @@
-use Rattle.std.proofs.Common.{sym, ◌∙◌, ap, arith}
+use Rattle.std.proofs.Common.{sym, ◌∙◌, ap, subst, arith}
 use Rattle.std.specs.Prelude.{None}
-use Rattle.pmf_runs.specs.Ranks.{rank}
+use Rattle.pmf_runs.specs.Ranks.{rank, IsBeyond}
 use Rattle.pmf_runs.specs.Walks.{end_of}
 use Rattle.pmf_runs.specs.Leaves.{leaf_state}
 use Rattle.pmf_runs.proofs.RankLemmas.{none-is-any}
@@ -10,6 +10,9 @@ use Rattle.pmf_runs.proofs.leaf.Leaf.find_first.Goals as goal
 pub loop-start-init : goal.loop-start-init
 loop-start-init g c =
     asked-start first-law (λ d b. g.T.Test.passes c.args.test.now (leaf_state c.args.self.now d b)) None c.args.self.now.keys.items c.args.first c.args.end c.start_of-index.result (c.start_of-index.ensures ∙ ap (λ ks. rank ks c.args.first) c.deref.ensures.value)
+
+pub returns-then-is_beyond : goal.returns-then-is_beyond
+returns-then-is_beyond g c = λ d. c.first_onward.ensures d c.args.end c.if-first-end.true (subst (λ ks. IsBeyond ks c.args.end) c.deref-then-first-end.ensures.value (c.is_beyond.ensures c.if-is_beyond.true))
 
 pub returns-then-is_some : goal.returns-then-is_some
 returns-then-is_some g c =

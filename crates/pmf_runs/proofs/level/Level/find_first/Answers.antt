@@ -1,36 +1,46 @@
-use Rattle.std.proofs.Common.{sym, ◌∙◌, ap, arith}
-use Rattle.std.specs.Prelude.{None}
+use Rattle.std.proofs.Common.{refl, sym, ◌∙◌, ap, arith}
+use Rattle.std.proofs.lemmas.List.{get_or_read}
 use Rattle.pmf_runs.specs.Ranks.{rank}
 use Rattle.pmf_runs.specs.Walks.{end_of}
 use Rattle.pmf_runs.specs.Levels.{level_state}
-use Rattle.pmf_runs.proofs.RankLemmas.{none-is-any}
-use Rattle.pmf_runs.proofs.AskingLemmas.{first-law, asked-start, asked-more, asked-end, walks-more, asked-found}
-use Rattle.pmf_runs.proofs.LevelAskingLemmas.{part-asked}
+use Rattle.pmf_runs.proofs.RankLemmas.{none-is-any, rank-is}
+use Rattle.pmf_runs.proofs.AskingLemmas.{asked-found}
+use Rattle.pmf_runs.proofs.LevelAskingLemmas.{sought-start, sought-asked, sought-rank, sought-more, sought-last, sought-end}
 use Rattle.pmf_runs.proofs.level.Level.find_first.Goals as goal
 
 pub loop-start-init : goal.loop-start-init
 loop-start-init g c =
-    asked-start first-law (λ d b. g.T.Test.passes c.args.test.now (level_state g.P.Part.state c.args.self.now d b)) None c.args.self.now.keys.items c.args.first c.args.end c.start_of-index.result (c.start_of-index.ensures ∙ ap (λ ks. rank ks c.args.first) c.deref.ensures.value)
+    let at = c.start_of-index.ensures ∙ ap (λ ks. rank ks c.args.first) c.deref.ensures.value in
+    let bound = (rank-is c.args.self.now.keys.items c.args.first).bound in
+    record {
+      within = omega arith;
+      sought = sought-start (λ d b. g.T.Test.passes c.args.test.now (level_state g.P.Part.state c.args.self.now d b)) c.args.self.now.keys.items c.args.first c.args.end c.start_of-index.result at;
+    }
+
+pub first_in_part-found-requires-clause-rank : goal.first_in_part-found-requires-clause-rank
+first_in_part-found-requires-clause-rank g c =
+    sought-rank (λ d b. g.T.Test.passes c.args.test.now (level_state g.P.Part.state c.args.self.now d b)) c.args.self.now.keys.items c.args.first c.args.end c.loop-start.start c.loop-start.index c.loop-start-test.true c.loop-start.invariant.sought
 
 pub returns-then-is_some : goal.returns-then-is_some
 returns-then-is_some g c =
-    let ends = c.end_of-until.ensures ∙ ap (λ ks. end_of ks c.loop-start.index c.args.end) c.deref-in-loop-start.ensures.value in
-    asked-found (λ d b. g.T.Test.passes c.args.test.now (level_state g.P.Part.state c.args.self.now d b)) c.args.self.now.keys.items c.args.first c.args.end c.loop-start.start c.loop-start.index c.end_of-until.result c.first_where-found.result c.args.self.now.ordered c.loop-start-test.true ends
-    (λ d. c.first_where-found.ensures d ∙ part-asked first-law g.P.Part.state (g.T.Test.passes c.args.test.now) c.args.self.now c.index.result.now c.args.first c.args.end c.loop-start.start c.loop-start.index c.end_of-until.result c.index.ensures c.loop-start-test.true ends c.loop-start.invariant.walk d) (sym c.is_some.ensures ∙ c.if-is_some.true) c.loop-start.invariant
+    let asked = sought-asked (λ d b. g.T.Test.passes c.args.test.now (level_state g.P.Part.state c.args.self.now d b)) c.args.self.now.keys.items c.args.first c.args.end c.loop-start.start c.loop-start.index c.loop-start-test.true c.loop-start.invariant.sought in
+    asked-found (λ d b. g.T.Test.passes c.args.test.now (level_state g.P.Part.state c.args.self.now d b)) c.args.self.now.keys.items c.args.first c.args.end c.loop-start.start c.loop-start.index (end_of c.args.self.now.keys.items c.loop-start.index c.args.end) c.first_in_part-found.result c.args.self.now.ordered c.loop-start-test.true refl
+    c.first_in_part-found.ensures (sym c.is_some.ensures ∙ c.if-is_some.true) asked
 
-pub loop-start-smaller : goal.loop-start-smaller
-loop-start-smaller g c =
-    let ends = c.end_of-until.ensures ∙ ap (λ ks. end_of ks c.loop-start.index c.args.end) c.deref-in-loop-start.ensures.value in
-    let more = walks-more c.args.self.now.keys.items c.args.first c.args.end c.loop-start.start c.loop-start.index c.end_of-until.result c.args.self.now.ordered c.loop-start-test.true ends c.loop-start.invariant.walk in
-    let after = more.0 in
-    let within = more.1 in
-    omega arith
+pub returns-then-index-len : goal.returns-then-index-len
+returns-then-index-len g c =
+    sought-last (λ d b. g.T.Test.passes c.args.test.now (level_state g.P.Part.state c.args.self.now d b)) c.args.self.now.keys.items c.args.first c.args.end c.loop-start.start c.loop-start.index c.args.self.now.ordered c.loop-start-test.true (omega (arith, c.len.ensures, c.args.self.now.keys.ok.0, c.if-index-len.true))
+    (λ d. sym (none-is-any c.first_in_part-found.result (sym c.is_some.ensures ∙ c.if-is_some.false)) ∙ c.first_in_part-found.ensures d) c.loop-start.invariant.sought
 
 pub loop-start-preserved : goal.loop-start-preserved
 loop-start-preserved g c =
-    let ends = c.end_of-until.ensures ∙ ap (λ ks. end_of ks c.loop-start.index c.args.end) c.deref-in-loop-start.ensures.value in
-    asked-more first-law (λ d b. g.T.Test.passes c.args.test.now (level_state g.P.Part.state c.args.self.now d b)) None c.args.self.now.keys.items c.args.first c.args.end c.loop-start.start c.loop-start.index c.end_of-until.result None None c.args.self.now.ordered c.loop-start-test.true ends
-    (λ d. sym (none-is-any c.first_where-found.result (sym c.is_some.ensures ∙ c.if-is_some.false)) ∙ c.first_where-found.ensures d ∙ part-asked first-law g.P.Part.state (g.T.Test.passes c.args.test.now) c.args.self.now c.index.result.now c.args.first c.args.end c.loop-start.start c.loop-start.index c.end_of-until.result c.index.ensures c.loop-start-test.true ends c.loop-start.invariant.walk d) c.loop-start.invariant
+    let within = c.loop-start.invariant.within in
+    record {
+      within = omega (arith, c.len.ensures, c.args.self.now.keys.ok.0, c.if-index-len.false);
+      sought = sought-more (λ d b. g.T.Test.passes c.args.test.now (level_state g.P.Part.state c.args.self.now d b)) c.args.self.now.keys.items c.args.first c.args.end c.loop-start.start c.loop-start.index c.index-start.result.now c.args.self.now.ordered c.loop-start-test.true
+          (omega (arith, c.len.ensures, c.args.self.now.keys.ok.0, c.if-index-len.false)) (get_or_read c.args.self.now.keys.items c.loop-start.index c.index-start.result.now (omega (arith, c.len.ensures, c.args.self.now.keys.ok.0, c.if-index-len.false)) c.index-start.ensures 0)
+          (λ d. sym (none-is-any c.first_in_part-found.result (sym c.is_some.ensures ∙ c.if-is_some.false)) ∙ c.first_in_part-found.ensures d) c.loop-start.invariant.sought;
+    }
 
 pub returns : goal.returns
-returns g c = asked-end first-law (λ d b. g.T.Test.passes c.args.test.now (level_state g.P.Part.state c.args.self.now d b)) None c.args.self.now.keys.items c.args.first c.args.end c.loop-start.start c.loop-start.index None (omega arith) c.loop-start.invariant
+returns g c = sought-end (λ d b. g.T.Test.passes c.args.test.now (level_state g.P.Part.state c.args.self.now d b)) c.args.self.now.keys.items c.args.first c.args.end c.loop-start.start c.loop-start.index (omega arith) c.loop-start.invariant.sought

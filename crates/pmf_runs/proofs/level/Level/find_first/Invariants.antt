@@ -1,12 +1,13 @@
-use Rattle.std.proofs.Common.{◌-◌}
-use Rattle.std.specs.Prelude.{None}
-use Rattle.pmf_event.specs.Ranges.{first_from}
+use Rattle.std.proofs.Common.{◌-◌, ◌≤◌, length}
 use Rattle.pmf_runs.specs.Levels.{level_state}
-use Rattle.pmf_runs.proofs.AskingLemmas.{Asked, first_found}
+use Rattle.pmf_runs.proofs.LevelAskingLemmas.{Sought}
 use Rattle.pmf_runs.proofs.level.Level.find_first.Given as goal
 
 abbrev pub invariant-loop-start : goal.invariant-loop-start
-invariant-loop-start g l = Asked (λ d. first_from (λ b. g.T.Test.passes l.test (level_state g.P.Part.state l.self d b))) first_found None l.self.keys.items l.first l.end l.start l.index None
+invariant-loop-start g l = record {
+  within : l.index ≤ length l.self.keys.items;
+  sought : Sought (λ d b. g.T.Test.passes l.test (level_state g.P.Part.state l.self d b)) l.self.keys.items l.first l.end l.start l.index;
+}
 
 abbrev pub decreases-loop-start : goal.decreases-loop-start
-decreases-loop-start g l = l.end - l.start
+decreases-loop-start g l = length l.self.keys.items - l.index

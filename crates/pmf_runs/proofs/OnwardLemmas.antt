@@ -1,0 +1,70 @@
+-- The first state that passes, where the range ends beyond all keys.
+use Rattle.std.proofs.Common.{◌≡◌, ℕ, ◌-◌, ◌<◌, ◌≤◌, Bool, true, false, List, length, get_or, sym, ◌∙◌, ap, subst, arith, inl, inr}
+use Rattle.std.proofs.lemmas.Bool.{cases_lt}
+use Rattle.std.specs.Prelude.{Some, None}
+use Rattle.std.proofs.lemmas.List.{get_or_read}
+use Rattle.pmf_event.specs.Ranges.{first_from}
+use Rattle.pmf_event.proofs.RangeLemmas.{first_from-none, first_from-some}
+use Rattle.pmf_runs.specs.declared.leaf.Leaf.{Leaf}
+use Rattle.pmf_runs.specs.Ranks.{rank, at_rank, Rises, IsBeyond}
+use Rattle.pmf_runs.specs.Leaves.{leaf_state}
+use Rattle.pmf_runs.proofs.RankLemmas.{IsRank, rank-is, rank-unique, rank-above, rises-le}
+use Rattle.pmf_runs.proofs.LeafLemmas.{leaf-counted, rank-bound, state-read}
+
+-- a key is the first number of the run after it
+rank-at : (keys : List ℕ) (i : ℕ) → Rises keys → 0 < i → i ≤ length keys → rank keys (get_or keys (i - 1) 0) ≡ i
+rank-at keys i rises some within = rank-unique keys (get_or keys (i - 1) 0) i (record {
+  bound = within;
+  upto = λ k below. rises-le keys k (i - 1) rises (omega arith) (omega arith);
+  beyond = λ more. rises.order (i - 1) i (omega arith) more;
+})
+
+-- a number below a key has a rank below that of the key
+rank-under : (keys : List ℕ) (b i : ℕ) → 0 < i → i ≤ length keys → b < get_or keys (i - 1) 0 → rank keys b < i
+rank-under keys b i some within below = elim (cases_lt (rank keys b) i) [
+  | inl lt ↦ lt
+  | inr ge ↦ let r = rank-is keys b in let low = r.upto (i - 1) (omega arith) in absurd (omega arith)
+]
+
+module _ {S : Type 0} (test : S → Bool) (leaf : Leaf S) (first index : ℕ) (at : index ≡ rank leaf.keys.items first) where
+  -- no state of the runs from index up to i passes
+  abbrev pub NoneUpto : ℕ → Type 0
+  NoneUpto i = (k : ℕ) (d : S) → index ≤ k → k < i → test (get_or leaf.states.items k d) ≡ false
+
+  -- a number from first on, of a run below i, has a state that fails
+  fails-at : (i : ℕ) → NoneUpto i → (d : S) (b : ℕ) → first ≤ b → rank leaf.keys.items b < i → test (leaf_state leaf d b) ≡ false
+  unfolding leaf_state at_rank
+  fails-at i none d b from below =
+      none (rank leaf.keys.items b) d (rank-above leaf.keys.items first b index (rank leaf.keys.items b) (subst (IsRank leaf.keys.items first) (sym at) (rank-is leaf.keys.items first)) (rank-is leaf.keys.items b) from) below
+
+  pub onward-none : (i : ℕ) → length leaf.states.items ≤ i → NoneUpto i → (d : S) (end : ℕ) → None ≡ first_from (λ b. test (leaf_state leaf d b)) first (end - first)
+  onward-none i all none d end = sym (first_from-none (λ b. test (leaf_state leaf d b)) first (end - first) (λ b from below.
+      let bound = rank-bound leaf b in fails-at i none d b from (omega arith)))
+
+  -- the run of first passes
+  pub onward-first : (i : ℕ) (state : S) (v : Bool) → i ≡ index → state ≡ get_or leaf.states.items i state → v ≡ test state → v ≡ true → (d : S) (end : ℕ) → first < end → Some first ≡ first_from (λ b. test (leaf_state leaf d b)) first (end - first)
+  onward-first i state v same read is passes d end some = sym (first_from-some (λ b. test (leaf_state leaf d b)) first (end - first) first (record {
+    from = omega arith;
+    within = omega arith;
+    passes = sym (ap test (state-read leaf state first i (same ∙ at) read d)) ∙ sym is ∙ passes;
+    before = λ j low high. absurd (omega arith);
+  }))
+
+  -- a later run is the first that passes
+  pub onward-later : (i number : ℕ) (state : S) (v : Bool) → index < i → i < length leaf.states.items → NoneUpto i → number ≡ get_or leaf.keys.items (i - 1) number → state ≡ get_or leaf.states.items i state → v ≡ test state → v ≡ true →
+      (d : S) (end : ℕ) → IsBeyond leaf.keys.items end → Some number ≡ first_from (λ b. test (leaf_state leaf d b)) first (end - first)
+  onward-later i number state v after within none key read is passes d end beyond =
+      let keys = leaf.keys.items in
+      let counted = leaf-counted leaf in
+      let begins = get_or_read keys (i - 1) number (omega arith) key 0 in
+      let here = subst (IsRank keys first) (sym at) (rank-is keys first) in
+      let past = here.beyond (omega arith) in
+      let order = rises-le keys index (i - 1) leaf.ordered (omega arith) (omega arith) in
+      let short = beyond.above (i - 1) (omega arith) in
+      let own = rank-at keys i leaf.ordered (omega arith) (omega arith) in
+      sym (first_from-some (λ b. test (leaf_state leaf d b)) first (end - first) number (record {
+        from = omega arith;
+        within = omega arith;
+        passes = sym (ap test (state-read leaf state number i (sym own ∙ ap (rank keys) (sym begins)) read d)) ∙ sym is ∙ passes;
+        before = λ j low high. fails-at i none d j low (rank-under keys j i (omega arith) (omega arith) (omega arith));
+      }))

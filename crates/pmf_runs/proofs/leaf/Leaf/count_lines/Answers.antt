@@ -1,0 +1,33 @@
+use Rattle.std.proofs.Common.{◌∙◌, ap, arith}
+use Rattle.pmf_runs.specs.Ranks.{rank}
+use Rattle.pmf_runs.specs.Walks.{end_of}
+use Rattle.pmf_runs.specs.Leaves.{leaf_state}
+use Rattle.pmf_runs.proofs.AskingLemmas.{lines-law, asked-start, asked-more, asked-end, walks-more, run-asked}
+use Rattle.pmf_runs.proofs.leaf.Leaf.count_lines.Goals as goal
+
+pub loop-start-init : goal.loop-start-init
+loop-start-init g c =
+    record {
+      bound = c.requires;
+      asked = asked-start lines-law (λ d b. g.T.Test.passes c.args.test.now (leaf_state c.args.self.now d b)) c.args.so_far c.args.self.now.keys.items c.args.first c.args.end c.start_of-index.result (c.start_of-index.ensures ∙ ap (λ ks. rank ks c.args.first) c.deref.ensures.value);
+    }
+
+pub loop-start-smaller : goal.loop-start-smaller
+loop-start-smaller g c =
+    let ends = c.end_of-until.ensures ∙ ap (λ ks. end_of ks c.loop-start.index c.args.end) c.deref-in-loop-start.ensures.value in
+    let more = walks-more c.args.self.now.keys.items c.args.first c.args.end c.loop-start.start c.loop-start.index c.end_of-until.result c.args.self.now.ordered c.loop-start-test.true ends c.loop-start.invariant.asked.walk in
+    let after = more.0 in
+    let within = more.1 in
+    omega arith
+
+pub loop-start-preserved : goal.loop-start-preserved
+loop-start-preserved g c =
+    let ends = c.end_of-until.ensures ∙ ap (λ ks. end_of ks c.loop-start.index c.args.end) c.deref-in-loop-start.ensures.value in
+    record {
+      bound = c.lines_of_run-counted.ensures.bound;
+      asked = asked-more lines-law (λ d b. g.T.Test.passes c.args.test.now (leaf_state c.args.self.now d b)) c.args.so_far c.args.self.now.keys.items c.args.first c.args.end c.loop-start.start c.loop-start.index c.end_of-until.result c.loop-start.counted c.lines_of_run-counted.result c.args.self.now.ordered c.loop-start-test.true ends
+          (λ d. c.lines_of_run-counted.ensures.is ∙ ap (λ count. count c.loop-start.counted) (run-asked lines-law (g.T.Test.passes c.args.test.now) c.args.self.now c.index.result.now c.passes-passes.result c.args.first c.args.end c.loop-start.start c.loop-start.index c.end_of-until.result c.index.ensures c.passes-passes.ensures c.loop-start-test.true ends c.loop-start.invariant.asked.walk d)) c.loop-start.invariant.asked;
+    }
+
+pub returns-clause-is : goal.returns-clause-is
+returns-clause-is g c = asked-end lines-law (λ d b. g.T.Test.passes c.args.test.now (leaf_state c.args.self.now d b)) c.args.so_far c.args.self.now.keys.items c.args.first c.args.end c.loop-start.start c.loop-start.index c.loop-start.counted (omega arith) c.loop-start.invariant.asked

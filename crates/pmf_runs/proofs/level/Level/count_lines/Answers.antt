@@ -1,0 +1,34 @@
+use Rattle.std.proofs.Common.{◌∙◌, ap, arith}
+use Rattle.pmf_runs.specs.Ranks.{rank}
+use Rattle.pmf_runs.specs.Walks.{end_of}
+use Rattle.pmf_runs.specs.Levels.{level_state}
+use Rattle.pmf_runs.proofs.AskingLemmas.{lines-law, asked-start, asked-more, asked-end, walks-more}
+use Rattle.pmf_runs.proofs.LevelAskingLemmas.{part-asked}
+use Rattle.pmf_runs.proofs.level.Level.count_lines.Goals as goal
+
+pub loop-start-init : goal.loop-start-init
+loop-start-init g c =
+    record {
+      bound = c.requires;
+      asked = asked-start lines-law (λ d b. g.T.Test.passes c.args.test.now (level_state g.P.Part.state c.args.self.now d b)) c.args.so_far c.args.self.now.keys.items c.args.first c.args.end c.start_of-index.result (c.start_of-index.ensures ∙ ap (λ ks. rank ks c.args.first) c.deref.ensures.value);
+    }
+
+pub loop-start-smaller : goal.loop-start-smaller
+loop-start-smaller g c =
+    let ends = c.end_of-until.ensures ∙ ap (λ ks. end_of ks c.loop-start.index c.args.end) c.deref-in-loop-start.ensures.value in
+    let more = walks-more c.args.self.now.keys.items c.args.first c.args.end c.loop-start.start c.loop-start.index c.end_of-until.result c.args.self.now.ordered c.loop-start-test.true ends c.loop-start.invariant.asked.walk in
+    let after = more.0 in
+    let within = more.1 in
+    omega arith
+
+pub loop-start-preserved : goal.loop-start-preserved
+loop-start-preserved g c =
+    let ends = c.end_of-until.ensures ∙ ap (λ ks. end_of ks c.loop-start.index c.args.end) c.deref-in-loop-start.ensures.value in
+    record {
+      bound = c.count_lines-counted.ensures.bound;
+      asked = asked-more lines-law (λ d b. g.T.Test.passes c.args.test.now (level_state g.P.Part.state c.args.self.now d b)) c.args.so_far c.args.self.now.keys.items c.args.first c.args.end c.loop-start.start c.loop-start.index c.end_of-until.result c.loop-start.counted c.count_lines-counted.result c.args.self.now.ordered c.loop-start-test.true ends
+          (λ d. c.count_lines-counted.ensures.is d ∙ ap (λ count. count c.loop-start.counted) (part-asked lines-law g.P.Part.state (g.T.Test.passes c.args.test.now) c.args.self.now c.index.result.now c.args.first c.args.end c.loop-start.start c.loop-start.index c.end_of-until.result c.index.ensures c.loop-start-test.true ends c.loop-start.invariant.asked.walk d)) c.loop-start.invariant.asked;
+    }
+
+pub returns-clause-is : goal.returns-clause-is
+returns-clause-is g c = asked-end lines-law (λ d b. g.T.Test.passes c.args.test.now (level_state g.P.Part.state c.args.self.now d b)) c.args.so_far c.args.self.now.keys.items c.args.first c.args.end c.loop-start.start c.loop-start.index c.loop-start.counted (omega arith) c.loop-start.invariant.asked

@@ -1,0 +1,14 @@
+use Rattle.std.proofs.Common.{◌-◌, ◌≤◌}
+use Rattle.pmf_runs.specs.Levels.{level_state}
+use Rattle.pmf_runs.specs.Lines.{counted_from}
+use Rattle.pmf_runs.proofs.AskingLemmas.{Asked}
+use Rattle.pmf_runs.proofs.level.Level.count_lines.Given as goal
+
+abbrev pub invariant-loop-start : goal.invariant-loop-start
+invariant-loop-start g l = record {
+  bound : l.counted.count ≤ l.counted.next;
+  asked : Asked (λ d. counted_from (λ b. g.T.Test.passes l.test (level_state g.P.Part.state l.self d b))) (λ so_far count. count so_far) l.fn.so_far l.self.keys.items l.first l.end l.start l.index l.counted;
+}
+
+abbrev pub decreases-loop-start : goal.decreases-loop-start
+decreases-loop-start g l = l.end - l.start
