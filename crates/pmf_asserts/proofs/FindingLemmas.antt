@@ -1,6 +1,13 @@
 -- A finding by its parts.
-use Rattle.std.proofs.Common.{◌≡◌, ℕ, Bool, true, false, if◌then◌else◌, List, refl, sym, ◌∙◌, ap}
+use Rattle.std.proofs.Common.{◌≡◌, ℕ, ◌<◌, Bool, true, false, not, ◌&&◌, if◌then◌else◌, List, refl, sym, ◌∙◌, ap, arith}
 use Rattle.std.specs.Prelude.{Option, Some, None, is_some, is_none}
+use Rattle.std.proofs.lemmas.Bool.{and_parts, ltb-true, ne_eqb, eq-eqb}
+use Rattle.pmf_event.specs.declared.interval.Interval.{Interval}
+use Rattle.pmf_event.specs.Line.{line_of_byte}
+use Rattle.pmf_event.specs.Store.{last_store, epoch_of, stores}
+use Rattle.pmf_event.specs.Interval.{interval_at, closing_fence, epoch_after}
+use Rattle.pmf_event.proofs.LeastPairLemmas.{pair-from, certified-unordered}
+use Rattle.pmf_shadow.specs.Told.{interval_as_told}
 use Rattle.pmf_event.specs.declared.event.Event.{Event}
 use Rattle.pmf_event.specs.declared.profile.Profile.{Profile}
 use Rattle.pmf_event.specs.declared.finding.Finding.{Finding}
@@ -8,7 +15,7 @@ use Rattle.pmf_event.specs.declared.finding.Finding.TheVariants.{PersistEmpty, O
 use Rattle.pmf_event.specs.Span.{Extent}
 use Rattle.pmf_event.specs.Ranges.{first_byte}
 use Rattle.pmf_event.specs.Persist.{is_checked, is_exposed, pass_unless, persist_finding}
-use Rattle.pmf_event.specs.Order.{is_unordered, is_certified, least_pair, finding_of_pairs, ordered_finding}
+use Rattle.pmf_event.specs.Order.{is_ordered, is_unordered, is_certified, least_pair, finding_of_pairs, ordered_finding}
 
 is_none-by : (o : Option ℕ) (v : Bool) → is_some o ≡ v → is_none o ≡ (if v then false else true)
 is_none-by None true is = let bad : false ≡ true = is in cc
@@ -48,3 +55,47 @@ module _ (es : List Event) (p : ℕ) where
         ∙ ap (finding_of_pairs es p (least_pair (is_certified profile es p) a b)) is_unordered_one
         ∙ sym (ap (λ v. if v then OrderedEmpty else if is_none (first_byte (is_checked es p) b) then OrderedEmpty else pairs) (is_none-by (first_byte (is_checked es p) a) true some)
         ∙ ap (λ v. if v then OrderedEmpty else pairs) (is_none-by (first_byte (is_checked es p) b) true other))
+
+-- ---- the place of a store
+
+module _ (told : ℕ → ℕ) (es : List Event) (p b : ℕ) where
+  -- the interval of a written byte
+  found : Option Interval
+  found = Some (record { last = last_store es p b; opens = epoch_of es (last_store es p b); closes = epoch_after es (closing_fence (stores b) (line_of_byte b) es p) })
+
+  at-written : 0 < last_store es p b → interval_at es p b ≡ found
+  unfolding found
+  at-written some = ap (λ v. if v then None else found) (ne_eqb (last_store es p b) 0 (λ none. omega arith))
+
+  at-unwritten : last_store es p b ≡ 0 → interval_at es p b ≡ None
+  unfolding found
+  at-unwritten none = ap (λ v. if v then None else found) (eq-eqb (last_store es p b) 0 none)
+
+  pub place-written : (i : Interval) → Some i ≡ interval_as_told told (interval_at es p b) → 0 < last_store es p b → i.last ≡ told (last_store es p b)
+  unfolding found
+  place-written i is some =
+      let same : Some i ≡ interval_as_told told found = is ∙ ap (interval_as_told told) (at-written some) in
+      let own : i ≡ record { last = told (last_store es p b); opens = epoch_of es (last_store es p b); closes = epoch_after es (closing_fence (stores b) (line_of_byte b) es p) } = cc in
+      ap (λ (i : Interval). i.last) own
+
+  pub never-written : None ≡ interval_as_told told (interval_at es p b) → 0 < last_store es p b → ⊥
+  unfolding found
+  never-written is some = let bad : None ≡ interval_as_told told found = is ∙ ap (interval_as_told told) (at-written some) in cc
+
+  pub never-unwritten : (i : Interval) → Some i ≡ interval_as_told told (interval_at es p b) → last_store es p b ≡ 0 → ⊥
+  never-unwritten i is none = let bad : Some i ≡ None = is ∙ ap (interval_as_told told) (at-unwritten none) in cc
+
+checked-written : (es : List Event) (p y : ℕ) → is_checked es p y ≡ true → 0 < last_store es p y
+unfolding is_checked
+checked-written es p y is = ltb-true 0 (last_store es p y) (and_parts _ _ is).0
+
+unordered-checked : (profile : Profile) (es : List Event) (p x y : ℕ) → is_unordered profile es p x y ≡ true → is_checked es p y ≡ true
+unfolding is_unordered
+unordered-checked profile es p x y is =
+    (and_parts (is_checked es p x) (is_checked es p y) (and_parts (is_checked es p x && is_checked es p y) (not (is_ordered profile es p x y)) is).0).1
+
+-- the later byte of a certified pair is written
+pub certified-written : (profile : Profile) (es : List Event) (p : ℕ) (a b : Extent) (x y : ℕ) → least_pair (is_certified profile es p) a b ≡ Some (x, y) → 0 < last_store es p y
+certified-written profile es p a b x y is =
+    let pair = pair-from (is_certified profile es p) a b x y is in
+    checked-written es p y (unordered-checked profile es p x y (certified-unordered profile es p x y pair.passes))

@@ -21,9 +21,9 @@ pub struct FlushFindings {
 /// What is found of a write-back over the span that comes after the events that the shadow stands for:
 /// it is judged before it takes effect.
 pub fn check_flush(shadow: &Shadow, span: Span) -> FlushFindings
-    ensures doubled { (es : List Event) (p : ℕ) → StandsFor shadow.now es p
+    ensures doubled { (told : ℕ → ℕ) (es : List Event) (p : ℕ) → StandsFor shadow.now told es p
         → result.doubled ≡ doubled_finding (lines_where (is_pending es p) span) }
-    ensures needless { (es : List Event) (p : ℕ) → StandsFor shadow.now es p
+    ensures needless { (told : ℕ → ℕ) (es : List Event) (p : ℕ) → StandsFor shadow.now told es p
         → result.needless ≡ needless_finding (lines_where (is_clean es p) span) }
 {
     let lines = shadow.flush_lines(span);

@@ -12,7 +12,7 @@ use pmf_shadow::Shadow;
 /// where no byte is checked, FAIL with the least checked byte whose persist interval is open, else
 /// PASS (PMTest, ASPLOS 2019: isPersist).
 pub fn check_persist(shadow: &Shadow, span: Span) -> Finding
-    ensures { (es : List Event) (p : ℕ) → StandsFor shadow.now es p
+    ensures { (told : ℕ → ℕ) (es : List Event) (p : ℕ) → StandsFor shadow.now told es p
         → result ≡ persist_finding es p span }
 {
     if !shadow.written_included(span) {

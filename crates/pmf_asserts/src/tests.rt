@@ -1,10 +1,9 @@
 //! What assertions and write-backs find of a shadow, in tables.
 
-ghost use Rattle.std.specs.Prelude.{◌≡◌, ℕ, suc, ◌<◌, List, Some, OnOk};
+ghost use Rattle.std.specs.Prelude.{ℕ, ◌<◌, List, OnOk};
 ghost use Rattle.pmf_event.specs.declared.event.Event.{Event};
 ghost use Rattle.pmf_event.specs.declared.section.TheConstants.{EVENT_LIMIT};
-ghost use Rattle.pmf_event.specs.Store.{event_at};
-ghost use Rattle.pmf_shadow.specs.Shadow.{StandsFor};
+ghost use Rattle.pmf_shadow.specs.Shadow.{StandsFor, FollowsAt};
 
 use super::*;
 use pmf_event::{EVENT_LIMIT, Event, Finding, Profile, Span, SpanFault};
@@ -63,9 +62,9 @@ fn shadow_of(alloc: Global, events: &[Event]) -> Result<Shadow, AllocError> {
 
 /// Follows one event, which is no assertion and no marker of a transaction.
 fn follow(shadow: &mut Shadow, place: u32, event: Event) -> Result<(), AllocError>
-    requires { (es : List Event) × (p : ℕ) × StandsFor shadow.old es p × (p < EVENT_LIMIT) }
-    ensures { OnOk result ((es : List Event) (p : ℕ) → StandsFor shadow.old es p
-        → event_at es (suc p) ≡ Some event → place ≡ suc p → StandsFor shadow.new es (suc p)) }
+    requires { (told : ℕ → ℕ) × (es : List Event) × (p : ℕ) × StandsFor shadow.old told es p
+        × (p < EVENT_LIMIT) }
+    ensures { OnOk result (FollowsAt place shadow.old shadow.new event) }
 {
     match event {
         Event::Store(span) => shadow.store(place, span)?,

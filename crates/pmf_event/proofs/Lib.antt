@@ -5,6 +5,7 @@ pub mod RangeLemmas
 pub mod LeastPairLemmas
 pub mod IntervalLemmas
 pub mod WriteBackLemmas
+pub mod LimitLemmas
 pub mod LineBytesLemmas
 pub mod TransactionLemmas
 pub mod WorkedRows

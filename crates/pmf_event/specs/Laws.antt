@@ -1,9 +1,14 @@
 -- Laws of this crate's definitions, which its empty public functions prove.
-use Rattle.std.specs.Prelude.{◌≡◌, ℕ, ◌+◌, ◌*◌, ◌<◌, ◌≤◌, ◌↔◌, true}
+use Rattle.std.specs.Prelude.{◌≡◌, ℕ, ◌+◌, ◌*◌, ◌<◌, ◌≤◌, ◌↔◌, true, List}
+use Rattle.std.specs.List.{All}
+use Rattle.pmf_event.specs.declared.event.Event.{Event}
 use Rattle.pmf_event.specs.Span.{Extent, covers_byte}
-use Rattle.pmf_event.specs.declared.span.TheConstants.{LINE_SIZE}
+use Rattle.pmf_event.specs.declared.span.TheConstants.{ADDRESS_LIMIT, LINE_SIZE}
 use Rattle.pmf_event.specs.Line.{line_of_byte, meets_line, meets_span}
 use Rattle.pmf_event.specs.FlushWarnings.{first_line, line_count}
+use Rattle.pmf_event.specs.Section.{IsValidEvent}
+use Rattle.pmf_event.specs.Store.{last_store}
+use Rattle.pmf_event.specs.Transactions.{is_scoped}
 
 -- a span meets exactly the lines of the bytes that it covers
 abbrev pub MeetsTheLinesOfItsBytes : Type 0
@@ -20,3 +25,8 @@ MeetsWhereAByteIsShared = (s t : Extent) → 0 < s.size → 0 < t.size →
 abbrev pub MeetsTheLinesOfItsNumbers : Type 0
 MeetsTheLinesOfItsNumbers = (s : Extent) (l : ℕ) → 0 < s.size →
     (meets_line s l ≡ true) ↔ ((n : ℕ) × (first_line s ≤ n) × (n < first_line s + line_count s) × (n * LINE_SIZE ≡ l))
+
+-- where all spans are valid, no byte that is written, and so no byte of a scope, lies at or above the limit of addresses
+abbrev pub BytesLieBelowTheLimit : Type 0
+BytesLieBelowTheLimit = (es : List Event) (p b : ℕ) → All IsValidEvent es →
+    (0 < last_store es p b → b < ADDRESS_LIMIT) × (is_scoped es p b ≡ true → b < ADDRESS_LIMIT)

@@ -30,3 +30,38 @@ pub enum Event {
     /// Closes the scope of the transaction checker.
     CheckEnd,
 }
+
+impl Event {
+    ghost use Rattle.pmf_event.specs.Section.{IsValidEvent};
+
+    // Each span of it is valid, as every span is. It does nothing.
+    pub(crate) fn has_valid_spans(&self)
+        ensures { IsValidEvent self.now }
+    {
+        match self {
+            Event::Store(span) => {
+                span.first();
+            }
+            Event::Flush(span) => {
+                span.first();
+            }
+            Event::Persist(span) => {
+                span.first();
+            }
+            Event::Ordered(a, b) => {
+                a.first();
+                b.first();
+            }
+            Event::Exclude(span) => {
+                span.first();
+            }
+            Event::Include(span) => {
+                span.first();
+            }
+            Event::TxAdd(span) => {
+                span.first();
+            }
+            _ => {}
+        }
+    }
+}

@@ -1,6 +1,6 @@
 //! Laws of the definitions, each the clause of an empty function.
 
-ghost use Rattle.pmf_event.specs.Laws.{MeetsTheLinesOfItsBytes, MeetsTheLinesOfItsNumbers, MeetsWhereAByteIsShared};
+ghost use Rattle.pmf_event.specs.Laws.{BytesLieBelowTheLimit, MeetsTheLinesOfItsBytes, MeetsTheLinesOfItsNumbers, MeetsWhereAByteIsShared};
 ghost use Rattle.pmf_event.specs.LineBytes.{LinesFollowFromTheirBytes};
 
 /// A span meets exactly the cache lines of the bytes that it covers.
@@ -23,4 +23,10 @@ pub fn span_meets_the_lines_of_its_numbers()
 /// it is undurable and none is unwritten: the state of a line follows from its bytes.
 pub fn lines_follow_from_their_bytes()
     ensures { LinesFollowFromTheirBytes }
+{}
+
+/// Where all spans are valid, as those of a section are, no byte that was stored to lies at or above
+/// [`crate::ADDRESS_LIMIT`], and so no byte of a scope does: what is said of the bytes below it is said of all.
+pub fn bytes_lie_below_the_limit()
+    ensures { BytesLieBelowTheLimit }
 {}

@@ -1,7 +1,8 @@
 //! A section: its name and its events.
 
 ghost use Rattle.std.specs.Prelude.{◌≡◌, ◌↔◌, ◌≤◌, ◌<◌, [], ◌∷◌, ◌++◌, length, IsTrue, OnOk, OnErr, IsErrOf};
-ghost use Rattle.pmf_event.specs.Section.{Trace};
+ghost use Rattle.std.specs.List.{All};
+ghost use Rattle.pmf_event.specs.Section.{Trace, IsValidEvent};
 ghost use Rattle.pmf_event.specs.declared.section.TheConstants.{EVENT_LIMIT};
 
 use crate::event::Event;
@@ -25,11 +26,16 @@ pub struct Section {
 }
 
 impl Model for Section {
+    ghost use Rattle.std.specs.List.{All};
+    ghost use Rattle.std.specs.Prelude.{◌≤◌, length};
+    ghost use Rattle.pmf_event.specs.Section.{Trace, IsValidEvent};
+    ghost use Rattle.pmf_event.specs.declared.section.TheConstants.{EVENT_LIMIT};
+
     ghost Value = { Trace };
 
     ghost view = { λ s. record { name = s.name; events = s.events.items } };
 
-    ghost invariant = { λ s. length s.events.items ≤ EVENT_LIMIT };
+    ghost invariant = { λ s. (length s.events.items ≤ EVENT_LIMIT) × All IsValidEvent s.events.items };
 }
 
 /// Why an event was not added: the first that applies, in this order.
@@ -76,6 +82,7 @@ impl Section {
         if self.events.len() == EVENT_LIMIT {
             return Err(SectionFault::TooManyEvents);
         }
+        event.has_valid_spans();
         self.events.push(event)?;
         Ok(())
     }
@@ -91,6 +98,7 @@ impl Section {
     pub fn events(&self) -> &[Event]
         ensures value { result.now ≡ self.now.events }
         ensures limit { length self.now.events ≤ EVENT_LIMIT }
+        ensures valid { All IsValidEvent result.now }
     {
         &self.events
     }

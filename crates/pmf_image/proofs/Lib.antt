@@ -7,3 +7,4 @@ pub mod RunLemmas
 pub mod ScopeLemmas
 pub mod QuestionLemmas
 pub mod ContradictionLemmas
+pub mod WorkedRows

@@ -1,11 +1,15 @@
 -- Laws of this crate's definitions, which its empty public functions prove.
-use Rattle.std.specs.Prelude.{◌≡◌, ◌≢◌, ℕ, ◌<◌, ◌≤◌, ◌↔◌, true, false, List, [], length, None, Some}
+use Rattle.std.specs.Prelude.{◌≡◌, ◌≢◌, ℕ, ◌-◌, ◌<◌, ◌≤◌, ◌↔◌, true, false, List, [], length, None, Some}
 use Rattle.pmf_event.specs.declared.event.Event.{Event}
 use Rattle.pmf_event.specs.Span.{Extent, covers_byte}
 use Rattle.pmf_event.specs.Line.{line_of_byte}
 use Rattle.pmf_event.specs.Interval.{interval_at, is_open}
 use Rattle.pmf_event.specs.Persist.{is_checked, is_exposed}
-use Rattle.pmf_image.specs.Image.{Image, IsAllowed, count_of, floor_of, cut_of, is_in}
+use Rattle.std.specs.List.{All}
+use Rattle.pmf_event.specs.Section.{IsValidEvent}
+use Rattle.pmf_event.specs.Exclusion.{is_included}
+use Rattle.pmf_event.specs.Transactions.{is_scoped}
+use Rattle.pmf_image.specs.Image.{Image, IsAllowed, count_of, floor_of, cut_of, is_in, shows}
 use Rattle.pmf_event.specs.declared.profile.Profile.{Profile}
 use Rattle.pmf_event.specs.declared.profile.Profile.TheVariants.{Two}
 use Rattle.pmf_event.specs.Order.{is_ordered, is_unordered, is_certified}
@@ -13,7 +17,7 @@ use Rattle.pmf_event.specs.Store.{last_store}
 use Rattle.pmf_image.specs.declared.certificate.Certificate.{Certificate}
 use Rattle.pmf_image.specs.Certificate.{image_of, shows_in}
 use Rattle.pmf_image.specs.Contradiction.{Contradicts}
-use Rattle.pmf_image.specs.Holds.{PersistHolds, OrderedHolds, Holds}
+use Rattle.pmf_image.specs.Holds.{PersistHolds, OrderedHolds, ScopeHolds, Holds}
 
 -- where the interval of each checked byte of the span is closed, the assertion holds
 abbrev pub ClosedIntervalsHold : Type 0
@@ -106,3 +110,9 @@ PairsAreOneByte es p a b = (x y : ℕ) → covers_byte a x ≡ true → covers_b
 -- an order assertion holds exactly where profile Two orders each pair of two different checked bytes
 abbrev pub ProfileTwoIsExact : Type 0
 ProfileTwoIsExact = (es : List Event) (p : ℕ) (a b : Extent) → OrderedHolds es p a b ↔ PairsAreOneByte es p a b
+
+-- where all spans are valid, a CHECKEND that holds does so for each included byte of its scope, whatever its address
+abbrev pub ScopesHoldForAllBytes : Type 0
+ScopesHoldForAllBytes = (es : List Event) (p : ℕ) → All IsValidEvent es → ScopeHolds es p →
+    (n : ℕ) → p ≤ n → n ≤ length es → (image : Image) → IsAllowed es n image →
+    (b : ℕ) → is_scoped es (p - 1) b ≡ true → is_included es p b ≡ true → last_store es p b ≤ shows es n image b

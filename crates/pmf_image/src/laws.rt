@@ -1,6 +1,6 @@
 //! Laws of the definitions, each the clause of an empty function.
 
-ghost use Rattle.pmf_image.specs.Laws.{CertificatesAreAllowed, CertifiedPairsAreShown, CertifiedPairsDoNotHold, ClosedIntervalsHold, ContradictedDoNotHold, EachByteMayBeTorn, EachCutIsAllowed, EveryPlaceHasImages, OpenIntervalsAreShown, OpenIntervalsDoNotHold, OrderedPairsHold, ProfileTwoIsExact};
+ghost use Rattle.pmf_image.specs.Laws.{CertificatesAreAllowed, CertifiedPairsAreShown, CertifiedPairsDoNotHold, ClosedIntervalsHold, ContradictedDoNotHold, EachByteMayBeTorn, EachCutIsAllowed, EveryPlaceHasImages, OpenIntervalsAreShown, OpenIntervalsDoNotHold, OrderedPairsHold, ProfileTwoIsExact, ScopesHoldForAllBytes};
 
 /// A persist assertion whose checked bytes all have closed intervals holds at every crash from its
 /// place on, in every allowed image, torn stores included.
@@ -67,4 +67,10 @@ pub fn certified_pairs_do_not_hold()
 /// itself: of two bytes that one store of a line wrote, a torn image shows the second alone.
 pub fn profile_two_is_exact()
     ensures { ProfileTwoIsExact }
+{}
+
+/// Where all spans are valid, as those of a section are, what holds of a scope's bytes below
+/// [`pmf_event::ADDRESS_LIMIT`] holds of all its bytes: it has no others.
+pub fn scopes_hold_for_all_bytes()
+    ensures { ScopesHoldForAllBytes }
 {}

@@ -5,13 +5,14 @@ use Rattle.std.proofs.lemmas.Bool.{cases_lt}
 use Rattle.pmf_event.specs.Ranges.{first_from, lesser, least_from}
 use Rattle.pmf_event.proofs.RangeLemmas.{first_from-none, first_from-some, first_from-same, least_from-same, least_from-split, least_from-alike, lesser-none, lesser-assoc}
 use Rattle.pmf_runs.specs.declared.leaf.Leaf.{Leaf}
-use Rattle.pmf_runs.specs.Ranks.{rank, Rises}
+use Rattle.pmf_runs.specs.declared.walk.Counted.{Counted}
+use Rattle.pmf_runs.specs.Ranks.{rank, at_rank, Rises}
 use Rattle.pmf_runs.specs.Walks.{end_of}
 use Rattle.pmf_runs.specs.Leaves.{leaf_state}
-use Rattle.pmf_runs.proofs.RankLemmas.{IsRank, rank-is, rank-unique, rises-le, lt-true, lt-false}
+use Rattle.pmf_runs.proofs.RankLemmas.{IsRank, rank-is, rank-unique, rank-above, rises-le, lt-true, lt-false}
 use Rattle.pmf_runs.proofs.LeafLemmas.{state-read}
 use Rattle.pmf_runs.specs.Lines.{counted_from}
-use Rattle.pmf_runs.proofs.LineLemmas.{counted-same, counted-split}
+use Rattle.pmf_runs.proofs.LineLemmas.{counted-same, counted-split, counted-none}
 
 -- ---- where a walk begins, and where an element ends
 
@@ -105,6 +106,58 @@ walks-at keys first end start index until rises some is walk = let p = piece key
 pub walks-within : (keys : List ℕ) (first end start index : ℕ) → start < end → Walks keys first end start index → index ≤ length keys
 walks-within keys first end start index some walk = let here = walk.at some in here.bound
 
+-- the walk passes over the elements from the index up to next, and comes to the end of the last of them
+record Past (keys : List ℕ) (first end start index next until : ℕ) : Type 0 where
+  more : start < until
+  within : until ≤ end
+  at : (b : ℕ) → start ≤ b → b < until → (index ≤ rank keys b) × (rank keys b < next)
+  on : Walks keys first end until next
+
+past : (keys : List ℕ) (first end start index next until : ℕ) → Rises keys → start < end → index < next → next ≤ length keys + 1 → until ≡ end_of keys (next - 1) end → Walks keys first end start index →
+    Past keys first end start index next until
+past keys first end start index next until rises some after bounded is walk =
+    let here = walk.at some in
+    let from = walk.from in
+    let low : (b : ℕ) → start ≤ b → index ≤ rank keys b = λ b le. rank-above keys start b index (rank keys b) here (rank-is keys b) le in
+    elim (cases_lt (next - 1) (length keys)) [
+      | inl inner ↦
+          let key = end-key keys (next - 1) end inner in
+          let beyond = here.beyond (omega arith) in
+          let order = rises-le keys index (next - 1) rises (omega arith) inner in record {
+            more = omega arith;
+            within = omega arith;
+            at = λ b le lt. (low b le, elim (cases_lt (rank keys b) next) [
+              | inl below ↦ below
+              | inr above ↦ let r = rank-is keys b in let upto = r.upto (next - 1) (omega arith) in absurd (omega arith)
+            ]);
+            on = record {
+              from = omega arith;
+              upto = omega arith;
+              at = λ left. record {
+                bound = omega arith;
+                upto = λ k below. let le = rises-le keys k (next - 1) rises (omega arith) inner in omega arith;
+                beyond = λ within. let lt = rises.order (next - 1) next (omega arith) within in omega arith;
+              };
+            };
+          }
+      | inr last ↦
+          let all = end-last keys (next - 1) end last in record {
+            more = omega arith;
+            within = omega arith;
+            at = λ b le lt. (low b le, let r = rank-is keys b in let bound = r.bound in omega arith);
+            on = record {
+              from = omega arith;
+              upto = omega arith;
+              at = λ left. absurd (omega arith);
+            };
+          }
+    ]
+
+pub past-more : (keys : List ℕ) (first end start index next until : ℕ) → Rises keys → start < end → index < next → next ≤ length keys + 1 → until ≡ end_of keys (next - 1) end → Walks keys first end start index →
+    (start < until) × (until ≤ end)
+past-more keys first end start index next until rises some after bounded is walk =
+    let p = past keys first end start index next until rises some after bounded is walk in (p.more, p.within)
+
 -- ---- questions
 
 -- a question about a range is answered by joining the answers of its pieces
@@ -138,6 +191,20 @@ module _ {V A X : Type 0} {ask : (ℕ → V) → ℕ → ℕ → A} {join : X �
             ∙ sym (law.split before (value d) first (start - first) (until - start) (until - first) start (omega arith) (omega arith));
       }
 
+  -- the elements that are passed over add nothing
+  pub asked-past : (start index next until : ℕ) (so_far : X) → Rises keys → start < end → index < next → next ≤ length keys + 1 → until ≡ end_of keys (next - 1) end →
+      ((d : S) → ((b : ℕ) → start ≤ b → b < until → (index ≤ rank keys b) × (rank keys b < next)) → join so_far (ask (value d) start (until - start)) ≡ so_far) →
+      Asked (λ d. ask (value d)) join before keys first end start index so_far → Asked (λ d. ask (value d)) join before keys first end until next so_far
+  asked-past start index next until so_far rises some after bounded is_end adds asked =
+      let p = past keys first end start index next until rises some after bounded is_end asked.walk in
+      let from = asked.walk.from in
+      let more = p.more in record {
+        walk = p.on;
+        is = λ d.
+            sym (adds d p.at) ∙ ap (λ x. join x (ask (value d) start (until - start))) (asked.is d)
+            ∙ sym (law.split before (value d) first (start - first) (until - start) (until - first) start (omega arith) (omega arith));
+      }
+
   pub asked-end : (start index : ℕ) (so_far : X) → end ≤ start → Asked (λ d. ask (value d)) join before keys first end start index so_far → (d : S) → so_far ≡ join before (ask (value d) first (end - first))
   asked-end start index so_far past asked d =
       let from = asked.walk.from in
@@ -152,6 +219,12 @@ pub run-asked : {V A X : Type 0} {ask : (ℕ → V) → ℕ → ℕ → A} {join
 run-asked law value leaf state v first end start index until read at some is walk d =
     law.same (λ b. v) (λ b. value (leaf_state leaf d b)) start (until - start) (λ k low high.
     at ∙ ap value (state-read leaf state k index (walks-at leaf.keys.items first end start index until leaf.ordered some is walk k low (omega arith)) read d))
+
+-- a number of the runs that are passed over fails
+pub fails-past : {S : Type 0} (test : S → Bool) (leaf : Leaf S) (index next : ℕ) → ((k : ℕ) (d : S) → index ≤ k → k < next → test (get_or leaf.states.items k d) ≡ false) →
+    (d : S) (b : ℕ) → (index ≤ rank leaf.keys.items b) × (rank leaf.keys.items b < next) → test (leaf_state leaf d b) ≡ false
+unfolding leaf_state at_rank
+fails-past test leaf index next none d b within = none (rank leaf.keys.items b) d within.0 within.1
 
 -- ---- the first that passes
 
@@ -218,6 +291,12 @@ lines-law = record {
   same = counted-same;
   split = counted-split;
 }
+
+-- numbers that fail add no line
+pub lines-past : (test : ℕ → Bool) (start until : ℕ) (so_far : Counted) → ((b : ℕ) → start ≤ b → b < until → test b ≡ false) → counted_from test start (until - start) so_far ≡ so_far
+lines-past test start until so_far fails =
+    ap (λ count. count so_far) (counted-same test (λ b. false) start (until - start) (λ k low high. fails k low (omega arith)))
+    ∙ counted-none (λ b. false) start (until - start) so_far (λ k. refl)
 
 -- ---- the least key
 

@@ -186,17 +186,25 @@ covers-changed covers summary wide from end change a b all before after changes 
       either true = after (a d p) (all d p)
       either false = before (a d p) (all d p)
 
--- what holds of each part's states holds of the level's
-mapped : {P S : Type 0} (good : S → Bool) (t : Bool) (f : P → S) (parts : List P) → ((k : ℕ) (p : P) → k < length parts → good (f (get_or parts k p)) ≡ t) → (k : ℕ) (d : S) → k < length parts → good (get_or (map f parts) k d) ≡ t
-mapped good t f [] each k d within = absurd (omega arith)
-mapped good t f (p ∷ parts) each zero d within = each 0 p (omega arith)
-mapped good t f (p ∷ parts) each (suc k) d within = mapped good t f parts (λ j q lt. each (suc j) q (omega arith)) k d (omega arith)
+-- what holds of a part's value holds of it among the values of all
+mapped : {A B : Type 0} (good : B → Bool) (t : Bool) (f : A → B) (parts : List A) (k : ℕ) (d : B) → k < length parts → ((p : A) → good (f (get_or parts k p)) ≡ t) → good (get_or (map f parts) k d) ≡ t
+mapped good t f [] k d within each = absurd (omega arith)
+mapped good t f (p ∷ parts) zero d within each = each p
+mapped good t f (p ∷ parts) (suc k) d within each = mapped good t f parts k d (omega arith) each
 
 pub all-parts : {P S : Type 0} (state : P → S → ℕ → S) (good : S → Bool) (t : Bool) (level : Level P) →
     ((k : ℕ) (p : P) (d : S) (b : ℕ) → k < length level.parts.items → good (state (get_or level.parts.items k p) d b) ≡ t) → (d : S) (b : ℕ) → good (level_state state level d b) ≡ t
 unfolding level_state at_rank
 all-parts state good t level each d b =
-    mapped good t (λ p. state p d b) level.parts.items (λ k p within. each k p d b within) (rank level.keys.items b) d (level-bound level b)
+    mapped good t (λ p. state p d b) level.parts.items (rank level.keys.items b) d (level-bound level b) (λ p. each (rank level.keys.items b) p d b (level-bound level b))
+
+-- a number of the parts that are passed over fails
+pub parts-past : {P S : Type 0} (state : P → S → ℕ → S) (test : S → Bool) (level : Level P) (index next : ℕ) →
+    ((k : ℕ) (p : P) (d : S) (b : ℕ) → index ≤ k → k < next → test (state (get_or level.parts.items k p) d b) ≡ false) →
+    (d : S) (b : ℕ) → (index ≤ rank level.keys.items b) × (rank level.keys.items b < next) → test (level_state state level d b) ≡ false
+unfolding level_state at_rank
+parts-past state test level index next none d b within =
+    mapped test false (λ p. state p d b) level.parts.items (rank level.keys.items b) d (level-bound level b) (λ p. none (rank level.keys.items b) p d b within.0 within.1)
 
 -- a number that is not the part's lies out of the range
 outside-part : (keys : List ℕ) (first end i b : ℕ) → i ≡ rank keys first → (i < length keys → end ≤ get_or keys i 0) → (rank keys b ≡ i → ⊥) → is_within (Some first) (Some end) b ≡ false

@@ -41,19 +41,24 @@ module _ {S : Type 0} (test : S → Bool) (leaf : Leaf S) (first index : ℕ) (a
   onward-none i all none d end = sym (first_from-none (λ b. test (leaf_state leaf d b)) first (end - first) (λ b from below.
       let bound = rank-bound leaf b in fails-at i none d b from (omega arith)))
 
+  -- a number of a run that passes
+  passes-at : (i b : ℕ) → i ≡ rank leaf.keys.items b → ((d : S) → test (get_or leaf.states.items i d) ≡ true) → (d : S) → test (leaf_state leaf d b) ≡ true
+  unfolding leaf_state at_rank
+  passes-at i b own passes d = sym (ap (λ k. test (get_or leaf.states.items k d)) own) ∙ passes d
+
   -- the run of first passes
-  pub onward-first : (i : ℕ) (state : S) (v : Bool) → i ≡ index → state ≡ get_or leaf.states.items i state → v ≡ test state → v ≡ true → (d : S) (end : ℕ) → first < end → Some first ≡ first_from (λ b. test (leaf_state leaf d b)) first (end - first)
-  onward-first i state v same read is passes d end some = sym (first_from-some (λ b. test (leaf_state leaf d b)) first (end - first) first (record {
+  pub onward-first : (i : ℕ) → i ≡ index → ((d : S) → test (get_or leaf.states.items i d) ≡ true) → (d : S) (end : ℕ) → first < end → Some first ≡ first_from (λ b. test (leaf_state leaf d b)) first (end - first)
+  onward-first i same passes d end some = sym (first_from-some (λ b. test (leaf_state leaf d b)) first (end - first) first (record {
     from = omega arith;
     within = omega arith;
-    passes = sym (ap test (state-read leaf state first i (same ∙ at) read d)) ∙ sym is ∙ passes;
+    passes = passes-at i first (same ∙ at) passes d;
     before = λ j low high. absurd (omega arith);
   }))
 
   -- a later run is the first that passes
-  pub onward-later : (i number : ℕ) (state : S) (v : Bool) → index < i → i < length leaf.states.items → NoneUpto i → number ≡ get_or leaf.keys.items (i - 1) number → state ≡ get_or leaf.states.items i state → v ≡ test state → v ≡ true →
+  pub onward-later : (i number : ℕ) → index < i → i < length leaf.states.items → NoneUpto i → number ≡ get_or leaf.keys.items (i - 1) number → ((d : S) → test (get_or leaf.states.items i d) ≡ true) →
       (d : S) (end : ℕ) → IsBeyond leaf.keys.items end → Some number ≡ first_from (λ b. test (leaf_state leaf d b)) first (end - first)
-  onward-later i number state v after within none key read is passes d end beyond =
+  onward-later i number after within none key passes d end beyond =
       let keys = leaf.keys.items in
       let counted = leaf-counted leaf in
       let begins = get_or_read keys (i - 1) number (omega arith) key 0 in
@@ -65,6 +70,6 @@ module _ {S : Type 0} (test : S → Bool) (leaf : Leaf S) (first index : ℕ) (a
       sym (first_from-some (λ b. test (leaf_state leaf d b)) first (end - first) number (record {
         from = omega arith;
         within = omega arith;
-        passes = sym (ap test (state-read leaf state number i (sym own ∙ ap (rank keys) (sym begins)) read d)) ∙ sym is ∙ passes;
+        passes = passes-at i number (sym own ∙ ap (rank keys) (sym begins)) passes d;
         before = λ j low high. fails-at i none d j low (rank-under keys j i (omega arith) (omega arith) (omega arith));
       }))

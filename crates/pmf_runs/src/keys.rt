@@ -39,7 +39,7 @@ pub(crate) fn rank_near(keys: &[u64], place: u64, hint: usize) -> usize
 
 /// Whether so many of the keys are at most the place.
 #[inline(always)]
-fn is_rank(keys: &[u64], count: usize, place: u64) -> bool
+pub(crate) fn is_rank(keys: &[u64], count: usize, place: u64) -> bool
     requires { Rises keys.now }
     ensures { result ≡ true → count ≡ rank keys.now place }
 {

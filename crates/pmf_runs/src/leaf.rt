@@ -3,7 +3,7 @@
 ghost use Rattle.std.specs.Prelude.{◌≡◌, false, Option, None, Some, ◌≤◌, ◌<◌, ◌+◌, ◌-◌, ℕ, true, OnOk, OnErr, IfOk, IfSome, get_or, length, vec_len};
 ghost use Rattle.pmf_runs.specs.Ranks.{Rises, rank, SameStates, ChangesWithin, ChangesItems, IsFresh, Splits, AltersWithin, IsStop, IsTail, CoversAll, AllSettled};
 
-use crate::keys::{high_rank, is_key, low_rank, parting, rank_near};
+use crate::keys::{high_rank, is_key, is_rank, low_rank, parting, rank_near};
 use crate::room::make_room;
 use crate::state::{Change, Effect, State};
 use std::alloc::{AllocError, Global};
@@ -233,7 +233,7 @@ impl<S: State> Leaf<S> {
         ensures { IfSome result (IsTail (leaf_state self.now) place) }
     {
         let last = self.keys.len();
-        if rank_near(&self.keys, place, last) == last {
+        if is_rank(&self.keys, last, place) {
             Some(self.states[last])
         } else {
             None

@@ -4,7 +4,7 @@ ghost use Rattle.std.specs.Prelude.{◌≡◌, false, Option, None, Some, ◌≤
 ghost use Rattle.pmf_runs.specs.Ranks.{Rises, rank, SameStates, ChangesWithin, IsFresh, Splits, CoversAll, IsTail, AllSettled};
 
 use crate::keys::{
-    bound_at, high_rank, inner_bound, is_key, low_rank, parting, rank_near, rank_of,
+    bound_at, high_rank, inner_bound, is_key, is_rank, low_rank, parting, rank_near, rank_of,
 };
 use crate::part::Part;
 use crate::room::make_room;
@@ -142,7 +142,7 @@ impl<P> Level<P> {
         ensures { IfSome result (IsTail (level_state P.state self.now) place) }
     {
         let last = self.keys.len();
-        if rank_near(&self.keys, place, last) == last {
+        if is_rank(&self.keys, last, place) {
             self.parts[last].tail(place)
         } else {
             None

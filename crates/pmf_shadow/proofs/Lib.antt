@@ -1,5 +1,6 @@
 pub mod OrderLemmas
 pub mod BoundsLemmas
+pub mod SameLemmas
 pub mod StandsLemmas
 pub mod StretchLemmas
 pub mod QuestionLemmas

@@ -26,6 +26,7 @@ use Rattle.pmf_shadow.specs.declared.shadow.Shadow.{Shadow}
 use Rattle.pmf_runs.specs.Runs.{state_at, passing}
 use Rattle.pmf_shadow.specs.States.{stored_of, checked_store, holds_of, any_store, is_late, is_from, late_for, lacks_write_back, written_back_from}
 use Rattle.pmf_shadow.specs.Shadow.{stored_at, closing, StandsFor}
+use Rattle.pmf_shadow.specs.Told.{interval_as_told}
 use Rattle.pmf_shadow.specs.Stretches.{line_lacks, line_has_but, lines_by}
 use Rattle.pmf_shadow.proofs.StandsLemmas.{IsByteAt, stands-bytes, store_of-none, store_of-some, stored_at-is}
 use Rattle.pmf_shadow.proofs.StretchLemmas.{lines_by-same, clean-by, pending-by}
@@ -72,21 +73,21 @@ unfolding interval_of
 interval_at-is es p b = refl
 
 -- what is kept of a byte that is written
-pub record IsWritten (es : List Event) (p b : ℕ) (k : Stored) : Type 0 where
+pub record IsWritten (told : ℕ → ℕ) (es : List Event) (p b : ℕ) (k : Stored) : Type 0 where
   pub some : 0 < last_store es p b
-  pub place : k.last ≡ last_store es p b
+  pub place : k.last ≡ told (last_store es p b)
   pub epoch : k.opens ≡ epoch_of es (last_store es p b)
   pub write_back : k.written_back ≡ write_back_epoch (stores b) (line_of_byte b) es p
 
-pub written-from_stored : (es : List Event) (p b : ℕ) (k : Stored) → stored_at es p b ≡ Some k → IsWritten es p b k
-written-from_stored es p b k is =
+pub written-from_stored : (told : ℕ → ℕ) (es : List Event) (p b : ℕ) (k : Stored) → stored_at told es p b ≡ Some k → IsWritten told es p b k
+written-from_stored told es p b k is =
     let l = last_store es p b in
     let w = write_back_epoch (stores b) (line_of_byte b) es p in
     elim (cases_eq l 0) [
-      | inl zero_is ↦ let bad : None ≡ Some k = sym (store_of-none es l w zero_is) ∙ sym (stored_at-is es p b) ∙ is in cc
+      | inl zero_is ↦ let bad : None ≡ Some k = sym (store_of-none told es l w zero_is) ∙ sym (stored_at-is told es p b) ∙ is in cc
       | inr some ↦
-          let same : Some (record { last = l; opens = epoch_of es l; written_back = w }) ≡ Some k = sym (store_of-some es l w (omega arith)) ∙ sym (stored_at-is es p b) ∙ is in
-          let own : record { last = l; opens = epoch_of es l; written_back = w } ≡ k = cc in
+          let same : Some (record { last = told l; opens = epoch_of es l; written_back = w }) ≡ Some k = sym (store_of-some told es l w (omega arith)) ∙ sym (stored_at-is told es p b) ∙ is in
+          let own : record { last = told l; opens = epoch_of es l; written_back = w } ≡ k = cc in
           record {
             some = omega arith;
             place = sym (ap (λ (s : Stored). s.last) own);
@@ -98,59 +99,58 @@ written-from_stored es p b k is =
 never : (o : Option Stored) (k : Stored) → o ≡ None → o ≡ Some k → ⊥
 never o k none some = let bad : None ≡ Some k = sym none ∙ some in cc
 
-pub unwritten-from_none : (es : List Event) (p b : ℕ) → stored_at es p b ≡ None → last_store es p b ≡ 0
-unwritten-from_none es p b is =
+pub unwritten-from_none : (told : ℕ → ℕ) (es : List Event) (p b : ℕ) → stored_at told es p b ≡ None → last_store es p b ≡ 0
+unwritten-from_none told es p b is =
     let l = last_store es p b in
     let w = write_back_epoch (stores b) (line_of_byte b) es p in
     elim (cases_eq l 0) [
       | inl zero_is ↦ zero_is
-      | inr some ↦ absurd (never (stored_at es p b) (record { last = l; opens = epoch_of es l; written_back = w }) is (stored_at-is es p b ∙ store_of-some es l w (omega arith)))
+      | inr some ↦ absurd (never (stored_at told es p b) (record { last = told l; opens = epoch_of es l; written_back = w }) is (stored_at-is told es p b ∙ store_of-some told es l w (omega arith)))
     ]
 
 -- the interval of a written byte
-pub interval-written : (es : List Event) (p b : ℕ) (k : Stored) → stored_at es p b ≡ Some k →
-    interval_at es p b ≡ Some (record { last = k.last; opens = k.opens; closes = closing (count (at is_fence es) p) k.written_back })
-interval-written es p b k is =
-    let own = written-from_stored es p b k is in
+pub interval-written : (told : ℕ → ℕ) (es : List Event) (p b : ℕ) (k : Stored) → stored_at told es p b ≡ Some k →
+    interval_at es p b ≡ Some (record { last = last_store es p b; opens = k.opens; closes = closing (count (at is_fence es) p) k.written_back })
+interval-written told es p b k is =
+    let own = written-from_stored told es p b k is in
     let c = epoch_after es (closing_fence (stores b) (line_of_byte b) es p) in
     interval_at-is es p b
     ∙ interval_of-some es (last_store es p b) c own.some
-    ∙ ap (λ l. Some (record { last = l; opens = epoch_of es (last_store es p b); closes = c })) (sym own.place)
-    ∙ ap (λ o. Some (record { last = k.last; opens = o; closes = c })) (sym own.epoch)
-    ∙ ap (λ x. Some (record { last = k.last; opens = k.opens; closes = x })) (sym (closes-is (stores b) (line_of_byte b) es p k.written_back (sym own.write_back)))
+    ∙ ap (λ o. Some (record { last = last_store es p b; opens = o; closes = c })) (sym own.epoch)
+    ∙ ap (λ x. Some (record { last = last_store es p b; opens = k.opens; closes = x })) (sym (closes-is (stores b) (line_of_byte b) es p k.written_back (sym own.write_back)))
 
 -- the interval of a byte without a store
-interval-unwritten : (es : List Event) (p b : ℕ) → stored_at es p b ≡ None → interval_at es p b ≡ None
+interval-unwritten : (told : ℕ → ℕ) (es : List Event) (p b : ℕ) → stored_at told es p b ≡ None → interval_at es p b ≡ None
 unfolding interval_of
-interval-unwritten es p b is =
+interval-unwritten told es p b is =
     let c = epoch_after es (closing_fence (stores b) (line_of_byte b) es p) in
     interval_at-is es p b
     ∙ ap (λ v. if v then None else Some (record { last = last_store es p b; opens = epoch_of es (last_store es p b); closes = c }))
-    ((Decides-eqb (last_store es p b) 0).1 (unwritten-from_none es p b is))
+    ((Decides-eqb (last_store es p b) 0).1 (unwritten-from_none told es p b is))
 
 -- whether it is checked, by what is kept
-checked-by : (es : List Event) (p b : ℕ) (out : Bool) (o : Option Stored) → is_excluded es p b ≡ out → stored_at es p b ≡ o →
+checked-by : (told : ℕ → ℕ) (es : List Event) (p b : ℕ) (out : Bool) (o : Option Stored) → is_excluded es p b ≡ out → stored_at told es p b ≡ o →
     is_checked es p b ≡ holds_of any_store (if out then None else o)
 unfolding is_checked
-checked-by es p b true o out is = ap (λ v. nat_lt 0 (last_store es p b) && not v) out ∙ and-false (nat_lt 0 (last_store es p b))
-checked-by es p b false None out is = ap (λ v. nat_lt 0 (last_store es p b) && not v) out ∙ ap (λ k. nat_lt 0 k && true) (unwritten-from_none es p b is)
-checked-by es p b false (Some k) out is = ap (λ v. nat_lt 0 (last_store es p b) && not v) out ∙ ap (λ v. v && true) (lt-ltb 0 (last_store es p b) (written-from_stored es p b k is).some)
+checked-by told es p b true o out is = ap (λ v. nat_lt 0 (last_store es p b) && not v) out ∙ and-false (nat_lt 0 (last_store es p b))
+checked-by told es p b false None out is = ap (λ v. nat_lt 0 (last_store es p b) && not v) out ∙ ap (λ k. nat_lt 0 k && true) (unwritten-from_none told es p b is)
+checked-by told es p b false (Some k) out is = ap (λ v. nat_lt 0 (last_store es p b) && not v) out ∙ ap (λ v. v && true) (lt-ltb 0 (last_store es p b) (written-from_stored told es p b k is).some)
 
-pub checked-is : (es : List Event) (p b : ℕ) (s : ByteState) → IsByteAt es p b s → is_checked es p b ≡ holds_of any_store (checked_store s)
-checked-is es p b s is = checked-by es p b s.excluded (stored_of s) (sym is.excluded) (sym is.stored)
+pub checked-is : (told : ℕ → ℕ) (es : List Event) (p b : ℕ) (s : ByteState) → IsByteAt told es p b s → is_checked es p b ≡ holds_of any_store (checked_store s)
+checked-is told es p b s is = checked-by told es p b s.excluded (stored_of s) (sym is.excluded) (sym is.stored)
 
-exposed-by : (es : List Event) (p b : ℕ) (out : Bool) (o : Option Stored) → is_excluded es p b ≡ out → stored_at es p b ≡ o →
+exposed-by : (told : ℕ → ℕ) (es : List Event) (p b : ℕ) (out : Bool) (o : Option Stored) → is_excluded es p b ≡ out → stored_at told es p b ≡ o →
     is_exposed es p b ≡ holds_of (late_for (count (at is_fence es) p)) (if out then None else o)
 unfolding is_exposed
-exposed-by es p b true o out is = ap (λ v. v && is_open (interval_at es p b)) (checked-by es p b true o out is)
-exposed-by es p b false None out is = ap (λ v. v && is_open (interval_at es p b)) (checked-by es p b false None out is)
-exposed-by es p b false (Some k) out is =
-    ap (λ v. v && is_open (interval_at es p b)) (checked-by es p b false (Some k) out is)
-    ∙ ap is_open (interval-written es p b k is)
+exposed-by told es p b true o out is = ap (λ v. v && is_open (interval_at es p b)) (checked-by told es p b true o out is)
+exposed-by told es p b false None out is = ap (λ v. v && is_open (interval_at es p b)) (checked-by told es p b false None out is)
+exposed-by told es p b false (Some k) out is =
+    ap (λ v. v && is_open (interval_at es p b)) (checked-by told es p b false (Some k) out is)
+    ∙ ap is_open (interval-written told es p b k is)
     ∙ sym (late-is_open (count (at is_fence es) p) k.written_back)
 
-exposed-is : (es : List Event) (p b : ℕ) (s : ByteState) → IsByteAt es p b s → is_exposed es p b ≡ holds_of (late_for (count (at is_fence es) p)) (checked_store s)
-exposed-is es p b s is = exposed-by es p b s.excluded (stored_of s) (sym is.excluded) (sym is.stored)
+exposed-is : (told : ℕ → ℕ) (es : List Event) (p b : ℕ) (s : ByteState) → IsByteAt told es p b s → is_exposed es p b ≡ holds_of (late_for (count (at is_fence es) p)) (checked_store s)
+exposed-is told es p b s is = exposed-by told es p b s.excluded (stored_of s) (sym is.excluded) (sym is.stored)
 
 -- ---- undurable and unwritten bytes, excluded or not
 
@@ -166,22 +166,22 @@ place-none es w = elim (cases_eq w 0) [
   | inr some ↦ ap (λ (o : Option ℕ). is_none o) (epoch_unless-some es w (omega arith)) ∙ sym (ne_eqb w 0 some)
 ]
 
-undurable-by : (es : List Event) (p b : ℕ) (o : Option Stored) → stored_at es p b ≡ o → is_undurable es p b ≡ holds_of (late_for (count (at is_fence es) p)) o
+undurable-by : (told : ℕ → ℕ) (es : List Event) (p b : ℕ) (o : Option Stored) → stored_at told es p b ≡ o → is_undurable es p b ≡ holds_of (late_for (count (at is_fence es) p)) o
 unfolding is_undurable
-undurable-by es p b None is = ap (λ k. nat_lt 0 k && closing_fence (stores b) (line_of_byte b) es p == 0) (unwritten-from_none es p b is)
-undurable-by es p b (Some k) is =
-    let own = written-from_stored es p b k is in
+undurable-by told es p b None is = ap (λ k. nat_lt 0 k && closing_fence (stores b) (line_of_byte b) es p == 0) (unwritten-from_none told es p b is)
+undurable-by told es p b (Some k) is =
+    let own = written-from_stored told es p b k is in
     let f = closing_fence (stores b) (line_of_byte b) es p in
     ap (λ v. v && f == 0) (lt-ltb 0 (last_store es p b) own.some)
     ∙ sym (late-is_open (count (at is_fence es) p) k.written_back
     ∙ ap (λ (c : Option ℕ). is_none c) (closes-is (stores b) (line_of_byte b) es p k.written_back (sym own.write_back))
     ∙ fence-none es f)
 
-unwritten-by : (es : List Event) (p b : ℕ) (o : Option Stored) → stored_at es p b ≡ o → is_unwritten es p b ≡ holds_of lacks_write_back o
+unwritten-by : (told : ℕ → ℕ) (es : List Event) (p b : ℕ) (o : Option Stored) → stored_at told es p b ≡ o → is_unwritten es p b ≡ holds_of lacks_write_back o
 unfolding is_unwritten write_back_epoch
-unwritten-by es p b None is = ap (λ k. nat_lt 0 k && first_write_back (stores b) (line_of_byte b) es p == 0) (unwritten-from_none es p b is)
-unwritten-by es p b (Some k) is =
-    let own = written-from_stored es p b k is in
+unwritten-by told es p b None is = ap (λ k. nat_lt 0 k && first_write_back (stores b) (line_of_byte b) es p == 0) (unwritten-from_none told es p b is)
+unwritten-by told es p b (Some k) is =
+    let own = written-from_stored told es p b k is in
     let w = first_write_back (stores b) (line_of_byte b) es p in
     ap (λ v. v && w == 0) (lt-ltb 0 (last_store es p b) own.some)
     ∙ sym (ap (λ (o : Option ℕ). is_none o) own.write_back ∙ place-none es w)
@@ -202,25 +202,27 @@ late-alone fences (Some k) late lacks = late-from fences k.written_back late lac
 
 -- ---- the questions
 
-module _ (shadow : Shadow) (es : List Event) (p : ℕ) (stands : StandsFor shadow es p) where
+module _ (shadow : Shadow) (told : ℕ → ℕ) (es : List Event) (p : ℕ) (stands : StandsFor shadow told es p) where
   pub interval-same-some : (b : ℕ) (k : Stored) → stored_of (state_at shadow.bytes b) ≡ Some k →
-      Some (record { last = k.last; opens = k.opens; closes = closing shadow.fences k.written_back }) ≡ interval_at es p b
+      Some (record { last = k.last; opens = k.opens; closes = closing shadow.fences k.written_back }) ≡ interval_as_told told (interval_at es p b)
   interval-same-some b k stored =
+      let is = sym (stands.stored b) ∙ stored in
       ap (λ f. Some (record { last = k.last; opens = k.opens; closes = closing f k.written_back })) stands.fences
-      ∙ sym (interval-written es p b k (sym (stands.stored b) ∙ stored))
+      ∙ ap (λ l. Some (record { last = l; opens = k.opens; closes = closing (count (at is_fence es) p) k.written_back })) (written-from_stored told es p b k is).place
+      ∙ sym (ap (interval_as_told told) (interval-written told es p b k is))
 
-  pub interval-same-none : (b : ℕ) → stored_of (state_at shadow.bytes b) ≡ None → None ≡ interval_at es p b
-  interval-same-none b none = sym (interval-unwritten es p b (sym (stands.stored b) ∙ none))
+  pub interval-same-none : (b : ℕ) → stored_of (state_at shadow.bytes b) ≡ None → None ≡ interval_as_told told (interval_at es p b)
+  interval-same-none b none = sym (ap (interval_as_told told) (interval-unwritten told es p b (sym (stands.stored b) ∙ none)))
 
   pub checked-same : (s : Extent) → first_byte (passing (λ t. holds_of any_store (checked_store t)) shadow.bytes) s ≡ first_byte (is_checked es p) s
   unfolding passing
-  checked-same s = first_from-same _ _ s.first s.size (λ b low high. sym (checked-is es p b (state_at shadow.bytes b) (stands-bytes shadow es p stands b)))
+  checked-same s = first_from-same _ _ s.first s.size (λ b low high. sym (checked-is told es p b (state_at shadow.bytes b) (stands-bytes shadow told es p stands b)))
 
   pub exposed-same : (s : Extent) → first_byte (passing (λ t. holds_of (late_for shadow.fences) (checked_store t)) shadow.bytes) s ≡ first_byte (is_exposed es p) s
   unfolding passing
   exposed-same s = first_from-same _ _ s.first s.size (λ b low high.
       ap (λ f. holds_of (late_for f) (checked_store (state_at shadow.bytes b))) stands.fences
-      ∙ sym (exposed-is es p b (state_at shadow.bytes b) (stands-bytes shadow es p stands b)))
+      ∙ sym (exposed-is told es p b (state_at shadow.bytes b) (stands-bytes shadow told es p stands b)))
 
   pub included-same : (s : Extent) → first_byte (passing (λ t. not t.excluded) shadow.bytes) s ≡ first_byte (is_included es p) s
   unfolding passing is_included
@@ -230,12 +232,12 @@ module _ (shadow : Shadow) (es : List Event) (p : ℕ) (stands : StandsFor shado
   unfolding passing
   undurable-same b =
       ap (holds_of (late_for shadow.fences)) (stands.stored b)
-      ∙ ap (λ f. holds_of (late_for f) (stored_at es p b)) stands.fences
-      ∙ sym (undurable-by es p b (stored_at es p b) refl)
+      ∙ ap (λ f. holds_of (late_for f) (stored_at told es p b)) stands.fences
+      ∙ sym (undurable-by told es p b (stored_at told es p b) refl)
 
   unwritten-same : (b : ℕ) → passing (λ t. holds_of lacks_write_back (stored_of t)) shadow.bytes b ≡ is_unwritten es p b
   unfolding passing
-  unwritten-same b = ap (holds_of lacks_write_back) (stands.stored b) ∙ sym (unwritten-by es p b (stored_at es p b) refl)
+  unwritten-same b = ap (holds_of lacks_write_back) (stands.stored b) ∙ sym (unwritten-by told es p b (stored_at told es p b) refl)
 
   pub clean-same : (s : Extent) → lines_by (line_lacks (passing (λ t. holds_of (late_for shadow.fences) (stored_of t)) shadow.bytes)) s ≡ lines_where (is_clean es p) s
   clean-same s = lines_by-same _ (is_clean es p) s (λ n. clean-by (is_undurable es p) n (is_clean es p (n * 64)) _ undurable-same

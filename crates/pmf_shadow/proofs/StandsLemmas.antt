@@ -1,6 +1,6 @@
 -- The shadow stands for one more event: what the definitions say of a byte after it, and that the changed
 -- runs say the same.
-use Rattle.std.proofs.Common.{◌≡◌, ℕ, zero, suc, ◌+◌, ◌-◌, ◌*◌, ◌/◌, ◌<◌, ◌≤◌, Bool, true, false, ◌==◌, if◌then◌else◌, List, refl, sym, ◌∙◌, ap, subst, arith, inl, inr}
+use Rattle.std.proofs.Common.{◌≡◌, ℕ, zero, suc, ◌+◌, ◌-◌, ◌*◌, ◌/◌, ◌<◌, ◌≤◌, Bool, true, false, ◌==◌, if◌then◌else◌, List, [], ◌∷◌, ◌++◌, length, take, refl, sym, ◌∙◌, ap, subst, arith, inl, inr}
 use Rattle.std.specs.Prelude.{Option, Some, None, is_none}
 use Rattle.std.proofs.lemmas.Bool.{cases_eq, leb-true, le-leb, lt-ltb, and_parts, and_from, ne_eqb, ltb-true}
 use Rattle.std.proofs.lemmas.Bool.Decides.{Decides-eqb}
@@ -17,7 +17,7 @@ use Rattle.pmf_event.specs.LineBytes.{HasBytes}
 use Rattle.pmf_event.proofs.PlacesLemmas.{count-le, count-zero}
 use Rattle.pmf_event.proofs.EventLemmas.{at-is, last-none, last-other, last-here, epoch_of-next, fences-step}
 use Rattle.pmf_event.proofs.LineLemmas.{line-bounds, meets-bounds, bounds-meet}
-use Rattle.pmf_event.proofs.WriteBackLemmas.{write_back-kept, write_back-stored, write_back-flushed}
+use Rattle.pmf_event.proofs.WriteBackLemmas.{last-bound, write_back-kept, write_back-stored, write_back-flushed}
 use Rattle.pmf_shadow.specs.declared.byte.ByteState.{ByteState}
 use Rattle.pmf_shadow.specs.declared.byte.Stored.{Stored}
 use Rattle.pmf_runs.specs.declared.runs.RunMap.{RunMap}
@@ -26,29 +26,30 @@ use Rattle.pmf_shadow.specs.declared.shadow.Shadow.{Shadow}
 use Rattle.pmf_runs.specs.Runs.{state_at, is_between, ChangesBetween}
 use Rattle.pmf_shadow.specs.States.{stored_of, after_store, after_write_back, after_mark}
 use Rattle.pmf_shadow.specs.EqualStates.{state_of}
-use Rattle.pmf_shadow.specs.Shadow.{stored_at, StandsFor}
-use Rattle.pmf_shadow.specs.Laws.{is_unseen, UnseenEventsChangeNothing}
+use Rattle.pmf_shadow.specs.Shadow.{stored_at, StandsFor, FollowsAt}
+use Rattle.pmf_shadow.specs.Laws.{is_unseen, UnseenEventsChangeNothing, OnlyPastEventsCount, StepsFollowWithin}
+use Rattle.pmf_shadow.proofs.SameLemmas.{count_at-same, last-same, last_epoch-same, write_back_epoch-same, excluded-same, sized-same, same-longer, at_the_end, length-taken, same-taken, same-retaken}
 
 -- ---- one byte
 
-pub store_of : List Event → ℕ → Option ℕ → Option Stored
-store_of es l w = if l == 0 then None else Some (record { last = l; opens = epoch_of es l; written_back = w })
+pub store_of : (ℕ → ℕ) → List Event → ℕ → Option ℕ → Option Stored
+store_of told es l w = if l == 0 then None else Some (record { last = told l; opens = epoch_of es l; written_back = w })
 
-pub store_of-none : (es : List Event) (l : ℕ) (w : Option ℕ) → l ≡ 0 → store_of es l w ≡ None
+pub store_of-none : (told : ℕ → ℕ) (es : List Event) (l : ℕ) (w : Option ℕ) → l ≡ 0 → store_of told es l w ≡ None
 unfolding store_of
-store_of-none es l w zero_is = ap (λ v. if v then None else Some (record { last = l; opens = epoch_of es l; written_back = w })) ((Decides-eqb l 0).1 zero_is)
+store_of-none told es l w zero_is = ap (λ v. if v then None else Some (record { last = told l; opens = epoch_of es l; written_back = w })) ((Decides-eqb l 0).1 zero_is)
 
-pub store_of-some : (es : List Event) (l : ℕ) (w : Option ℕ) → 0 < l → store_of es l w ≡ Some (record { last = l; opens = epoch_of es l; written_back = w })
+pub store_of-some : (told : ℕ → ℕ) (es : List Event) (l : ℕ) (w : Option ℕ) → 0 < l → store_of told es l w ≡ Some (record { last = told l; opens = epoch_of es l; written_back = w })
 unfolding store_of
-store_of-some es l w some = ap (λ v. if v then None else Some (record { last = l; opens = epoch_of es l; written_back = w })) (ne_eqb l 0 (λ zero_is. omega arith))
+store_of-some told es l w some = ap (λ v. if v then None else Some (record { last = told l; opens = epoch_of es l; written_back = w })) (ne_eqb l 0 (λ zero_is. omega arith))
 
-pub stored_at-is : (es : List Event) (p b : ℕ) → stored_at es p b ≡ store_of es (last_store es p b) (write_back_epoch (stores b) (line_of_byte b) es p)
+pub stored_at-is : (told : ℕ → ℕ) (es : List Event) (p b : ℕ) → stored_at told es p b ≡ store_of told es (last_store es p b) (write_back_epoch (stores b) (line_of_byte b) es p)
 unfolding store_of
-stored_at-is es p b = refl
+stored_at-is told es p b = refl
 
 -- the state says of byte b what the definitions say at p
-pub record IsByteAt (es : List Event) (p b : ℕ) (s : ByteState) : Type 0 where
-  pub stored : stored_of s ≡ stored_at es p b
+pub record IsByteAt (told : ℕ → ℕ) (es : List Event) (p b : ℕ) (s : ByteState) : Type 0 where
+  pub stored : stored_of s ≡ stored_at told es p b
   pub excluded : s.excluded ≡ is_excluded es p b
 
 -- the last store after a write-back in this epoch: the first one counts
@@ -68,7 +69,7 @@ excluded-after_write_back epoch last opens w false is_written_back out = refl
 excluded-after_write_back epoch last opens w true false out = refl
 excluded-after_write_back epoch last opens w true true out = refl
 
-module _ (es : List Event) (p b : ℕ) (e : Event) (here : event_at es (suc p) ≡ Some e) where
+module _ (told : ℕ → ℕ) (es : List Event) (p b : ℕ) (e : Event) (here : event_at es (suc p) ≡ Some e) where
   excluded-kept : marks b e ≡ false → is_excluded es (suc p) b ≡ is_excluded es p b
   unfolding is_excluded
   excluded-kept other = ap (at (excludes b) es) (last-other (marks b) es p e here other)
@@ -77,65 +78,65 @@ module _ (es : List Event) (p b : ℕ) (e : Event) (here : event_at es (suc p) �
   unfolding is_excluded
   excluded-marked is = ap (at (excludes b) es) (last-here (marks b) es p e here is) ∙ at-is (excludes b) es (suc p) (Some e) here
 
-  stored-kept : stores b e ≡ false → flushes (line_of_byte b) e ≡ false → stored_at es (suc p) b ≡ stored_at es p b
+  stored-kept : stores b e ≡ false → flushes (line_of_byte b) e ≡ false → stored_at told es (suc p) b ≡ stored_at told es p b
   stored-kept other no_flush =
-      stored_at-is es (suc p) b
-      ∙ ap (λ l. store_of es l (write_back_epoch (stores b) (line_of_byte b) es (suc p))) (last-other (stores b) es p e here other)
-      ∙ ap (store_of es (last_store es p b)) (write_back-kept (stores b) (line_of_byte b) es p e here other no_flush)
-      ∙ sym (stored_at-is es p b)
+      stored_at-is told es (suc p) b
+      ∙ ap (λ l. store_of told es l (write_back_epoch (stores b) (line_of_byte b) es (suc p))) (last-other (stores b) es p e here other)
+      ∙ ap (store_of told es (last_store es p b)) (write_back-kept (stores b) (line_of_byte b) es p e here other no_flush)
+      ∙ sym (stored_at-is told es p b)
 
-  stored-stored : stores b e ≡ true → stored_at es (suc p) b ≡ Some (record { last = suc p; opens = count (at is_fence es) p; written_back = None })
+  stored-stored : stores b e ≡ true → stored_at told es (suc p) b ≡ Some (record { last = told (suc p); opens = count (at is_fence es) p; written_back = None })
   stored-stored is =
-      stored_at-is es (suc p) b
-      ∙ ap (λ l. store_of es l (write_back_epoch (stores b) (line_of_byte b) es (suc p))) (last-here (stores b) es p e here is)
-      ∙ ap (store_of es (suc p)) (write_back-stored (stores b) (line_of_byte b) es p e here is)
-      ∙ store_of-some es (suc p) None (omega arith)
-      ∙ ap (λ o. Some (record { last = suc p; opens = o; written_back = None })) (epoch_of-next es p)
+      stored_at-is told es (suc p) b
+      ∙ ap (λ l. store_of told es l (write_back_epoch (stores b) (line_of_byte b) es (suc p))) (last-here (stores b) es p e here is)
+      ∙ ap (store_of told es (suc p)) (write_back-stored (stores b) (line_of_byte b) es p e here is)
+      ∙ store_of-some told es (suc p) None (omega arith)
+      ∙ ap (λ o. Some (record { last = told (suc p); opens = o; written_back = None })) (epoch_of-next es p)
 
-  stored-flushed : stores b e ≡ false → flushes (line_of_byte b) e ≡ true → stored_at es (suc p) b ≡ written_back_in (count (at is_fence es) p) (stored_at es p b)
+  stored-flushed : stores b e ≡ false → flushes (line_of_byte b) e ≡ true → stored_at told es (suc p) b ≡ written_back_in (count (at is_fence es) p) (stored_at told es p b)
   unfolding written_back_in
   stored-flushed other flush =
       let l = last_store es p b in
       let w = write_back_epoch (stores b) (line_of_byte b) es p in
       let fences = count (at is_fence es) p in
-      stored_at-is es (suc p) b
-      ∙ ap (λ l. store_of es l (write_back_epoch (stores b) (line_of_byte b) es (suc p))) (last-other (stores b) es p e here other)
-      ∙ ap (store_of es l) (write_back-flushed (stores b) (line_of_byte b) es p e here other flush)
+      stored_at-is told es (suc p) b
+      ∙ ap (λ l. store_of told es l (write_back_epoch (stores b) (line_of_byte b) es (suc p))) (last-other (stores b) es p e here other)
+      ∙ ap (store_of told es l) (write_back-flushed (stores b) (line_of_byte b) es p e here other flush)
       ∙ elim (cases_eq l 0) [
         | inl zero_is ↦
-            store_of-none es l (if is_none w then Some fences else w) zero_is
-            ∙ sym (ap (written_back_in fences) (stored_at-is es p b ∙ store_of-none es l w zero_is))
+            store_of-none told es l (if is_none w then Some fences else w) zero_is
+            ∙ sym (ap (written_back_in fences) (stored_at-is told es p b ∙ store_of-none told es l w zero_is))
         | inr some ↦
-            store_of-some es l (if is_none w then Some fences else w) (omega arith)
-            ∙ sym (ap (written_back_in fences) (stored_at-is es p b ∙ store_of-some es l w (omega arith)))
+            store_of-some told es l (if is_none w then Some fences else w) (omega arith)
+            ∙ sym (ap (written_back_in fences) (stored_at-is told es p b ∙ store_of-some told es l w (omega arith)))
       ]
 
-  byte-kept : stores b e ≡ false → flushes (line_of_byte b) e ≡ false → marks b e ≡ false → (s : ByteState) → IsByteAt es p b s → IsByteAt es (suc p) b s
+  byte-kept : stores b e ≡ false → flushes (line_of_byte b) e ≡ false → marks b e ≡ false → (s : ByteState) → IsByteAt told es p b s → IsByteAt told es (suc p) b s
   byte-kept other no_flush no_mark s is = record {
     stored = is.stored ∙ sym (stored-kept other no_flush);
     excluded = is.excluded ∙ sym (excluded-kept no_mark);
   }
 
-  byte-stored : (place epoch : ℕ) → place ≡ suc p → epoch ≡ count (at is_fence es) p → stores b e ≡ true → marks b e ≡ false →
-      (s : ByteState) → IsByteAt es p b s → IsByteAt es (suc p) b (after_store place epoch s)
+  byte-stored : (place epoch : ℕ) → told (suc p) ≡ place → epoch ≡ count (at is_fence es) p → stores b e ≡ true → marks b e ≡ false →
+      (s : ByteState) → IsByteAt told es p b s → IsByteAt told es (suc p) b (after_store place epoch s)
   byte-stored place epoch here_too now stored no_mark s is = record {
-    stored = ap (λ l. Some (record { last = l; opens = epoch; written_back = None })) here_too
-        ∙ ap (λ o. Some (record { last = suc p; opens = o; written_back = None })) now ∙ sym (stored-stored stored);
+    stored = ap (λ l. Some (record { last = l; opens = epoch; written_back = None })) (sym here_too)
+        ∙ ap (λ o. Some (record { last = told (suc p); opens = o; written_back = None })) now ∙ sym (stored-stored stored);
     excluded = is.excluded ∙ sym (excluded-kept no_mark);
   }
 
   byte-flushed : (epoch : ℕ) → epoch ≡ count (at is_fence es) p → stores b e ≡ false → flushes (line_of_byte b) e ≡ true → marks b e ≡ false →
-      (s : ByteState) → IsByteAt es p b s → IsByteAt es (suc p) b (after_write_back epoch s)
+      (s : ByteState) → IsByteAt told es p b s → IsByteAt told es (suc p) b (after_write_back epoch s)
   byte-flushed epoch now other flush no_mark s is = record {
     stored = stored-after_write_back epoch s.last s.opens s.written_back s.is_stored s.is_written_back s.excluded
         ∙ ap (written_back_in epoch) is.stored
-        ∙ ap (λ o. written_back_in o (stored_at es p b)) now
+        ∙ ap (λ o. written_back_in o (stored_at told es p b)) now
         ∙ sym (stored-flushed other flush);
     excluded = excluded-after_write_back epoch s.last s.opens s.written_back s.is_stored s.is_written_back s.excluded ∙ is.excluded ∙ sym (excluded-kept no_mark);
   }
 
   byte-marked : (out : Bool) → stores b e ≡ false → flushes (line_of_byte b) e ≡ false → marks b e ≡ true → excludes b e ≡ out →
-      (s : ByteState) → IsByteAt es p b s → IsByteAt es (suc p) b (after_mark out s)
+      (s : ByteState) → IsByteAt told es p b s → IsByteAt told es (suc p) b (after_mark out s)
   byte-marked out other no_flush mark marked s is = record {
     stored = is.stored ∙ sym (stored-kept other no_flush);
     excluded = sym (excluded-marked mark ∙ marked);
@@ -153,8 +154,8 @@ changed-stands first end change old new was now changes before inside outside k 
       | false ↦ λ is. outside k is (state_at old k) (before k)
     ] refl)
 
-pub stands-bytes : (shadow : Shadow) (es : List Event) (p : ℕ) → StandsFor shadow es p → (b : ℕ) → IsByteAt es p b (state_at shadow.bytes b)
-stands-bytes shadow es p stands b = record { stored = stands.stored b; excluded = stands.excluded b }
+pub stands-bytes : (shadow : Shadow) (told : ℕ → ℕ) (es : List Event) (p : ℕ) → StandsFor shadow told es p → (b : ℕ) → IsByteAt told es p b (state_at shadow.bytes b)
+stands-bytes shadow told es p stands b = record { stored = stands.stored b; excluded = stands.excluded b }
 
 -- the bytes of the lines that a span meets
 lines-between : (s : Extent) → 0 < s.size → (b : ℕ) → is_between (s.first / 64 * 64) (((s.first + s.size - 1) / 64 + 1) * 64) b ≡ meets_line s (line_of_byte b)
@@ -195,113 +196,150 @@ sized-none es (suc k) s within is = absurd (omega arith)
 -- ---- one more event
 
 -- after a change of the bytes
-stands-changed : (old new : Shadow) (es : List Event) (p : ℕ) (e : Event) (first end : ℕ) (change : ByteState → ByteState) → event_at es (suc p) ≡ Some e →
+stands-changed : (old new : Shadow) (told : ℕ → ℕ) (es : List Event) (p : ℕ) (e : Event) (first end : ℕ) (change : ByteState → ByteState) → event_at es (suc p) ≡ Some e →
     is_fence e ≡ false → IsSized e → new.fences ≡ old.fences → ChangesBetween first end change old.bytes new.bytes →
-    ((b : ℕ) → is_between first end b ≡ true → (s : ByteState) → IsByteAt es p b s → IsByteAt es (suc p) b (change s)) →
-    ((b : ℕ) → is_between first end b ≡ false → (s : ByteState) → IsByteAt es p b s → IsByteAt es (suc p) b s) →
-    StandsFor old es p → StandsFor new es (suc p)
-stands-changed old new es p e first end change here no_fence sized fences bytes inside outside stands =
-    let now = changed-stands first end change old.bytes new.bytes (IsByteAt es p) (IsByteAt es (suc p)) bytes (stands-bytes old es p stands) inside outside in record {
+    ((b : ℕ) → is_between first end b ≡ true → (s : ByteState) → IsByteAt told es p b s → IsByteAt told es (suc p) b (change s)) →
+    ((b : ℕ) → is_between first end b ≡ false → (s : ByteState) → IsByteAt told es p b s → IsByteAt told es (suc p) b s) →
+    StandsFor old told es p → StandsFor new told es (suc p)
+stands-changed old new told es p e first end change here no_fence sized fences bytes inside outside stands =
+    let now = changed-stands first end change old.bytes new.bytes (IsByteAt told es p) (IsByteAt told es (suc p)) bytes (stands-bytes old told es p stands) inside outside in record {
       fences = fences ∙ fences-kept old es p e old.fences here no_fence stands.fences;
       stored = λ b. (now b).stored;
       excluded = λ b. (now b).excluded;
       sized = sized-more es p e here sized stands.sized;
     }
 
-pub stands-store : (old new : Shadow) (s : Extent) (place : ℕ) (es : List Event) (p : ℕ) → 0 < s.size → new.fences ≡ old.fences →
+pub stands-store : (old new : Shadow) (s : Extent) (place : ℕ) (told : ℕ → ℕ) (es : List Event) (p : ℕ) → 0 < s.size → new.fences ≡ old.fences →
     ChangesBetween s.first (s.first + s.size) (after_store place old.fences) old.bytes new.bytes →
-    event_at es (suc p) ≡ Some (Store s) → place ≡ suc p → StandsFor old es p → StandsFor new es (suc p)
+    event_at es (suc p) ≡ Some (Store s) → told (suc p) ≡ place → StandsFor old told es p → StandsFor new told es (suc p)
 unfolding stores flushes marks is_fence is_between
-stands-store old new s place es p some fences bytes here at_place stands =
-    stands-changed old new es p (Store s) s.first (s.first + s.size) (after_store place old.fences) here refl
+stands-store old new s place told es p some fences bytes here at_place stands =
+    stands-changed old new told es p (Store s) s.first (s.first + s.size) (after_store place old.fences) here refl
     (λ t is. let same : s ≡ t = cc in subst (λ (x : Extent). 0 < x.size) same some) fences bytes
-    (λ b within. byte-stored es p b (Store s) here place old.fences at_place stands.fences within refl)
-    (λ b without. byte-kept es p b (Store s) here without refl refl) stands
+    (λ b within. byte-stored told es p b (Store s) here place old.fences at_place stands.fences within refl)
+    (λ b without. byte-kept told es p b (Store s) here without refl refl) stands
 
-pub stands-flush : (old new : Shadow) (s : Extent) (es : List Event) (p : ℕ) → 0 < s.size → new.fences ≡ old.fences →
+pub stands-flush : (old new : Shadow) (s : Extent) (told : ℕ → ℕ) (es : List Event) (p : ℕ) → 0 < s.size → new.fences ≡ old.fences →
     ChangesBetween (s.first / 64 * 64) (((s.first + s.size - 1) / 64 + 1) * 64) (after_write_back old.fences) old.bytes new.bytes →
-    event_at es (suc p) ≡ Some (Flush s) → StandsFor old es p → StandsFor new es (suc p)
+    event_at es (suc p) ≡ Some (Flush s) → StandsFor old told es p → StandsFor new told es (suc p)
 unfolding stores flushes marks is_fence
-stands-flush old new s es p some fences bytes here stands =
-    stands-changed old new es p (Flush s) (s.first / 64 * 64) (((s.first + s.size - 1) / 64 + 1) * 64) (after_write_back old.fences) here refl
+stands-flush old new s told es p some fences bytes here stands =
+    stands-changed old new told es p (Flush s) (s.first / 64 * 64) (((s.first + s.size - 1) / 64 + 1) * 64) (after_write_back old.fences) here refl
     (λ t is. let bad : Flush s ≡ Store t = is in cc) fences bytes
-    (λ b within. byte-flushed es p b (Flush s) here old.fences stands.fences refl (sym (lines-between s some b) ∙ within) refl)
-    (λ b without. byte-kept es p b (Flush s) here refl (sym (lines-between s some b) ∙ without) refl) stands
+    (λ b within. byte-flushed told es p b (Flush s) here old.fences stands.fences refl (sym (lines-between s some b) ∙ within) refl)
+    (λ b without. byte-kept told es p b (Flush s) here refl (sym (lines-between s some b) ∙ without) refl) stands
 
-pub stands-exclude : (old new : Shadow) (s : Extent) (es : List Event) (p : ℕ) → new.fences ≡ old.fences →
+pub stands-exclude : (old new : Shadow) (s : Extent) (told : ℕ → ℕ) (es : List Event) (p : ℕ) → new.fences ≡ old.fences →
     ChangesBetween s.first (s.first + s.size) (after_mark true) old.bytes new.bytes →
-    event_at es (suc p) ≡ Some (Exclude s) → StandsFor old es p → StandsFor new es (suc p)
+    event_at es (suc p) ≡ Some (Exclude s) → StandsFor old told es p → StandsFor new told es (suc p)
 unfolding stores flushes marks excludes is_fence is_between
-stands-exclude old new s es p fences bytes here stands =
-    stands-changed old new es p (Exclude s) s.first (s.first + s.size) (after_mark true) here refl
+stands-exclude old new s told es p fences bytes here stands =
+    stands-changed old new told es p (Exclude s) s.first (s.first + s.size) (after_mark true) here refl
     (λ t is. let bad : Exclude s ≡ Store t = is in cc) fences bytes
-    (λ b within. byte-marked es p b (Exclude s) here true refl refl within within)
-    (λ b without. byte-kept es p b (Exclude s) here refl refl without) stands
+    (λ b within. byte-marked told es p b (Exclude s) here true refl refl within within)
+    (λ b without. byte-kept told es p b (Exclude s) here refl refl without) stands
 
-pub stands-include : (old new : Shadow) (s : Extent) (es : List Event) (p : ℕ) → new.fences ≡ old.fences →
+pub stands-include : (old new : Shadow) (s : Extent) (told : ℕ → ℕ) (es : List Event) (p : ℕ) → new.fences ≡ old.fences →
     ChangesBetween s.first (s.first + s.size) (after_mark false) old.bytes new.bytes →
-    event_at es (suc p) ≡ Some (Include s) → StandsFor old es p → StandsFor new es (suc p)
+    event_at es (suc p) ≡ Some (Include s) → StandsFor old told es p → StandsFor new told es (suc p)
 unfolding stores flushes marks excludes is_fence is_between
-stands-include old new s es p fences bytes here stands =
-    stands-changed old new es p (Include s) s.first (s.first + s.size) (after_mark false) here refl
+stands-include old new s told es p fences bytes here stands =
+    stands-changed old new told es p (Include s) s.first (s.first + s.size) (after_mark false) here refl
     (λ t is. let bad : Include s ≡ Store t = is in cc) fences bytes
-    (λ b within. byte-marked es p b (Include s) here false refl refl within refl)
-    (λ b without. byte-kept es p b (Include s) here refl refl without) stands
+    (λ b within. byte-marked told es p b (Include s) here false refl refl within refl)
+    (λ b without. byte-kept told es p b (Include s) here refl refl without) stands
 
 -- after an event that changes no byte
-stands-kept : (old new : Shadow) (es : List Event) (p : ℕ) (e : Event) → event_at es (suc p) ≡ Some e → ((b : ℕ) → stores b e ≡ false) → IsSized e →
+stands-kept : (old new : Shadow) (told : ℕ → ℕ) (es : List Event) (p : ℕ) (e : Event) → event_at es (suc p) ≡ Some e → ((b : ℕ) → stores b e ≡ false) → IsSized e →
     ((l : ℕ) → flushes l e ≡ false) → ((b : ℕ) → marks b e ≡ false) → new.bytes ≡ old.bytes → new.fences ≡ count (at is_fence es) (suc p) →
-    StandsFor old es p → StandsFor new es (suc p)
-stands-kept old new es p e here no_store no_size no_flush no_mark bytes fences stands =
-    let now = λ (b : ℕ). byte-kept es p b e here (no_store b) (no_flush (line_of_byte b)) (no_mark b) (state_at new.bytes b)
-    (subst (λ m. IsByteAt es p b (state_at m b)) (sym bytes) (stands-bytes old es p stands b)) in record {
+    StandsFor old told es p → StandsFor new told es (suc p)
+stands-kept old new told es p e here no_store no_size no_flush no_mark bytes fences stands =
+    let now = λ (b : ℕ). byte-kept told es p b e here (no_store b) (no_flush (line_of_byte b)) (no_mark b) (state_at new.bytes b)
+    (subst (λ m. IsByteAt told es p b (state_at m b)) (sym bytes) (stands-bytes old told es p stands b)) in record {
       fences = fences;
       stored = λ b. (now b).stored;
       excluded = λ b. (now b).excluded;
       sized = sized-more es p e here no_size stands.sized;
     }
 
-pub stands-fence : (old new : Shadow) (es : List Event) (p : ℕ) → new.bytes ≡ old.bytes → new.fences ≡ old.fences + 1 →
-    event_at es (suc p) ≡ Some Fence → StandsFor old es p → StandsFor new es (suc p)
+pub stands-fence : (old new : Shadow) (told : ℕ → ℕ) (es : List Event) (p : ℕ) → new.bytes ≡ old.bytes → new.fences ≡ old.fences + 1 →
+    event_at es (suc p) ≡ Some Fence → StandsFor old told es p → StandsFor new told es (suc p)
 unfolding stores flushes marks is_fence
-stands-fence old new es p bytes fences here stands =
-    stands-kept old new es p Fence here (λ b. refl) (λ t is. let bad : Fence ≡ Store t = is in cc) (λ l. refl) (λ b. refl) bytes
+stands-fence old new told es p bytes fences here stands =
+    stands-kept old new told es p Fence here (λ b. refl) (λ t is. let bad : Fence ≡ Store t = is in cc) (λ l. refl) (λ b. refl) bytes
     (let step = fences-step es p Fence here in let before = stands.fences in omega arith) stands
 
 -- events that change nothing
-pub stands-other : (shadow : Shadow) (es : List Event) (p : ℕ) (e : Event) → event_at es (suc p) ≡ Some e → is_fence e ≡ false →
+pub stands-other : (shadow : Shadow) (told : ℕ → ℕ) (es : List Event) (p : ℕ) (e : Event) → event_at es (suc p) ≡ Some e → is_fence e ≡ false →
     ((b : ℕ) → stores b e ≡ false) → IsSized e → ((l : ℕ) → flushes l e ≡ false) → ((b : ℕ) → marks b e ≡ false) →
-    StandsFor shadow es p → StandsFor shadow es (suc p)
-stands-other shadow es p e here no_fence no_store no_size no_flush no_mark stands =
-    stands-kept shadow shadow es p e here no_store no_size no_flush no_mark refl (fences-kept shadow es p e shadow.fences here no_fence stands.fences) stands
+    StandsFor shadow told es p → StandsFor shadow told es (suc p)
+stands-other shadow told es p e here no_fence no_store no_size no_flush no_mark stands =
+    stands-kept shadow shadow told es p e here no_store no_size no_flush no_mark refl (fences-kept shadow es p e shadow.fences here no_fence stands.fences) stands
 
-pub stands-unseen : UnseenEventsChangeNothing
+stands-unseen : (shadow : Shadow) (told : ℕ → ℕ) (es : List Event) (p : ℕ) (e : Event) → event_at es (suc p) ≡ Some e → is_unseen e ≡ true → StandsFor shadow told es p → StandsFor shadow told es (suc p)
 unfolding is_unseen stores flushes marks is_fence
-stands-unseen shadow es p (Store s) here unseen stands = let bad : false ≡ true = unseen in cc
-stands-unseen shadow es p (Flush s) here unseen stands = let bad : false ≡ true = unseen in cc
-stands-unseen shadow es p Fence here unseen stands = let bad : false ≡ true = unseen in cc
-stands-unseen shadow es p (Exclude s) here unseen stands = let bad : false ≡ true = unseen in cc
-stands-unseen shadow es p (Include s) here unseen stands = let bad : false ≡ true = unseen in cc
-stands-unseen shadow es p (Persist s) here unseen stands = stands-other shadow es p (Persist s) here refl (λ b. refl) (λ t is. let bad : (Persist s) ≡ Store t = is in cc) (λ l. refl) (λ b. refl) stands
-stands-unseen shadow es p (Ordered a b) here unseen stands = stands-other shadow es p (Ordered a b) here refl (λ x. refl) (λ t is. let bad : (Ordered a b) ≡ Store t = is in cc) (λ l. refl) (λ x. refl) stands
-stands-unseen shadow es p TxBegin here unseen stands = stands-other shadow es p TxBegin here refl (λ b. refl) (λ t is. let bad : TxBegin ≡ Store t = is in cc) (λ l. refl) (λ b. refl) stands
-stands-unseen shadow es p (TxAdd s) here unseen stands = stands-other shadow es p (TxAdd s) here refl (λ b. refl) (λ t is. let bad : (TxAdd s) ≡ Store t = is in cc) (λ l. refl) (λ b. refl) stands
-stands-unseen shadow es p TxEnd here unseen stands = stands-other shadow es p TxEnd here refl (λ b. refl) (λ t is. let bad : TxEnd ≡ Store t = is in cc) (λ l. refl) (λ b. refl) stands
-stands-unseen shadow es p CheckStart here unseen stands = stands-other shadow es p CheckStart here refl (λ b. refl) (λ t is. let bad : CheckStart ≡ Store t = is in cc) (λ l. refl) (λ b. refl) stands
-stands-unseen shadow es p CheckEnd here unseen stands = stands-other shadow es p CheckEnd here refl (λ b. refl) (λ t is. let bad : CheckEnd ≡ Store t = is in cc) (λ l. refl) (λ b. refl) stands
+stands-unseen shadow told es p (Store s) here unseen stands = let bad : false ≡ true = unseen in cc
+stands-unseen shadow told es p (Flush s) here unseen stands = let bad : false ≡ true = unseen in cc
+stands-unseen shadow told es p Fence here unseen stands = let bad : false ≡ true = unseen in cc
+stands-unseen shadow told es p (Exclude s) here unseen stands = let bad : false ≡ true = unseen in cc
+stands-unseen shadow told es p (Include s) here unseen stands = let bad : false ≡ true = unseen in cc
+stands-unseen shadow told es p (Persist s) here unseen stands = stands-other shadow told es p (Persist s) here refl (λ b. refl) (λ t is. let bad : (Persist s) ≡ Store t = is in cc) (λ l. refl) (λ b. refl) stands
+stands-unseen shadow told es p (Ordered a b) here unseen stands = stands-other shadow told es p (Ordered a b) here refl (λ x. refl) (λ t is. let bad : (Ordered a b) ≡ Store t = is in cc) (λ l. refl) (λ x. refl) stands
+stands-unseen shadow told es p TxBegin here unseen stands = stands-other shadow told es p TxBegin here refl (λ b. refl) (λ t is. let bad : TxBegin ≡ Store t = is in cc) (λ l. refl) (λ b. refl) stands
+stands-unseen shadow told es p (TxAdd s) here unseen stands = stands-other shadow told es p (TxAdd s) here refl (λ b. refl) (λ t is. let bad : (TxAdd s) ≡ Store t = is in cc) (λ l. refl) (λ b. refl) stands
+stands-unseen shadow told es p TxEnd here unseen stands = stands-other shadow told es p TxEnd here refl (λ b. refl) (λ t is. let bad : TxEnd ≡ Store t = is in cc) (λ l. refl) (λ b. refl) stands
+stands-unseen shadow told es p CheckStart here unseen stands = stands-other shadow told es p CheckStart here refl (λ b. refl) (λ t is. let bad : CheckStart ≡ Store t = is in cc) (λ l. refl) (λ b. refl) stands
+stands-unseen shadow told es p CheckEnd here unseen stands = stands-other shadow told es p CheckEnd here refl (λ b. refl) (λ t is. let bad : CheckEnd ≡ Store t = is in cc) (λ l. refl) (λ b. refl) stands
 
-pub stands-fences : (shadow : Shadow) (es : List Event) (p : ℕ) → StandsFor shadow es p → shadow.fences ≤ p
-stands-fences shadow es p stands = let bound = count-le (at is_fence es) p in let same = stands.fences in omega arith
+pub stands-fences : (shadow : Shadow) (told : ℕ → ℕ) (es : List Event) (p : ℕ) → StandsFor shadow told es p → shadow.fences ≤ p
+stands-fences shadow told es p stands = let bound = count-le (at is_fence es) p in let same = stands.fences in omega arith
 
-pub stands-empty : (shadow : Shadow) (es : List Event) → shadow.fences ≡ 0 → ((b : ℕ) → state_at shadow.bytes b ≡ state_of 0 0 0 false false false) → StandsFor shadow es 0
+pub stands-empty : (shadow : Shadow) (told : ℕ → ℕ) (es : List Event) → shadow.fences ≡ 0 → ((b : ℕ) → state_at shadow.bytes b ≡ state_of 0 0 0 false false false) → StandsFor shadow told es 0
 unfolding is_excluded at event_at
-stands-empty shadow es fences bytes = record {
+stands-empty shadow told es fences bytes = record {
   fences = fences ∙ sym (count-zero (at is_fence es));
   stored = λ b. ap stored_of (bytes b)
-      ∙ sym (stored_at-is es 0 b ∙ store_of-none es (last_store es 0 b) (write_back_epoch (stores b) (line_of_byte b) es 0) (last-none (stores b) es));
+      ∙ sym (stored_at-is told es 0 b ∙ store_of-none told es (last_store es 0 b) (write_back_epoch (stores b) (line_of_byte b) es 0) (last-none (stores b) es));
   excluded = λ b. ap (λ (s : ByteState). s.excluded) (bytes b) ∙ sym (ap (at (excludes b) es) (last-none (marks b) es));
   sized = sized-none es;
 }
+
+-- ---- what stands for some events says nothing of others
+
+pub stands-past : OnlyPastEventsCount
+stands-past shadow told tells es fs p same told_same stands = record {
+  fences = stands.fences ∙ count_at-same es fs p same is_fence;
+  stored = λ b.
+      let l = last_store es p b in
+      let w = write_back_epoch (stores b) (line_of_byte b) es p in
+      stands.stored b
+      ∙ ap (λ t. if l == 0 then None else Some (record { last = t; opens = epoch_of es l; written_back = w })) (told_same l (last-bound (stores b) es p))
+      ∙ ap (λ o. if l == 0 then None else Some (record { last = tells l; opens = o; written_back = w })) (last_epoch-same es fs p same (stores b))
+      ∙ ap (λ v. if l == 0 then None else Some (record { last = tells l; opens = epoch_of fs (last_store fs p b); written_back = v })) (write_back_epoch-same es fs p same (stores b) (line_of_byte b))
+      ∙ ap (λ k. if k == 0 then None else Some (record { last = tells k; opens = epoch_of fs (last_store fs p b); written_back = write_back_epoch (stores b) (line_of_byte b) fs p })) (last-same es fs p same (stores b));
+  excluded = λ b. stands.excluded b ∙ excluded-same es fs p same b;
+  sized = sized-same es fs p same stands.sized;
+}
+
+-- an event at its place within each list, so at the end of each list
+pub follows-from : (place : ℕ) (old new : Shadow) (e : Event) →
+    ((told : ℕ → ℕ) (es : List Event) (p : ℕ) → event_at es (suc p) ≡ Some e → told (suc p) ≡ place → StandsFor old told es p → StandsFor new told es (suc p)) →
+    FollowsAt place old new e
+follows-from place old new e step told es at_place stands =
+    step told (es ++ e ∷ []) (length es) (at_the_end es e) at_place (stands-past old told told es (es ++ e ∷ []) (length es) (same-longer es e) (λ k within. refl) stands)
+
+-- and the other way round
+pub follows-within : StepsFollowWithin
+follows-within place old new e follows told es p here at_place stands =
+    let size = length-taken es p e here in
+    let before : StandsFor old told (take p es) (length (take p es)) =
+    subst (StandsFor old told (take p es)) (sym size) (stands-past old told told es (take p es) p (same-taken es p) (λ k within. refl) stands) in
+    let after : StandsFor new told (take p es ++ e ∷ []) (suc p) =
+    subst (λ n. StandsFor new told (take p es ++ e ∷ []) (suc n)) size (follows told (take p es) (ap (λ n. told (suc n)) size ∙ at_place) before) in
+    stands-past new told told (take p es ++ e ∷ []) es (suc p) (same-retaken es p e here) (λ k within. refl) after
+
+pub unseen-follows : UnseenEventsChangeNothing
+unseen-follows shadow e unseen place = follows-from place shadow shadow e (λ told es p here at_place stands. stands-unseen shadow told es p e here unseen stands)
 
 -- ---- after room was made
 

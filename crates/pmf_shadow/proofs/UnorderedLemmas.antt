@@ -7,18 +7,19 @@ use Rattle.std.proofs.lemmas.Bool.Decides.{Decides-eqb}
 use Rattle.std.proofs.Math.Bool.{or-false, and-false, or-true, and-true}
 use Rattle.pmf_event.proofs.LeastPairLemmas.{least_pair-by, least_pair-none}
 use Rattle.pmf_event.specs.declared.event.Event.{Event}
+use Rattle.pmf_event.specs.declared.event.Event.TheVariants.{Store}
 use Rattle.pmf_event.specs.declared.profile.Profile.{Profile}
 use Rattle.pmf_event.specs.declared.profile.Profile.TheVariants.{One, Two}
 use Rattle.pmf_event.specs.Span.{Extent}
 use Rattle.pmf_event.specs.Line.{line_of_byte}
 use Rattle.pmf_event.specs.Places.{least, count}
 use Rattle.pmf_event.specs.Ranges.{first_byte}
-use Rattle.pmf_event.specs.Store.{at, stores, is_fence, last, last_store, epoch_of}
+use Rattle.pmf_event.specs.Store.{event_at, passes, at, stores, is_fence, last, last_store, epoch_of}
 use Rattle.pmf_event.specs.WriteBack.{write_back_epoch}
 use Rattle.pmf_event.specs.Interval.{writes_back, first_write_back, interval_at}
 use Rattle.pmf_event.specs.Persist.{is_checked}
 use Rattle.pmf_event.specs.Order.{is_closed_by, precedes, share_line, is_stored_before, is_ordered, is_unordered, is_certified, with_partner, least_pair}
-use Rattle.pmf_event.proofs.PlacesLemmas.{least-passes, count-mono}
+use Rattle.pmf_event.proofs.PlacesLemmas.{greatest-passes, least-passes, count-mono}
 use Rattle.pmf_event.proofs.RangeLemmas.{none-passes, first_from-same}
 use Rattle.pmf_event.proofs.WriteBackLemmas.{last-bound, epoch_unless-place}
 use Rattle.pmf_shadow.specs.declared.byte.ByteState.{ByteState}
@@ -28,6 +29,7 @@ use Rattle.pmf_shadow.specs.States.{stored_of, checked_store, holds_of, any_stor
 use Rattle.pmf_runs.specs.Runs.{state_at}
 use Rattle.pmf_shadow.specs.Pairs.{kept, both_hold, by_epoch, by_place, by_epochs, by_lines, by_line, on_line, off_line, IsLeastValue}
 use Rattle.pmf_shadow.specs.Shadow.{stored_at, closing, StandsFor}
+use Rattle.pmf_shadow.specs.Told.{KeepsOrder}
 use Rattle.pmf_shadow.proofs.PairLemmas.{late-monotone, no_pairs-by_epochs, has_partner-by_epochs, partner-by_epochs, no_pairs-by_lines, has_partner-by_lines, partner-by_lines, by_lines-on, by_lines-off, by_line-on, by_line-off, on_line-on}
 use Rattle.pmf_shadow.proofs.StandsLemmas.{stands-bytes}
 use Rattle.pmf_shadow.proofs.QuestionLemmas.{IsWritten, written-from_stored, interval-written, checked-is, closing-some, closing-open}
@@ -35,10 +37,10 @@ use Rattle.pmf_shadow.proofs.QuestionLemmas.{IsWritten, written-from_stored, int
 -- ---- what is kept of a checked byte
 
 -- what the events say of a byte of which this is kept
-pub record IsKept (es : List Event) (p x : ℕ) (k : Stored) : Type 0 where
+pub record IsKept (told : ℕ → ℕ) (es : List Event) (p x : ℕ) (k : Stored) : Type 0 where
   pub checked : is_checked es p x ≡ true
-  pub written : IsWritten es p x k
-  pub interval : interval_at es p x ≡ Some (record { last = k.last; opens = k.opens; closes = closing (count (at is_fence es) p) k.written_back })
+  pub written : IsWritten told es p x k
+  pub interval : interval_at es p x ≡ Some (record { last = last_store es p x; opens = k.opens; closes = closing (count (at is_fence es) p) k.written_back })
 
 store-of_checked : (s : ByteState) (k : Stored) → checked_store s ≡ Some k → stored_of s ≡ Some k
 store-of_checked s k is = elim s.excluded as (λ v. (if v then None else stored_of s) ≡ Some k → stored_of s ≡ Some k) [
@@ -46,21 +48,21 @@ store-of_checked s k is = elim s.excluded as (λ v. (if v then None else stored_
   | false ↦ λ same. same
 ] is
 
-module _ (shadow : Shadow) (es : List Event) (p : ℕ) (stands : StandsFor shadow es p) where
+module _ (shadow : Shadow) (told : ℕ → ℕ) (es : List Event) (p : ℕ) (stands : StandsFor shadow told es p) where
   checked-kept : (x : ℕ) → is_checked es p x ≡ holds_of any_store (kept shadow.bytes x)
   unfolding kept
-  checked-kept x = checked-is es p x (state_at shadow.bytes x) (stands-bytes shadow es p stands x)
+  checked-kept x = checked-is told es p x (state_at shadow.bytes x) (stands-bytes shadow told es p stands x)
 
-  stored-kept : (x : ℕ) (k : Stored) → kept shadow.bytes x ≡ Some k → stored_at es p x ≡ Some k
+  stored-kept : (x : ℕ) (k : Stored) → kept shadow.bytes x ≡ Some k → stored_at told es p x ≡ Some k
   unfolding kept
   stored-kept x k is = sym (stands.stored x) ∙ store-of_checked (state_at shadow.bytes x) k is
 
-  pub kept-some : (x : ℕ) (k : Stored) → kept shadow.bytes x ≡ Some k → IsKept es p x k
+  pub kept-some : (x : ℕ) (k : Stored) → kept shadow.bytes x ≡ Some k → IsKept told es p x k
   kept-some x k is =
       let stored = stored-kept x k is in record {
         checked = checked-kept x ∙ ap (holds_of any_store) is;
-        written = written-from_stored es p x k stored;
-        interval = interval-written es p x k stored;
+        written = written-from_stored told es p x k stored;
+        interval = interval-written told es p x k stored;
       }
 
   unchecked-none : (x : ℕ) → kept shadow.bytes x ≡ None → is_checked es p x ≡ false
@@ -95,11 +97,54 @@ at_most-from_before ties i j is = elim (nat_lt i j) as (λ v. nat_lt i j ≡ v �
   | false ↦ λ other tie. let both = and_parts ties (i == j) tie in let same : i ≡ j = (Decides-eqb i j).0 both.1 in omega arith
 ] refl is
 
+-- ---- the order of the places that were told
+
+-- the last store of a byte that is written
+passes-store : (b : ℕ) (o : Option Event) → passes (stores b) o ≡ true → (s : Extent) × (o ≡ Some (Store s))
+unfolding stores
+passes-store b None is = let bad : false ≡ true = is in cc
+passes-store b (Some (Store s)) is = (s, refl)
+passes-store b (Some _) is = let bad : false ≡ true = is in cc
+
+store-at : (es : List Event) (p b : ℕ) → 0 < last_store es p b → (s : Extent) × (event_at es (last_store es p b) ≡ Some (Store s))
+unfolding at last
+store-at es p b some = passes-store b (event_at es (last_store es p b)) (greatest-passes (at (stores b) es) p some)
+
+module _ (told : ℕ → ℕ) (es : List Event) (p : ℕ) (order : KeepsOrder told es p) (x y : ℕ) (k m : Stored) (own : IsWritten told es p x k) (other : IsWritten told es p y m) where
+  told-rises : last_store es p x < last_store es p y → k.last < m.last
+  told-rises before =
+      let one = store-at es p x own.some in
+      let two = store-at es p y other.some in
+      let rise = order (last_store es p x) (last_store es p y) one.0 two.0 before (last-bound (stores y) es p) one.1 two.1 in
+      let at_x = own.place in
+      let at_y = other.place in omega arith
+
+  told-same : last_store es p x ≡ last_store es p y → k.last ≡ m.last
+  told-same same = own.place ∙ ap told same ∙ sym other.place
+
+module _ (told : ℕ → ℕ) (es : List Event) (p : ℕ) (order : KeepsOrder told es p) (x y : ℕ) (k m : Stored) (own : IsWritten told es p x k) (other : IsWritten told es p y m) where
+  told-falls : last_store es p y ≤ last_store es p x → m.last ≤ k.last
+  told-falls low = elim (cases_eq (last_store es p x) (last_store es p y)) [
+    | inl same ↦ let told_alike = told-same told es p order x y k m own other same in omega arith
+    | inr apart ↦ let rise = told-rises told es p order y x m k other own (omega arith) in omega arith
+  ]
+
+  -- of two bytes that are written, that with the lesser place was stored first
+  told-before : nat_lt (last_store es p x) (last_store es p y) ≡ nat_lt k.last m.last
+  told-before = elim (cases_lt (last_store es p x) (last_store es p y)) [
+    | inl before ↦ lt-ltb (last_store es p x) (last_store es p y) before ∙ sym (lt-ltb k.last m.last (told-rises told es p order x y k m own other before))
+    | inr after ↦ le-ltb (last_store es p x) (last_store es p y) after ∙ sym (le-ltb k.last m.last (told-falls after))
+  ]
+
+  told-at_most : m.last ≤ k.last → last_store es p y ≤ last_store es p x
+  told-at_most low = elim (cases_lt (last_store es p x) (last_store es p y)) [
+    | inl before ↦ let rise = told-rises told es p order x y k m own other before in absurd (omega arith)
+    | inr after ↦ after
+  ]
+
 -- a byte that was stored no earlier than another was written back in no epoch before the other's
-pub stored-later : (es : List Event) (p x y : ℕ) (k m : Stored) → IsWritten es p x k → IsWritten es p y m → m.last ≤ k.last → is_late m.opens k.written_back ≡ true
-stored-later es p x y k m own other low =
-    let at_x = own.place in
-    let at_y = other.place in
+pub stored-later : (told : ℕ → ℕ) (es : List Event) (p x y : ℕ) (k m : Stored) → IsWritten told es p x k → IsWritten told es p y m → last_store es p y ≤ last_store es p x → is_late m.opens k.written_back ≡ true
+stored-later told es p x y k m own other low =
     let open_x = own.epoch in
     let open_y = other.epoch in
     let rise = epoch-mono es (last_store es p y) (last_store es p x) (omega arith) in
@@ -118,7 +163,7 @@ not-closed fences opens (Some w) low = elim (cases_lt w fences) [
   | inr late ↦ ap (λ c. not (is_closed_by c opens)) (closing-open fences w late) ∙ sym (le-leb opens w (omega arith))
 ]
 
-module _ (es : List Event) (p x y : ℕ) (k m : Stored) (own : IsKept es p x k) (other : IsKept es p y m) where
+module _ (told : ℕ → ℕ) (es : List Event) (p x y : ℕ) (k m : Stored) (own : IsKept told es p x k) (other : IsKept told es p y m) where
   -- the two checked bytes, by their epochs
   apart : Bool
   apart = not (precedes (interval_at es p x) (interval_at es p y))
@@ -130,19 +175,22 @@ module _ (es : List Event) (p x y : ℕ) (k m : Stored) (own : IsKept es p x k) 
       let open_y = other.written.epoch in
       let most = epoch-bound es (last_store es p y) p bound in
       ap (λ o. not (precedes o (interval_at es p y))) own.interval
-      ∙ ap (λ o. not (precedes (Some (record { last = k.last; opens = k.opens; closes = closing (count (at is_fence es) p) k.written_back })) o)) other.interval
+      ∙ ap (λ o. not (precedes (Some (record { last = last_store es p x; opens = k.opens; closes = closing (count (at is_fence es) p) k.written_back })) o)) other.interval
       ∙ not-closed (count (at is_fence es) p) m.opens k.written_back (omega arith)
 
   both-checked : (v : Bool) → (is_checked es p x && is_checked es p y && v) ≡ v
   both-checked v = ap (λ c. c && is_checked es p y && v) own.checked ∙ ap (λ c. c && v) other.checked
 
-  before-is : is_stored_before es p x y ≡ nat_lt k.last m.last
+  before-is : KeepsOrder told es p → is_stored_before es p x y ≡ nat_lt k.last m.last
   unfolding is_stored_before
-  before-is = ap (λ i. nat_lt i (last_store es p y)) (sym own.written.place) ∙ ap (nat_lt k.last) (sym other.written.place)
+  before-is order = told-before told es p order x y k m own.written other.written
 
-  after-is : is_stored_before es p y x ≡ nat_lt m.last k.last
+  after-is : KeepsOrder told es p → is_stored_before es p y x ≡ nat_lt m.last k.last
   unfolding is_stored_before
-  after-is = ap (λ i. nat_lt i (last_store es p x)) (sym other.written.place) ∙ ap (nat_lt m.last) (sym own.written.place)
+  after-is order = told-before told es p order y x m k other.written own.written
+
+  falls-by : KeepsOrder told es p → m.last ≤ k.last → is_late m.opens k.written_back ≡ true
+  falls-by order low = stored-later told es p x y k m own.written other.written (told-at_most told es p order x y k m own.written other.written low)
 
   pub unordered-one : is_unordered One es p x y ≡ is_late m.opens k.written_back
   unfolding is_unordered is_ordered apart
@@ -156,29 +204,29 @@ module _ (es : List Event) (p x y : ℕ) (k m : Stored) (own : IsKept es p x k) 
       ∙ ap (λ v. not v) (or-false (precedes (interval_at es p x) (interval_at es p y)))
       ∙ apart-is
 
-  unordered-two-on : share_line x y ≡ true → is_unordered Two es p x y ≡ not (precedes (interval_at es p x) (interval_at es p y) || nat_lt k.last m.last)
+  unordered-two-on : KeepsOrder told es p → share_line x y ≡ true → is_unordered Two es p x y ≡ not (precedes (interval_at es p x) (interval_at es p y) || nat_lt k.last m.last)
   unfolding is_unordered is_ordered
-  unordered-two-on on =
+  unordered-two-on order on =
       both-checked (not (precedes (interval_at es p x) (interval_at es p y) || (share_line x y && is_stored_before es p x y)))
       ∙ ap (λ s. not (precedes (interval_at es p x) (interval_at es p y) || (s && is_stored_before es p x y))) on
-      ∙ ap (λ v. not (precedes (interval_at es p x) (interval_at es p y) || v)) before-is
+      ∙ ap (λ v. not (precedes (interval_at es p x) (interval_at es p y) || v)) (before-is order)
 
-  later-two : share_line x y ≡ true → m.last ≤ k.last → is_unordered Two es p x y ≡ true
+  later-two : KeepsOrder told es p → share_line x y ≡ true → m.last ≤ k.last → is_unordered Two es p x y ≡ true
   unfolding apart
-  later-two on low =
-      unordered-two-on on
+  later-two order on low =
+      unordered-two-on order on
       ∙ ap (λ v. not (precedes (interval_at es p x) (interval_at es p y) || v)) (le-ltb k.last m.last low)
       ∙ ap (λ v. not v) (or-false (precedes (interval_at es p x) (interval_at es p y)))
-      ∙ apart-is ∙ stored-later es p x y k m own.written other.written low
+      ∙ apart-is ∙ falls-by order low
 
-  pub unordered-two : share_line x y ≡ true → is_unordered Two es p x y ≡ is_before true m.last k.last
-  unordered-two on = elim (cases_lt k.last m.last) [
+  pub unordered-two : KeepsOrder told es p → share_line x y ≡ true → is_unordered Two es p x y ≡ is_before true m.last k.last
+  unordered-two order on = elim (cases_lt k.last m.last) [
     | inl before ↦
-        unordered-two-on on
+        unordered-two-on order on
         ∙ ap (λ v. not (precedes (interval_at es p x) (interval_at es p y) || v)) (lt-ltb k.last m.last before)
         ∙ ap (λ v. not v) (or-true (precedes (interval_at es p x) (interval_at es p y)))
         ∙ sym (ap (λ v. v || (true && m.last == k.last)) (le-ltb m.last k.last (omega arith)) ∙ ne_eqb m.last k.last (λ same. omega arith))
-    | inr after ↦ later-two on after ∙ sym (elim (cases_eq m.last k.last) [
+    | inr after ↦ later-two order on after ∙ sym (elim (cases_eq m.last k.last) [
       | inl same ↦ ap (λ v. nat_lt m.last k.last || v) ((Decides-eqb m.last k.last).1 same) ∙ or-true (nat_lt m.last k.last)
       | inr apart ↦ ap (λ v. v || (true && m.last == k.last)) (lt-ltb m.last k.last (omega arith))
     ])
@@ -189,11 +237,11 @@ module _ (es : List Event) (p x y : ℕ) (k m : Stored) (own : IsKept es p x k) 
   certified-off profile off is =
       ap (λ s. is_unordered profile es p x y && (not s || is_stored_before es p y x)) off ∙ and-true (is_unordered profile es p x y) ∙ is
 
-  certified-on : (profile : Profile) → share_line x y ≡ true → (m.last < k.last → is_unordered profile es p x y ≡ true) → is_certified profile es p x y ≡ is_before false m.last k.last
+  certified-on : (profile : Profile) → KeepsOrder told es p → share_line x y ≡ true → (m.last < k.last → is_unordered profile es p x y ≡ true) → is_certified profile es p x y ≡ is_before false m.last k.last
   unfolding is_certified
-  certified-on profile on later =
+  certified-on profile order on later =
       ap (λ s. is_unordered profile es p x y && (not s || is_stored_before es p y x)) on
-      ∙ ap (λ v. is_unordered profile es p x y && v) after-is
+      ∙ ap (λ v. is_unordered profile es p x y && v) (after-is order)
       ∙ elim (cases_lt m.last k.last) [
         | inl before ↦ ap (λ v. is_unordered profile es p x y && v) (lt-ltb m.last k.last before) ∙ and-true (is_unordered profile es p x y) ∙ later before
             ∙ sym (ap (λ v. v || (false && m.last == k.last)) (lt-ltb m.last k.last before))
@@ -205,9 +253,9 @@ module _ (es : List Event) (p x y : ℕ) (k m : Stored) (own : IsKept es p x k) 
   certified-apart One off = certified-off One off unordered-one
   certified-apart Two off = certified-off Two off (unordered-two-off off)
 
-  pub certified-together : (profile : Profile) → share_line x y ≡ true → is_certified profile es p x y ≡ is_before false m.last k.last
-  certified-together One on = certified-on One on (λ before. unordered-one ∙ stored-later es p x y k m own.written other.written (omega arith))
-  certified-together Two on = certified-on Two on (λ before. later-two on (omega arith))
+  pub certified-together : (profile : Profile) → KeepsOrder told es p → share_line x y ≡ true → is_certified profile es p x y ≡ is_before false m.last k.last
+  certified-together One order on = certified-on One order on (λ before. unordered-one ∙ falls-by order (omega arith))
+  certified-together Two order on = certified-on Two order on (λ before. later-two order on (omega arith))
 
 unordered-unchecked : (profile : Profile) (es : List Event) (p x y : ℕ) → (is_checked es p x && is_checked es p y) ≡ false → is_unordered profile es p x y ≡ false
 unfolding is_unordered
@@ -224,12 +272,12 @@ both_hold-right : (test : Stored → Stored → Bool) (u : Option Stored) → bo
 both_hold-right test None = refl
 both_hold-right test (Some k) = refl
 
-module _ (shadow : Shadow) (es : List Event) (p : ℕ) (stands : StandsFor shadow es p) where
+module _ (shadow : Shadow) (told : ℕ → ℕ) (es : List Event) (p : ℕ) (stands : StandsFor shadow told es p) where
   neither-left : (x y : ℕ) → kept shadow.bytes x ≡ None → (is_checked es p x && is_checked es p y) ≡ false
-  neither-left x y none = ap (λ v. v && is_checked es p y) (unchecked-none shadow es p stands x none)
+  neither-left x y none = ap (λ v. v && is_checked es p y) (unchecked-none shadow told es p stands x none)
 
   neither-right : (x y : ℕ) → kept shadow.bytes y ≡ None → (is_checked es p x && is_checked es p y) ≡ false
-  neither-right x y none = ap (λ v. is_checked es p x && v) (unchecked-none shadow es p stands y none) ∙ and-false (is_checked es p x)
+  neither-right x y none = ap (λ v. is_checked es p x && v) (unchecked-none shadow told es p stands y none) ∙ and-false (is_checked es p x)
 
   both-is : (test : Stored → Stored → Bool) (x y : ℕ) (k m : Stored) → kept shadow.bytes x ≡ Some k → kept shadow.bytes y ≡ Some m →
       both_hold test (kept shadow.bytes x) (kept shadow.bytes y) ≡ test k m
@@ -238,7 +286,7 @@ module _ (shadow : Shadow) (es : List Event) (p : ℕ) (stands : StandsFor shado
   epochs-by : (x y : ℕ) (u v : Option Stored) → kept shadow.bytes x ≡ u → kept shadow.bytes y ≡ v → is_unordered One es p x y ≡ by_epochs (kept shadow.bytes) x y
   unfolding by_epochs
   epochs-by x y (Some k) (Some m) one other =
-      unordered-one es p x y k m (kept-some shadow es p stands x k one) (kept-some shadow es p stands y m other) ∙ sym (both-is by_epoch x y k m one other)
+      unordered-one told es p x y k m (kept-some shadow told es p stands x k one) (kept-some shadow told es p stands y m other) ∙ sym (both-is by_epoch x y k m one other)
   epochs-by x y None v one other = unordered-unchecked One es p x y (neither-left x y one) ∙ sym (ap (λ w. both_hold by_epoch w (kept shadow.bytes y)) one)
   epochs-by x y (Some k) None one other =
       unordered-unchecked One es p x y (neither-right x y other) ∙ sym (ap (both_hold by_epoch (kept shadow.bytes x)) other ∙ both_hold-right by_epoch (kept shadow.bytes x))
@@ -248,16 +296,16 @@ module _ (shadow : Shadow) (es : List Event) (p : ℕ) (stands : StandsFor shado
 
   -- a test of pairs that is right on a line and off it is that of the walks by lines
   lines-by : (ties : Bool) (want : ℕ → ℕ → Bool) →
-      ((x y : ℕ) (k m : Stored) → IsKept es p x k → IsKept es p y m → share_line x y ≡ true → want x y ≡ is_before ties m.last k.last) →
-      ((x y : ℕ) (k m : Stored) → IsKept es p x k → IsKept es p y m → share_line x y ≡ false → want x y ≡ is_late m.opens k.written_back) →
+      ((x y : ℕ) (k m : Stored) → IsKept told es p x k → IsKept told es p y m → share_line x y ≡ true → want x y ≡ is_before ties m.last k.last) →
+      ((x y : ℕ) (k m : Stored) → IsKept told es p x k → IsKept told es p y m → share_line x y ≡ false → want x y ≡ is_late m.opens k.written_back) →
       ((x y : ℕ) → (is_checked es p x && is_checked es p y) ≡ false → want x y ≡ false) →
       (x y : ℕ) (u v : Option Stored) → kept shadow.bytes x ≡ u → kept shadow.bytes y ≡ v → want x y ≡ by_lines ties (kept shadow.bytes) x y
   lines-by ties want on off none x y (Some k) (Some m) one other = elim (cases_eq (line_of_byte x) (line_of_byte y)) [
     | inl same ↦
-        on x y k m (kept-some shadow es p stands x k one) (kept-some shadow es p stands y m other) ((Decides-eqb (line_of_byte x) (line_of_byte y)).1 same)
+        on x y k m (kept-some shadow told es p stands x k one) (kept-some shadow told es p stands y m other) ((Decides-eqb (line_of_byte x) (line_of_byte y)).1 same)
         ∙ sym (by_lines-on ties (kept shadow.bytes) x y same ∙ both-is (by_place ties) x y k m one other)
     | inr apart ↦
-        off x y k m (kept-some shadow es p stands x k one) (kept-some shadow es p stands y m other) (ne_eqb (line_of_byte x) (line_of_byte y) apart)
+        off x y k m (kept-some shadow told es p stands x k one) (kept-some shadow told es p stands y m other) (ne_eqb (line_of_byte x) (line_of_byte y) apart)
         ∙ sym (by_lines-off ties (kept shadow.bytes) x y apart ∙ both-is by_epoch x y k m one other)
   ]
   lines-by ties want on off none x y None v one other = none x y (neither-left x y one) ∙ sym (elim (cases_eq (line_of_byte x) (line_of_byte y)) [
@@ -269,33 +317,33 @@ module _ (shadow : Shadow) (es : List Event) (p : ℕ) (stands : StandsFor shado
     | inr apart ↦ by_lines-off ties (kept shadow.bytes) x y apart ∙ ap (both_hold by_epoch (kept shadow.bytes x)) other ∙ both_hold-right by_epoch (kept shadow.bytes x)
   ])
 
-  pub unordered-two-is : (x y : ℕ) → is_unordered Two es p x y ≡ by_lines true (kept shadow.bytes) x y
-  unordered-two-is x y = lines-by true (is_unordered Two es p)
-      (λ x y k m own other on. unordered-two es p x y k m own other on)
-      (λ x y k m own other off. unordered-two-off es p x y k m own other off)
+  pub unordered-two-is : KeepsOrder told es p → (x y : ℕ) → is_unordered Two es p x y ≡ by_lines true (kept shadow.bytes) x y
+  unordered-two-is order x y = lines-by true (is_unordered Two es p)
+      (λ x y k m own other on. unordered-two told es p x y k m own other order on)
+      (λ x y k m own other off. unordered-two-off told es p x y k m own other off)
       (λ x y none. unordered-unchecked Two es p x y none) x y (kept shadow.bytes x) (kept shadow.bytes y) refl refl
 
-  pub certified-is : (profile : Profile) (x y : ℕ) → is_certified profile es p x y ≡ by_lines false (kept shadow.bytes) x y
-  certified-is profile x y = lines-by false (is_certified profile es p)
-      (λ x y k m own other on. certified-together es p x y k m own other profile on)
-      (λ x y k m own other off. certified-apart es p x y k m own other profile off)
+  pub certified-is : KeepsOrder told es p → (profile : Profile) (x y : ℕ) → is_certified profile es p x y ≡ by_lines false (kept shadow.bytes) x y
+  certified-is order profile x y = lines-by false (is_certified profile es p)
+      (λ x y k m own other on. certified-together told es p x y k m own other profile order on)
+      (λ x y k m own other off. certified-apart told es p x y k m own other profile off)
       (λ x y none. certified-unchecked profile es p x y none) x y (kept shadow.bytes x) (kept shadow.bytes y) refl refl
 
-  falls : (ties : Bool) (x y : ℕ) (k m : Stored) → kept shadow.bytes x ≡ Some k → kept shadow.bytes y ≡ Some m → is_before ties m.last k.last ≡ true → is_late m.opens k.written_back ≡ true
-  falls ties x y k m one other before =
-      stored-later es p x y k m (kept-some shadow es p stands x k one).written (kept-some shadow es p stands y m other).written (at_most-from_before ties m.last k.last before)
+  falls : KeepsOrder told es p → (ties : Bool) (x y : ℕ) (k m : Stored) → kept shadow.bytes x ≡ Some k → kept shadow.bytes y ≡ Some m → is_before ties m.last k.last ≡ true → is_late m.opens k.written_back ≡ true
+  falls order ties x y k m one other before =
+      falls-by told es p x y k m (kept-some shadow told es p stands x k one) (kept-some shadow told es p stands y m other) order (at_most-from_before ties m.last k.last before)
 
   -- the walks by lines find the least pair
-  pub lines-found : (ties : Bool) (a b : Extent) (m early first : ℕ) (elsewhere : Option ℕ) →
+  pub lines-found : KeepsOrder told es p → (ties : Bool) (a b : Extent) (m early first : ℕ) (elsewhere : Option ℕ) →
       IsLeastValue (λ x. opening_of (kept shadow.bytes x)) b.first b.size (Some m) →
       b.first ≤ early → early < b.first + b.size → opening_of (kept shadow.bytes early) ≡ Some m →
       IsLeastValue (on_line (line_of_byte early) (λ x. place_of (kept shadow.bytes x))) b.first b.size (Some first) →
       IsLeastValue (off_line (line_of_byte early) (λ x. opening_of (kept shadow.bytes x))) b.first b.size elsewhere →
       (on off : ℕ → Bool) → ((x : ℕ) → on x ≡ holds_of (has_one_by ties first elsewhere) (kept shadow.bytes x)) → ((x : ℕ) → off x ≡ holds_of (late_for m) (kept shadow.bytes x)) →
       least_pair (by_lines ties (kept shadow.bytes)) a b ≡ with_partner (by_lines ties (kept shadow.bytes)) b (first_byte (by_line (line_of_byte early) on off) a)
-  lines-found ties a b m early first elsewhere least from within opens least_on least_off on off is_on is_off =
+  lines-found order ties a b m early first elsewhere least from within opens least_on least_off on off is_on is_off =
       least_pair-by (by_lines ties (kept shadow.bytes)) a b (by_line (line_of_byte early) on off)
-      (has_partner-by_lines ties (kept shadow.bytes) b (falls ties) m least early from within opens first least_on elsewhere least_off on off is_on is_off)
+      (has_partner-by_lines ties (kept shadow.bytes) b (falls order ties) m least early from within opens first least_on elsewhere least_off on off is_on is_off)
 
 -- the partner that the walk finds
 pub lines-partner : (ties : Bool) (kept : ℕ → Option Stored) (b : Extent) (x : ℕ) (k : Stored) → kept x ≡ Some k → (on off : ℕ → Bool) →
@@ -338,18 +386,18 @@ place-from_opening m None is none = let bad : None ≡ Some m = is in cc
 place-from_opening m (Some k) is none = let bad : Some k.last ≡ None = none in cc
 
 -- the same, where the line of the earliest epoch has a name of its own
-pub lines-found-at : (shadow : Shadow) (es : List Event) (p : ℕ) → StandsFor shadow es p → (ties : Bool) (a b : Extent) (m early line first : ℕ) (elsewhere : Option ℕ) →
+pub lines-found-at : (shadow : Shadow) (told : ℕ → ℕ) (es : List Event) (p : ℕ) → StandsFor shadow told es p → KeepsOrder told es p → (ties : Bool) (a b : Extent) (m early line first : ℕ) (elsewhere : Option ℕ) →
     IsLeastValue (λ x. opening_of (kept shadow.bytes x)) b.first b.size (Some m) →
     b.first ≤ early → early < b.first + b.size → opening_of (kept shadow.bytes early) ≡ Some m → line ≡ line_of_byte early →
     IsLeastValue (on_line line (λ x. place_of (kept shadow.bytes x))) b.first b.size (Some first) →
     IsLeastValue (off_line line (λ x. opening_of (kept shadow.bytes x))) b.first b.size elsewhere →
     (on off : ℕ → Bool) → ((x : ℕ) → on x ≡ holds_of (has_one_by ties first elsewhere) (kept shadow.bytes x)) → ((x : ℕ) → off x ≡ holds_of (late_for m) (kept shadow.bytes x)) →
     least_pair (by_lines ties (kept shadow.bytes)) a b ≡ with_partner (by_lines ties (kept shadow.bytes)) b (first_byte (by_line line on off) a)
-lines-found-at shadow es p stands ties a b m early line first elsewhere least from within opens same least_on least_off on off is_on is_off =
+lines-found-at shadow told es p stands order ties a b m early line first elsewhere least from within opens same least_on least_off on off is_on is_off =
     subst (λ l. IsLeastValue (on_line l (λ x. place_of (kept shadow.bytes x))) b.first b.size (Some first) →
     IsLeastValue (off_line l (λ x. opening_of (kept shadow.bytes x))) b.first b.size elsewhere →
     least_pair (by_lines ties (kept shadow.bytes)) a b ≡ with_partner (by_lines ties (kept shadow.bytes)) b (first_byte (by_line l on off) a))
-    (sym same) (λ one other. lines-found shadow es p stands ties a b m early first elsewhere least from within opens one other on off is_on is_off) least_on least_off
+    (sym same) (λ one other. lines-found shadow told es p stands order ties a b m early first elsewhere least from within opens one other on off is_on is_off) least_on least_off
 
 pub lines-partner-at : (ties : Bool) (kept : ℕ → Option Stored) (b : Extent) (x line : ℕ) (k : Stored) → kept x ≡ Some k → line ≡ line_of_byte x → (on off : ℕ → Bool) →
     ((y : ℕ) → on y ≡ holds_of (stored_by ties k.last) (kept y)) → ((y : ℕ) → off y ≡ holds_of (comes_after k.written_back) (kept y)) →

@@ -1,6 +1,7 @@
 -- What a shadow memory stands for: for every byte, what is kept is what the definitions say of the first
--- p events of a list. What a cache line is follows from its bytes.
-use Rattle.std.specs.Prelude.{◌≡◌, ℕ, ◌+◌, ◌==◌, nat_lt, List, Option, None, Some, if◌then◌else◌}
+-- p events of a list, with the places that were told of the stores. What a cache line is follows from its
+-- bytes.
+use Rattle.std.specs.Prelude.{◌≡◌, ℕ, suc, ◌+◌, ◌==◌, nat_lt, [], ◌∷◌, ◌++◌, List, length, Option, None, Some, if◌then◌else◌}
 use Rattle.pmf_event.specs.declared.event.Event.{Event}
 use Rattle.pmf_event.specs.Line.{line_of_byte}
 use Rattle.pmf_event.specs.Places.{count}
@@ -13,22 +14,38 @@ use Rattle.pmf_shadow.specs.declared.shadow.Shadow.{Shadow}
 use Rattle.pmf_runs.specs.Runs.{state_at}
 use Rattle.pmf_shadow.specs.States.{stored_of}
 
--- the last store of byte b at p: its place, its epoch, and the epoch of the first write-back after it
-abbrev pub stored_at : List Event → ℕ → ℕ → Option Stored
-stored_at es p b =
+-- the last store of byte b at p: the place that was told of it, its epoch, and the epoch of the first
+-- write-back after it
+abbrev pub stored_at : (ℕ → ℕ) → List Event → ℕ → ℕ → Option Stored
+stored_at told es p b =
     if last_store es p b == 0 then None
     else Some (record {
-      last = last_store es p b;
+      last = told (last_store es p b);
       opens = epoch_of es (last_store es p b);
       written_back = write_back_epoch (stores b) (line_of_byte b) es p;
     })
 
--- the shadow stands for the first p events, each store of which has a size above 0
-pub record StandsFor (shadow : Shadow) (es : List Event) (p : ℕ) : Type 0 where
+-- the shadow stands for the first p events of a list, each store of which has a size above 0 and was told
+-- at the place that is given for it
+pub record StandsFor (shadow : Shadow) (told : ℕ → ℕ) (es : List Event) (p : ℕ) : Type 0 where
   pub fences : shadow.fences ≡ count (at is_fence es) p
-  pub stored : (b : ℕ) → stored_of (state_at shadow.bytes b) ≡ stored_at es p b
+  pub stored : (b : ℕ) → stored_of (state_at shadow.bytes b) ≡ stored_at told es p b
   pub excluded : (b : ℕ) → (state_at shadow.bytes b).excluded ≡ is_excluded es p b
   pub sized : HasBytes es p
+
+-- whatever list the old shadow stood for, the new one stands for that list with the event at its end, which
+-- was told at this place
+abbrev pub FollowsAt : ℕ → Shadow → Shadow → Event → Type 0
+FollowsAt place old new e = (told : ℕ → ℕ) (es : List Event) → told (suc (length es)) ≡ place →
+    StandsFor old told es (length es) → StandsFor new told (es ++ e ∷ []) (suc (length es))
+
+-- the same of an event whose place is not kept: it was told at any place
+abbrev pub Follows : Shadow → Shadow → Event → Type 0
+Follows old new e = (place : ℕ) → FollowsAt place old new e
+
+-- the new shadow stands for all that the old one stood for
+abbrev pub Keeps : Shadow → Shadow → Type 0
+Keeps old new = (told : ℕ → ℕ) (es : List Event) (p : ℕ) → StandsFor old told es p → StandsFor new told es p
 
 -- the epoch after that of a write-back, once a fence has ended it
 abbrev pub closing : ℕ → Option ℕ → Option ℕ

@@ -1,9 +1,20 @@
 //! Laws of what a shadow stands for, each the clause of an empty function.
 
-ghost use Rattle.pmf_shadow.specs.Laws.{UnseenEventsChangeNothing};
+ghost use Rattle.pmf_shadow.specs.Laws.{OnlyPastEventsCount, StepsFollowWithin, UnseenEventsChangeNothing};
 
 /// A shadow that stands for some events stands for an assertion or a marker of a transaction more,
 /// without a call: these change nothing that it keeps.
 pub fn unseen_events_change_nothing()
     ensures { UnseenEventsChangeNothing }
+{}
+
+/// What a shadow stands for at a place is said of the events up to that place and of the places that
+/// they were told at, and of no others.
+pub fn only_past_events_count()
+    ensures { OnlyPastEventsCount }
+{}
+
+/// A call that follows an event at the end of a list follows it within a longer list too.
+pub fn steps_follow_within()
+    ensures { StepsFollowWithin }
 {}

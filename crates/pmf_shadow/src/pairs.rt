@@ -10,6 +10,7 @@ ghost use Rattle.pmf_runs.specs.Runs.{passing, keyed};
 ghost use Rattle.pmf_shadow.specs.Pairs.{by_epochs, by_line, by_lines, kept, off_line, on_line, pairs_of, IsLeastValue};
 ghost use Rattle.pmf_shadow.specs.Shadow.{StandsFor};
 ghost use Rattle.pmf_shadow.specs.States.{kept_opening, kept_place};
+ghost use Rattle.pmf_shadow.specs.Told.{KeepsOrder};
 
 use crate::byte::{ByteState, ComesAfter, HasOneBy, IsLate, Opening, OpensIn, Place, StoredBy};
 use crate::shadow::{Shadow, end_of};
@@ -18,10 +19,10 @@ use pmf_runs::Test;
 
 impl Shadow {
     /// The least unordered pair of a byte of `a` and a byte of `b`, or with `shown` the least
-    /// certified one, by the profile's rule.
+    /// certified one, by the profile's rule. The places that were told of the stores are in their order.
     pub fn least_pair(&self, a: Span, b: Span, shown: bool, profile: Profile) -> Option<(u64, u64)>
-        ensures { (es : List Event) (p : ℕ) → StandsFor self.now es p
-            → result ≡ least_pair (pairs_of shown profile es p) a b }
+        ensures { (told : ℕ → ℕ) (es : List Event) (p : ℕ) → StandsFor self.now told es p
+            → KeepsOrder told es p → result ≡ least_pair (pairs_of shown profile es p) a b }
     {
         match (shown, profile) {
             (false, Profile::One) => self.least_by_epochs(&a, &b),
@@ -48,8 +49,8 @@ impl Shadow {
     // The least pair by the order of stores on one line, and by epochs elsewhere. The earliest epoch
     // of `b` lies on one line; every byte off that line meets it there.
     fn least_by_lines(&self, a: &Span, b: &Span, ties: bool) -> Option<(u64, u64)>
-        ensures { (es : List Event) (p : ℕ) → StandsFor self.now es p
-            → result ≡ least_pair (by_lines ties (kept self.now.bytes)) a.now b.now }
+        ensures { (told : ℕ → ℕ) (es : List Event) (p : ℕ) → StandsFor self.now told es p
+            → KeepsOrder told es p → result ≡ least_pair (by_lines ties (kept self.now.bytes)) a.now b.now }
     {
         let epoch = self.bytes.least_key(b.first(), end_of(b), &Opening)?;
         let early = self.first_in(b, &OpensIn { epoch })?;

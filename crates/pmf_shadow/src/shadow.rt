@@ -1,17 +1,17 @@
 //! The shadow of some events: the states of bytes, and how many fences there were.
 
-ghost use Rattle.std.specs.Prelude.{◌≡◌, ℕ, suc, ◌+◌, ◌<◌, ◌≤◌, List, Some, OnOk, OnErr, is_some};
+ghost use Rattle.std.specs.Prelude.{◌≡◌, ℕ, ◌+◌, ◌<◌, List, OnOk, OnErr, is_some};
 ghost use Rattle.pmf_event.specs.declared.event.Event.{Event};
 ghost use Rattle.pmf_event.specs.declared.section.TheConstants.{EVENT_LIMIT};
 ghost use Rattle.pmf_event.specs.Span.{IsValidExtent};
 ghost use Rattle.pmf_event.specs.Ranges.{first_byte};
-ghost use Rattle.pmf_event.specs.Store.{event_at};
 ghost use Rattle.pmf_event.specs.Interval.{interval_at};
 ghost use Rattle.pmf_event.specs.Exclusion.{is_included};
 ghost use Rattle.pmf_event.specs.Persist.{is_checked, is_exposed};
 ghost use Rattle.pmf_event.specs.FlushWarnings.{is_clean, is_pending, lines_where};
 ghost use Rattle.pmf_runs.specs.Runs.{passing};
-ghost use Rattle.pmf_shadow.specs.Shadow.{StandsFor, closing};
+ghost use Rattle.pmf_shadow.specs.Shadow.{StandsFor, FollowsAt, Follows, Keeps, closing};
+ghost use Rattle.pmf_shadow.specs.Told.{interval_as_told};
 
 use crate::byte::{
     ByteState, IsChecked, IsIncluded, IsLate, IsPending, IsUndurable, IsUnwritten, Marked,
@@ -46,7 +46,7 @@ pub struct FlushLines {
 impl Shadow {
     /// The shadow of no events. Takes no memory.
     pub fn new(alloc: Global) -> Shadow
-        ensures { (es : List Event) → StandsFor result es 0 }
+        ensures { (told : ℕ → ℕ) (es : List Event) → StandsFor result told es 0 }
     {
         Shadow {
             bytes: RunMap::new(alloc, UNTOUCHED),
@@ -54,14 +54,11 @@ impl Shadow {
         }
     }
 
-    /// Follows a store to the bytes of the span at this place. Memory: at most two runs.
+    /// Follows a store to the bytes of the span, and keeps this place of it. Memory: at most two runs.
     /// After an `Err` the shadow stands for what it stood for.
     pub fn store(&mut self, place: u32, span: Span) -> Result<(), AllocError>
-        ensures follows { OnOk result ((es : List Event) (p : ℕ) → StandsFor self.old es p
-            → event_at es (suc p) ≡ Some (Event.Store span) → place ≡ suc p
-            → StandsFor self.new es (suc p)) }
-        ensures unchanged { OnErr result ((es : List Event) (p : ℕ) → StandsFor self.old es p
-            → StandsFor self.new es p) }
+        ensures follows { OnOk result (FollowsAt place self.old self.new (Event.Store span)) }
+        ensures unchanged { OnErr result (Keeps self.old self.new) }
     {
         let change = StoredAt {
             place,
@@ -74,10 +71,8 @@ impl Shadow {
     /// Follows a write-back of every line that the span meets. Memory: at most two runs.
     /// After an `Err` the shadow stands for what it stood for.
     pub fn flush(&mut self, span: Span) -> Result<(), AllocError>
-        ensures follows { OnOk result ((es : List Event) (p : ℕ) → StandsFor self.old es p
-            → event_at es (suc p) ≡ Some (Event.Flush span) → StandsFor self.new es (suc p)) }
-        ensures unchanged { OnErr result ((es : List Event) (p : ℕ) → StandsFor self.old es p
-            → StandsFor self.new es p) }
+        ensures follows { OnOk result (Follows self.old self.new (Event.Flush span)) }
+        ensures unchanged { OnErr result (Keeps self.old self.new) }
     {
         let (first, end) = lines_of(&span);
         let change = WrittenBackIn { epoch: self.fences };
@@ -88,9 +83,9 @@ impl Shadow {
 
     /// Follows a fence. It walks nothing and takes no memory.
     pub fn fence(&mut self)
-        requires { (es : List Event) × (p : ℕ) × StandsFor self.old es p × (p < EVENT_LIMIT) }
-        ensures { (es : List Event) (p : ℕ) → StandsFor self.old es p
-            → event_at es (suc p) ≡ Some Event.Fence → StandsFor self.new es (suc p) }
+        requires { (told : ℕ → ℕ) × (es : List Event) × (p : ℕ) × StandsFor self.old told es p
+            × (p < EVENT_LIMIT) }
+        ensures { Follows self.old self.new Event.Fence }
     {
         self.fences += 1;
     }
@@ -98,10 +93,8 @@ impl Shadow {
     /// Follows an exclusion of the span's bytes. Memory: at most two runs. After an `Err` the shadow
     /// stands for what it stood for.
     pub fn exclude(&mut self, span: Span) -> Result<(), AllocError>
-        ensures follows { OnOk result ((es : List Event) (p : ℕ) → StandsFor self.old es p
-            → event_at es (suc p) ≡ Some (Event.Exclude span) → StandsFor self.new es (suc p)) }
-        ensures unchanged { OnErr result ((es : List Event) (p : ℕ) → StandsFor self.old es p
-            → StandsFor self.new es p) }
+        ensures follows { OnOk result (Follows self.old self.new (Event.Exclude span)) }
+        ensures unchanged { OnErr result (Keeps self.old self.new) }
     {
         self.bytes
             .change(span.first(), end_of(&span), &Marked { excluded: true })?;
@@ -111,20 +104,19 @@ impl Shadow {
     /// Follows an inclusion of the span's bytes. Memory: at most two runs. After an `Err` the shadow
     /// stands for what it stood for.
     pub fn include(&mut self, span: Span) -> Result<(), AllocError>
-        ensures follows { OnOk result ((es : List Event) (p : ℕ) → StandsFor self.old es p
-            → event_at es (suc p) ≡ Some (Event.Include span) → StandsFor self.new es (suc p)) }
-        ensures unchanged { OnErr result ((es : List Event) (p : ℕ) → StandsFor self.old es p
-            → StandsFor self.new es p) }
+        ensures follows { OnOk result (Follows self.old self.new (Event.Include span)) }
+        ensures unchanged { OnErr result (Keeps self.old self.new) }
     {
         self.bytes
             .change(span.first(), end_of(&span), &Marked { excluded: false })?;
         Ok(())
     }
 
-    /// The persist interval of the byte, or `None` where no store has covered it.
+    /// The persist interval of the byte, with the place that was told of its last store, or `None` where no
+    /// store has covered it.
     pub fn interval_at(&self, byte: u64) -> Option<Interval>
-        ensures { (es : List Event) (p : ℕ) → StandsFor self.now es p
-            → result ≡ interval_at es p byte }
+        ensures { (told : ℕ → ℕ) (es : List Event) (p : ℕ) → StandsFor self.now told es p
+            → result ≡ interval_as_told told (interval_at es p byte) }
     {
         match self.bytes.at(byte).stored() {
             None => None,
@@ -138,7 +130,7 @@ impl Shadow {
 
     /// Whether a byte of the span is checked: written, and not excluded.
     pub fn written_included(&self, span: Span) -> bool
-        ensures { (es : List Event) (p : ℕ) → StandsFor self.now es p
+        ensures { (told : ℕ → ℕ) (es : List Event) (p : ℕ) → StandsFor self.now told es p
             → result ≡ is_some (first_byte (is_checked es p) span) }
     {
         self.first_in(&span, &IsChecked).is_some()
@@ -146,7 +138,7 @@ impl Shadow {
 
     /// The least checked byte of the span whose persist interval is open.
     pub fn least_open(&self, span: Span) -> Option<u64>
-        ensures { (es : List Event) (p : ℕ) → StandsFor self.now es p
+        ensures { (told : ℕ → ℕ) (es : List Event) (p : ℕ) → StandsFor self.now told es p
             → result ≡ first_byte (is_exposed es p) span }
     {
         self.first_in(&span, &IsLate { epoch: self.fences })
@@ -154,7 +146,7 @@ impl Shadow {
 
     /// The least byte of the span that is not excluded, written or not.
     pub fn least_included(&self, span: Span) -> Option<u64>
-        ensures { (es : List Event) (p : ℕ) → StandsFor self.now es p
+        ensures { (told : ℕ → ℕ) (es : List Event) (p : ℕ) → StandsFor self.now told es p
             → result ≡ first_byte (is_included es p) span }
     {
         self.first_in(&span, &IsIncluded)
@@ -163,7 +155,7 @@ impl Shadow {
     /// Of the lines that the span meets, those with a write-back that no fence has completed: the
     /// least, and how many.
     pub fn pending_lines(&self, span: Span) -> Option<Lines>
-        ensures { (es : List Event) (p : ℕ) → StandsFor self.now es p
+        ensures { (told : ℕ → ℕ) (es : List Event) (p : ℕ) → StandsFor self.now told es p
             → result ≡ lines_where (is_pending es p) span }
     {
         self.flush_lines(span).pending
@@ -171,7 +163,7 @@ impl Shadow {
 
     /// Of the lines that the span meets, those with nothing to write back: the least, and how many.
     pub fn clean_lines(&self, span: Span) -> Option<Lines>
-        ensures { (es : List Event) (p : ℕ) → StandsFor self.now es p
+        ensures { (told : ℕ → ℕ) (es : List Event) (p : ℕ) → StandsFor self.now told es p
             → result ≡ lines_where (is_clean es p) span }
     {
         self.flush_lines(span).clean
@@ -180,9 +172,9 @@ impl Shadow {
     /// What a write-back of the span's lines would find: both of these at once, so that lines are counted
     /// once.
     pub fn flush_lines(&self, span: Span) -> FlushLines
-        ensures pending { (es : List Event) (p : ℕ) → StandsFor self.now es p
+        ensures pending { (told : ℕ → ℕ) (es : List Event) (p : ℕ) → StandsFor self.now told es p
             → result.pending ≡ lines_where (is_pending es p) span }
-        ensures clean { (es : List Event) (p : ℕ) → StandsFor self.now es p
+        ensures clean { (told : ℕ → ℕ) (es : List Event) (p : ℕ) → StandsFor self.now told es p
             → result.clean ≡ lines_where (is_clean es p) span }
     {
         let undurable = IsUndurable { epoch: self.fences };

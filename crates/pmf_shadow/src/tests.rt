@@ -1,10 +1,9 @@
 //! What a shadow answers after some events.
 
-ghost use Rattle.std.specs.Prelude.{◌≡◌, ℕ, suc, ◌≤◌, ◌<◌, List, Some, length, OnOk};
+ghost use Rattle.std.specs.Prelude.{ℕ, ◌≤◌, ◌<◌, List, length, OnOk};
 ghost use Rattle.pmf_event.specs.declared.event.Event.{Event};
 ghost use Rattle.pmf_event.specs.declared.section.TheConstants.{EVENT_LIMIT};
-ghost use Rattle.pmf_event.specs.Store.{event_at};
-ghost use Rattle.pmf_shadow.specs.Shadow.{StandsFor};
+ghost use Rattle.pmf_shadow.specs.Shadow.{StandsFor, FollowsAt};
 
 use crate::shadow::Shadow;
 use pmf_event::{EVENT_LIMIT, Event, Interval, Lines, Profile, Span, SpanFault};
@@ -85,9 +84,9 @@ fn follow_all(alloc: Global, events: &[Event]) -> (Shadow, usize)
 
 /// Follows one event, which is no assertion and no marker of a transaction.
 fn follow(shadow: &mut Shadow, place: u32, event: Event) -> Result<(), AllocError>
-    requires { (es : List Event) × (p : ℕ) × StandsFor shadow.old es p × (p < EVENT_LIMIT) }
-    ensures { OnOk result ((es : List Event) (p : ℕ) → StandsFor shadow.old es p
-        → event_at es (suc p) ≡ Some event → place ≡ suc p → StandsFor shadow.new es (suc p)) }
+    requires { (told : ℕ → ℕ) × (es : List Event) × (p : ℕ) × StandsFor shadow.old told es p
+        × (p < EVENT_LIMIT) }
+    ensures { OnOk result (FollowsAt place shadow.old shadow.new event) }
 {
     match event {
         Event::Store(span) => shadow.store(place, span)?,
@@ -162,6 +161,46 @@ fn interval(last: u32, opens: u32, closes: Option<u32>) -> Option<Interval> {
         opens,
         closes,
     })
+}
+
+/// The shadow of two stores to one line, each with a fence after it, that were told at these places.
+fn stored_twice(alloc: Global, one: u32, other: u32) -> Result<Shadow, Fail> {
+    let (here, next) = (Span::make(0x1000, 8)?, Span::make(0x1008, 8)?);
+    let mut shadow = Shadow::new(alloc);
+    shadow.store(one, here)?;
+    shadow.fence();
+    shadow.store(other, next)?;
+    shadow.fence();
+    Ok(shadow)
+}
+
+#[test]
+fn an_interval_has_the_place_that_was_told(rt: HostRuntime) -> Result<(), Fail> {
+    let (here, next) = (Span::make(0x1000, 8)?, Span::make(0x1008, 8)?);
+    for (one, other, what) in [(1, 2, "stores counted alone"), (10, 20, "each tenth place")] {
+        let shadow = stored_twice(rt.alloc(), one, other)?;
+        assert_eq!(rt;
+            shadow.interval_at(0x1000),
+            interval(one, 0, None),
+            "{what}"
+        );
+        assert_eq!(rt;
+            shadow.interval_at(0x1008),
+            interval(other, 1, None),
+            "{what}"
+        );
+        assert_eq!(rt;
+            shadow.least_pair(here, next, false, Profile::Two),
+            None,
+            "{what}"
+        );
+        assert_eq!(rt;
+            shadow.least_pair(next, here, true, Profile::Two),
+            Some((0x1008, 0x1000)),
+            "{what}"
+        );
+    }
+    Ok(())
 }
 
 fn lines(least: u64, count: u64) -> Option<Lines> {

@@ -1,10 +1,10 @@
 -- What check_stream reads, and the report or ledger text that it writes. Defined here.
-use Rattle.std.specs.Prelude.{◌≡◌, ◌≢◌, ◌<◌, ◌⊎◌, Bool, true, false, List, ℕ, Option, Ok, Err}
+use Rattle.std.specs.Prelude.{◌≡◌, ◌≢◌, ◌<◌, ◌≤◌, ◌⊎◌, Bool, true, false, List, ◌++◌, length, ℕ, Option, None, Ok, Err}
 use Rattle.std.specs.Io.KnownBytes.{IsAtEnd}
 use Rattle.pmf_storelog.specs.declared.fault.LogFault.{LogFault}
 use Rattle.pmf_storelog.specs.declared.fault.TheConstants.{LOG_LIMIT}
 use Rattle.pmf_storelog.specs.LogValue.{LogValue}
-use Rattle.pmf_storelog.specs.LogText.{log_of, IsFaultOfAll, out_of_memory}
+use Rattle.pmf_storelog.specs.LogText.{log_of, shown_fault, IsFaultOfAll, out_of_memory}
 use Rattle.pmf_ledger.specs.Gathered.{IsLedgerOf}
 use Rattle.pmf_ledger.specs.LedgerText.{text_of_ledger}
 use Rattle.pmf_ledger.specs.LedgerValue.{LedgerValue}
@@ -16,6 +16,7 @@ use Rattle.pmf_farm.specs.Running.{AreWorkers, IsTaken}
 use Rattle.pmf_stream.specs.declared.checking.CheckLogFault.{CheckLogFault}
 use Rattle.pmf_stream.specs.declared.checking.CheckLogFault.TheVariants as checking
 use Rattle.pmf_stream.specs.declared.checking.Done.{Done}
+use Rattle.pmf_stream.specs.declared.reading.TheConstants.{PIECE}
 use Rattle.pmf_stream.specs.declared.settings.Settings.{Settings}
 use Rattle.pmf_stream.specs.Reading.{HasReadBytes}
 
@@ -26,12 +27,18 @@ pub record IsLogOf (run : ℕ) (old new : Option (List ℕ)) (log : LogValue) : 
   pub ended : IsAtEnd new
   pub faultless : log_of run bytes ≡ Ok log
 
--- what was read has this first fault, and so has every log that begins so, unless the stream ended
+-- reading stopped with the piece in which the first fault stands: what was read before the last piece shows none
+abbrev pub StopsAtFault : List ℕ → Type 0
+StopsAtFault bytes = (before : List ℕ) × (piece : List ℕ) × (bytes ≡ before ++ piece) × (length piece ≤ PIECE) × (shown_fault before ≡ None)
+
+-- what was read has this first fault, and so has every log that begins so, unless the stream ended; and no more was
+-- read than to the end of the piece that shows it
 pub record IsFaultOf (run : ℕ) (old new : Option (List ℕ)) (found : LogFault) : Type 0 where
   pub bytes : List ℕ
   pub read : HasReadBytes LOG_LIMIT old new bytes
   pub first : log_of run bytes ≡ Err found
   pub for_all : IsAtEnd new ⊎ IsFaultOfAll found bytes
+  pub stops : StopsAtFault bytes
 
 -- what is written of a ledger: its report, or the ledger text that is asked for in its place
 abbrev pub text_asked : Bool → LedgerValue → List ℕ

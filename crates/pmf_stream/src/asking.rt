@@ -3,6 +3,8 @@
 ghost use Rattle.pmf_stream.specs.Answering.{Answers, TellsFaults};
 ghost use Rattle.pmf_stream.specs.Asking.{IsExplanationOf, IsRefusalOf};
 ghost use Rattle.pmf_stream.specs.Failures.{CanCountOneMore};
+ghost use Rattle.pmf_stream.specs.Reading.{ReadsWithin};
+ghost use Rattle.pmf_storelog.specs.declared.fault.TheConstants.{LOG_LIMIT};
 
 use crate::explaining::{ExplainFault, explain_text};
 use crate::fault::StreamFault;
@@ -34,6 +36,8 @@ pub fn explain_stream<R: Source, W: Sink>(
         (W.held writer.old) (W.held writer.new) result }
     ensures faults { TellsFaults (R.failed_calls reader.old) (R.failed_calls reader.new)
         (W.failed_calls writer.old) (W.failed_calls writer.new) writer.old writer.new result }
+    // Whatever the answer is, at most one byte more than a log may have was read.
+    ensures within { ReadsWithin LOG_LIMIT (R.left reader.old) (R.left reader.new) }
 {
     let log = match read_all(alloc, reader, LOG_LIMIT) {
         Ok(log) => log,

@@ -1,7 +1,8 @@
 //! From a stream of bytes to its report, or its ledger text.
 
 ghost use Rattle.std.specs.Prelude.{◌≡◌, ◌≢◌, ◌++◌, ◌+◌, ℕ, List, [], Option, None, IfOk, IfErr, MatchResult};
-ghost use Rattle.pmf_storelog.specs.LogText.{IsFaultOfAll, out_of_memory, shown_fault};
+ghost use Rattle.pmf_storelog.specs.LogText.{out_of_memory, shown_fault};
+ghost use Rattle.pmf_storelog.specs.declared.fault.TheConstants.{LOG_LIMIT};
 ghost use Rattle.pmf_storelog.specs.Reader.{HasRead};
 ghost use Rattle.pmf_farm.specs.Running.{IsTaken};
 ghost use Rattle.pmf_ledger.specs.Gathered.{IsLedgerOf};
@@ -9,6 +10,7 @@ ghost use Rattle.pmf_ledger.specs.Report.{totals_of};
 ghost use Rattle.pmf_stream.specs.Answering.{Answers, RefusesReading, TellsFaults, failed_reads};
 ghost use Rattle.pmf_stream.specs.Checking.{IsCheckFaultOf, IsLogOf, IsReportOf, Reports, text_asked};
 ghost use Rattle.pmf_stream.specs.Failures.{CanCountOneMore};
+ghost use Rattle.pmf_stream.specs.Reading.{ReadsWithin};
 
 use crate::failed::Failed;
 use crate::fault::StreamFault;
@@ -62,9 +64,6 @@ impl Intake for LogReader {
     ghost takes_more = { λ a b c xs ys first then run bytes stands.
         subst (λ zs. StandsFor run zs c) (append_assoc bytes xs ys) (then run (bytes ++ xs) (first run bytes stands)) };
 
-    ghost refuses_after = { λ a b xs ys fault first then run bytes stands memory.
-        subst (IsFaultOfAll fault) (append_assoc bytes xs ys) (then run (bytes ++ xs) (first run bytes stands) memory) };
-
     fn take(&mut self, piece: &[u8]) -> Result<(), LogFault> {
         match self.feed(piece) {
             Ok(()) => Ok(()),
@@ -84,6 +83,7 @@ fn read_log<R: Source>(
     ensures faults { IfErr result
         (RefusesReading (IsCheckFaultOf settings (R.left reader.old) (R.left reader.new))) }
     ensures reads { R.failed_calls reader.new ≡ R.failed_calls reader.old + failed_reads result }
+    ensures within { ReadsWithin LOG_LIMIT (R.left reader.old) (R.left reader.new) }
 {
     let mut log = LogReader::new(alloc, settings.run);
     match read_into(reader, &mut log, LOG_LIMIT) {
@@ -160,6 +160,8 @@ pub fn check_stream<H: Threads + Wait + Sync, R: Source, W: Sink, G: Gate + Sync
         (W.held writer.old) (W.held writer.new) result }
     ensures faults { TellsFaults (R.failed_calls reader.old) (R.failed_calls reader.new)
         (W.failed_calls writer.old) (W.failed_calls writer.new) writer.old writer.new result }
+    // Whatever the answer is, at most one byte more than a log may have was read.
+    ensures within { ReadsWithin LOG_LIMIT (R.left reader.old) (R.left reader.new) }
 {
     let log = match read_log(alloc, reader, settings) {
         Ok(log) => log,

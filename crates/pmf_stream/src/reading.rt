@@ -3,7 +3,7 @@
 ghost use Rattle.std.specs.Prelude.{◌≡◌, ◌+◌, ◌++◌, ◌<◌, ◌^◌, ℕ, [], List, IfOk, IfErr, MatchResult};
 ghost use Rattle.pmf_stream.specs.Failures.{CanCountOneMore, CountsFailure};
 ghost use Rattle.pmf_stream.specs.Answering.{RefusesReading, failed_reads};
-ghost use Rattle.pmf_stream.specs.Reading.{HasReadAll, HasReadBytes};
+ghost use Rattle.pmf_stream.specs.Reading.{HasReadAll, HasReadTo, ReadsWithin};
 
 use crate::failed::Failed;
 use crate::fault::StreamFault;
@@ -21,7 +21,7 @@ pub(crate) trait Intake {
     // The first has taken these bytes, in any number of pieces, and is the second then.
     ghost Takes: { Self → List ℕ → Self → Type 0 };
 
-    // This is the fault with which it refuses these bytes, at their last piece.
+    // This is the fault with which it refuses a piece.
     ghost Refuses: { Self → List ℕ → Self.Fault → Type 0 };
 
     /// Takes a piece, or refuses it.
@@ -33,10 +33,6 @@ pub(crate) trait Intake {
 
     // One piece after another.
     ghost takes_more: { (a b c : Self) (xs ys : List ℕ) → Takes a xs b → Takes b ys c → Takes a (xs ++ ys) c };
-
-    // What is refused after some pieces is refused of them all.
-    ghost refuses_after: { (a b : Self) (xs ys : List ℕ) (fault : Self.Fault)
-        → Takes a xs b → Refuses b ys fault → Refuses a (xs ++ ys) fault };
 }
 
 /// Reads the stream to its end, to one byte past the limit, or to the first piece that the intake
@@ -51,8 +47,8 @@ pub(crate) fn read_into<R: Source, I: Intake>(
     ensures taken { IfOk result (λ answer. MatchResult answer
         (λ _. (bytes : List ℕ) × HasReadAll limit (R.left reader.old) (R.left reader.new) bytes
         × I.Takes intake.old bytes intake.new)
-        (λ fault. (bytes : List ℕ) × HasReadBytes limit (R.left reader.old) (R.left reader.new) bytes
-        × I.Refuses intake.old bytes fault)) }
+        (HasReadTo I.Takes I.Refuses limit (R.left reader.old) (R.left reader.new) intake.old)) }
+    ensures within { ReadsWithin limit (R.left reader.old) (R.left reader.new) }
     ensures counted { CountsFailure (R.failed_calls reader.old) (R.failed_calls reader.new) result }
 {
     let mut piece = [0u8; PIECE];
@@ -84,8 +80,6 @@ impl Intake for Vec<u8> {
 
     ghost takes_more = { λ a b c xs ys first then. then ∙ ap (λ zs. zs ++ ys) first ∙ append_assoc a.items xs ys };
 
-    ghost refuses_after = { λ _ _ _ _ _ _ _. tt };
-
     fn take(&mut self, piece: &[u8]) -> Result<(), AllocError> {
         self.extend_from_slice(piece)
     }
@@ -103,6 +97,7 @@ pub fn read_all<R: Source, E: Drop>(
     requires limited { limit < 2 ^ 63 }
     ensures ok { IfOk result (λ bytes.
         HasReadAll limit (R.left reader.old) (R.left reader.new) bytes.items) }
+    ensures within { ReadsWithin limit (R.left reader.old) (R.left reader.new) }
     ensures reads { R.failed_calls reader.new ≡ R.failed_calls reader.old + failed_reads result }
     ensures faults { IfErr result (RefusesReading (λ _. ⊥)) }
 {

@@ -113,7 +113,7 @@ module _ {laws : Ghosts Bool Members} (set : RunMap Bool Members laws) (at end :
 -- none from first up to here lacks a backup
 pub record NoneBare (state : TxState) (shadow : Shadow) (first at : ℕ) : Type 0 where
   pub from : first ≤ at
-  pub none : (es : List Event) (p : ℕ) → Tracks state es p → in_transaction es p ≡ true → StandsFor shadow es (suc p) → NoneUpTo (lacks_backup es p) first at
+  pub none : (es : List Event) (p : ℕ) → Tracks state es p → in_transaction es p ≡ true → (told : ℕ → ℕ) → StandsFor shadow told es (suc p) → NoneUpTo (lacks_backup es p) first at
 
 module _ (state : TxState) (es : List Event) (p : ℕ) (tracks : Tracks state es p) (inside : in_transaction es p ≡ true) where
   -- over bytes that are excluded
@@ -144,7 +144,7 @@ module _ (state : TxState) (es : List Event) (p : ℕ) (tracks : Tracks state es
 -- none of the scope's bytes before here is left open
 pub record NoneOpen (state : TxState) (shadow : Shadow) (at : ℕ) : Type 0 where
   pub within : at ≤ ADDRESS_LIMIT
-  pub none : (es : List Event) (p : ℕ) → Tracks state es p → in_scope es p ≡ true → StandsFor shadow es (suc p) → NoneUpTo (is_left_open es p) 0 at
+  pub none : (es : List Event) (p : ℕ) → Tracks state es p → in_scope es p ≡ true → (told : ℕ → ℕ) → StandsFor shadow told es (suc p) → NoneUpTo (is_left_open es p) 0 at
 
 module _ (state : TxState) (es : List Event) (p : ℕ) (tracks : Tracks state es p) (some : in_scope es p ≡ true) where
   -- over bytes that are none of the scope's

@@ -112,7 +112,7 @@ impl TxState {
         ensures tracks { OnOk result ((es : List Event) (p : ℕ) → Tracks self.old es p
             → event_at es (suc p) ≡ Some (Event.Store span) → Tracks self.new es (suc p)) }
         ensures finds { IfOk result (λ finding. (es : List Event) (p : ℕ) → Tracks self.old es p
-            → StandsFor shadow.now es (suc p) → finding ≡ store_finding es p span) }
+            → (told : ℕ → ℕ) → StandsFor shadow.now told es (suc p) → finding ≡ store_finding es p span) }
         ensures unchanged { OnErr result ((es : List Event) (p : ℕ) → Tracks self.old es p
             → Tracks self.new es p) }
     {
@@ -150,7 +150,7 @@ impl TxState {
         ensures tracks { (es : List Event) (p : ℕ) → Tracks self.old es p
             → event_at es (suc p) ≡ Some Event.CheckEnd → Tracks self.new es (suc p) }
         ensures finds { (es : List Event) (p : ℕ) → Tracks self.old es p
-            → StandsFor shadow.now es (suc p) → result ≡ check_finding es p }
+            → (told : ℕ → ℕ) → StandsFor shadow.now told es (suc p) → result ≡ check_finding es p }
     {
         let finding = self.found_at_end(shadow);
         self.scope = None;
@@ -173,7 +173,7 @@ impl TxState {
         requires ends { end ≤ ADDRESS_LIMIT }
         requires small { end ≤ first + SPAN_LIMIT }
         ensures { (es : List Event) (p : ℕ) → Tracks self.now es p → in_transaction es p ≡ true
-            → StandsFor shadow.now es (suc p)
+            → (told : ℕ → ℕ) → StandsFor shadow.now told es (suc p)
             → result ≡ first_from (lacks_backup es p) first (end - first) }
     {
         let mut at = first;
@@ -190,7 +190,7 @@ impl TxState {
     // What a CHECKEND finds here.
     fn found_at_end(&self, shadow: &Shadow) -> Finding
         ensures { (es : List Event) (p : ℕ) → Tracks self.now es p
-            → StandsFor shadow.now es (suc p) → result ≡ check_finding es p }
+            → (told : ℕ → ℕ) → StandsFor shadow.now told es (suc p) → result ≡ check_finding es p }
     {
         if self.scope.is_none() {
             return Finding::Unopened;
@@ -208,7 +208,7 @@ impl TxState {
     // of the scope's bytes that is longer than a span is asked about span by span.
     fn least_left_open(&self, shadow: &Shadow) -> Option<u64>
         ensures { (es : List Event) (p : ℕ) → Tracks self.now es p → in_scope es p ≡ true
-            → StandsFor shadow.now es (suc p)
+            → (told : ℕ → ℕ) → StandsFor shadow.now told es (suc p)
             → result ≡ first_from (is_left_open es p) 0 ADDRESS_LIMIT }
     {
         let mut at = 0;

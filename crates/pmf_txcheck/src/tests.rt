@@ -4,7 +4,7 @@ ghost use Rattle.std.specs.Prelude.{◌≡◌, ℕ, suc, ◌<◌, List, Some, On
 ghost use Rattle.pmf_event.specs.declared.event.Event.{Event};
 ghost use Rattle.pmf_event.specs.declared.section.TheConstants.{EVENT_LIMIT};
 ghost use Rattle.pmf_event.specs.Store.{event_at};
-ghost use Rattle.pmf_shadow.specs.Shadow.{StandsFor};
+ghost use Rattle.pmf_shadow.specs.Shadow.{FollowsAt, StandsFor};
 ghost use Rattle.pmf_txcheck.specs.Tracking.{Tracks};
 
 use crate::state::TxState;
@@ -92,9 +92,9 @@ fn found_of(rt: &impl Abort, alloc: Global, events: &[Event]) -> Result<Found, A
 
 /// Follows one event by the shadow, which is to be the first.
 fn follow_bytes(shadow: &mut Shadow, place: u32, event: Event) -> Result<(), AllocError>
-    requires { (es : List Event) × (p : ℕ) × StandsFor shadow.old es p × (p < EVENT_LIMIT) }
-    ensures { OnOk result ((es : List Event) (p : ℕ) → StandsFor shadow.old es p
-        → event_at es (suc p) ≡ Some event → place ≡ suc p → StandsFor shadow.new es (suc p)) }
+    requires { (told : ℕ → ℕ) × (es : List Event) × (p : ℕ) × StandsFor shadow.old told es p
+        × (p < EVENT_LIMIT) }
+    ensures { OnOk result (FollowsAt place shadow.old shadow.new event) }
 {
     match event {
         Event::Store(span) => shadow.store(place, span)?,

@@ -1,8 +1,8 @@
 -- Which assertions hold, by their rows.
-use Rattle.std.proofs.Common.{◌≡◌, ℕ, zero, suc, ◌-◌, ◌<◌, ◌≤◌, Bool, true, false, not, if◌then◌else◌, List, [], ◌∷◌, map, length, refl, sym, ◌∙◌, ap, subst, arith, inl, inr}
-use Rattle.std.specs.Prelude.{◌↔◌, ◌⊎◌, Option, Some, None, Contains, is_none}
+use Rattle.std.proofs.Common.{◌≡◌, ℕ, zero, suc, ◌-◌, ◌<◌, ◌≤◌, Bool, true, false, not, ◌&&◌, nat_lt, if◌then◌else◌, List, [], ◌∷◌, map, length, refl, sym, ◌∙◌, ap, subst, arith, inl, inr}
+use Rattle.std.specs.Prelude.{◌↔◌, ◌⊎◌, ◌||◌, Option, Some, None, Contains, is_none}
 use Rattle.std.proofs.lemmas.List.Elements.{Contains-append_left, Contains-append_right}
-use Rattle.std.proofs.lemmas.Bool.{cases_eq}
+use Rattle.std.proofs.lemmas.Bool.{cases_eq, and_parts, ltb-false, not-true, not-false}
 use Rattle.pmf_event.specs.declared.event.Event.{Event}
 use Rattle.pmf_event.specs.declared.event.Event.TheVariants.{Persist, Ordered, CheckEnd}
 use Rattle.pmf_event.specs.declared.finding.Finding.{Finding}
@@ -15,10 +15,11 @@ use Rattle.pmf_event.specs.Span.{Extent, covers_byte}
 use Rattle.pmf_event.specs.Store.{event_at, last_store}
 use Rattle.pmf_event.specs.Ranges.{first_from, first_byte}
 use Rattle.pmf_event.specs.Persist.{is_checked, is_exposed, pass_unless, persist_finding}
-use Rattle.pmf_event.specs.Order.{is_unordered, is_certified, least_pair, finding_of_pairs, ordered_finding}
+use Rattle.pmf_event.specs.Interval.{interval_at}
+use Rattle.pmf_event.specs.Order.{precedes, share_line, is_stored_before, is_ordered, is_unordered, is_certified, least_pair, finding_of_pairs, ordered_finding}
 use Rattle.pmf_event.specs.Transactions.{in_transaction, depth_at, in_scope, is_left_open, scope_passes_unless, check_finding}
 use Rattle.pmf_event.proofs.RangeLemmas.{none-passes}
-use Rattle.pmf_event.proofs.LeastPairLemmas.{pair-from}
+use Rattle.pmf_event.proofs.LeastPairLemmas.{pair-from, unpaired}
 use Rattle.pmf_event.proofs.LineLemmas.{covers-bounds}
 use Rattle.pmf_image.specs.declared.certificate.Certificate.{Certificate}
 use Rattle.pmf_image.specs.Contradiction.{ContradictsEvent}
@@ -26,7 +27,7 @@ use Rattle.pmf_image.specs.Holds.{PersistHolds, OrderedHolds, ScopeHolds, EventH
 use Rattle.pmf_image.proofs.ExactLemmas.{not_holds-contradicted, holds-by_profile_two, checked-parts}
 use Rattle.pmf_verdict.specs.Rows.{findings_of, row_at, rows_upto, rows_at_end, rows_of}
 use Rattle.pmf_verdict.specs.Explained.{certificate_of}
-use Rattle.pmf_verdict.specs.Exact.{IsPassOrEmpty, IsNotFailed, AreApart, OrderIsExact, IsExact}
+use Rattle.pmf_verdict.specs.Exact.{IsPassOrEmpty, IsNotFailed, AreApart, OrderIsExact, IsExact, SameLinesAreOneStore}
 use Rattle.pmf_verdict.proofs.RowsLemmas.{place-within}
 use Rattle.pmf_verdict.proofs.KindLemmas.{kind_of, persist-kind, ordered-kind, persist-from_rows, ordered-from_rows}
 use Rattle.pmf_verdict.proofs.ExplainLemmas.{contradicted-by}
@@ -191,6 +192,22 @@ module _ (profile : Profile) (es : List Event) (p : ℕ) (a b : Extent) (here : 
       let one : k ≡ x = cc in let other : l ≡ y = cc in
       ap (λ z. Some (z, l)) one ∙ ap (λ z. Some (x, z)) other
 
+  same_line-none : (v w : Bool) (c u : Option (ℕ × ℕ)) (x y : ℕ) →
+      OrderedSameLine x y ≡ (if v then OrderedEmpty else if w then OrderedEmpty else finding_of_pairs es p c u) → c ≡ None
+  same_line-none true w c u x y is = let bad : OrderedSameLine x y ≡ OrderedEmpty = is in cc
+  same_line-none false true c u x y is = let bad : OrderedSameLine x y ≡ OrderedEmpty = is in cc
+  same_line-none false false (Some (k, l)) u x y is = let bad : OrderedSameLine x y ≡ OrderedFail k l (last_store es p l) = is in cc
+  same_line-none false false None u x y is = refl
+
+  -- no pair of a SAMELINE row is certified
+  none-certified : (x y : ℕ) → Contains (rows_of profile es) (row_at p (OrderedSameLine x y)) →
+      (k l : ℕ) → covers_byte a k ≡ true → covers_byte b l ≡ true → is_certified profile es p k l ≡ false
+  unfolding ordered_finding
+  none-certified x y found k l in_a in_b =
+      let none = same_line-none (is_none (first_byte (is_checked es p) a)) (is_none (first_byte (is_checked es p) b))
+      (least_pair (is_certified profile es p) a b) (least_pair (is_unordered profile es p) a b) x y (own-ordered (OrderedSameLine x y) refl found) in
+      unpaired (is_certified profile es p) a b none k l in_a in_b
+
   -- over spans apart, no pair of a SAMELINE row is one byte with itself
   not_one_byte : AreApart es p a b → (x y : ℕ) → Contains (rows_of profile es) (row_at p (OrderedSameLine x y)) →
       ((k l : ℕ) → covers_byte a k ≡ true → covers_byte b l ≡ true → is_unordered profile es p k l ≡ true → k ≡ l) → ⊥
@@ -250,3 +267,32 @@ rows_exact profile es = record {
   orders = order-exact profile es;
   scopes = scope-exact profile es;
 }
+
+-- ---- pairs of one store
+
+neither-first : (u v : Bool) → (u || v) ≡ false → u ≡ false
+neither-first true v is = is
+neither-first false v is = refl
+
+neither-second : (u v : Bool) → (u || v) ≡ false → v ≡ false
+neither-second true v is = let bad : true ≡ false = is in cc
+neither-second false v is = is
+
+-- an unordered pair that is not certified was last written by one store
+one_store : (es : List Event) (p k l : ℕ) → is_unordered Two es p k l ≡ true → is_certified Two es p k l ≡ false → last_store es p k ≡ last_store es p l
+unfolding is_unordered is_certified is_ordered is_stored_before
+one_store es p k l unordered uncertified =
+    let apart : (not (share_line k l) || nat_lt (last_store es p l) (last_store es p k)) ≡ false =
+    sym (ap (λ v. v && (not (share_line k l) || nat_lt (last_store es p l) (last_store es p k))) unordered) ∙ uncertified in
+    let same = not-false (share_line k l) (neither-first (not (share_line k l)) (nat_lt (last_store es p l) (last_store es p k)) apart) in
+    let after = ltb-false (last_store es p l) (last_store es p k) (neither-second (not (share_line k l)) (nat_lt (last_store es p l) (last_store es p k)) apart) in
+    let parts = and_parts (is_checked es p k && is_checked es p l) _ unordered in
+    let unkept = not-true (precedes (interval_at es p k) (interval_at es p l) || (share_line k l && nat_lt (last_store es p k) (last_store es p l))) parts.1 in
+    let before = ltb-false (last_store es p k) (last_store es p l)
+    (sym (ap (λ v. v && nat_lt (last_store es p k) (last_store es p l)) same)
+    ∙ neither-second (precedes (interval_at es p k) (interval_at es p l)) (share_line k l && nat_lt (last_store es p k) (last_store es p l)) unkept) in
+    omega arith
+
+pub same_lines : (profile : Profile) (es : List Event) → SameLinesAreOneStore profile es (rows_of profile es)
+same_lines One es two p x y a b here found k l in_a in_b unordered = let bad : One ≡ Two = two in cc
+same_lines Two es two p x y a b here found k l in_a in_b unordered = one_store es p k l unordered (none-certified Two es p a b here x y found k l in_a in_b)

@@ -6,15 +6,17 @@ use Rattle.std.proofs.lemmas.List.{append-nil}
 use Rattle.pmf_event.specs.declared.event.Event.{Event}
 use Rattle.pmf_event.specs.declared.event.Event.TheVariants.{Store, TxAdd, TxEnd, CheckStart, CheckEnd}
 use Rattle.pmf_event.specs.declared.finding.Finding.{Finding}
+use Rattle.pmf_event.specs.declared.finding.Finding.TheVariants.{OrderedFail, Unclosed}
 use Rattle.pmf_event.specs.declared.profile.Profile.{Profile}
 use Rattle.pmf_event.specs.Span.{Extent}
 use Rattle.pmf_event.specs.Store.{event_at}
 use Rattle.pmf_event.specs.FlushWarnings.{if_any}
 use Rattle.pmf_event.specs.Transactions.{store_finding, add_finding, end_finding, start_finding, check_finding}
 use Rattle.pmf_shadow.specs.declared.shadow.Shadow.{Shadow}
-use Rattle.pmf_shadow.specs.Shadow.{StandsFor}
+use Rattle.pmf_shadow.specs.Shadow.{StandsFor, FollowsAt}
+use Rattle.pmf_shadow.specs.Told.{finding_as_told}
 use Rattle.pmf_shadow.specs.Laws.{is_unseen}
-use Rattle.pmf_shadow.proofs.StandsLemmas.{stands-unseen}
+use Rattle.pmf_shadow.proofs.StandsLemmas.{follows-within, unseen-follows}
 use Rattle.pmf_txcheck.specs.declared.state.TxState.{TxState}
 use Rattle.pmf_txcheck.specs.Tracking.{Tracks, is_untracked}
 use Rattle.pmf_txcheck.proofs.TrackLemmas.{tracks-untracked}
@@ -23,11 +25,21 @@ use Rattle.pmf_verdict.specs.Rows.{findings_of, row_at, rows_upto}
 use Rattle.pmf_verdict.specs.Walks.{Walks}
 use Rattle.pmf_verdict.proofs.RowsLemmas.{rows_upto-next}
 
+-- the shadow was told of each event at its own place
+pub stands-next : (place : ℕ) (old new : Shadow) (e : Event) → FollowsAt place old new e → (es : List Event) (p : ℕ) → event_at es (suc p) ≡ Some e → place ≡ suc p →
+    StandsFor old (λ k. k) es p → StandsFor new (λ k. k) es (suc p)
+stands-next place old new e follows es p here at_place stands = follows-within place old new e follows (λ k. k) es p here (sym at_place) stands
+
+pub as_told-same : (f : Finding) → finding_as_told (λ k. k) f ≡ f
+as_told-same (OrderedFail byte after crash) = refl
+as_told-same (Unclosed start) = refl
+as_told-same _ = refl
+
 module _ (old new : Walk) (es : List Event) (p : ℕ) (e : Event) (here : event_at es (suc p) ≡ Some e) (walks : Walks old es p) where
   -- the shadow and the transactions followed the event, and its findings were said
   pub walks-said : (shadow : Shadow) (transactions : TxState) (place : ℕ) (fs : List Finding) →
       new ≡ record { shadow = shadow; transactions = transactions; rows = old.rows ++ map (row_at place) fs; profile = old.profile } →
-      StandsFor shadow es (suc p) → Tracks transactions es (suc p) → place ≡ suc p →
+      StandsFor shadow (λ k. k) es (suc p) → Tracks transactions es (suc p) → place ≡ suc p →
       findings_of old.profile es (suc p) (Some e) ≡ fs → Walks new es (suc p)
   walks-said shadow transactions place fs is stands tracks at_place found = subst (λ walk. Walks walk es (suc p)) (sym is) (record {
     stands = stands;
@@ -40,15 +52,15 @@ module _ (old new : Walk) (es : List Event) (p : ℕ) (e : Event) (here : event_
   -- the same of an event without findings
   pub walks-silent : (shadow : Shadow) (transactions : TxState) →
       new ≡ record { shadow = shadow; transactions = transactions; rows = old.rows; profile = old.profile } →
-      StandsFor shadow es (suc p) → Tracks transactions es (suc p) → findings_of old.profile es (suc p) (Some e) ≡ [] → Walks new es (suc p)
+      StandsFor shadow (λ k. k) es (suc p) → Tracks transactions es (suc p) → findings_of old.profile es (suc p) (Some e) ≡ [] → Walks new es (suc p)
   walks-silent shadow transactions is stands tracks none =
       walks-said shadow transactions (suc p) []
       (is ∙ ap (λ rs. record { shadow = shadow; transactions = transactions; rows = rs; profile = old.profile }) (sym (append-nil old.rows)))
       stands tracks refl none
 
   -- an event that the shadow need not be told of
-  pub stands-still : is_unseen e ≡ true → StandsFor old.shadow es (suc p)
-  stands-still unseen = stands-unseen old.shadow es p e here unseen walks.stands
+  pub stands-still : is_unseen e ≡ true → StandsFor old.shadow (λ k. k) es (suc p)
+  stands-still unseen = stands-next (suc p) old.shadow old.shadow e (unseen-follows old.shadow e unseen (suc p)) es p here refl walks.stands
 
   -- an event that the transactions need not be told of
   pub tracks-still : is_untracked e ≡ true → Tracks old.transactions es (suc p)

@@ -8,8 +8,9 @@ use Rattle.pmf_event.specs.declared.profile.Profile.{Profile}
 use Rattle.pmf_event.specs.declared.profile.Profile.TheVariants.{One, Two}
 use Rattle.pmf_event.specs.declared.row.Row.{Row}
 use Rattle.pmf_event.specs.Span.{Extent, covers_byte}
-use Rattle.pmf_event.specs.Store.{event_at}
+use Rattle.pmf_event.specs.Store.{event_at, last_store}
 use Rattle.pmf_event.specs.Persist.{is_checked}
+use Rattle.pmf_event.specs.Order.{is_unordered}
 use Rattle.pmf_event.specs.Transactions.{in_scope, in_transaction}
 use Rattle.pmf_image.specs.Holds.{PersistHolds, OrderedHolds, ScopeHolds}
 use Rattle.pmf_image.specs.Laws.{PairsAreOneByte}
@@ -56,3 +57,8 @@ pub record IsExact (profile : Profile) (es : List Event) (rows : List Row) : Typ
   pub persists : PersistsAreExact es rows
   pub orders : OrdersAreExact profile es rows
   pub scopes : ScopesAreExact es rows
+
+-- by profile Two a SAMELINE row stands only where each unordered pair of its assertion was last written by one store
+abbrev pub SameLinesAreOneStore : Profile → List Event → List Row → Type 0
+SameLinesAreOneStore profile es rows = profile ≡ Two → (p x y : ℕ) (a b : Extent) → event_at es p ≡ Some (Ordered a b) → Contains rows (row_at p (OrderedSameLine x y)) →
+    (k l : ℕ) → covers_byte a k ≡ true → covers_byte b l ≡ true → is_unordered profile es p k l ≡ true → last_store es p k ≡ last_store es p l

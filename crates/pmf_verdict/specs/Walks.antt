@@ -7,10 +7,10 @@ use Rattle.pmf_txcheck.specs.Tracking.{Tracks}
 use Rattle.pmf_verdict.specs.declared.checking.Walk.{Walk}
 use Rattle.pmf_verdict.specs.Rows.{rows_upto}
 
--- the shadow and the state of transactions stand for the first p events, and the rows are theirs, by the
--- walk's profile
+-- the shadow and the state of transactions stand for the first p events, each told at its own place, and the rows
+-- are theirs, by the walk's profile
 pub record Walks (walk : Walk) (es : List Event) (p : ℕ) : Type 0 where
-  pub stands : StandsFor walk.shadow es p
+  pub stands : StandsFor walk.shadow (λ k. k) es p
   pub tracks : Tracks walk.transactions es p
   pub rows_are : walk.rows ≡ rows_upto walk.profile es p
 

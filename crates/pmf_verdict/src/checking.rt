@@ -8,7 +8,7 @@ ghost use Rattle.pmf_verdict.specs.Checked.{rows_in};
 ghost use Rattle.pmf_verdict.specs.Rows.{row_at, rows_of};
 ghost use Rattle.pmf_verdict.specs.Explained.{FailuresAreReal};
 ghost use Rattle.pmf_verdict.specs.Sound.{PassesHold, OrdersHold, ScopesHold};
-ghost use Rattle.pmf_verdict.specs.Exact.{IsExact};
+ghost use Rattle.pmf_verdict.specs.Exact.{IsExact, SameLinesAreOneStore};
 
 use crate::verdict::Verdict;
 use pmf_asserts::{check_flush, check_ordered, check_persist};
@@ -178,6 +178,8 @@ pub fn check(
     // So they say which assertions hold.
     ensures exact { IfOk result
         (λ verdict. IsExact verdict.profile verdict.section.events (rows_in verdict)) }
+    ensures same_lines { IfOk result
+        (λ verdict. SameLinesAreOneStore verdict.profile verdict.section.events (rows_in verdict)) }
     ensures returned { IfErr result (λ refused. refused.1.value ≡ section.value) }
 {
     match rows_for(alloc, section.events(), profile) {

@@ -5,7 +5,7 @@ ghost use Rattle.pmf_verdict.specs.Checked.{Checked, rows_in};
 ghost use Rattle.pmf_verdict.specs.Rows.{rows_of};
 ghost use Rattle.pmf_verdict.specs.Explained.{FailuresAreReal};
 ghost use Rattle.pmf_verdict.specs.Sound.{PassesHold, OrdersHold, ScopesHold};
-ghost use Rattle.pmf_verdict.specs.Exact.{IsExact};
+ghost use Rattle.pmf_verdict.specs.Exact.{IsExact, SameLinesAreOneStore};
 
 use pmf_event::{Name, Profile, Row, Rows, Section};
 use std::alloc::{AllocError, Global};
@@ -89,6 +89,7 @@ impl Verdict {
         ensures real { FailuresAreReal self.now.section.events result.now }
         // So they say which assertions hold.
         ensures exact { IsExact self.now.profile self.now.section.events result.now }
+        ensures same_lines { SameLinesAreOneStore self.now.profile self.now.section.events result.now }
     {
         self.rows.as_slice()
     }

@@ -2,7 +2,7 @@
 use Rattle.std.proofs.Common.{List}
 use Rattle.std.specs.List.{All}
 use Rattle.pmf_verdict.specs.Checked.{Checked}
-use Rattle.pmf_verdict.proofs.ExactLemmas.{rows_exact}
+use Rattle.pmf_verdict.proofs.ExactLemmas.{rows_exact, same_lines}
 use Rattle.pmf_verdict.proofs.FitLemmas.{failures_real}
 use Rattle.pmf_verdict.proofs.SoundLemmas.{passes_hold, orders_hold, scopes_hold}
 use Rattle.pmf_ledger.specs.TrueRows.{HasTrueRows}
@@ -14,6 +14,7 @@ rows_true checked = record {
   scopes = scopes_hold checked.profile checked.section.events;
   failures = failures_real checked.profile checked.section.events;
   exact = rows_exact checked.profile checked.section.events;
+  same_lines = same_lines checked.profile checked.section.events;
 }
 
 pub all_rows_true : (sections : List Checked) → All HasTrueRows sections

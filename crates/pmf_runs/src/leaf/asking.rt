@@ -1,6 +1,6 @@
 //! Questions about the states of a range in a leaf, each one walk over its runs.
 
-ghost use Rattle.std.specs.Prelude.{◌≡◌, ◌<◌, ◌≤◌, ◌-◌, ℕ};
+ghost use Rattle.std.specs.Prelude.{◌≡◌, ◌<◌, ◌≤◌, ◌-◌, ℕ, true, false, get_or, vec_len};
 ghost use Rattle.pmf_runs.specs.Ranks.{rank, IsBeyond};
 
 use crate::keys::is_beyond;
@@ -41,15 +41,31 @@ impl<S: State> Leaf<S> {
         requires { index ≡ rank self.now.keys.items first }
         ensures { (d : S) (end : ℕ) → first < end → IsBeyond self.now.keys.items end → result ≡ first_from (λ b. T.passes test.now (leaf_state self.now d b)) first (end - first) }
     {
+        let next = self.next_passing(index, test);
+        if next > self.keys.len() {
+            return None;
+        }
+        if next == index {
+            return Some(first);
+        }
+        Some(self.keys[next - 1])
+    }
+
+    /// The first run from that of the index on whose state passes, or one past the last.
+    #[inline(always)]
+    fn next_passing<T: Test<S>>(&self, index: usize, test: &T) -> usize
+        requires { index < vec_len self.now.states }
+        ensures from { index ≤ result }
+        ensures within { result ≤ vec_len self.now.states }
+        ensures none { (k : ℕ) (d : S) → index ≤ k → k < result → T.passes test.now (get_or self.now.states.items k d) ≡ false }
+        ensures passes { (d : S) → result < vec_len self.now.states → T.passes test.now (get_or self.now.states.items result d) ≡ true }
+    {
         for i in index..self.states.len() {
             if test.passes(self.states[i]) {
-                if i == index {
-                    return Some(first);
-                }
-                return Some(self.keys[i - 1]);
+                return i;
             }
         }
-        None
+        self.states.len()
     }
 
     /// The count of lines with those that have a number from `first` up to `end` whose state passes.
@@ -68,11 +84,17 @@ impl<S: State> Leaf<S> {
         let mut start = first;
         let mut counted = so_far;
         while start < end {
-            let until = end_of(&self.keys, index, end);
-            let passes = test.passes(self.states[index]);
-            counted = lines_of_run(start, until, passes, counted);
-            index += 1;
-            start = until;
+            let next = self.next_passing(index, test);
+            if next > index {
+                start = end_of(&self.keys, next - 1, end);
+                index = next;
+            } else {
+                let until = end_of(&self.keys, index, end);
+                let passes = test.passes(self.states[index]);
+                counted = lines_of_run(start, until, passes, counted);
+                index += 1;
+                start = until;
+            }
         }
         counted
     }

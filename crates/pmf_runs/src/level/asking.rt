@@ -1,6 +1,6 @@
 //! Questions about the states of a range in a level, each one walk over its parts.
 
-ghost use Rattle.std.specs.Prelude.{◌≡◌, ◌<◌, ◌≤◌, ◌-◌};
+ghost use Rattle.std.specs.Prelude.{◌≡◌, ◌<◌, ◌≤◌, ◌-◌, ℕ, false, get_or, vec_len};
 ghost use Rattle.pmf_runs.specs.Ranks.{rank};
 ghost use Rattle.pmf_runs.specs.Walks.{end_of};
 
@@ -82,12 +82,36 @@ impl<P> Level<P> {
         let mut start = first;
         let mut counted = so_far;
         while start < end {
-            let until = end_of(&self.keys, index, end);
-            counted = self.parts[index].count_lines(start, until, test, counted);
-            index += 1;
-            start = until;
+            let next = self.next_that_may(index, test);
+            if next > index {
+                start = end_of(&self.keys, next - 1, end);
+                index = next;
+            } else {
+                let until = end_of(&self.keys, index, end);
+                counted = self.parts[index].count_lines(start, until, test, counted);
+                index += 1;
+                start = until;
+            }
         }
         counted
+    }
+
+    /// The first part from that of the index on of which a state may pass, or one past the last.
+    #[inline(always)]
+    fn next_that_may<S: State, T: Test<S>>(&self, index: usize, test: &T) -> usize
+    where
+        P: Part<S>,
+        requires { index < vec_len self.now.parts }
+        ensures from { index ≤ result }
+        ensures within { result ≤ vec_len self.now.parts }
+        ensures none { (k : ℕ) (p : P) (d : S) (b : ℕ) → index ≤ k → k < result → T.passes test.now (P.state (get_or self.now.parts.items k p) d b) ≡ false }
+    {
+        for i in index..self.parts.len() {
+            if test.may_pass(self.parts[i].summary()) {
+                return i;
+            }
+        }
+        self.parts.len()
     }
 
     /// The lesser of the least so far and the least key that a state of the numbers from `first` up to

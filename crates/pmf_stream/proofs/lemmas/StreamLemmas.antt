@@ -1,5 +1,5 @@
 -- A log that is read piece by piece, and what its end or its fault says.
-use Rattle.std.proofs.Common.{◌≡◌, ℕ, ◌≤◌, Bool, true, false, nat_lt, if◌then◌else◌, List, [], length, refl, sym, ◌∙◌, ap, arith, inl, inr}
+use Rattle.std.proofs.Common.{◌≡◌, ℕ, ◌≤◌, Bool, true, false, nat_lt, if◌then◌else◌, List, [], ◌++◌, length, refl, sym, ◌∙◌, ap, arith, inl, inr}
 use Rattle.std.specs.Prelude.{◌≢◌, Option, Some, None, Ok, Err}
 use Rattle.std.proofs.lemmas.Bool.{ltb-false}
 use Rattle.std.proofs.lemmas.List.{append-nil}
@@ -12,7 +12,7 @@ use Rattle.pmf_storelog.specs.LogValue.{LogValue}
 use Rattle.pmf_storelog.specs.Reader.{HasRead}
 use Rattle.pmf_storelog.proofs.CallerLemmas.{log_of-all}
 use Rattle.pmf_stream.specs.Checking.{IsLogOf, IsLogFaultOf}
-use Rattle.pmf_stream.specs.Reading.{HasReadBytes, HasReadAll}
+use Rattle.pmf_stream.specs.Reading.{HasReadAll, HasReadTo}
 use Rattle.pmf_stream.specs.Pieces.{Takes, Refuses}
 
 second-none : (first second : Option LogFault) → or_else first second ≡ None → second ≡ None
@@ -45,15 +45,18 @@ IsLogOf-all run left rest fresh taken bytes log all takes start is =
       faultless = is stands.0;
     }
 
--- a fault that a reader shows is that of every log that begins so
-pub IsLogFaultOf-shown : (run : ℕ) (left rest : Option (List ℕ)) (fresh : LogReader) (bytes : List ℕ) (found : LogFault) →
-    HasReadBytes LOG_LIMIT left rest bytes → Refuses fresh bytes found → HasRead run [] fresh → IsLogFaultOf run left rest found
-IsLogFaultOf-shown run left rest fresh bytes found read refuses start memory =
-    let all = refuses run [] (start, nothing-shown) memory in record {
+-- a fault that a reader shows is that of every log that begins so, and none shows before the piece in which it stands
+pub IsLogFaultOf-shown : (run : ℕ) (left rest : Option (List ℕ)) (fresh : LogReader) (found : LogFault) →
+    HasReadTo Takes Refuses LOG_LIMIT left rest fresh found → HasRead run [] fresh → IsLogFaultOf run left rest found
+IsLogFaultOf-shown run left rest fresh found read start memory =
+    let stands = read.takes run [] (start, nothing-shown) in
+    let bytes = read.before ++ read.piece in
+    let all = read.refuses run read.before stands memory in record {
       bytes = bytes;
-      read = read;
+      read = read.read;
       first = ap (log_of run) (sym (append-nil bytes)) ∙ log_of-all run found bytes [] all;
       for_all = inr all;
+      stops = (read.before, read.piece, refl, read.small, stands.1);
     }
 
 -- so is one that shows at the end
@@ -67,4 +70,5 @@ IsLogFaultOf-end run left rest fresh taken bytes found all takes start is memory
       read = all.read;
       first = is stands.0 memory;
       for_all = elim all.all [ inl ended ↦ inl ended | inr long ↦ absurd (omega (arith, long, fits)) ];
+      stops = (bytes, [], sym (append-nil bytes), omega arith, stands.1);
     }

@@ -1,11 +1,12 @@
-use Rattle.std.proofs.Common.{◌≡◌, suc, length, refl, add-one, arith}
+use Rattle.std.proofs.Common.{◌≡◌, suc, ◌+◌, length, refl, sym, add-one, arith}
 use Rattle.std.specs.Prelude.{Some}
 use Rattle.std.proofs.lemmas.Option.{slice_get_read}
 use Rattle.pmf_event.specs.Store.{event_at}
+use Rattle.pmf_shadow.proofs.StandsLemmas.{follows-within}
 use Rattle.pmf_asserts.proofs.tests.shadow_of.Goals as goal
 
 pub loop-index-init : goal.loop-index-init
-loop-index-init c = c.new-shadow.ensures c.args.events.now
+loop-index-init c = c.new-shadow.ensures (λ k. k) c.args.events.now
 
 pub loop-index-preserved : goal.loop-index-preserved
 unfolding event_at
@@ -13,4 +14,4 @@ loop-index-preserved c =
     let es = c.args.events.now in
     let i = c.loop-index.index in
     let here : event_at es (suc i) ≡ Some c.index-events-index.result = slice_get_read es (length es) i c.index-events-index.result refl (omega arith) c.index-events-index.is in
-    rw add-one (c.in_ok-follow.ensures es i c.loop-index.invariant here (add-one i))
+    rw add-one (follows-within (i + 1) _ _ _ c.in_ok-follow.ensures (λ k. k) es i here (sym (add-one i)) c.loop-index.invariant)

@@ -2,4 +2,4 @@ use Rattle.pmf_shadow.specs.Shadow.{StandsFor}
 use Rattle.pmf_shadow.proofs.tests.follow_all.Given as goal
 
 abbrev pub invariant-loop-index : goal.invariant-loop-index
-invariant-loop-index l = StandsFor l.shadow l.events l.index
+invariant-loop-index l = StandsFor l.shadow (λ k. k) l.events l.index

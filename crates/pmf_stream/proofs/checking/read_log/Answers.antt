@@ -3,8 +3,7 @@ use Rattle.pmf_stream.proofs.checking.read_log.Goals as goal
 
 pub returns-in-Ok-Err-clause-faults : goal.returns-in-Ok-Err-clause-faults
 returns-in-Ok-Err-clause-faults g c =
-    let taken = rw c.in-Ok-Err.field-0-is at c.in-Ok-Err.ensures.taken in
-    IsLogFaultOf-shown c.args.settings.run _ _ c.new-log.result taken.0 c.in-Ok-Err.fault taken.1 taken.2 c.new-log.ensures
+    IsLogFaultOf-shown c.args.settings.run _ _ c.new-log.result c.in-Ok-Err.fault (rw c.in-Ok-Err.field-0-is at c.in-Ok-Err.ensures.taken) c.new-log.ensures
 
 pub returns-in-Ok-clause-ok : goal.returns-in-Ok-clause-ok
 returns-in-Ok-clause-ok g c =

@@ -8,11 +8,30 @@ taken n buffer within = sym (let all = length-take n buffer in omega arith)
 pub returns-in-Err-clause-taken : goal.returns-in-Err-clause-taken
 returns-in-Err-clause-taken g c =
     let so_far = c.loop-total.invariant.taken in
-    let piece = take c.in_ok-count.count c.read_piece.new.buffer in (
-      so_far.bytes ++ piece,
-      HasReadBytes-more g.I.Intake.Takes c.args.limit _ _ _ c.args.intake.now c.loop-total.intake c.loop-total.total c.in_ok-count.count piece so_far
-          c.in_ok-count.ensures.bytes.0 (taken c.in_ok-count.count c.read_piece.new.buffer c.in_ok-count.ensures.within) c.in_ok-count.ensures.limited,
-      g.met.I.Intake.refuses_after c.args.intake.now c.loop-total.intake so_far.bytes piece c.in-Err.fault so_far.taken c.in-Err.ensures,
+    let count = c.in_ok-count.count in
+    let buffer = c.read_piece.new.buffer in
+    let piece = take count buffer in
+    let all = length-take count buffer in
+    let room = c.loop-total.invariant.room in
+    let same = c.read_piece.auto.buffer in record {
+      before = so_far.bytes;
+      piece = piece;
+      small = omega (arith, all, room, same);
+      read = HasReadBytes-more g.I.Intake.Takes c.args.limit _ _ _ c.args.intake.now c.loop-total.intake c.loop-total.total count piece so_far
+          c.in_ok-count.ensures.bytes.0 (taken count buffer c.in_ok-count.ensures.within) c.in_ok-count.ensures.limited;
+      taken = c.loop-total.intake;
+      takes = so_far.taken;
+      refuses = c.in-Err.ensures;
+    }
+
+pub returns-in-Err-clause-within : goal.returns-in-Err-clause-within
+returns-in-Err-clause-within g c =
+    let so_far = c.loop-total.invariant.taken in
+    let count = c.in_ok-count.count in
+    let buffer = c.read_piece.new.buffer in (
+      so_far.bytes ++ take count buffer,
+      HasReadBytes-more g.I.Intake.Takes c.args.limit _ _ _ c.args.intake.now c.loop-total.intake c.loop-total.total count (take count buffer) so_far
+          c.in_ok-count.ensures.bytes.0 (taken count buffer c.in_ok-count.ensures.within) c.in_ok-count.ensures.limited,
     )
 
 pub loop-total-preserved : goal.loop-total-preserved

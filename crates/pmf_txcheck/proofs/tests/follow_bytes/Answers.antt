@@ -1,9 +1,10 @@
-use Rattle.std.proofs.Common.{◌≡◌, true, refl}
+use Rattle.std.proofs.Common.{◌≡◌, true, refl, sym, subst}
 use Rattle.pmf_event.specs.declared.event.Event.{Event}
 use Rattle.pmf_event.specs.declared.event.Event.TheVariants.{Store, Flush, Fence, Persist, Ordered, Exclude, Include, TxBegin, TxAdd, TxEnd, CheckStart, CheckEnd}
 use Rattle.pmf_event.specs.Span.{Extent}
 use Rattle.pmf_shadow.specs.Laws.{is_unseen}
-use Rattle.pmf_shadow.proofs.StandsLemmas.{stands-unseen}
+use Rattle.pmf_shadow.specs.Shadow.{FollowsAt}
+use Rattle.pmf_shadow.proofs.StandsLemmas.{unseen-follows}
 use Rattle.pmf_txcheck.proofs.tests.follow_bytes.Goals as goal
 
 unseen-unless : (e : Event) → ((s : Extent) → e ≡ Store s → ⊥) → ((s : Extent) → e ≡ Flush s → ⊥) → (e ≡ Fence → ⊥) → ((s : Extent) → e ≡ Exclude s → ⊥) → ((s : Extent) → e ≡ Include s → ⊥) →
@@ -22,7 +23,22 @@ unseen-unless TxEnd no_store no_flush no_fence no_exclude no_include = refl
 unseen-unless CheckStart no_store no_flush no_fence no_exclude no_include = refl
 unseen-unless CheckEnd no_store no_flush no_fence no_exclude no_include = refl
 
+pub returns-in_ok-store-in-Store : goal.returns-in_ok-store-in-Store
+returns-in_ok-store-in-Store c = subst (FollowsAt c.args.place c.args.shadow.now c.store.new.self) (sym c.in-Store.is) c.in_ok-store-in-Store.ensures.follows
+
+pub returns-in_ok-flush-in-Flush : goal.returns-in_ok-flush-in-Flush
+returns-in_ok-flush-in-Flush c = subst (FollowsAt c.args.place c.args.shadow.now c.flush.new.self) (sym c.in-Flush.is) (c.in_ok-flush-in-Flush.ensures.follows c.args.place)
+
+pub returns-in-Fence : goal.returns-in-Fence
+returns-in-Fence c = subst (FollowsAt c.args.place c.args.shadow.now c.fence.new.self) (sym c.in-Fence.is) (c.fence.ensures c.args.place)
+
+pub returns-in_ok-exclude-in-Exclude : goal.returns-in_ok-exclude-in-Exclude
+returns-in_ok-exclude-in-Exclude c = subst (FollowsAt c.args.place c.args.shadow.now c.exclude.new.self) (sym c.in-Exclude.is) (c.in_ok-exclude-in-Exclude.ensures.follows c.args.place)
+
+pub returns-in_ok-include-in-Include : goal.returns-in_ok-include-in-Include
+returns-in_ok-include-in-Include c = subst (FollowsAt c.args.place c.args.shadow.now c.include.new.self) (sym c.in-Include.is) (c.in_ok-include-in-Include.ensures.follows c.args.place)
+
 pub returns-in_default : goal.returns-in_default
-returns-in_default c = λ es p stands here place.
+returns-in_default c =
     let other = c.in_default in
-    stands-unseen c.args.shadow.now es p c.args.event here (unseen-unless c.args.event other.not-Store other.not-Flush other.not-Fence other.not-Exclude other.not-Include) stands
+    unseen-follows c.args.shadow.now c.args.event (unseen-unless c.args.event other.not-Store other.not-Flush other.not-Fence other.not-Exclude other.not-Include) c.args.place

@@ -1,4 +1,4 @@
-use Rattle.pmf_verdict.proofs.ExactLemmas.{rows_exact}
+use Rattle.pmf_verdict.proofs.ExactLemmas.{rows_exact, same_lines}
 use Rattle.pmf_verdict.proofs.FitLemmas.{failures_real}
 use Rattle.pmf_verdict.proofs.SoundLemmas.{passes_hold, orders_hold, scopes_hold}
 use Rattle.pmf_verdict.proofs.checking.check.Goals as goal
@@ -17,3 +17,6 @@ returns-in-Ok-clause-real c = failures_real c.of_rows.result.profile c.of_rows.r
 
 pub returns-in-Ok-clause-exact : goal.returns-in-Ok-clause-exact
 returns-in-Ok-clause-exact c = rows_exact c.of_rows.result.profile c.of_rows.result.section.events
+
+pub returns-in-Ok-clause-same_lines : goal.returns-in-Ok-clause-same_lines
+returns-in-Ok-clause-same_lines c = same_lines c.of_rows.result.profile c.of_rows.result.section.events

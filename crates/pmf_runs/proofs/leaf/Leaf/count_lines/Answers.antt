@@ -1,8 +1,9 @@
-use Rattle.std.proofs.Common.{◌∙◌, ap, arith}
+use Rattle.std.proofs.Common.{◌+◌, ◌-◌, ◌≤◌, length, ◌∙◌, ap, arith}
 use Rattle.pmf_runs.specs.Ranks.{rank}
 use Rattle.pmf_runs.specs.Walks.{end_of}
 use Rattle.pmf_runs.specs.Leaves.{leaf_state}
-use Rattle.pmf_runs.proofs.AskingLemmas.{lines-law, asked-start, asked-more, asked-end, walks-more, run-asked}
+use Rattle.pmf_runs.proofs.AskingLemmas.{lines-law, lines-past, asked-start, asked-more, asked-past, asked-end, walks-more, past-more, run-asked, fails-past}
+use Rattle.pmf_runs.proofs.LeafLemmas.{leaf-counted}
 use Rattle.pmf_runs.proofs.leaf.Leaf.count_lines.Goals as goal
 
 pub loop-start-init : goal.loop-start-init
@@ -12,9 +13,30 @@ loop-start-init g c =
       asked = asked-start lines-law (λ d b. g.T.Test.passes c.args.test.now (leaf_state c.args.self.now d b)) c.args.so_far c.args.self.now.keys.items c.args.first c.args.end c.start_of-index.result (c.start_of-index.ensures ∙ ap (λ ks. rank ks c.args.first) c.deref.ensures.value);
     }
 
+pub loop-start-smaller-then-next-index : goal.loop-start-smaller-then-next-index
+loop-start-smaller-then-next-index g c =
+    let counted = leaf-counted c.args.self.now in
+    let bounded : c.next_passing-next.result ≤ length c.args.self.now.keys.items + 1 = omega (arith, counted, c.next_passing-next.ensures.within, c.args.self.now.states.ok.0) in
+    let ends = c.end_of-start.ensures ∙ ap (λ ks. end_of ks (c.next_passing-next.result - 1) c.args.end) c.deref-then-next-index.ensures.value in
+    let more = past-more c.args.self.now.keys.items c.args.first c.args.end c.loop-start.start c.loop-start.index c.next_passing-next.result c.end_of-start.result c.args.self.now.ordered c.loop-start-test.true c.if-next-index.true bounded ends c.loop-start.invariant.asked.walk in
+    let after = more.0 in
+    let within = more.1 in
+    omega arith
+
+pub loop-start-preserved-then-next-index : goal.loop-start-preserved-then-next-index
+loop-start-preserved-then-next-index g c =
+    let counted = leaf-counted c.args.self.now in
+    let bounded : c.next_passing-next.result ≤ length c.args.self.now.keys.items + 1 = omega (arith, counted, c.next_passing-next.ensures.within, c.args.self.now.states.ok.0) in
+    let ends = c.end_of-start.ensures ∙ ap (λ ks. end_of ks (c.next_passing-next.result - 1) c.args.end) c.deref-then-next-index.ensures.value in
+    record {
+      bound = c.loop-start.invariant.bound;
+      asked = asked-past lines-law (λ d b. g.T.Test.passes c.args.test.now (leaf_state c.args.self.now d b)) c.args.so_far c.args.self.now.keys.items c.args.first c.args.end c.loop-start.start c.loop-start.index c.next_passing-next.result c.end_of-start.result c.loop-start.counted c.args.self.now.ordered c.loop-start-test.true c.if-next-index.true bounded ends
+          (λ d at. lines-past (λ b. g.T.Test.passes c.args.test.now (leaf_state c.args.self.now d b)) c.loop-start.start c.end_of-start.result c.loop-start.counted (λ b low high. fails-past (g.T.Test.passes c.args.test.now) c.args.self.now c.loop-start.index c.next_passing-next.result c.next_passing-next.ensures.none d b (at b low high))) c.loop-start.invariant.asked;
+    }
+
 pub loop-start-smaller : goal.loop-start-smaller
 loop-start-smaller g c =
-    let ends = c.end_of-until.ensures ∙ ap (λ ks. end_of ks c.loop-start.index c.args.end) c.deref-in-loop-start.ensures.value in
+    let ends = c.end_of-until.ensures ∙ ap (λ ks. end_of ks c.loop-start.index c.args.end) c.deref-else-next-index.ensures.value in
     let more = walks-more c.args.self.now.keys.items c.args.first c.args.end c.loop-start.start c.loop-start.index c.end_of-until.result c.args.self.now.ordered c.loop-start-test.true ends c.loop-start.invariant.asked.walk in
     let after = more.0 in
     let within = more.1 in
@@ -22,7 +44,7 @@ loop-start-smaller g c =
 
 pub loop-start-preserved : goal.loop-start-preserved
 loop-start-preserved g c =
-    let ends = c.end_of-until.ensures ∙ ap (λ ks. end_of ks c.loop-start.index c.args.end) c.deref-in-loop-start.ensures.value in
+    let ends = c.end_of-until.ensures ∙ ap (λ ks. end_of ks c.loop-start.index c.args.end) c.deref-else-next-index.ensures.value in
     record {
       bound = c.lines_of_run-counted.ensures.bound;
       asked = asked-more lines-law (λ d b. g.T.Test.passes c.args.test.now (leaf_state c.args.self.now d b)) c.args.so_far c.args.self.now.keys.items c.args.first c.args.end c.loop-start.start c.loop-start.index c.end_of-until.result c.loop-start.counted c.lines_of_run-counted.result c.args.self.now.ordered c.loop-start-test.true ends

@@ -1,12 +1,13 @@
 use Rattle.std.proofs.Common.{◌+◌, true, refl}
 use Rattle.pmf_shadow.specs.States.{after_mark}
-use Rattle.pmf_shadow.proofs.StandsLemmas.{stands-exclude, changes-at}
+use Rattle.pmf_shadow.proofs.StandsLemmas.{stands-exclude, follows-from, changes-at}
 use Rattle.pmf_shadow.proofs.shadow.Shadow.exclude.Goals as goal
 
 pub returns-clause-follows : goal.returns-clause-follows
-returns-clause-follows c = λ es p stands here.
+returns-clause-follows c = λ place.
     let s = c.args.span in
-    stands-exclude c.args.self.now _ s es p refl
+    follows-from place c.args.self.now _ _ (λ told es p here at_place stands.
+    stands-exclude c.args.self.now _ s told es p refl
     (changes-at (after_mark true) c.args.self.now.bytes c.change.new.self
     c.first.result c.end_of.result s.first (s.first + s.size) c.first.ensures.value c.end_of.ensures.value c.in_ok-change.ensures.ok)
-    here stands
+    here stands)

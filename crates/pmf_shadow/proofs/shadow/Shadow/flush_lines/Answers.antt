@@ -10,7 +10,7 @@ pub lines_apart-pending-requires-clause-alone : goal.lines_apart-pending-require
 lines_apart-pending-requires-clause-alone c = λ s late lacks. late-alone c.args.self.now.fences (stored_of s) late lacks
 
 pub returns-clause-pending : goal.returns-clause-pending
-returns-clause-pending c = λ es p stands. c.lines_apart-pending.ensures.but ∙ pending-same c.args.self.now es p stands c.args.span
+returns-clause-pending c = λ told es p stands. c.lines_apart-pending.ensures.but ∙ pending-same c.args.self.now told es p stands c.args.span
 
 pub returns-clause-clean : goal.returns-clause-clean
-returns-clause-clean c = λ es p stands. c.lines_apart-pending.ensures.without ∙ clean-same c.args.self.now es p stands c.args.span
+returns-clause-clean c = λ told es p stands. c.lines_apart-pending.ensures.without ∙ clean-same c.args.self.now told es p stands c.args.span

@@ -16,7 +16,7 @@ returns-in_err-epoch c =
     let b = c.args.b.now in
     let bytes = c.args.self.now.bytes in
     let least = least-of_span (keyed kept_opening bytes) b c.first.result c.end_of.result None c.first.ensures.value c.end_of.ensures.value (sym c.in_err-epoch.was ∙ c.least_key.ensures) in
-    λ es p stands. c.from_residual.ensures ∙ sym (lines-none c.args.ties (kept bytes) c.args.a.now b least)
+    λ told es p stands order. c.from_residual.ensures ∙ sym (lines-none c.args.ties (kept bytes) c.args.a.now b least)
 
 pub returns-in_err-early : goal.returns-in_err-early
 unfolding keyed kept passing
@@ -25,7 +25,7 @@ returns-in_err-early c =
     let bytes = c.args.self.now.bytes in
     let m = c.in_ok-epoch.epoch in
     let least = least-of_span (keyed kept_opening bytes) b c.first.result c.end_of.result (Some m) c.first.ensures.value c.end_of.ensures.value (sym c.in_ok-epoch.was ∙ c.least_key.ensures) in
-    λ es p stands. absurd (early-found (kept bytes) b m least _ (λ x. refl) (sym c.first_in.ensures ∙ c.in_err-early.was))
+    λ told es p stands order. absurd (early-found (kept bytes) b m least _ (λ x. refl) (sym c.first_in.ensures ∙ c.in_err-early.was))
 
 pub least_place_on-requires-clause-room : goal.least_place_on-requires-clause-room
 least_place_on-requires-clause-room c =
@@ -44,7 +44,7 @@ returns-in_err-first c =
     let here = first-passes _ b.first b.size early (sym c.first_in.ensures ∙ c.in_ok-early.was) in
     let opens = opens-from m (kept bytes early) here.passes in
     let none = subst (IsLeastValue (on_line c.line_of-line.result (keyed kept_place bytes)) b.first b.size) c.in_err-first.was c.least_place_on.ensures in
-    λ es p stands. absurd (place-found (kept bytes) b m early c.line_of-line.result here.from here.within opens c.line_of-line.ensures none)
+    λ told es p stands order. absurd (place-found (kept bytes) b m early c.line_of-line.result here.from here.within opens c.line_of-line.ensures none)
 
 pub least_opening_off-elsewhere-requires-clause-room : goal.least_opening_off-elsewhere-requires-clause-room
 least_opening_off-elsewhere-requires-clause-room c =
@@ -69,8 +69,8 @@ returns-in_err-byte c =
     let here = first-passes _ b.first b.size early (sym c.first_in.ensures ∙ c.in_ok-early.was) in
     let opens = opens-from m (kept bytes early) here.passes in
     let least_on = subst (IsLeastValue (on_line c.line_of-line.result (keyed kept_place bytes)) b.first b.size) c.in_ok-first.was c.least_place_on.ensures in
-    λ es p stands. c.from_residual-in_err-byte.ensures ∙ sym (
-    lines-found-at c.args.self.now es p stands c.args.ties c.args.a.now b m early c.line_of-line.result c.in_ok-first.first c.least_opening_off-elsewhere.result
+    λ told es p stands order. c.from_residual-in_err-byte.ensures ∙ sym (
+    lines-found-at c.args.self.now told es p stands order c.args.ties c.args.a.now b m early c.line_of-line.result c.in_ok-first.first c.least_opening_off-elsewhere.result
     least here.from here.within opens c.line_of-line.ensures least_on c.least_opening_off-elsewhere.ensures _ _ (λ x. refl) (λ x. refl)
     ∙ ap (with_partner (by_lines c.args.ties (kept bytes)) b) (sym c.first_by_line.ensures.value ∙ c.in_err-byte.was))
 
@@ -80,7 +80,7 @@ returns-in_err-stored c =
     let b = c.args.b.now in
     let bytes = c.args.self.now.bytes in
     let byte = first-passes _ c.args.a.now.first c.args.a.now.size c.in_ok-byte.byte (sym c.first_by_line.ensures.value ∙ c.in_ok-byte.was) in
-    λ es p stands. absurd (found-kept c.line_of-line.result (has_one_by c.args.ties c.in_ok-first.first c.least_opening_off-elsewhere.result) (late_for c.in_ok-epoch.epoch) (kept bytes) _ _ (λ x. refl) (λ x. refl)
+    λ told es p stands order. absurd (found-kept c.line_of-line.result (has_one_by c.args.ties c.in_ok-first.first c.least_opening_off-elsewhere.result) (late_for c.in_ok-epoch.epoch) (kept bytes) _ _ (λ x. refl) (λ x. refl)
     c.in_ok-byte.byte byte.passes (sym (c.checked.ensures ∙ ap checked_store c.at.ensures) ∙ c.in_err-stored.was))
 
 pub first_by_line-requires-2-clause-room : goal.first_by_line-requires-2-clause-room
@@ -103,8 +103,8 @@ returns-in_err-after c =
     let x = c.in_ok-byte.byte in
     let k = c.in_ok-stored.stored in
     let own : kept bytes x ≡ Some k = sym (c.checked.ensures ∙ ap checked_store c.at.ensures) ∙ c.in_ok-stored.was in
-    λ es p stands. c.from_residual-in_err-after.ensures ∙ sym (
-    lines-found-at c.args.self.now es p stands c.args.ties c.args.a.now b m early c.line_of-line.result c.in_ok-first.first c.least_opening_off-elsewhere.result
+    λ told es p stands order. c.from_residual-in_err-after.ensures ∙ sym (
+    lines-found-at c.args.self.now told es p stands order c.args.ties c.args.a.now b m early c.line_of-line.result c.in_ok-first.first c.least_opening_off-elsewhere.result
     least here.from here.within opens c.line_of-line.ensures least_on c.least_opening_off-elsewhere.ensures _ _ (λ x. refl) (λ x. refl)
     ∙ ap (with_partner (by_lines c.args.ties (kept bytes)) b) (sym c.first_by_line.ensures.value ∙ c.in_ok-byte.was)
     ∙ ap (paired x) (lines-partner-at c.args.ties (kept bytes) b x c.line_of.result k own c.line_of.ensures _ _ (λ y. refl) (λ y. refl) ∙ sym c.first_by_line-2.ensures.value ∙ c.in_err-after.was))
@@ -123,8 +123,8 @@ returns c =
     let x = c.in_ok-byte.byte in
     let k = c.in_ok-stored.stored in
     let own : kept bytes x ≡ Some k = sym (c.checked.ensures ∙ ap checked_store c.at.ensures) ∙ c.in_ok-stored.was in
-    λ es p stands. sym (
-    lines-found-at c.args.self.now es p stands c.args.ties c.args.a.now b m early c.line_of-line.result c.in_ok-first.first c.least_opening_off-elsewhere.result
+    λ told es p stands order. sym (
+    lines-found-at c.args.self.now told es p stands order c.args.ties c.args.a.now b m early c.line_of-line.result c.in_ok-first.first c.least_opening_off-elsewhere.result
     least here.from here.within opens c.line_of-line.ensures least_on c.least_opening_off-elsewhere.ensures _ _ (λ x. refl) (λ x. refl)
     ∙ ap (with_partner (by_lines c.args.ties (kept bytes)) b) (sym c.first_by_line.ensures.value ∙ c.in_ok-byte.was)
     ∙ ap (paired x) (lines-partner-at c.args.ties (kept bytes) b x c.line_of.result k own c.line_of.ensures _ _ (λ y. refl) (λ y. refl) ∙ sym c.first_by_line-2.ensures.value ∙ c.in_ok-after.was))

@@ -3,4 +3,4 @@ use Rattle.pmf_shadow.proofs.StandsLemmas.{stands-empty}
 use Rattle.pmf_shadow.proofs.shadow.Shadow.new.Goals as goal
 
 pub returns : goal.returns
-returns c = λ es. stands-empty _ es refl c.new.ensures.states
+returns c = λ told es. stands-empty _ told es refl c.new.ensures.states

@@ -19,7 +19,7 @@ between-requires-clause-ends c =
     let within = run.within in omega arith
 
 pub returns-in-Some-least_included : goal.returns-in-Some-least_included
-returns-in-Some-least_included c = λ es p tracks inside stands.
+returns-in-Some-least_included c = λ es p tracks inside told stands.
     let state = c.args.self.now in
     let first = c.args.first in
     let bare = c.in-Some.bare in
@@ -29,9 +29,9 @@ returns-in-Some-least_included c = λ es p tracks inside stands.
     let from = run.from in
     let within = run.within in
     let started = c.loop-bare.invariant.from in
-    let before = bare-over_backed state es p tracks inside first c.loop-bare.at bare (c.loop-bare.invariant.none es p tracks inside stands) run.before in
+    let before = bare-over_backed state es p tracks inside first c.loop-bare.at bare (c.loop-bare.invariant.none es p tracks inside told stands) run.before in
     let included = first-passes (is_included es (suc p)) bare (min (until - bare) SPAN_LIMIT) byte
-    (sym (c.least_included.ensures es (suc p) stands ∙ ap (λ (s : Extent). first_byte (is_included es (suc p)) s) c.between.ensures) ∙ c.in-Some-least_included.is) in
+    (sym (c.least_included.ensures told es (suc p) stands ∙ ap (λ (s : Extent). first_byte (is_included es (suc p)) s) c.between.ensures) ∙ c.in-Some-least_included.is) in
     let low = included.from in
     let high = included.within in
     first-from_none_up_to (lacks_backup es p) first c.args.end byte
@@ -50,9 +50,9 @@ loop-bare-preserved c =
     let within = run.within in
     let started = c.loop-bare.invariant.from in record {
       from = omega arith;
-      none = λ es p tracks inside stands k low high.
-          let before = bare-over_backed state es p tracks inside first c.loop-bare.at bare (c.loop-bare.invariant.none es p tracks inside stands) run.before in
-          let excluded = sym (c.least_included.ensures es (suc p) stands ∙ ap (λ (s : Extent). first_byte (is_included es (suc p)) s) c.between.ensures) ∙ c.in_default-least_included.is in
+      none = λ es p tracks inside told stands k low high.
+          let before = bare-over_backed state es p tracks inside first c.loop-bare.at bare (c.loop-bare.invariant.none es p tracks inside told stands) run.before in
+          let excluded = sym (c.least_included.ensures told es (suc p) stands ∙ ap (λ (s : Extent). first_byte (is_included es (suc p)) s) c.between.ensures) ∙ c.in_default-least_included.is in
           bare-all_excluded state es p tracks inside first bare (min (until - bare) SPAN_LIMIT) before excluded k low (omega arith);
     }
 
@@ -64,9 +64,9 @@ loop-bare-smaller c =
     let within = run.within in omega arith
 
 pub returns : goal.returns
-returns c = λ es p tracks inside stands.
+returns c = λ es p tracks inside told stands.
     let state = c.args.self.now in
     let first = c.args.first in
     let backed = no-others state.backup c.loop-bare.at c.args.end _ c.first_where.ensures c.in_default.is in
     none-from_none_up_to (lacks_backup es p) first c.args.end c.args.end
-    (bare-over_backed state es p tracks inside first c.loop-bare.at c.args.end (c.loop-bare.invariant.none es p tracks inside stands) backed) (omega arith)
+    (bare-over_backed state es p tracks inside first c.loop-bare.at c.args.end (c.loop-bare.invariant.none es p tracks inside told stands) backed) (omega arith)

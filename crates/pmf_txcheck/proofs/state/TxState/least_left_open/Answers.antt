@@ -19,16 +19,16 @@ between-span-requires-clause-ends c =
     run.within
 
 pub returns-in-Some-least_open : goal.returns-in-Some-least_open
-returns-in-Some-least_open c = λ es p tracks scoped stands.
+returns-in-Some-least_open c = λ es p tracks scoped told stands.
     let state = c.args.self.now in
     let first = c.in-Some.first in
     let end = c.unwrap_or-end.result in
     let byte = c.in-Some-least_open.byte in
     let run = run-of_members state.stored c.loop-first.at ADDRESS_LIMIT first end _ _ c.first_where.ensures c.in-Some.is c.first_where-in-Some.ensures c.unwrap_or-end.ensures in
     let within = run.within in
-    let before = open-over_others state es p tracks scoped c.loop-first.at first (c.loop-first.invariant.none es p tracks scoped stands) run.before in
+    let before = open-over_others state es p tracks scoped c.loop-first.at first (c.loop-first.invariant.none es p tracks scoped told stands) run.before in
     let exposed = first-passes (is_exposed es (suc p)) first (min (end - first) SPAN_LIMIT) byte
-    (sym (c.least_open.ensures es (suc p) stands ∙ ap (λ (s : Extent). first_byte (is_exposed es (suc p)) s) c.between-span.ensures) ∙ c.in-Some-least_open.is) in
+    (sym (c.least_open.ensures told es (suc p) stands ∙ ap (λ (s : Extent). first_byte (is_exposed es (suc p)) s) c.between-span.ensures) ∙ c.in-Some-least_open.is) in
     let low = exposed.from in
     let high = exposed.within in
     first-from_none_up_to (is_left_open es p) 0 ADDRESS_LIMIT byte
@@ -44,10 +44,10 @@ loop-first-preserved c =
     let within = run.within in
     let size : c.size.result ≡ min (end - first) SPAN_LIMIT = c.size.ensures.value ∙ ap (λ (s : Extent). s.size) c.between-span.ensures in record {
       within = omega arith;
-      none = λ es p tracks scoped stands.
-          let before = open-over_others state es p tracks scoped c.loop-first.at first (c.loop-first.invariant.none es p tracks scoped stands) run.before in
+      none = λ es p tracks scoped told stands.
+          let before = open-over_others state es p tracks scoped c.loop-first.at first (c.loop-first.invariant.none es p tracks scoped told stands) run.before in
           let closed = none-passes (is_exposed es (suc p)) first (min (end - first) SPAN_LIMIT)
-          (sym (c.least_open.ensures es (suc p) stands ∙ ap (λ (s : Extent). first_byte (is_exposed es (suc p)) s) c.between-span.ensures) ∙ c.in_default-least_open.is) in
+          (sym (c.least_open.ensures told es (suc p) stands ∙ ap (λ (s : Extent). first_byte (is_exposed es (suc p)) s) c.between-span.ensures) ∙ c.in_default-least_open.is) in
           open-over_closed state es p tracks scoped first (first + c.size.result) before (λ j from until. run.all j from (omega arith)) (λ j from until. closed j from (omega arith));
     }
 
@@ -60,8 +60,8 @@ loop-first-smaller c =
     let size = c.size.ensures.value ∙ ap (λ (s : Extent). s.size) c.between-span.ensures in omega arith
 
 pub returns : goal.returns
-returns c = λ es p tracks scoped stands.
+returns c = λ es p tracks scoped told stands.
     let state = c.args.self.now in
     let others = no-members state.stored c.loop-first.at ADDRESS_LIMIT _ c.first_where.ensures c.in_default.is in
     none-from_none_up_to (is_left_open es p) 0 ADDRESS_LIMIT ADDRESS_LIMIT
-    (open-over_others state es p tracks scoped c.loop-first.at ADDRESS_LIMIT (c.loop-first.invariant.none es p tracks scoped stands) others) (omega arith)
+    (open-over_others state es p tracks scoped c.loop-first.at ADDRESS_LIMIT (c.loop-first.invariant.none es p tracks scoped told stands) others) (omega arith)

@@ -14,7 +14,7 @@ returns-then-self-eq0-clause-tracks c = λ es p tracks here.
     ]
 
 pub returns-then-self-eq0-clause-finds : goal.returns-then-self-eq0-clause-finds
-returns-then-self-eq0-clause-finds c = λ es p tracks stands.
+returns-then-self-eq0-clause-finds c = λ es p tracks told stands.
     let old = c.args.self.now in
     elim c.then-self-eq0.branch [
       | then-self-eq0-via-then-self-eq0 w ↦ store-outside old es p tracks c.args.span w.if-self-eq0.true
@@ -27,11 +27,11 @@ returns-clause-tracks c = λ es p tracks here.
     c.ends_of-first.ensures.first c.ends_of-first.ensures.end (omega arith) c.in_ok-change.ensures.ok here
 
 pub returns-clause-finds : goal.returns-clause-finds
-returns-clause-finds c = λ es p tracks stands.
+returns-clause-finds c = λ es p tracks told stands.
     let state = c.args.self.now in
     let ends = c.ends_of-first in
     let scoped = in_scope-by_some state es p tracks (c.is_none.ensures ∙ ap not c.if-is_none.false) in
-    let bare = c.least_bare.ensures es p tracks (inside-by state es p tracks (omega arith)) stands in
+    let bare = c.least_bare.ensures es p tracks (inside-by state es p tracks (omega arith)) told stands in
     elim c.match-least_bare.branch [
       | in-None w ↦ w.finding-is ∙ store-found state es p tracks c.args.span ends.result.0 ends.result.1 None ends.ensures.first ends.ensures.end (omega arith) scoped (sym w.in-None.is ∙ bare)
       | in-Some w ↦ w.finding-is ∙ store-found state es p tracks c.args.span ends.result.0 ends.result.1 (Some w.in-Some.byte) ends.ensures.first ends.ensures.end (omega arith) scoped (sym w.in-Some.is ∙ bare)

@@ -1,11 +1,12 @@
 use Rattle.std.proofs.Common.{suc, [], ◌∷◌, refl, sym, ◌∙◌, ap, arith}
 use Rattle.std.specs.Prelude.{Some}
+use Rattle.pmf_event.specs.declared.event.Event.TheVariants.{Fence}
 use Rattle.pmf_event.specs.FlushWarnings.{if_any}
 use Rattle.pmf_event.proofs.TransactionLemmas.{depth-bound}
 use Rattle.pmf_shadow.specs.Laws.{is_unseen}
 use Rattle.pmf_txcheck.specs.Tracking.{is_untracked}
 use Rattle.pmf_verdict.specs.Rows.{findings_of}
-use Rattle.pmf_verdict.proofs.WalkLemmas.{walks-said, walks-silent, stands-still, tracks-still, found-end, found-start, found-check}
+use Rattle.pmf_verdict.proofs.WalkLemmas.{walks-said, walks-silent, stands-next, stands-still, as_told-same, tracks-still, found-end, found-start, found-check}
 use Rattle.pmf_verdict.proofs.checking.Walk.follow.Goals as goal
 
 pub begin-requires : goal.begin-requires
@@ -20,7 +21,7 @@ unfolding findings_of is_untracked
 returns-in-Fence-clause-walks c = λ es p walks here place.
     let own = here ∙ ap (λ e. Some e) c.in-Fence.is in
     let old = c.args.self.now in
-    walks-silent old _ es p _ own walks c.fence.new.self old.transactions refl (c.fence.ensures es p walks.stands own)
+    walks-silent old _ es p _ own walks c.fence.new.self old.transactions refl (stands-next (suc p) old.shadow c.fence.new.self Fence (c.fence.ensures (suc p)) es p own refl walks.stands)
     (tracks-still old old es p _ own walks refl) refl
 
 pub returns-in_ok-say-in-Persist-clause-walks : goal.returns-in_ok-say-in-Persist-clause-walks
@@ -31,7 +32,7 @@ returns-in_ok-say-in-Persist-clause-walks c = λ es p walks here place.
     let stands = stands-still old old es p _ own walks refl in
     walks-said old c.say.new.self es p _ own walks old.shadow old.transactions c.args.place (c.check_persist-finding.result ∷ [])
     c.in_ok-say-in-Persist.ensures stands (tracks-still old old es p _ own walks refl) place
-    (ap (λ f. f ∷ []) (sym (c.check_persist-finding.ensures es (suc p) stands)))
+    (ap (λ f. f ∷ []) (sym (c.check_persist-finding.ensures (λ k. k) es (suc p) stands)))
 
 pub returns-in_ok-say-in-Ordered-clause-walks : goal.returns-in_ok-say-in-Ordered-clause-walks
 unfolding findings_of is_unseen is_untracked
@@ -41,14 +42,14 @@ returns-in_ok-say-in-Ordered-clause-walks c = λ es p walks here place.
     let stands = stands-still old old es p _ own walks refl in
     walks-said old c.say-in-Ordered.new.self es p _ own walks old.shadow old.transactions c.args.place (c.check_ordered-finding.result ∷ [])
     c.in_ok-say-in-Ordered.ensures stands (tracks-still old old es p _ own walks refl) place
-    (ap (λ f. f ∷ []) (sym (c.check_ordered-finding.ensures es (suc p) stands)))
+    (ap (λ f. f ∷ []) (sym (c.check_ordered-finding.ensures (λ k. k) es (suc p) stands (λ i j s t below within first second. below) ∙ as_told-same _)))
 
 pub returns-in_ok-exclude-in-Exclude-clause-walks : goal.returns-in_ok-exclude-in-Exclude-clause-walks
 unfolding findings_of is_untracked
 returns-in_ok-exclude-in-Exclude-clause-walks c = λ es p walks here place.
     let own = here ∙ ap (λ e. Some e) c.in-Exclude.is in
     let old = c.args.self.now in
-    walks-silent old _ es p _ own walks c.exclude.new.self old.transactions refl (c.in_ok-exclude-in-Exclude.ensures.follows es p walks.stands own)
+    walks-silent old _ es p _ own walks c.exclude.new.self old.transactions refl (stands-next (suc p) old.shadow c.exclude.new.self _ (c.in_ok-exclude-in-Exclude.ensures.follows (suc p)) es p own refl walks.stands)
     (tracks-still old old es p _ own walks refl) refl
 
 pub returns-in_ok-include-in-Include-clause-walks : goal.returns-in_ok-include-in-Include-clause-walks
@@ -56,7 +57,7 @@ unfolding findings_of is_untracked
 returns-in_ok-include-in-Include-clause-walks c = λ es p walks here place.
     let own = here ∙ ap (λ e. Some e) c.in-Include.is in
     let old = c.args.self.now in
-    walks-silent old _ es p _ own walks c.include.new.self old.transactions refl (c.in_ok-include-in-Include.ensures.follows es p walks.stands own)
+    walks-silent old _ es p _ own walks c.include.new.self old.transactions refl (stands-next (suc p) old.shadow c.include.new.self _ (c.in_ok-include-in-Include.ensures.follows (suc p)) es p own refl walks.stands)
     (tracks-still old old es p _ own walks refl) refl
 
 pub returns-in-TxBegin-clause-walks : goal.returns-in-TxBegin-clause-walks
@@ -93,4 +94,4 @@ returns-in_ok-say-in-CheckEnd-clause-walks c = λ es p walks here place.
     let stands = stands-still old old es p _ own walks refl in
     walks-said old c.say-in-CheckEnd.new.self es p _ own walks old.shadow c.check_end-finding.new.self c.args.place (c.check_end-finding.result ∷ [])
     c.in_ok-say-in-CheckEnd.ensures stands (c.check_end-finding.ensures.tracks es p walks.tracks own) place
-    (found-check old.profile es p c.check_end-finding.result (c.check_end-finding.ensures.finds es p walks.tracks stands))
+    (found-check old.profile es p c.check_end-finding.result (c.check_end-finding.ensures.finds es p walks.tracks (λ k. k) stands))

@@ -7,7 +7,7 @@ use Rattle.pmf_txcheck.specs.Tracking.{Tracks, is_untracked}
 use Rattle.pmf_verdict.specs.declared.checking.Walk.{Walk}
 use Rattle.pmf_verdict.specs.Rows.{row_at, rows_upto}
 use Rattle.pmf_verdict.proofs.RowsLemmas.{rows_upto-flush}
-use Rattle.pmf_verdict.proofs.WalkLemmas.{tracks-still}
+use Rattle.pmf_verdict.proofs.WalkLemmas.{stands-next, tracks-still}
 use Rattle.pmf_verdict.proofs.checking.Walk.write_back.Goals as goal
 
 pub returns-clause-walks : goal.returns-clause-walks
@@ -20,12 +20,12 @@ returns-clause-walks c = λ es p walks here place.
     let second = c.in_ok-say_if_any-2.ensures in
     let shadow = ap (λ (w : Walk). w.shadow) second ∙ ap (λ (w : Walk). w.shadow) first in
     let transactions = ap (λ (w : Walk). w.transactions) second ∙ ap (λ (w : Walk). w.transactions) first in
-    let stands = subst (λ s. StandsFor s es p) (sym shadow) walks.stands in
+    let stands = subst (λ s. StandsFor s (λ k. k) es p) (sym shadow) walks.stands in
     let found : flush_findings es p c.args.span ≡ if_any one ++ if_any other =
-    sym (ap (λ (o : Option Finding). if_any o ++ if_any other) (c.check_flush-found.ensures.doubled es p walks.stands)
-    ∙ ap (λ (o : Option Finding). if_any (doubled_finding (lines_where (is_pending es p) c.args.span)) ++ if_any o) (c.check_flush-found.ensures.needless es p walks.stands)) in
+    sym (ap (λ (o : Option Finding). if_any o ++ if_any other) (c.check_flush-found.ensures.doubled (λ k. k) es p walks.stands)
+    ∙ ap (λ (o : Option Finding). if_any (doubled_finding (lines_where (is_pending es p) c.args.span)) ++ if_any o) (c.check_flush-found.ensures.needless (λ k. k) es p walks.stands)) in
     record {
-      stands = c.in_ok-flush.ensures.follows es p stands here;
+      stands = stands-next (suc p) _ _ _ (c.in_ok-flush.ensures.follows (suc p)) es p here refl stands;
       tracks = subst (λ t. Tracks t es (suc p)) (sym transactions) (tracks-still old old es p _ here walks refl);
       rows_are = ap (λ (w : Walk). w.rows) second
           ∙ ap (λ rs. rs ++ map (row_at c.args.place) (if_any other)) (ap (λ (w : Walk). w.rows) first)

@@ -2,8 +2,8 @@ use Rattle.std.proofs.Common.{sym, ◌∙◌, ap, subst}
 use Rattle.pmf_verdict.specs.Checked.{Checked, rows_in}
 use Rattle.pmf_verdict.specs.Explained.{FailuresAreReal}
 use Rattle.pmf_verdict.specs.Sound.{PassesHold, OrdersHold, ScopesHold}
-use Rattle.pmf_verdict.specs.Exact.{IsExact}
-use Rattle.pmf_verdict.proofs.ExactLemmas.{rows_exact}
+use Rattle.pmf_verdict.specs.Exact.{IsExact, SameLinesAreOneStore}
+use Rattle.pmf_verdict.proofs.ExactLemmas.{rows_exact, same_lines}
 use Rattle.pmf_verdict.proofs.FitLemmas.{failures_real}
 use Rattle.pmf_verdict.proofs.SoundLemmas.{passes_hold, orders_hold, scopes_hold}
 use Rattle.pmf_verdict.proofs.verdict.Verdict.rows.Goals as goal
@@ -37,3 +37,9 @@ returns-clause-exact c =
     subst (λ rows. IsExact c.args.self.now.profile c.args.self.now.section.events rows)
     (sym (c.as_slice.ensures ∙ c.self.invariant ∙ ap (λ (v : Checked). rows_in v) c.self.view_is))
     (rows_exact c.args.self.now.profile c.args.self.now.section.events)
+
+pub returns-clause-same_lines : goal.returns-clause-same_lines
+returns-clause-same_lines c =
+    subst (λ rows. SameLinesAreOneStore c.args.self.now.profile c.args.self.now.section.events rows)
+    (sym (c.as_slice.ensures ∙ c.self.invariant ∙ ap (λ (v : Checked). rows_in v) c.self.view_is))
+    (same_lines c.args.self.now.profile c.args.self.now.section.events)

@@ -1,5 +1,5 @@
 use Rattle.std.proofs.Common.{◌≡◌, ◌<◌, ◌≤◌, ℕ, get_or, false}
-use Rattle.pmf_runs.proofs.leaf.Leaf.first_onward.Given as goal
+use Rattle.pmf_runs.proofs.leaf.Leaf.next_passing.Given as goal
 
 abbrev pub invariant-loop-i : goal.invariant-loop-i
 invariant-loop-i g l = record {

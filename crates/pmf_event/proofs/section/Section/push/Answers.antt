@@ -1,0 +1,15 @@
+use Rattle.std.proofs.Common.{[], ◌∷◌, ◌≤◌, length, arith, length-append, sym, ◌∙◌, ap, subst}
+use Rattle.std.specs.List.{All}
+use Rattle.std.proofs.lemmas.List.Elements.{All-append, All-cons, All-nil}
+use Rattle.pmf_event.specs.Section.{IsValidEvent}
+use Rattle.pmf_event.specs.declared.section.TheConstants.{EVENT_LIMIT}
+use Rattle.pmf_event.proofs.section.Section.push.Goals as goal
+
+pub invariant_of-self-2 : goal.invariant_of-self-2
+invariant_of-self-2 c =
+    let long = ap length c.in_ok-push.ensures.items ∙ length-append c.self.inside.events.items (c.args.event ∷ []) in
+    let before = c.self.invariant.0 in
+    let short : length c.push.new.self.items ≤ EVENT_LIMIT = omega (arith, long, before, c.len.ensures, c.if-len-eq-EVENT_LIMIT.false, c.self.inside.events.ok.0) in (
+      short,
+      subst (All IsValidEvent) (sym c.in_ok-push.ensures.items) (All-append IsValidEvent c.self.inside.events.items (c.args.event ∷ []) c.self.invariant.1 (All-cons IsValidEvent c.args.event [] c.has_valid_spans.ensures (All-nil IsValidEvent))),
+    )

@@ -1,0 +1,144 @@
+-- What the definitions say at p looks only at the events up to p.
+use Rattle.std.proofs.Common.{◌≡◌, ℕ, zero, suc, ◌-◌, ◌<◌, ◌≤◌, Bool, ◌&&◌, ◌==◌, nat_lt, if◌then◌else◌, List, [], ◌∷◌, ◌++◌, length, take, refl, sym, ◌∙◌, ap, arith, inl, inr}
+use Rattle.std.specs.Prelude.{Some, None, slice_get}
+use Rattle.std.proofs.lemmas.Bool.{cases_lt}
+use Rattle.std.proofs.lemmas.List.{length-take-le}
+use Rattle.std.proofs.lemmas.Option.{slice_get_within}
+use Rattle.pmf_event.specs.declared.event.Event.{Event}
+use Rattle.pmf_event.specs.Places.{greatest, least, count}
+use Rattle.pmf_event.specs.Store.{event_at, passes, at, flushes, is_fence, last, epoch_of}
+use Rattle.pmf_event.specs.Interval.{writes_back, first_write_back}
+use Rattle.pmf_event.specs.WriteBack.{epoch_unless, write_back_epoch}
+use Rattle.pmf_event.specs.Exclusion.{excludes, marks, is_excluded}
+use Rattle.pmf_event.specs.LineBytes.{HasBytes}
+use Rattle.pmf_event.proofs.PlacesLemmas.{SameUpTo, least-bound}
+use Rattle.pmf_event.proofs.WriteBackLemmas.{last-bound}
+use Rattle.pmf_shadow.specs.Laws.{SameEvents}
+
+-- ---- searches
+
+pub greatest-same : (s t : ℕ → Bool) (n : ℕ) → SameUpTo s t n → greatest s n ≡ greatest t n
+unfolding greatest
+greatest-same s t zero same = refl
+greatest-same s t (suc n) same =
+    rw (same (suc n) (omega arith) (omega arith), greatest-same s t n (λ k some within. same k some (omega arith))) refl
+
+pub least-same : (s t : ℕ → Bool) (n : ℕ) → SameUpTo s t n → least s n ≡ least t n
+unfolding least
+least-same s t zero same = refl
+least-same s t (suc n) same =
+    rw (same (suc n) (omega arith) (omega arith), least-same s t n (λ k some within. same k some (omega arith))) refl
+
+pub count-same : (s t : ℕ → Bool) (n : ℕ) → SameUpTo s t n → count s n ≡ count t n
+unfolding count
+count-same s t zero same = refl
+count-same s t (suc n) same =
+    rw (same (suc n) (omega arith) (omega arith), count-same s t n (λ k some within. same k some (omega arith))) refl
+
+-- ---- tests on events
+
+pub same-before : (es fs : List Event) (p q : ℕ) → q ≤ p → SameEvents es fs p → SameEvents es fs q
+same-before es fs p q before same k within = same k (omega arith)
+
+module _ (es fs : List Event) (p : ℕ) (same : SameEvents es fs p) where
+  pub at-same : (test : Event → Bool) (k : ℕ) → k ≤ p → at test es k ≡ at test fs k
+  unfolding at
+  at-same test k within = ap (passes test) (same k within)
+
+  pub at-same_up_to : (test : Event → Bool) → SameUpTo (at test es) (at test fs) p
+  at-same_up_to test k some within = at-same test k within
+
+  pub last-same : (test : Event → Bool) → last test es p ≡ last test fs p
+  unfolding last
+  last-same test = greatest-same (at test es) (at test fs) p (at-same_up_to test)
+
+  pub count_at-same : (test : Event → Bool) → count (at test es) p ≡ count (at test fs) p
+  count_at-same test = count-same (at test es) (at test fs) p (at-same_up_to test)
+
+  epoch_of-same : (k : ℕ) → k ≤ p → epoch_of es k ≡ epoch_of fs k
+  unfolding epoch_of
+  epoch_of-same k within = count-same (at is_fence es) (at is_fence fs) (k - 1) (λ i some below. at-same is_fence i (omega arith))
+
+  writes_back-same : (line k : ℕ) → SameUpTo (writes_back es line k) (writes_back fs line k) p
+  unfolding writes_back
+  writes_back-same line k w some within = ap (λ v. nat_lt k w && v) (at-same (flushes line) w within)
+
+  first_write_back-same : (stored : Event → Bool) (line : ℕ) → first_write_back stored line es p ≡ first_write_back stored line fs p
+  unfolding first_write_back
+  first_write_back-same stored line =
+      least-same (writes_back es line (last stored es p)) (writes_back fs line (last stored es p)) p (writes_back-same line (last stored es p))
+      ∙ ap (λ k. least (writes_back fs line k) p) (last-same stored)
+
+  first_write_back-bound : (stored : Event → Bool) (line : ℕ) → first_write_back stored line es p ≤ p
+  unfolding first_write_back
+  first_write_back-bound stored line = least-bound (writes_back es line (last stored es p)) p
+
+  pub write_back_epoch-same : (stored : Event → Bool) (line : ℕ) → write_back_epoch stored line es p ≡ write_back_epoch stored line fs p
+  unfolding write_back_epoch
+  write_back_epoch-same stored line =
+      let w = first_write_back stored line es p in
+      ap (λ e. if w == 0 then None else Some e) (epoch_of-same w (first_write_back-bound stored line))
+      ∙ ap (epoch_unless fs) (first_write_back-same stored line)
+
+  pub last_epoch-same : (stored : Event → Bool) → epoch_of es (last stored es p) ≡ epoch_of fs (last stored fs p)
+  last_epoch-same stored = epoch_of-same (last stored es p) (last-bound stored es p) ∙ ap (epoch_of fs) (last-same stored)
+
+  pub excluded-same : (b : ℕ) → is_excluded es p b ≡ is_excluded fs p b
+  unfolding is_excluded
+  excluded-same b =
+      at-same (excludes b) (last (marks b) es p) (last-bound (marks b) es p) ∙ ap (at (excludes b) fs) (last-same (marks b))
+
+  pub sized-same : HasBytes es p → HasBytes fs p
+  sized-same sized k s within is = sized k s within (same k within ∙ is)
+
+-- ---- lists that go on
+
+slice_get-front : (xs ys : List Event) (k : ℕ) → k < length xs → slice_get (xs ++ ys) k ≡ slice_get xs k
+slice_get-front [] ys k below = absurd (omega arith)
+slice_get-front (x ∷ xs) ys zero below = refl
+slice_get-front (x ∷ xs) ys (suc k) below = slice_get-front xs ys k (omega arith)
+
+slice_get-seam : (xs : List Event) (e : Event) → slice_get (xs ++ e ∷ []) (length xs) ≡ Some e
+slice_get-seam [] e = refl
+slice_get-seam (x ∷ xs) e = slice_get-seam xs e
+
+slice_get-take : (n : ℕ) (xs : List Event) (k : ℕ) → k < n → slice_get (take n xs) k ≡ slice_get xs k
+slice_get-take zero xs k below = absurd (omega arith)
+slice_get-take (suc n) [] k below = refl
+slice_get-take (suc n) (x ∷ xs) zero below = refl
+slice_get-take (suc n) (x ∷ xs) (suc k) below = slice_get-take n xs k (omega arith)
+
+-- a list and the same with an event at its end
+pub same-longer : (es : List Event) (e : Event) → SameEvents es (es ++ e ∷ []) (length es)
+unfolding event_at
+same-longer es e zero within = refl
+same-longer es e (suc k) within = sym (slice_get-front es (e ∷ []) k (omega arith))
+
+pub at_the_end : (es : List Event) (e : Event) → event_at (es ++ e ∷ []) (suc (length es)) ≡ Some e
+unfolding event_at
+at_the_end es e = slice_get-seam es e
+
+pub within-list : (es : List Event) (p : ℕ) (e : Event) → event_at es (suc p) ≡ Some e → p < length es
+unfolding event_at
+within-list es p e here = slice_get_within es p e here
+
+-- a list and its first p events
+pub same-taken : (es : List Event) (p : ℕ) → SameEvents es (take p es) p
+unfolding event_at
+same-taken es p zero within = refl
+same-taken es p (suc k) within = sym (slice_get-take p es k (omega arith))
+
+pub length-taken : (es : List Event) (p : ℕ) (e : Event) → event_at es (suc p) ≡ Some e → length (take p es) ≡ p
+length-taken es p e here = let within = within-list es p e here in length-take-le p es (omega arith)
+
+-- its first p events with the next one at their end are its first events too
+pub same-retaken : (es : List Event) (p : ℕ) (e : Event) → event_at es (suc p) ≡ Some e → SameEvents (take p es ++ e ∷ []) es (suc p)
+same-retaken es p e here k within = elim (cases_lt p k) [
+  | inl beyond ↦
+      let size = length-taken es p e here in
+      let last : k ≡ suc p = omega arith in
+      ap (event_at (take p es ++ e ∷ [])) (last ∙ ap suc (sym size)) ∙ at_the_end (take p es) e ∙ sym here ∙ ap (event_at es) (sym last)
+  | inr before ↦
+      let size = length-taken es p e here in
+      sym (same-longer (take p es) e k (omega arith)) ∙ sym (same-taken es p k before)
+]
