@@ -126,10 +126,13 @@ past keys first end start index next until rises some after bounded is walk =
           let order = rises-le keys index (next - 1) rises (omega arith) inner in record {
             more = omega arith;
             within = omega arith;
-            at = λ b le lt. (low b le, elim (cases_lt (rank keys b) next) [
-              | inl below ↦ below
-              | inr above ↦ let r = rank-is keys b in let upto = r.upto (next - 1) (omega arith) in absurd (omega arith)
-            ]);
+            at = λ b le lt. (
+              low b le,
+              elim (cases_lt (rank keys b) next) [
+                | inl below ↦ below
+                | inr above ↦ let r = rank-is keys b in let upto = r.upto (next - 1) (omega arith) in absurd (omega arith)
+              ],
+            );
             on = record {
               from = omega arith;
               upto = omega arith;
