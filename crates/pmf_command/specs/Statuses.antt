@@ -14,6 +14,7 @@ use Rattle.pmf_farm.specs.declared.fault.FarmFault.TheVariants as farm
 use Rattle.pmf_stream.specs.declared.checking.CheckLogFault.{CheckLogFault}
 use Rattle.pmf_stream.specs.declared.checking.CheckLogFault.TheVariants as checking
 use Rattle.pmf_stream.specs.declared.checking.Done.{Done}
+use Rattle.pmf_stream.specs.declared.asking.AskFault.{AskFault}
 use Rattle.pmf_stream.specs.declared.explaining.ExplainFault.{ExplainFault}
 use Rattle.pmf_stream.specs.declared.explaining.ExplainFault.TheVariants as explaining
 use Rattle.pmf_stream.specs.declared.joining.Joined.{Joined}
@@ -79,12 +80,16 @@ status_of_check_fault (checking.Farm fault) = status_of_farm_fault fault
 abbrev pub status_of_asked : Unit {0} → Status
 status_of_asked done = NoFail
 
+-- how the program ends where an event is not explained
+abbrev pub status_of_explain_fault : ExplainFault → Status
+status_of_explain_fault (explaining.Log fault) = status_of_log_fault fault
+status_of_explain_fault explaining.NoSection = Refused
+status_of_explain_fault explaining.NoEvent = Refused
+status_of_explain_fault explaining.OutOfMemory = NoMemory
+
 -- how the program ends where what is asked for is refused
-abbrev pub status_of_refusal : ExplainFault → Status
-status_of_refusal (explaining.Log fault) = status_of_log_fault fault
-status_of_refusal (explaining.NoSection run section) = Refused
-status_of_refusal (explaining.NoEvent run section event) = Refused
-status_of_refusal explaining.OutOfMemory = NoMemory
+abbrev pub status_of_refusal : AskFault → Status
+status_of_refusal refusal = status_of_explain_fault refusal.fault
 
 -- how the program ends where ledgers are joined
 abbrev pub status_of_joined : Joined → Status

@@ -9,9 +9,9 @@ ghost use Rattle.pmf_stream.specs.Asking.{IsExplanationOf, IsRefusalOf};
 ghost use Rattle.pmf_stream.specs.Checking.{IsCheckFaultOf, IsReportOf};
 ghost use Rattle.pmf_stream.specs.Failures.{CanCountOneMore};
 ghost use Rattle.pmf_stream.specs.Joining.{IsJoinedText, IsRefusalOfTexts};
+ghost use Rattle.pmf_stream.specs.declared.asking.AskFault.{AskFault};
 ghost use Rattle.pmf_stream.specs.declared.checking.CheckLogFault.{CheckLogFault};
 ghost use Rattle.pmf_stream.specs.declared.checking.Done.{Done};
-ghost use Rattle.pmf_stream.specs.declared.explaining.ExplainFault.{ExplainFault};
 ghost use Rattle.pmf_stream.specs.declared.fault.StreamFault.{StreamFault};
 ghost use Rattle.pmf_stream.specs.declared.joining.Joined.{Joined};
 ghost use Rattle.pmf_stream.specs.declared.joining.JoinTextFault.{JoinTextFault};
@@ -129,7 +129,7 @@ fn explain_to<R: Eprint, S: Source, W: Sink>(
 ) -> Status
     requires read { CanCountOneMore (S.failed_calls source.old) }
     requires write { CanCountOneMore (W.failed_calls sink.old) }
-    ensures { (answer : Result (Unit {0}) (StreamFault ExplainFault))
+    ensures { (answer : Result (Unit {0}) (StreamFault AskFault))
         × (result ≡ status_of status_of_asked status_of_refusal answer)
         × Answers (IsExplanationOf question (S.left source.old) (S.left source.new))
         (IsRefusalOf question (S.left source.old) (S.left source.new))

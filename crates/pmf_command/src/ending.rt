@@ -1,7 +1,7 @@
 //! The status of each answer of a command.
 
 ghost use Rattle.std.specs.Prelude.{◌≡◌};
-ghost use Rattle.pmf_command.specs.Statuses.{status_of_asked, status_of_check_fault, status_of_done, status_of_farm_fault, status_of_fails, status_of_fault, status_of_join_fault, status_of_joined, status_of_ledger_fault, status_of_log_fault, status_of_new_fault, status_of_refusal, status_of_sim_fault, status_of_text_fault};
+ghost use Rattle.pmf_command.specs.Statuses.{status_of_asked, status_of_check_fault, status_of_done, status_of_explain_fault, status_of_farm_fault, status_of_fails, status_of_fault, status_of_join_fault, status_of_joined, status_of_ledger_fault, status_of_log_fault, status_of_new_fault, status_of_refusal, status_of_sim_fault, status_of_text_fault};
 ghost use Rattle.pmf_command.specs.declared.status.Status.{Status};
 
 use crate::status::Status;
@@ -9,7 +9,7 @@ use pmf_farm::FarmFault;
 use pmf_ledger::{JoinFault, LedgerFault};
 use pmf_sim::SimFault;
 use pmf_storelog::{Cause, LogFault};
-use pmf_stream::{CheckLogFault, Done, ExplainFault, JoinTextFault, Joined, StreamFault};
+use pmf_stream::{AskFault, CheckLogFault, Done, ExplainFault, JoinTextFault, Joined, StreamFault};
 use pmf_world::WorldNewFault;
 
 /// What a command did, or why it refused: the program ends as this says.
@@ -90,12 +90,21 @@ impl Ending for CheckLogFault {
 }
 
 /// What is asked for is refused.
-impl Ending for ExplainFault {
+impl Ending for AskFault {
     ghost ends_as = { status_of_refusal };
 
     fn status(&self) -> Status {
+        self.fault.status()
+    }
+}
+
+/// The event is not explained.
+impl Ending for ExplainFault {
+    ghost ends_as = { status_of_explain_fault };
+
+    fn status(&self) -> Status {
         match self {
-            ExplainFault::NoSection { .. } | ExplainFault::NoEvent { .. } => Status::Refused,
+            ExplainFault::NoSection | ExplainFault::NoEvent => Status::Refused,
             ExplainFault::OutOfMemory => Status::NoMemory,
             ExplainFault::Log(fault) => fault.status(),
         }

@@ -1,15 +1,35 @@
 -- What explain_stream reads, and what it writes or refuses of it. Defined here.
-use Rattle.std.specs.Prelude.{ℕ, List, Option}
+use Rattle.std.specs.Prelude.{◌≡◌, ℕ, List, ◌++◌, codes, Option}
+use Rattle.std.specs.Fmt.{decimal}
+use Rattle.pmf_storelog.specs.FaultText.{text_of_fault}
 use Rattle.pmf_storelog.specs.declared.fault.TheConstants.{LOG_LIMIT}
+use Rattle.pmf_stream.specs.declared.asking.AskFault.{AskFault}
 use Rattle.pmf_stream.specs.declared.explaining.ExplainFault.{ExplainFault}
+use Rattle.pmf_stream.specs.declared.explaining.ExplainFault.TheVariants as fault
 use Rattle.pmf_stream.specs.declared.settings.Question.{Question}
 use Rattle.pmf_stream.specs.Explanation.{IsExplanation, IsRefusal}
 use Rattle.pmf_stream.specs.Reading.{HasReadAll}
 
 -- what was read is explained by this text
 abbrev pub IsExplanationOf : Question → Option (List ℕ) → Option (List ℕ) → Unit {0} → List ℕ → Type 0
-IsExplanationOf question left rest done text = (bytes : List ℕ) × HasReadAll LOG_LIMIT left rest bytes × IsExplanation question bytes text
+IsExplanationOf question left rest done text =
+    (bytes : List ℕ) × HasReadAll LOG_LIMIT left rest bytes
+    × IsExplanation question.run question.section question.event question.profile bytes text
 
--- what was read is refused for this reason
-abbrev pub IsRefusalOf : Question → Option (List ℕ) → Option (List ℕ) → ExplainFault → Type 0
-IsRefusalOf question left rest found = (bytes : List ℕ) × HasReadAll LOG_LIMIT left rest bytes × IsRefusal question bytes found
+-- what was read is refused for this reason, and the question is told with it
+abbrev pub IsRefusalOf : Question → Option (List ℕ) → Option (List ℕ) → AskFault → Type 0
+IsRefusalOf question left rest found =
+    (found.question ≡ question) × (bytes : List ℕ) × HasReadAll LOG_LIMIT left rest bytes
+    × IsRefusal question.run question.section question.event bytes found.fault
+
+-- the text of a refusal of this question
+abbrev pub text_of_refusal : Question → ExplainFault → List ℕ
+text_of_refusal question (fault.Log found) = text_of_fault found
+text_of_refusal question fault.NoSection = codes "no section " ++ decimal question.run ++ codes "." ++ decimal question.section
+text_of_refusal question fault.NoEvent =
+    codes "no event " ++ decimal question.event ++ codes " in section " ++ decimal question.run ++ codes "." ++ decimal question.section
+text_of_refusal question fault.OutOfMemory = codes "out of memory"
+
+-- the text of a refusal that tells its question
+abbrev pub text_of_ask_fault : AskFault → List ℕ
+text_of_ask_fault refusal = text_of_refusal refusal.question refusal.fault

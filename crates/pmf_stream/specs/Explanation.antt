@@ -5,6 +5,7 @@ use Rattle.std.specs.Fmt.{decimal}
 use Rattle.pmf_event.specs.declared.event.Event.{Event}
 use Rattle.pmf_event.specs.declared.finding.Finding.{Finding}
 use Rattle.pmf_event.specs.declared.finding.Finding.TheVariants.{PersistFail, OrderedFail, CheckFail}
+use Rattle.pmf_event.specs.declared.profile.Profile.{Profile}
 use Rattle.pmf_event.specs.declared.row.Row.{Row}
 use Rattle.pmf_event.specs.Address.{address}
 use Rattle.pmf_event.specs.Line.{line_of_byte}
@@ -19,7 +20,6 @@ use Rattle.pmf_verdict.specs.Rows.{rows_of}
 use Rattle.pmf_verdict.specs.Text.{text_of_rows, rows_at}
 use Rattle.pmf_stream.specs.declared.explaining.ExplainFault.{ExplainFault}
 use Rattle.pmf_stream.specs.declared.explaining.ExplainFault.TheVariants as fault
-use Rattle.pmf_stream.specs.declared.settings.Question.{Question}
 
 -- the bytes that a failed row names; other rows have no image
 abbrev pub bytes_of : Finding → List ℕ
@@ -63,32 +63,27 @@ abbrev pub ExplainsPlace : List Event → List Row → ℕ → List ℕ → Type
 ExplainsPlace es rows p text =
     (o : Option Certificate) × Explains rows p o × (text ≡ text_of_rows (rows_at rows p) ++ text_of_image_if_any es rows p o)
 
--- the bytes are a log without a fault
-abbrev pub IsLog : Question → List ℕ → LogValue → Type 0
-IsLog question bytes log = log_of question.run bytes ≡ Ok log
+-- the log has this section, of this number
+abbrev pub IsSection : ℕ → LogValue → Trace → Type 0
+IsSection number log section = Contains log.sections section × (section.name.number ≡ number)
 
--- the log has this section, and it has the number that is asked for
-abbrev pub IsSection : Question → LogValue → Trace → Type 0
-IsSection question log section = Contains log.sections section × (section.name.number ≡ question.section)
+-- the section has an event at this place
+abbrev pub IsPlace : ℕ → Trace → Type 0
+IsPlace place section = (1 ≤ place) × (place ≤ length section.events)
 
--- the place that is asked for is that of an event
-abbrev pub IsPlace : Question → Trace → Type 0
-IsPlace question section = (1 ≤ question.event) × (question.event ≤ length section.events)
+-- the bytes are a log of the run, without a fault, with this section and this event in it, and the text explains
+-- the event by the profile
+abbrev pub IsExplanation : ℕ → ℕ → ℕ → Profile → List ℕ → List ℕ → Type 0
+IsExplanation run section event profile bytes text =
+    (log : LogValue) × (t : Trace) × (log_of run bytes ≡ Ok log) × IsSection section log t × IsPlace event t
+    × ExplainsPlace t.events (rows_of profile t.events) event text
 
--- the bytes are a log with the section and the event, and the text explains it
-abbrev pub IsExplanation : Question → List ℕ → List ℕ → Type 0
-IsExplanation question bytes text =
-    (log : LogValue) × (section : Trace) × IsLog question bytes log × IsSection question log section × IsPlace question section
-    × ExplainsPlace section.events (rows_of question.profile section.events) question.event text
-
--- the fault is why the bytes don't explain what is asked for, want of memory aside: the log's own fault, and
--- else that it lacks the section, and else that the section lacks the event
-abbrev pub IsRefusal : Question → List ℕ → ExplainFault → Type 0
-IsRefusal question bytes (fault.Log found) = found ≢ out_of_memory → log_of question.run bytes ≡ Err found
-IsRefusal question bytes (fault.NoSection run section) =
-    (run ≡ question.run) × (section ≡ question.section)
-    × (log : LogValue) × IsLog question bytes log × ((t : Trace) → IsSection question log t → ⊥)
-IsRefusal question bytes (fault.NoEvent run section event) =
-    (run ≡ question.run) × (section ≡ question.section) × (event ≡ question.event)
-    × (log : LogValue) × (t : Trace) × IsLog question bytes log × IsSection question log t × (IsPlace question t → ⊥)
-IsRefusal question bytes fault.OutOfMemory = Unit {0}
+-- the fault is why the bytes don't explain the event, want of memory aside: the log's own fault, and else that it
+-- lacks the section, and else that the section lacks the event
+abbrev pub IsRefusal : ℕ → ℕ → ℕ → List ℕ → ExplainFault → Type 0
+IsRefusal run section event bytes (fault.Log found) = found ≢ out_of_memory → log_of run bytes ≡ Err found
+IsRefusal run section event bytes fault.NoSection =
+    (log : LogValue) × (log_of run bytes ≡ Ok log) × ((t : Trace) → IsSection section log t → ⊥)
+IsRefusal run section event bytes fault.NoEvent =
+    (log : LogValue) × (t : Trace) × (log_of run bytes ≡ Ok log) × IsSection section log t × (IsPlace event t → ⊥)
+IsRefusal run section event bytes fault.OutOfMemory = Unit {0}

@@ -15,6 +15,40 @@ use crate::source::Source;
 use crate::writing::write_answer;
 use pmf_storelog::LOG_LIMIT;
 use std::alloc::Global;
+use std::error::Error;
+use std::fmt;
+
+/// Why a question was not answered, with what it asked for.
+#[derive(Clone, Copy, Debug, PartialEq, Eq)]
+pub struct AskFault {
+    /// What was asked for.
+    pub question: Question,
+    /// Why it was not explained.
+    pub fault: ExplainFault,
+}
+
+impl fmt::Display for AskFault {
+    ghost use Rattle.std.specs.Prelude.{Some};
+    ghost use Rattle.pmf_stream.specs.Asking.{text_of_ask_fault};
+
+    ghost output = { λ refusal. Some (text_of_ask_fault refusal) };
+
+    fn fmt<W: fmt::Write>(&self, f: &mut fmt::Formatter<W>) -> fmt::Result {
+        let asked = self.question;
+        match self.fault {
+            ExplainFault::Log(fault) => write!(f, "{fault}"),
+            ExplainFault::NoSection => write!(f, "no section {}.{}", asked.run, asked.section),
+            ExplainFault::NoEvent => write!(
+                f,
+                "no event {} in section {}.{}",
+                asked.event, asked.run, asked.section
+            ),
+            ExplainFault::OutOfMemory => f.write_str("out of memory"),
+        }
+    }
+}
+
+impl Error for AskFault {}
 
 /// Reads a log and writes the text that explains the event that is asked for. Reads in pieces to the end of the
 /// stream, or to one byte past what a log may have, and writes nothing before the whole text is there.
@@ -27,7 +61,7 @@ pub fn explain_stream<R: Source, W: Sink>(
     reader: &mut R,
     writer: &mut W,
     question: Question,
-) -> Result<(), StreamFault<ExplainFault>>
+) -> Result<(), StreamFault<AskFault>>
     requires read { CanCountOneMore (R.failed_calls reader.old) }
     requires write { CanCountOneMore (W.failed_calls writer.old) }
     // What was read is explained or refused, and exactly the explanation was written.
@@ -43,9 +77,15 @@ pub fn explain_stream<R: Source, W: Sink>(
         Ok(log) => log,
         Err(fault) => return Err(fault),
     };
-    let text = match explain_text(alloc, &log, question) {
+    let Question {
+        run,
+        section,
+        event,
+        profile,
+    } = question;
+    let text = match explain_text(alloc, &log, run, section, event, profile) {
         Ok(text) => text,
-        Err(fault) => return Err(StreamFault::Refused(fault)),
+        Err(fault) => return Err(StreamFault::Refused(AskFault { question, fault })),
     };
     write_answer(writer, &text, ())
 }

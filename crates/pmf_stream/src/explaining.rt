@@ -7,8 +7,7 @@ ghost use Rattle.pmf_image.specs.Certificate.{Fits};
 ghost use Rattle.pmf_verdict.specs.Checked.{rows_in};
 ghost use Rattle.pmf_stream.specs.Explanation.{ExplainsPlace, IsExplanation, IsRefusal, text_of_byte, text_of_bytes, text_of_image, text_of_line, text_of_certificate};
 
-use crate::settings::Question;
-use pmf_event::{Event, Finding, Row, Section, line_of};
+use pmf_event::{Event, Finding, Profile, Row, Section, line_of};
 use pmf_image::{Certificate, cut, last_store, shows};
 use pmf_storelog::{LogFault, read_log};
 use pmf_verdict::{Verdict, check, explain, write_rows_at};
@@ -23,11 +22,11 @@ pub enum ExplainFault {
     #[error("{0}")]
     Log(LogFault),
     /// The log has no section of this number.
-    #[error("no section {run}.{section}")]
-    NoSection { run: u64, section: u64 },
+    #[error("no such section")]
+    NoSection,
     /// The section has no event at this place.
-    #[error("no event {event} in section {run}.{section}")]
-    NoEvent { run: u64, section: u64, event: u32 },
+    #[error("no such event")]
+    NoEvent,
     /// Room for the verdict or the text was refused.
     #[error("out of memory")]
     OutOfMemory,
@@ -43,40 +42,39 @@ impl From<AllocError> for ExplainFault {
     }
 }
 
-/// The text that explains the event that is asked for: the rows at its place, and where one of them is a FAIL
-/// with a certificate, what its image holds of the bytes that the row names. Reads the whole log, and checks
-/// the section that is asked for and no other.
+/// The text that explains this event of the section: the rows at its place, counted from 1, and where one of
+/// them is a FAIL with a certificate, what its image holds of the bytes that the row names. Reads the whole log,
+/// whose sections are those of the run, and checks this section and no other.
 ///
 /// Takes memory for the events of the log, the verdict and the text.
-pub fn explain_text(alloc: Global, log: &[u8], question: Question) -> Result<Vec<u8>, ExplainFault>
-    ensures { MatchResult result (λ text. IsExplanation question log.now text.items)
-        (IsRefusal question log.now) }
+pub fn explain_text(
+    alloc: Global,
+    log: &[u8],
+    run: u64,
+    section: u64,
+    event: u32,
+    profile: Profile,
+) -> Result<Vec<u8>, ExplainFault>
+    ensures { MatchResult result
+        (λ text. IsExplanation run section event profile log.now text.items)
+        (IsRefusal run section event log.now) }
 {
-    let log = match read_log(alloc, log, question.run) {
+    let log = match read_log(alloc, log, run) {
         Ok(log) => log,
         Err(fault) => return Err(ExplainFault::Log(fault)),
     };
-    let section = match find_section(log.sections(), question.section) {
+    let section = match find_section(log.sections(), section) {
         Some(section) => section,
-        None => {
-            return Err(ExplainFault::NoSection {
-                run: question.run,
-                section: question.section,
-            });
-        }
+        None => return Err(ExplainFault::NoSection),
     };
-    if question.event == 0 || question.event as usize > section.events().len() {
-        return Err(ExplainFault::NoEvent {
-            run: question.run,
-            section: question.section,
-            event: question.event,
-        });
+    if event == 0 || event as usize > section.events().len() {
+        return Err(ExplainFault::NoEvent);
     }
-    let verdict = match check(alloc, Arc::try_clone(section)?, question.profile) {
+    let verdict = match check(alloc, Arc::try_clone(section)?, profile) {
         Ok(verdict) => verdict,
         Err(_) => return Err(ExplainFault::OutOfMemory),
     };
-    let text = explain_place(alloc, &verdict, question.event)?;
+    let text = explain_place(alloc, &verdict, event)?;
     Ok(text)
 }
 

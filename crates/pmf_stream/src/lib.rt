@@ -25,7 +25,7 @@ mod source;
 mod tests;
 mod writing;
 
-pub use asking::explain_stream;
+pub use asking::{AskFault, explain_stream};
 pub use checking::{CheckLogFault, Done, check_stream};
 pub use device::{Counted, Device};
 pub use explaining::{ExplainFault, explain_text};

@@ -17,8 +17,8 @@ pub use pmf_command::{Files, Request, Simulation, Status, request_of};
 pub use pmf_farm::{FarmFault, Gate, OpenGate, Turn};
 pub use pmf_sim::{SCHEDULE_LIMIT, SimFault, sim_text, sim_to};
 pub use pmf_stream::{
-    CheckLogFault, Counted, Cut, Device, Done, ExplainFault, Failed, JoinTextFault, Joined,
-    Question, Settings, Sink, Source, StdSink, StdSource, StreamFault, check_stream,
+    AskFault, CheckLogFault, Counted, Cut, Device, Done, ExplainFault, Failed, JoinTextFault,
+    Joined, Question, Settings, Sink, Source, StdSink, StdSource, StreamFault, check_stream,
     explain_stream, explain_text, join_texts, join_to, read_all, write_text,
 };
 pub use pmf_world::{MOST_LEDGERS, World, WorldAnswer, WorldFault, WorldNewFault, WorldStep};

@@ -4,7 +4,7 @@ ghost use Rattle.std.specs.Prelude.{◌≡◌};
 
 use super::checks::failed_calls;
 use super::fakes::{ByteSink, PieceSource};
-use crate::asking::explain_stream;
+use crate::asking::{AskFault, explain_stream};
 use crate::device::Device;
 use crate::explaining::{ExplainFault, explain_text};
 use crate::fault::StreamFault;
@@ -118,7 +118,13 @@ byte=0x1000 cut=1 shows=1 last=7\nbyte=0x2000 cut=1 shows=4 last=4\n",
         ),
     ];
     for (log, question, want) in cases {
-        let text = explain_text(rt.alloc(), log, question)?;
+        let Question {
+            run,
+            section,
+            event,
+            profile,
+        } = question;
+        let text = explain_text(rt.alloc(), log, run, section, event, profile)?;
         assert!(rt; text.as_slice() == want, "{question:?}");
     }
     Ok(())
@@ -126,43 +132,22 @@ byte=0x1000 cut=1 shows=1 last=7\nbyte=0x2000 cut=1 shows=4 last=4\n",
 
 #[test]
 fn a_section_or_an_event_that_is_missing_is_refused(rt: HostRuntime) {
-    let no_event = |event| ExplainFault::NoEvent {
-        run: 9,
-        section: 0,
-        event,
-    };
     let fault = ExplainFault::Log(LogFault {
         at: 2,
         cause: Cause::BadSpan(SpanFault::ZeroSize),
     });
     let faulty = b"FENCE|STORE;1;0;0|PMT.X".as_slice();
     for (log, section, event, want) in [
-        (ONE_LINE, 0, 0, no_event(0)),
-        (ONE_LINE, 0, 4, no_event(4)),
-        (ONE_LINE, 0, u32::MAX, no_event(u32::MAX)),
-        (
-            ONE_LINE,
-            7,
-            0,
-            ExplainFault::NoSection { run: 9, section: 7 },
-        ),
-        (
-            b"".as_slice(),
-            0,
-            1,
-            ExplainFault::NoSection { run: 9, section: 0 },
-        ),
-        (b"PMT.SECTION;0".as_slice(), 0, 1, no_event(1)),
+        (ONE_LINE, 0, 0, ExplainFault::NoEvent),
+        (ONE_LINE, 0, 4, ExplainFault::NoEvent),
+        (ONE_LINE, 0, u32::MAX, ExplainFault::NoEvent),
+        (ONE_LINE, 7, 0, ExplainFault::NoSection),
+        (b"".as_slice(), 0, 1, ExplainFault::NoSection),
+        (b"PMT.SECTION;0".as_slice(), 0, 1, ExplainFault::NoEvent),
         (faulty, 0, 1, fault),
         (faulty, 7, 0, fault),
     ] {
-        let question = Question {
-            run: 9,
-            profile: Profile::One,
-            section,
-            event,
-        };
-        let answer = explain_text(rt.alloc(), log, question);
+        let answer = explain_text(rt.alloc(), log, 9, section, event, Profile::One);
         assert_eq!(rt;
             answer.err(),
             Some(want),
@@ -174,18 +159,8 @@ fn a_section_or_an_event_that_is_missing_is_refused(rt: HostRuntime) {
 #[test]
 fn each_refusal_is_told_by_its_text(rt: HostRuntime) -> Result<(), Fail> {
     for (fault, want) in [
-        (
-            ExplainFault::NoSection { run: 9, section: 7 },
-            "no section 9.7",
-        ),
-        (
-            ExplainFault::NoEvent {
-                run: 9,
-                section: 7,
-                event: 0,
-            },
-            "no event 0 in section 9.7",
-        ),
+        (ExplainFault::NoSection, "no section 9.7"),
+        (ExplainFault::NoEvent, "no event 4 in section 9.7"),
         (ExplainFault::OutOfMemory, "out of memory"),
         (
             ExplainFault::Log(LogFault {
@@ -195,7 +170,14 @@ fn each_refusal_is_told_by_its_text(rt: HostRuntime) -> Result<(), Fail> {
             "record 1: unknown marker",
         ),
     ] {
-        let text = format!(in rt.alloc(); "{}", StreamFault::Refused(fault))?;
+        let question = Question {
+            run: 9,
+            profile: Profile::One,
+            section: 7,
+            event: 4,
+        };
+        let refusal = AskFault { question, fault };
+        let text = format!(in rt.alloc(); "{}", StreamFault::Refused(refusal))?;
         assert_eq!(rt; text.as_str(), want);
     }
     Ok(())
@@ -209,7 +191,7 @@ fn explains<D: Display + Drop>(
     mut source: PieceSource,
     mut sink: ByteSink,
     question: Question,
-    want: Result<(), StreamFault<ExplainFault>>,
+    want: Result<(), StreamFault<AskFault>>,
     text: &[u8],
 )
     requires read { source.failures ≡ 0 }
@@ -257,7 +239,10 @@ fn a_refusal_writes_nothing(rt: HostRuntime) {
     let pieces = [PAIR];
     let source = PieceSource::new(&pieces);
     let sink = ByteSink::new(rt.alloc());
-    let want = Err(StreamFault::Refused(ExplainFault::NoSection { run: 0, section: 1 }));
+    let want = Err(StreamFault::Refused(AskFault {
+        question: asked(1, 6),
+        fault: ExplainFault::NoSection,
+    }));
     explains(
         &rt,
         rt.alloc(),
