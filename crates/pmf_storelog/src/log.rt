@@ -41,13 +41,6 @@ impl Log {
         &self.sections
     }
 
-    /// The same list, handed out.
-    pub fn into_sections(self) -> Vec<Arc<Section>>
-        ensures { map (λ a. a.value) result.items ≡ self.sections }
-    {
-        self.sections
-    }
-
     /// How many records have a name that is not this checker's. Empty records are no records.
     pub fn skipped(&self) -> u64
         ensures { result ≡ self.now.skipped }
