@@ -165,6 +165,14 @@ impl Span {
         u64::from(u32::from_le_bytes(self.others)) + 1
     }
 
+    /// The address behind the last byte, at most [`ADDRESS_LIMIT`].
+    pub fn end(&self) -> u64
+        ensures value { result ≡ self.now.first + self.now.size }
+        ensures valid { IsValidExtent self.now.first self.now.size }
+    {
+        self.first() + self.size()
+    }
+
     /// Whether the byte at this address is one of the span's.
     pub fn covers(&self, byte: u64) -> bool
         ensures { result ≡ covers_byte self.now byte }
@@ -176,8 +184,7 @@ impl Span {
     pub fn meets(&self, other: &Span) -> bool
         ensures { result ≡ meets_span self.now other.now }
     {
-        let (end, other_end) = (self.first() + self.size(), other.first() + other.size());
-        other.first() < end && self.first() < other_end
+        other.first() < self.end() && self.first() < other.end()
     }
 }
 

@@ -114,11 +114,17 @@ fn a_span_is_refused_by_its_first_fault(rt: HostRuntime) {
 }
 
 #[test]
-fn a_span_tells_its_first_byte_and_its_size(rt: HostRuntime) -> Result<(), Fail> {
-    for (first, size) in [(0, 1), (0x1000, 8), ((1 << 63) - 1, 1), (0, 1 << 32)] {
+fn a_span_tells_its_first_byte_its_size_and_its_end(rt: HostRuntime) -> Result<(), Fail> {
+    for (first, size, end) in [
+        (0, 1, 1),
+        (0x1000, 8, 0x1008),
+        ((1 << 63) - 1, 1, 1 << 63),
+        (0, 1 << 32, 1 << 32),
+    ] {
         let span = Span::make(first, size)?;
         assert_eq!(rt; span.first(), first);
         assert_eq!(rt; span.size(), size);
+        assert_eq!(rt; span.end(), end);
     }
     Ok(())
 }

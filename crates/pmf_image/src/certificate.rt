@@ -104,5 +104,5 @@ fn meets_line(span: Span, line: u64) -> bool
     requires { IsLine line }
     ensures { result ≡ meets_line span line }
 {
-    span.first() <= line.saturating_add(LINE_SIZE - 1) && line < span.first() + span.size()
+    span.first() <= line.saturating_add(LINE_SIZE - 1) && line < span.end()
 }

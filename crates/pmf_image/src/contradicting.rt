@@ -51,7 +51,7 @@ fn persist_contradicted(events: &[Event], place: u32, span: Span, certificate: C
     if certificate.crash < place {
         return false;
     }
-    let end = span.first() + span.size();
+    let end = span.end();
     Question::FallsShort.finds(events, place, certificate, span.first(), end)
 }
 
@@ -71,11 +71,11 @@ fn ordered_contradicted(
     if place < certificate.crash {
         return false;
     }
-    let end = second.first() + second.size();
+    let end = second.end();
     if !Question::IsShown.finds(events, place, certificate, second.first(), end) {
         return false;
     }
-    let end = first.first() + first.size();
+    let end = first.end();
     Question::IsLost.finds(events, place, certificate, first.first(), end)
 }
 

@@ -61,7 +61,7 @@ fn before_borders(span: Span, byte: u64, end: u64) -> u64
     ensures lines { (x : ℕ) → byte ≤ x → x < result
         → meets_line span (line_of_byte byte) ≡ meets_line span (line_of_byte x) }
 {
-    let behind = span.first() + span.size();
+    let behind = span.end();
     let end = before_border(span.first(), byte, end);
     let end = before_border(behind, byte, end);
     let end = before_border(line_of(span.first()), byte, end);

@@ -1,6 +1,6 @@
 //! The least pair of an order assertion, found by a few walks and not by trying pairs.
 
-ghost use Rattle.std.specs.Prelude.{◌≡◌, ℕ, ◌%◌, ◌<◌, List, min, max};
+ghost use Rattle.std.specs.Prelude.{◌≡◌, ℕ, ◌%◌, ◌<◌, List};
 ghost use Rattle.pmf_event.specs.declared.event.Event.{Event};
 ghost use Rattle.pmf_event.specs.declared.span.TheConstants.{ADDRESS_LIMIT, LINE_SIZE};
 ghost use Rattle.pmf_event.specs.Span.{IsValidExtent};
@@ -13,7 +13,7 @@ ghost use Rattle.pmf_shadow.specs.States.{kept_opening, kept_place};
 ghost use Rattle.pmf_shadow.specs.Told.{KeepsOrder};
 
 use crate::byte::{ByteState, ComesAfter, HasOneBy, IsLate, Opening, OpensIn, Place, StoredBy};
-use crate::shadow::{Shadow, end_of};
+use crate::shadow::Shadow;
 use pmf_event::{LINE_SIZE, Profile, Span, line_of};
 use pmf_runs::Test;
 
@@ -36,7 +36,7 @@ impl Shadow {
     fn least_by_epochs(&self, a: &Span, b: &Span) -> Option<(u64, u64)>
         ensures { result ≡ least_pair (by_epochs (kept self.now.bytes)) a.now b.now }
     {
-        let epoch = self.bytes.least_key(b.first(), end_of(b), &Opening)?;
+        let epoch = self.bytes.least_key(b.first(), b.end(), &Opening)?;
         let byte = self.first_in(a, &IsLate { epoch })?;
         let stored = self.bytes.at(byte).checked()?;
         let later = ComesAfter {
@@ -52,7 +52,7 @@ impl Shadow {
         ensures { (told : ℕ → ℕ) (es : List Event) (p : ℕ) → StandsFor self.now told es p
             → KeepsOrder told es p → result ≡ least_pair (by_lines ties (kept self.now.bytes)) a.now b.now }
     {
-        let epoch = self.bytes.least_key(b.first(), end_of(b), &Opening)?;
+        let epoch = self.bytes.least_key(b.first(), b.end(), &Opening)?;
         let early = self.first_in(b, &OpensIn { epoch })?;
         let line = line_of(early);
         let first = self.least_place_on(b, line)?;
@@ -90,19 +90,17 @@ impl Shadow {
             (passing (U.passes off.now) self.now.bytes)) span.now }
         ensures valid { IsValidExtent span.now.first span.now.size }
     {
-        let (first, end) = (span.first(), end_of(span));
+        let (first, end) = (span.first(), span.end());
         let next = line + LINE_SIZE;
-        let before = self.bytes.first_where(first, lower(end, line), off);
+        let before = self.bytes.first_where(first, end.min(line), off);
         if before.is_some() {
             return before;
         }
-        let within = self
-            .bytes
-            .first_where(upper(first, line), lower(end, next), on);
+        let within = self.bytes.first_where(first.max(line), end.min(next), on);
         if within.is_some() {
             return within;
         }
-        self.bytes.first_where(upper(first, next), end, off)
+        self.bytes.first_where(first.max(next), end, off)
     }
 
     // The least place of a last store among the checked bytes of the span on the line.
@@ -112,10 +110,7 @@ impl Shadow {
         ensures { IsLeastValue (on_line line (keyed kept_place self.now.bytes))
             span.now.first span.now.size result }
     {
-        let (first, end) = (
-            upper(span.first(), line),
-            lower(end_of(span), line + LINE_SIZE),
-        );
+        let (first, end) = (span.first().max(line), span.end().min(line + LINE_SIZE));
         self.bytes.least_key(first, end, &Place)
     }
 
@@ -126,25 +121,13 @@ impl Shadow {
         ensures { IsLeastValue (off_line line (keyed kept_opening self.now.bytes))
             span.now.first span.now.size result }
     {
-        let (first, end) = (span.first(), end_of(span));
-        let before = self.bytes.least_key(first, lower(end, line), &Opening);
+        let (first, end) = (span.first(), span.end());
+        let before = self.bytes.least_key(first, end.min(line), &Opening);
         let after = self
             .bytes
-            .least_key(upper(first, line + LINE_SIZE), end, &Opening);
+            .least_key(first.max(line + LINE_SIZE), end, &Opening);
         lesser(before, after)
     }
-}
-
-fn lower(a: u64, b: u64) -> u64
-    ensures { result ≡ min a b }
-{
-    if a < b { a } else { b }
-}
-
-fn upper(a: u64, b: u64) -> u64
-    ensures { result ≡ max a b }
-{
-    if a < b { b } else { a }
 }
 
 fn lesser(one: Option<u32>, other: Option<u32>) -> Option<u32>

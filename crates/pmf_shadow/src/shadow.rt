@@ -64,7 +64,7 @@ impl Shadow {
             place,
             epoch: self.fences,
         };
-        self.bytes.change(span.first(), end_of(&span), &change)?;
+        self.bytes.change(span.first(), span.end(), &change)?;
         Ok(())
     }
 
@@ -97,7 +97,7 @@ impl Shadow {
         ensures unchanged { OnErr result (Keeps self.old self.new) }
     {
         self.bytes
-            .change(span.first(), end_of(&span), &Marked { excluded: true })?;
+            .change(span.first(), span.end(), &Marked { excluded: true })?;
         Ok(())
     }
 
@@ -108,7 +108,7 @@ impl Shadow {
         ensures unchanged { OnErr result (Keeps self.old self.new) }
     {
         self.bytes
-            .change(span.first(), end_of(&span), &Marked { excluded: false })?;
+            .change(span.first(), span.end(), &Marked { excluded: false })?;
         Ok(())
     }
 
@@ -186,15 +186,8 @@ impl Shadow {
     pub(crate) fn first_in<T: Test<ByteState>>(&self, span: &Span, test: &T) -> Option<u64>
         ensures { result ≡ first_byte (passing (T.passes test.now) self.now.bytes) span.now }
     {
-        self.bytes.first_where(span.first(), end_of(span), test)
+        self.bytes.first_where(span.first(), span.end(), test)
     }
-}
-
-pub(crate) fn end_of(span: &Span) -> u64
-    ensures value { result ≡ span.now.first + span.now.size }
-    ensures valid { IsValidExtent span.now.first span.now.size }
-{
-    span.first() + span.size()
 }
 
 // The epoch that a first write-back in this one closes the interval with, if it was fenced.

@@ -11,7 +11,7 @@ ghost use Rattle.pmf_runs.specs.Lines.{line_has};
 ghost use Rattle.pmf_shadow.specs.Stretches.{AllHave, line_has_but, line_lacks, lines_at, lines_by};
 
 use crate::byte::{ByteState, Fails};
-use crate::shadow::{Shadow, end_of};
+use crate::shadow::Shadow;
 use pmf_event::{LINE_SIZE, Lines, Span};
 use pmf_runs::Test;
 
@@ -227,6 +227,6 @@ pub(crate) fn lines_of(span: &Span) -> (u64, u64)
     ensures room { result.1 * LINE_SIZE ≤ ADDRESS_LIMIT }
     ensures valid { IsValidExtent span.now.first span.now.size }
 {
-    let last = end_of(span) - 1;
+    let last = span.end() - 1;
     (span.first() / LINE_SIZE, last / LINE_SIZE + 1)
 }

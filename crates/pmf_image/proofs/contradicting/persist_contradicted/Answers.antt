@@ -5,4 +5,4 @@ use Rattle.pmf_image.proofs.contradicting.persist_contradicted.Goals as goal
 pub returns : goal.returns
 returns c =
     persist-from c.args.events.now c.args.place c.args.certificate c.args.span c.finds.result _ _ (omega arith)
-    c.first-2.ensures.value (omega (arith, c.first.ensures.value, c.size.ensures.value)) c.finds.ensures
+    c.first.ensures.value c.end-end.ensures.value c.finds.ensures

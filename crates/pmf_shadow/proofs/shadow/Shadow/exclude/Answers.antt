@@ -9,5 +9,5 @@ returns-clause-follows c = λ place.
     follows-from place c.args.self.now _ _ (λ told es p here at_place stands.
     stands-exclude c.args.self.now _ s told es p refl
     (changes-at (after_mark true) c.args.self.now.bytes c.change.new.self
-    c.first.result c.end_of.result s.first (s.first + s.size) c.first.ensures.value c.end_of.ensures.value c.in_ok-change.ensures.ok)
+    c.first.result c.end.result s.first (s.first + s.size) c.first.ensures.value c.end.ensures.value c.in_ok-change.ensures.ok)
     here stands)

@@ -13,7 +13,7 @@ pub returns-in_err-epoch : goal.returns-in_err-epoch
 unfolding keyed kept
 returns-in_err-epoch c =
     let b = c.args.b.now in
-    let least = least-of_span (keyed kept_opening c.args.self.now.bytes) b c.first.result c.end_of.result None c.first.ensures.value c.end_of.ensures.value (sym c.in_err-epoch.was ∙ c.least_key.ensures) in
+    let least = least-of_span (keyed kept_opening c.args.self.now.bytes) b c.first.result c.end.result None c.first.ensures.value c.end.ensures.value (sym c.in_err-epoch.was ∙ c.least_key.ensures) in
     c.from_residual.ensures ∙ sym (epochs-none (kept c.args.self.now.bytes) c.args.a.now b least)
 
 pub returns-in_err-byte : goal.returns-in_err-byte
@@ -21,7 +21,7 @@ unfolding keyed kept passing
 returns-in_err-byte c =
     let b = c.args.b.now in
     let m = c.in_ok-epoch.epoch in
-    let least = least-of_span (keyed kept_opening c.args.self.now.bytes) b c.first.result c.end_of.result (Some m) c.first.ensures.value c.end_of.ensures.value (sym c.in_ok-epoch.was ∙ c.least_key.ensures) in
+    let least = least-of_span (keyed kept_opening c.args.self.now.bytes) b c.first.result c.end.result (Some m) c.first.ensures.value c.end.ensures.value (sym c.in_ok-epoch.was ∙ c.least_key.ensures) in
     c.from_residual-in_err-byte.ensures
     ∙ sym (epochs-found (kept c.args.self.now.bytes) c.args.a.now b m least _ (λ x. refl) ∙ ap (with_partner (by_epochs (kept c.args.self.now.bytes)) b) (sym c.first_in.ensures ∙ c.in_err-byte.was))
 
@@ -38,7 +38,7 @@ returns-in_err-after c =
     let m = c.in_ok-epoch.epoch in
     let x = c.in_ok-byte.byte in
     let k = c.in_ok-stored.stored in
-    let least = least-of_span (keyed kept_opening c.args.self.now.bytes) b c.first.result c.end_of.result (Some m) c.first.ensures.value c.end_of.ensures.value (sym c.in_ok-epoch.was ∙ c.least_key.ensures) in
+    let least = least-of_span (keyed kept_opening c.args.self.now.bytes) b c.first.result c.end.result (Some m) c.first.ensures.value c.end.ensures.value (sym c.in_ok-epoch.was ∙ c.least_key.ensures) in
     let own : kept c.args.self.now.bytes x ≡ Some k = sym (c.checked.ensures ∙ ap checked_store c.at.ensures) ∙ c.in_ok-stored.was in
     c.from_residual-in_err-after.ensures
     ∙ sym (epochs-found (kept c.args.self.now.bytes) c.args.a.now b m least _ (λ x. refl) ∙ ap (with_partner (by_epochs (kept c.args.self.now.bytes)) b) (sym c.first_in.ensures ∙ c.in_ok-byte.was)
@@ -51,7 +51,7 @@ returns c =
     let m = c.in_ok-epoch.epoch in
     let x = c.in_ok-byte.byte in
     let k = c.in_ok-stored.stored in
-    let least = least-of_span (keyed kept_opening c.args.self.now.bytes) b c.first.result c.end_of.result (Some m) c.first.ensures.value c.end_of.ensures.value (sym c.in_ok-epoch.was ∙ c.least_key.ensures) in
+    let least = least-of_span (keyed kept_opening c.args.self.now.bytes) b c.first.result c.end.result (Some m) c.first.ensures.value c.end.ensures.value (sym c.in_ok-epoch.was ∙ c.least_key.ensures) in
     let own : kept c.args.self.now.bytes x ≡ Some k = sym (c.checked.ensures ∙ ap checked_store c.at.ensures) ∙ c.in_ok-stored.was in
     sym (epochs-found (kept c.args.self.now.bytes) c.args.a.now b m least _ (λ x. refl) ∙ ap (with_partner (by_epochs (kept c.args.self.now.bytes)) b) (sym c.first_in.ensures ∙ c.in_ok-byte.was)
     ∙ ap (paired x) (epochs-partner (kept c.args.self.now.bytes) b x k own _ (λ y. refl) ∙ sym c.first_in-2.ensures ∙ c.in_ok-after.was))

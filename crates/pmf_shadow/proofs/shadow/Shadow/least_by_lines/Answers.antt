@@ -15,7 +15,7 @@ unfolding keyed kept passing
 returns-in_err-epoch c =
     let b = c.args.b.now in
     let bytes = c.args.self.now.bytes in
-    let least = least-of_span (keyed kept_opening bytes) b c.first.result c.end_of.result None c.first.ensures.value c.end_of.ensures.value (sym c.in_err-epoch.was ∙ c.least_key.ensures) in
+    let least = least-of_span (keyed kept_opening bytes) b c.first.result c.end.result None c.first.ensures.value c.end.ensures.value (sym c.in_err-epoch.was ∙ c.least_key.ensures) in
     λ told es p stands order. c.from_residual.ensures ∙ sym (lines-none c.args.ties (kept bytes) c.args.a.now b least)
 
 pub returns-in_err-early : goal.returns-in_err-early
@@ -24,7 +24,7 @@ returns-in_err-early c =
     let b = c.args.b.now in
     let bytes = c.args.self.now.bytes in
     let m = c.in_ok-epoch.epoch in
-    let least = least-of_span (keyed kept_opening bytes) b c.first.result c.end_of.result (Some m) c.first.ensures.value c.end_of.ensures.value (sym c.in_ok-epoch.was ∙ c.least_key.ensures) in
+    let least = least-of_span (keyed kept_opening bytes) b c.first.result c.end.result (Some m) c.first.ensures.value c.end.ensures.value (sym c.in_ok-epoch.was ∙ c.least_key.ensures) in
     λ told es p stands order. absurd (early-found (kept bytes) b m least _ (λ x. refl) (sym c.first_in.ensures ∙ c.in_err-early.was))
 
 pub least_place_on-requires-clause-room : goal.least_place_on-requires-clause-room
@@ -39,7 +39,7 @@ returns-in_err-first c =
     let b = c.args.b.now in
     let bytes = c.args.self.now.bytes in
     let m = c.in_ok-epoch.epoch in
-    let least = least-of_span (keyed kept_opening bytes) b c.first.result c.end_of.result (Some m) c.first.ensures.value c.end_of.ensures.value (sym c.in_ok-epoch.was ∙ c.least_key.ensures) in
+    let least = least-of_span (keyed kept_opening bytes) b c.first.result c.end.result (Some m) c.first.ensures.value c.end.ensures.value (sym c.in_ok-epoch.was ∙ c.least_key.ensures) in
     let early = c.in_ok-early.early in
     let here = first-passes _ b.first b.size early (sym c.first_in.ensures ∙ c.in_ok-early.was) in
     let opens = opens-from m (kept bytes early) here.passes in
@@ -64,7 +64,7 @@ returns-in_err-byte c =
     let b = c.args.b.now in
     let bytes = c.args.self.now.bytes in
     let m = c.in_ok-epoch.epoch in
-    let least = least-of_span (keyed kept_opening bytes) b c.first.result c.end_of.result (Some m) c.first.ensures.value c.end_of.ensures.value (sym c.in_ok-epoch.was ∙ c.least_key.ensures) in
+    let least = least-of_span (keyed kept_opening bytes) b c.first.result c.end.result (Some m) c.first.ensures.value c.end.ensures.value (sym c.in_ok-epoch.was ∙ c.least_key.ensures) in
     let early = c.in_ok-early.early in
     let here = first-passes _ b.first b.size early (sym c.first_in.ensures ∙ c.in_ok-early.was) in
     let opens = opens-from m (kept bytes early) here.passes in
@@ -95,7 +95,7 @@ returns-in_err-after c =
     let b = c.args.b.now in
     let bytes = c.args.self.now.bytes in
     let m = c.in_ok-epoch.epoch in
-    let least = least-of_span (keyed kept_opening bytes) b c.first.result c.end_of.result (Some m) c.first.ensures.value c.end_of.ensures.value (sym c.in_ok-epoch.was ∙ c.least_key.ensures) in
+    let least = least-of_span (keyed kept_opening bytes) b c.first.result c.end.result (Some m) c.first.ensures.value c.end.ensures.value (sym c.in_ok-epoch.was ∙ c.least_key.ensures) in
     let early = c.in_ok-early.early in
     let here = first-passes _ b.first b.size early (sym c.first_in.ensures ∙ c.in_ok-early.was) in
     let opens = opens-from m (kept bytes early) here.passes in
@@ -115,7 +115,7 @@ returns c =
     let b = c.args.b.now in
     let bytes = c.args.self.now.bytes in
     let m = c.in_ok-epoch.epoch in
-    let least = least-of_span (keyed kept_opening bytes) b c.first.result c.end_of.result (Some m) c.first.ensures.value c.end_of.ensures.value (sym c.in_ok-epoch.was ∙ c.least_key.ensures) in
+    let least = least-of_span (keyed kept_opening bytes) b c.first.result c.end.result (Some m) c.first.ensures.value c.end.ensures.value (sym c.in_ok-epoch.was ∙ c.least_key.ensures) in
     let early = c.in_ok-early.early in
     let here = first-passes _ b.first b.size early (sym c.first_in.ensures ∙ c.in_ok-early.was) in
     let opens = opens-from m (kept bytes early) here.passes in
