@@ -1,2 +1,3 @@
+pub mod SameTransactionLemmas
 pub mod TrackLemmas
 pub mod SearchLemmas

@@ -1,15 +1,17 @@
 -- The two walks of the transaction checker: none so far, and the first from here.
-use Rattle.std.proofs.Common.{◌≡◌, ℕ, suc, ◌+◌, ◌-◌, ◌<◌, ◌≤◌, Bool, true, false, not, List, sym, ◌∙◌, ap, arith, inl, inr}
+use Rattle.std.proofs.Common.{◌≡◌, ℕ, ◌+◌, ◌-◌, ◌<◌, ◌≤◌, Bool, true, false, not, ◌&&◌, List, refl, sym, ◌∙◌, ap, arith, inl, inr}
 use Rattle.std.specs.Prelude.{Option, Some, None, unwrap_or}
-use Rattle.std.proofs.lemmas.Bool.{cases_lt, cases_eq, both_ways, not-true, not-false}
+use Rattle.std.proofs.lemmas.Bool.{cases_lt, cases_eq, both_ways, not-true, not-false, and_from, lt-ltb}
+use Rattle.std.proofs.Math.Bool.{and-false}
 use Rattle.pmf_event.specs.declared.event.Event.{Event}
 use Rattle.pmf_event.specs.declared.span.TheConstants.{ADDRESS_LIMIT}
 use Rattle.pmf_event.specs.Ranges.{first_from}
-use Rattle.pmf_event.specs.Exclusion.{is_included}
-use Rattle.pmf_event.specs.Persist.{is_exposed}
-use Rattle.pmf_event.specs.Transactions.{in_transaction, in_scope, lacks_backup, is_left_open}
+use Rattle.pmf_event.specs.Exclusion.{is_excluded, is_included}
+use Rattle.pmf_event.specs.Interval.{interval_at, is_open}
+use Rattle.pmf_event.specs.Store.{last_store}
+use Rattle.pmf_event.specs.Persist.{is_checked, is_exposed}
+use Rattle.pmf_event.specs.Transactions.{in_transaction, is_backed, in_scope, is_scoped}
 use Rattle.pmf_event.proofs.RangeLemmas.{IsFirst, first_from-none, first_from-some, none-passes, first-passes}
-use Rattle.pmf_event.proofs.TransactionLemmas.{left_open-exposed, left_open-none, bare-excluded, bare-backed, bare-from}
 use Rattle.pmf_runs.specs.declared.members.Members.{Members}
 use Rattle.pmf_runs.specs.declared.runs.RunMap.{RunMap}
 use Rattle.pmf_runs.specs.declared.state.State.{Ghosts}
@@ -17,6 +19,7 @@ use Rattle.pmf_shadow.specs.declared.shadow.Shadow.{Shadow}
 use Rattle.pmf_runs.specs.Runs.{state_at, passing}
 use Rattle.pmf_shadow.specs.Shadow.{StandsFor}
 use Rattle.pmf_txcheck.specs.declared.state.TxState.{TxState}
+use Rattle.pmf_txcheck.specs.Findings.{lacks_backup_by, is_left_open_by}
 use Rattle.pmf_txcheck.specs.Tracking.{Tracks}
 
 -- none of the numbers from first up to this one passes
@@ -108,59 +111,91 @@ module _ {laws : Ghosts Bool Members} (set : RunMap Bool Members laws) (at end :
   unfolding passing
   no-others is none j low high = not-false (state_at set j) (none-passes _ at (end - at) (sym is ∙ none) j low (omega arith))
 
+-- ---- one byte, by two lists
+
+-- a byte that is included and whose interval is open has been written, so it is exposed
+included-exposed : (es : List Event) (p b : ℕ) → (is_included es p b && is_open (interval_at es p b)) ≡ is_exposed es p b
+unfolding is_exposed is_checked is_included
+included-exposed es p b = elim (cases_eq (last_store es p b) 0) [
+  | inl none ↦ rw none (and-false (not (is_excluded es p b)))
+  | inr some ↦ sym (ap (λ v. v && not (is_excluded es p b) && is_open (interval_at es p b)) (lt-ltb 0 (last_store es p b) (omega arith)))
+]
+
+module _ (es : List Event) (p : ℕ) (fs : List Event) (q b : ℕ) where
+  bare-excluded : is_included fs q b ≡ false → lacks_backup_by es p fs q b ≡ false
+  unfolding lacks_backup_by
+  bare-excluded out = ap (λ v. v && not (is_backed es p b)) out
+
+  bare-backed : is_backed es p b ≡ true → lacks_backup_by es p fs q b ≡ false
+  unfolding lacks_backup_by
+  bare-backed backed = elim (is_included fs q b) as (λ v. (v && not (is_backed es p b)) ≡ false) [ true ↦ ap not backed | false ↦ refl ]
+
+  bare-from : is_included fs q b ≡ true → is_backed es p b ≡ false → lacks_backup_by es p fs q b ≡ true
+  unfolding lacks_backup_by
+  bare-from included out = and_from _ _ included (ap not out)
+
+  -- a byte of the scope is left open where it is included and its interval is open
+  left_open-scoped : is_scoped es p b ≡ true → is_left_open_by es p fs q b ≡ is_exposed fs q b
+  unfolding is_left_open_by is_exposed is_checked is_included
+  left_open-scoped scoped = ap (λ v. v && is_included fs q b && is_open (interval_at fs q b)) scoped ∙ included-exposed fs q b
+
+  left_open-none : is_scoped es p b ≡ false → is_left_open_by es p fs q b ≡ false
+  unfolding is_left_open_by
+  left_open-none other = ap (λ v. v && is_included fs q b && is_open (interval_at fs q b)) other
+
 -- ---- the walk over bytes that are not backed up
 
 -- none from first up to here lacks a backup
 pub record NoneBare (state : TxState) (shadow : Shadow) (first at : ℕ) : Type 0 where
   pub from : first ≤ at
-  pub none : (es : List Event) (p : ℕ) → Tracks state es p → in_transaction es p ≡ true → (told : ℕ → ℕ) → StandsFor shadow told es (suc p) → NoneUpTo (lacks_backup es p) first at
+  pub none : (told tells : ℕ → ℕ) (es fs : List Event) (p q : ℕ) → Tracks state told es p → in_transaction es p ≡ true → StandsFor shadow tells fs q → NoneUpTo (lacks_backup_by es p fs q) first at
 
-module _ (state : TxState) (es : List Event) (p : ℕ) (tracks : Tracks state es p) (inside : in_transaction es p ≡ true) where
+module _ (state : TxState) (told : ℕ → ℕ) (es fs : List Event) (p q : ℕ) (tracks : Tracks state told es p) (inside : in_transaction es p ≡ true) where
   -- over bytes that are excluded
-  pub bare-over_excluded : (first at m byte : ℕ) → NoneUpTo (lacks_backup es p) first at → IsFirst (is_included es (suc p)) at m byte → NoneUpTo (lacks_backup es p) first byte
+  pub bare-over_excluded : (first at m byte : ℕ) → NoneUpTo (lacks_backup_by es p fs q) first at → IsFirst (is_included fs q) at m byte → NoneUpTo (lacks_backup_by es p fs q) first byte
   bare-over_excluded first at m byte none included k low high = elim (cases_lt k at) [
     | inl before ↦ none k low before
-    | inr after ↦ bare-excluded es p k (included.before k after high)
+    | inr after ↦ bare-excluded es p fs q k (included.before k after high)
   ]
 
-  pub bare-all_excluded : (first at m : ℕ) → NoneUpTo (lacks_backup es p) first at → first_from (is_included es (suc p)) at m ≡ None → NoneUpTo (lacks_backup es p) first (at + m)
+  pub bare-all_excluded : (first at m : ℕ) → NoneUpTo (lacks_backup_by es p fs q) first at → first_from (is_included fs q) at m ≡ None → NoneUpTo (lacks_backup_by es p fs q) first (at + m)
   bare-all_excluded first at m none excluded k low high = elim (cases_lt k at) [
     | inl before ↦ none k low before
-    | inr after ↦ bare-excluded es p k (none-passes (is_included es (suc p)) at m excluded k after high)
+    | inr after ↦ bare-excluded es p fs q k (none-passes (is_included fs q) at m excluded k after high)
   ]
 
   -- over bytes that are backed up
-  pub bare-over_backed : (first at bare : ℕ) → NoneUpTo (lacks_backup es p) first at → ((j : ℕ) → at ≤ j → j < bare → state_at state.backup j ≡ true) → NoneUpTo (lacks_backup es p) first bare
+  pub bare-over_backed : (first at bare : ℕ) → NoneUpTo (lacks_backup_by es p fs q) first at → ((j : ℕ) → at ≤ j → j < bare → state_at state.backup j ≡ true) → NoneUpTo (lacks_backup_by es p fs q) first bare
   bare-over_backed first at bare none backed k low high = elim (cases_lt k at) [
     | inl before ↦ none k low before
-    | inr after ↦ bare-backed es p k (sym (tracks.backup inside k) ∙ backed k after high)
+    | inr after ↦ bare-backed es p fs q k (sym (tracks.backup inside k) ∙ backed k after high)
   ]
 
-  pub bare-here : (b : ℕ) → is_included es (suc p) b ≡ true → state_at state.backup b ≡ false → lacks_backup es p b ≡ true
-  bare-here b included out = bare-from es p b included (sym (tracks.backup inside b) ∙ out)
+  pub bare-here : (b : ℕ) → is_included fs q b ≡ true → state_at state.backup b ≡ false → lacks_backup_by es p fs q b ≡ true
+  bare-here b included out = bare-from es p fs q b included (sym (tracks.backup inside b) ∙ out)
 
 -- ---- the walk over the scope's bytes
 
 -- none of the scope's bytes before here is left open
 pub record NoneOpen (state : TxState) (shadow : Shadow) (at : ℕ) : Type 0 where
   pub within : at ≤ ADDRESS_LIMIT
-  pub none : (es : List Event) (p : ℕ) → Tracks state es p → in_scope es p ≡ true → (told : ℕ → ℕ) → StandsFor shadow told es (suc p) → NoneUpTo (is_left_open es p) 0 at
+  pub none : (told tells : ℕ → ℕ) (es fs : List Event) (p q : ℕ) → Tracks state told es p → in_scope es p ≡ true → StandsFor shadow tells fs q → NoneUpTo (is_left_open_by es p fs q) 0 at
 
-module _ (state : TxState) (es : List Event) (p : ℕ) (tracks : Tracks state es p) (some : in_scope es p ≡ true) where
+module _ (state : TxState) (told : ℕ → ℕ) (es fs : List Event) (p q : ℕ) (tracks : Tracks state told es p) (some : in_scope es p ≡ true) where
   -- over bytes that are none of the scope's
-  pub open-over_others : (at first : ℕ) → NoneUpTo (is_left_open es p) 0 at → NoneUpTo (state_at state.stored) at first → NoneUpTo (is_left_open es p) 0 first
+  pub open-over_others : (at first : ℕ) → NoneUpTo (is_left_open_by es p fs q) 0 at → NoneUpTo (state_at state.stored) at first → NoneUpTo (is_left_open_by es p fs q) 0 first
   open-over_others at first none others k low high = elim (cases_lt k at) [
     | inl before ↦ none k low before
-    | inr after ↦ left_open-none es p k (sym (tracks.stored some k) ∙ others k after high)
+    | inr after ↦ left_open-none es p fs q k (sym (tracks.stored some k) ∙ others k after high)
   ]
 
   -- over bytes of the scope that are not exposed
-  pub open-over_closed : (at end : ℕ) → NoneUpTo (is_left_open es p) 0 at → ((j : ℕ) → at ≤ j → j < end → state_at state.stored j ≡ true) →
-      ((j : ℕ) → at ≤ j → j < end → is_exposed es (suc p) j ≡ false) → NoneUpTo (is_left_open es p) 0 end
+  pub open-over_closed : (at end : ℕ) → NoneUpTo (is_left_open_by es p fs q) 0 at → ((j : ℕ) → at ≤ j → j < end → state_at state.stored j ≡ true) →
+      ((j : ℕ) → at ≤ j → j < end → is_exposed fs q j ≡ false) → NoneUpTo (is_left_open_by es p fs q) 0 end
   open-over_closed at end none members closed k low high = elim (cases_lt k at) [
     | inl before ↦ none k low before
-    | inr after ↦ left_open-exposed es p k (sym (tracks.stored some k) ∙ members k after high) ∙ closed k after high
+    | inr after ↦ left_open-scoped es p fs q k (sym (tracks.stored some k) ∙ members k after high) ∙ closed k after high
   ]
 
-  pub open-here : (b : ℕ) → state_at state.stored b ≡ true → is_exposed es (suc p) b ≡ true → is_left_open es p b ≡ true
-  open-here b member exposed = left_open-exposed es p b (sym (tracks.stored some b) ∙ member) ∙ exposed
+  pub open-here : (b : ℕ) → state_at state.stored b ≡ true → is_exposed fs q b ≡ true → is_left_open_by es p fs q b ≡ true
+  open-here b member exposed = left_open-scoped es p fs q b (sym (tracks.stored some b) ∙ member) ∙ exposed

@@ -1,6 +1,6 @@
 -- The state tracks one more event, and its findings are those of the definitions: a lemma for each call.
-use Rattle.std.proofs.Common.{◌≡◌, ℕ, suc, ◌+◌, ◌-◌, ◌<◌, Bool, true, false, not, ◌&&◌, if◌then◌else◌, List, refl, sym, ◌∙◌, ap, arith, inl, inr}
-use Rattle.std.specs.Prelude.{Option, Some, None, is_some}
+use Rattle.std.proofs.Common.{◌≡◌, ℕ, suc, ◌+◌, ◌-◌, ◌<◌, Bool, true, false, not, ◌&&◌, ◌==◌, if◌then◌else◌, List, [], ◌∷◌, ◌++◌, length, take, refl, sym, ◌∙◌, ap, subst, arith, inl, inr}
+use Rattle.std.specs.Prelude.{Option, Some, None, is_some, option_map}
 use Rattle.std.proofs.lemmas.Bool.{cases_eq, eq-eqb, ne_eqb, both_ways}
 use Rattle.std.proofs.Math.Bool.{and-false}
 use Rattle.pmf_event.specs.declared.event.Event.{Event}
@@ -9,7 +9,7 @@ use Rattle.pmf_event.specs.declared.finding.Finding.TheVariants.{TxStillOpen, Un
 use Rattle.pmf_event.specs.Span.{Extent}
 use Rattle.pmf_event.specs.Ranges.{first_from, first_byte}
 use Rattle.pmf_event.specs.Store.{event_at, stores}
-use Rattle.pmf_event.specs.Transactions.{begins, ends, depth_at, in_transaction, is_outside, adds, is_backed, opens_scope, closes_scope, scope_at, in_scope, is_scoped, lacks_backup, is_left_open, duplog_with, nobackup_with, scope_passes_unless, end_finding, add_finding, store_finding, start_finding, check_finding, close_finding}
+use Rattle.pmf_event.specs.Transactions.{begins, ends, depth_at, in_transaction, is_outside, adds, is_backed, opens_scope, closes_scope, scope_at, in_scope, is_scoped, duplog_with, nobackup_with, scope_passes_unless, end_finding, add_finding, start_finding, close_finding}
 use Rattle.pmf_event.specs.declared.span.TheConstants.{ADDRESS_LIMIT}
 use Rattle.pmf_event.proofs.RangeLemmas.{first_from-same, some-from}
 use Rattle.pmf_event.proofs.TransactionLemmas.{depth-start, depth-begun, depth-ended, depth-kept, inside-from, outside-from, inside-depth, inside-kept, backed-begun, backed-added, backed-kept, scope-start, scope-some, scoped-from, unscoped-from, in_scope-same, scope-stays, scope-opened, scope-kept, scope-closed, scoped-opened, scoped-kept, scoped-stored}
@@ -17,18 +17,23 @@ use Rattle.pmf_runs.specs.declared.members.Members.{Members}
 use Rattle.pmf_runs.specs.declared.runs.RunMap.{RunMap}
 use Rattle.pmf_runs.specs.contracts.members.BoolState.TheImpl.{ghosts}
 use Rattle.pmf_runs.specs.Runs.{state_at, passing, is_between, ChangesBetween}
+use Rattle.pmf_shadow.specs.Told.{finding_as_told}
+use Rattle.pmf_shadow.proofs.SameLemmas.{same-longer, at_the_end, length-taken, same-taken, same-retaken}
 use Rattle.pmf_txcheck.specs.declared.state.TxState.{TxState}
-use Rattle.pmf_txcheck.specs.Tracking.{scope_unless, Tracks, is_untracked, UntrackedEventsChangeNothing}
+use Rattle.pmf_txcheck.specs.Findings.{lacks_backup_by, store_finding_by, is_left_open_by, check_finding_by}
+use Rattle.pmf_txcheck.specs.Laws.{is_untracked, UntrackedEventsChangeNothing, OnlyPastEventsCount, StepsFollowWithin}
+use Rattle.pmf_txcheck.specs.Tracking.{scope_as_told, Tracks, FollowsAt}
+use Rattle.pmf_txcheck.proofs.SameTransactionLemmas.{depth-alike, inside-alike, scope-alike, scope-within, in_scope-alike, backed-alike, scoped-alike}
 
 -- ---- what is kept says whether a transaction runs, and whether there is a scope
 
-scope_unless-none : (n : ℕ) → n ≡ 0 → scope_unless n ≡ None
-scope_unless-none n none = ap (λ v. if v then None else Some n) (eq-eqb n 0 none)
+as_told-none : (told : ℕ → ℕ) (n : ℕ) → n ≡ 0 → scope_as_told told n ≡ None
+as_told-none told n none = ap (λ v. if v then None else Some (told n)) (eq-eqb n 0 none)
 
-scope_unless-some : (n : ℕ) → 0 < n → scope_unless n ≡ Some n
-scope_unless-some n some = ap (λ v. if v then None else Some n) (ne_eqb n 0 (λ none. omega arith))
+as_told-some : (told : ℕ → ℕ) (n : ℕ) → 0 < n → scope_as_told told n ≡ Some (told n)
+as_told-some told n some = ap (λ v. if v then None else Some (told n)) (ne_eqb n 0 (λ none. omega arith))
 
-module _ (state : TxState) (es : List Event) (p : ℕ) (tracks : Tracks state es p) where
+module _ (state : TxState) (told : ℕ → ℕ) (es : List Event) (p : ℕ) (tracks : Tracks state told es p) where
   pub outside-by : state.depth ≡ 0 → in_transaction es p ≡ false
   outside-by none = outside-from es p (sym tracks.depth ∙ none)
 
@@ -38,14 +43,14 @@ module _ (state : TxState) (es : List Event) (p : ℕ) (tracks : Tracks state es
   pub unscoped-by : state.scope ≡ None → scope_at es p ≡ 0
   unscoped-by none = elim (cases_eq (scope_at es p) 0) [
     | inl zero_is ↦ zero_is
-    | inr some ↦ let bad : None ≡ Some (scope_at es p) = sym none ∙ tracks.scope ∙ scope_unless-some (scope_at es p) (omega arith) in cc
+    | inr some ↦ let bad : None ≡ Some (told (scope_at es p)) = sym none ∙ tracks.scope ∙ as_told-some told (scope_at es p) (omega arith) in cc
   ]
 
-  pub scope-by : (start : ℕ) → state.scope ≡ Some start → (0 < scope_at es p) × (scope_at es p ≡ start)
+  pub scope-by : (start : ℕ) → state.scope ≡ Some start → (0 < scope_at es p) × (told (scope_at es p) ≡ start)
   scope-by start some = elim (cases_eq (scope_at es p) 0) [
-    | inl none ↦ let bad : None ≡ Some start = sym (scope_unless-none (scope_at es p) none) ∙ sym tracks.scope ∙ some in cc
+    | inl none ↦ let bad : None ≡ Some start = sym (as_told-none told (scope_at es p) none) ∙ sym tracks.scope ∙ some in cc
     | inr other ↦
-        let same : Some (scope_at es p) ≡ Some start = sym (scope_unless-some (scope_at es p) (omega arith)) ∙ sym tracks.scope ∙ some in
+        let same : Some (told (scope_at es p)) ≡ Some start = sym (as_told-some told (scope_at es p) (omega arith)) ∙ sym tracks.scope ∙ some in
         (omega arith, cc)
   ]
 
@@ -60,7 +65,7 @@ module _ (state : TxState) (es : List Event) (p : ℕ) (tracks : Tracks state es
 
 -- ---- what an event leaves as it is
 
-module _ (state : TxState) (es : List Event) (p : ℕ) (e : Event) (here : event_at es (suc p) ≡ Some e) (tracks : Tracks state es p) where
+module _ (state : TxState) (told : ℕ → ℕ) (es : List Event) (p : ℕ) (e : Event) (here : event_at es (suc p) ≡ Some e) (tracks : Tracks state told es p) where
   depth-same : begins e ≡ false → ends e ≡ false → state.depth ≡ depth_at es (suc p)
   depth-same no_begin no_end = tracks.depth ∙ sym (depth-kept es p e here no_begin no_end)
 
@@ -71,8 +76,8 @@ module _ (state : TxState) (es : List Event) (p : ℕ) (e : Event) (here : event
   inside-before : begins e ≡ false → ends e ≡ false → in_transaction es (suc p) ≡ true → in_transaction es p ≡ true
   inside-before no_begin no_end inside = sym (inside-kept es p e here no_begin no_end) ∙ inside
 
-  scope-same : scope_at es (suc p) ≡ scope_at es p → state.scope ≡ scope_unless (scope_at es (suc p))
-  scope-same same = tracks.scope ∙ ap (λ k. scope_unless k) (sym same)
+  scope-same : scope_at es (suc p) ≡ scope_at es p → state.scope ≡ scope_as_told told (scope_at es (suc p))
+  scope-same same = tracks.scope ∙ ap (λ k. scope_as_told told k) (sym same)
 
   stored-same : scope_at es (suc p) ≡ scope_at es p → ((b : ℕ) → (stores b e && in_transaction es (suc p)) ≡ false) → in_scope es (suc p) ≡ true →
       (b : ℕ) → state_at state.stored b ≡ is_scoped es (suc p) b
@@ -80,51 +85,51 @@ module _ (state : TxState) (es : List Event) (p : ℕ) (e : Event) (here : event
 
 -- ---- no events
 
-pub tracks-empty : (state : TxState) (es : List Event) → state.depth ≡ 0 → state.scope ≡ None → Tracks state es 0
-tracks-empty state es no_depth no_scope = record {
+pub tracks-empty : (state : TxState) (told : ℕ → ℕ) (es : List Event) → state.depth ≡ 0 → state.scope ≡ None → Tracks state told es 0
+tracks-empty state told es no_depth no_scope = record {
   depth = no_depth ∙ sym (depth-start es);
   backup = λ inside b. absurd (both_ways (in_transaction es 0) (outside-from es 0 (depth-start es)) inside);
-  scope = no_scope ∙ sym (scope_unless-none (scope_at es 0) (scope-start es));
+  scope = no_scope ∙ sym (as_told-none told (scope_at es 0) (scope-start es));
   stored = λ some b. absurd (both_ways (in_scope es 0) (unscoped-from es 0 (scope-start es)) some);
 }
 
 -- ---- a TXBEGIN
 
 -- the state, but for its depth, is ready for a transaction to begin
-pub record Begun (mid : TxState) (es : List Event) (p : ℕ) : Type 0 where
+pub record Begun (mid : TxState) (told : ℕ → ℕ) (es : List Event) (p : ℕ) : Type 0 where
   pub depth : mid.depth ≡ depth_at es p
   pub backup : (b : ℕ) → state_at mid.backup b ≡ is_backed es (suc p) b
-  pub scope : mid.scope ≡ scope_unless (scope_at es (suc p))
+  pub scope : mid.scope ≡ scope_as_told told (scope_at es (suc p))
   pub stored : in_scope es (suc p) ≡ true → (b : ℕ) → state_at mid.stored b ≡ is_scoped es (suc p) b
 
-module _ (state : TxState) (es : List Event) (p : ℕ) (here : event_at es (suc p) ≡ Some TxBegin) (tracks : Tracks state es p) where
+module _ (state : TxState) (told : ℕ → ℕ) (es : List Event) (p : ℕ) (here : event_at es (suc p) ≡ Some TxBegin) (tracks : Tracks state told es p) where
   inside-begun : in_transaction es (suc p) ≡ true
   unfolding begins ends
   inside-begun = let deeper = depth-begun es p TxBegin here refl refl in inside-from es (suc p) (omega arith)
 
-  pub begun-outermost : (backup : RunMap Bool Members ghosts) → ((b : ℕ) → state_at backup b ≡ false) → state.depth ≡ 0 → Begun (record state { backup = backup }) es p
+  pub begun-outermost : (backup : RunMap Bool Members ghosts) → ((b : ℕ) → state_at backup b ≡ false) → state.depth ≡ 0 → Begun (record state { backup = backup }) told es p
   unfolding adds closes_scope opens_scope stores
   begun-outermost backup empty none =
       let same = scope-kept es p TxBegin here refl refl in record {
         depth = tracks.depth;
-        backup = λ b. empty b ∙ sym (backed-begun es p TxBegin here b (outside-by state es p tracks none) inside-begun refl);
-        scope = scope-same state es p TxBegin here tracks same;
-        stored = stored-same state es p TxBegin here tracks same (λ b. refl);
+        backup = λ b. empty b ∙ sym (backed-begun es p TxBegin here b (outside-by state told es p tracks none) inside-begun refl);
+        scope = scope-same state told es p TxBegin here tracks same;
+        stored = stored-same state told es p TxBegin here tracks same (λ b. refl);
       }
 
-  pub begun-nested : 0 < state.depth → Begun state es p
+  pub begun-nested : 0 < state.depth → Begun state told es p
   unfolding adds closes_scope opens_scope stores
   begun-nested some =
       let same = scope-kept es p TxBegin here refl refl in record {
         depth = tracks.depth;
-        backup = backup-same state es p TxBegin here tracks (λ inside. inside-by state es p tracks some) (λ b. refl) inside-begun;
-        scope = scope-same state es p TxBegin here tracks same;
-        stored = stored-same state es p TxBegin here tracks same (λ b. refl);
+        backup = backup-same state told es p TxBegin here tracks (λ inside. inside-by state told es p tracks some) (λ b. refl) inside-begun;
+        scope = scope-same state told es p TxBegin here tracks same;
+        stored = stored-same state told es p TxBegin here tracks same (λ b. refl);
       }
 
-pub tracks-begun : (mid : TxState) (es : List Event) (p : ℕ) → event_at es (suc p) ≡ Some TxBegin → Begun mid es p → Tracks (record mid { depth = mid.depth + 1 }) es (suc p)
+pub tracks-begun : (mid : TxState) (told : ℕ → ℕ) (es : List Event) (p : ℕ) → event_at es (suc p) ≡ Some TxBegin → Begun mid told es p → Tracks (record mid { depth = mid.depth + 1 }) told es (suc p)
 unfolding begins ends
-tracks-begun mid es p here begun = record {
+tracks-begun mid told es p here begun = record {
   depth = let deeper = depth-begun es p TxBegin here refl refl in let before = begun.depth in omega arith;
   backup = λ inside. begun.backup;
   scope = begun.scope;
@@ -133,47 +138,47 @@ tracks-begun mid es p here begun = record {
 
 -- ---- a TXEND
 
-module _ (state : TxState) (es : List Event) (p : ℕ) (tracks : Tracks state es p) where
-  pub tracks-ended : (depth : ℕ) → depth ≡ state.depth - 1 → event_at es (suc p) ≡ Some TxEnd → Tracks (record state { depth = depth }) es (suc p)
+module _ (state : TxState) (told : ℕ → ℕ) (es : List Event) (p : ℕ) (tracks : Tracks state told es p) where
+  pub tracks-ended : (depth : ℕ) → depth ≡ state.depth - 1 → event_at es (suc p) ≡ Some TxEnd → Tracks (record state { depth = depth }) told es (suc p)
   unfolding begins ends adds closes_scope opens_scope stores
   tracks-ended depth one_less here =
       let lower = depth-ended es p TxEnd here refl refl in
       let before = tracks.depth in
       let same = scope-kept es p TxEnd here refl refl in record {
         depth = omega arith;
-        backup = backup-same state es p TxEnd here tracks (λ inside. let some = inside-depth es (suc p) inside in inside-from es p (omega arith)) (λ b. refl);
-        scope = scope-same state es p TxEnd here tracks same;
-        stored = stored-same state es p TxEnd here tracks same (λ b. refl);
+        backup = backup-same state told es p TxEnd here tracks (λ inside. let some = inside-depth es (suc p) inside in inside-from es p (omega arith)) (λ b. refl);
+        scope = scope-same state told es p TxEnd here tracks same;
+        stored = stored-same state told es p TxEnd here tracks same (λ b. refl);
       }
 
   pub end-unmatched : state.depth ≡ 0 → Some Unmatched ≡ end_finding es p
   unfolding end_finding
-  end-unmatched none = sym (ap (λ v. if v then None else Some Unmatched) (outside-by state es p tracks none))
+  end-unmatched none = sym (ap (λ v. if v then None else Some Unmatched) (outside-by state told es p tracks none))
 
   pub end-nothing : 0 < state.depth → None ≡ end_finding es p
   unfolding end_finding
-  end-nothing some = sym (ap (λ v. if v then None else Some Unmatched) (inside-by state es p tracks some))
+  end-nothing some = sym (ap (λ v. if v then None else Some Unmatched) (inside-by state told es p tracks some))
 
 -- ---- a TXADD
 
-module _ (state : TxState) (es : List Event) (p : ℕ) (tracks : Tracks state es p) (s : Extent) where
-  pub tracks-outside : state.depth ≡ 0 → event_at es (suc p) ≡ Some (TxAdd s) → Tracks state es (suc p)
+module _ (state : TxState) (told : ℕ → ℕ) (es : List Event) (p : ℕ) (tracks : Tracks state told es p) (s : Extent) where
+  pub tracks-outside : state.depth ≡ 0 → event_at es (suc p) ≡ Some (TxAdd s) → Tracks state told es (suc p)
   unfolding begins ends closes_scope opens_scope stores
   tracks-outside none here =
       let same = scope-kept es p (TxAdd s) here refl refl in record {
-        depth = depth-same state es p (TxAdd s) here tracks refl refl;
-        backup = λ inside b. absurd (both_ways (in_transaction es p) (outside-by state es p tracks none) (inside-before state es p (TxAdd s) here tracks refl refl inside));
-        scope = scope-same state es p (TxAdd s) here tracks same;
-        stored = stored-same state es p (TxAdd s) here tracks same (λ b. refl);
+        depth = depth-same state told es p (TxAdd s) here tracks refl refl;
+        backup = λ inside b. absurd (both_ways (in_transaction es p) (outside-by state told es p tracks none) (inside-before state told es p (TxAdd s) here tracks refl refl inside));
+        scope = scope-same state told es p (TxAdd s) here tracks same;
+        stored = stored-same state told es p (TxAdd s) here tracks same (λ b. refl);
       }
 
   pub tracks-added : (backup : RunMap Bool Members ghosts) (first end : ℕ) → first ≡ s.first → end ≡ s.first + s.size → 0 < state.depth →
-      ChangesBetween first end (λ member. true) state.backup backup → event_at es (suc p) ≡ Some (TxAdd s) → Tracks (record state { backup = backup }) es (suc p)
+      ChangesBetween first end (λ member. true) state.backup backup → event_at es (suc p) ≡ Some (TxAdd s) → Tracks (record state { backup = backup }) told es (suc p)
   unfolding begins ends adds closes_scope opens_scope stores is_between
   tracks-added backup first end at_first at_end some changes here =
-      let before = inside-by state es p tracks some in
+      let before = inside-by state told es p tracks some in
       let same = scope-kept es p (TxAdd s) here refl refl in record {
-        depth = depth-same state es p (TxAdd s) here tracks refl refl;
+        depth = depth-same state told es p (TxAdd s) here tracks refl refl;
         backup = λ inside b.
             changes.states b
             ∙ ap (λ k. if is_between k end b then true else state_at state.backup b) at_first
@@ -182,20 +187,20 @@ module _ (state : TxState) (es : List Event) (p : ℕ) (tracks : Tracks state es
               | true ↦ λ is. sym (backed-added es p (TxAdd s) here b before inside is)
               | false ↦ λ is. tracks.backup before b ∙ sym (backed-kept es p (TxAdd s) here b inside is)
             ] refl;
-        scope = scope-same state es p (TxAdd s) here tracks same;
-        stored = stored-same state es p (TxAdd s) here tracks same (λ b. refl);
+        scope = scope-same state told es p (TxAdd s) here tracks same;
+        stored = stored-same state told es p (TxAdd s) here tracks same (λ b. refl);
       }
 
   pub add-outside : state.depth ≡ 0 → Some Outside ≡ add_finding es p s
   unfolding add_finding is_outside
-  add-outside none = sym (ap (λ v. if not v then Some Outside else if in_scope es p then duplog_with (first_byte (is_backed es p) s) else None) (outside-by state es p tracks none))
+  add-outside none = sym (ap (λ v. if not v then Some Outside else if in_scope es p then duplog_with (first_byte (is_backed es p) s) else None) (outside-by state told es p tracks none))
 
   add-inside : 0 < state.depth → add_finding es p s ≡ (if in_scope es p then duplog_with (first_byte (is_backed es p) s) else None)
   unfolding add_finding is_outside
-  add-inside some = ap (λ v. if not v then Some Outside else if in_scope es p then duplog_with (first_byte (is_backed es p) s) else None) (inside-by state es p tracks some)
+  add-inside some = ap (λ v. if not v then Some Outside else if in_scope es p then duplog_with (first_byte (is_backed es p) s) else None) (inside-by state told es p tracks some)
 
   pub add-unscoped : 0 < state.depth → state.scope ≡ None → None ≡ add_finding es p s
-  add-unscoped some none = sym (add-inside some ∙ ap (λ v. if v then duplog_with (first_byte (is_backed es p) s) else None) (no_scope-by state es p tracks none))
+  add-unscoped some none = sym (add-inside some ∙ ap (λ v. if v then duplog_with (first_byte (is_backed es p) s) else None) (no_scope-by state told es p tracks none))
 
   pub add-found : (first end : ℕ) (found : Option ℕ) → first ≡ s.first → end ≡ s.first + s.size → 0 < state.depth → in_scope es p ≡ true →
       found ≡ first_from (passing (λ member. member) state.backup) first (end - first) → duplog_with found ≡ add_finding es p s
@@ -203,21 +208,21 @@ module _ (state : TxState) (es : List Event) (p : ℕ) (tracks : Tracks state es
   add-found first end found at_first at_end some scoped is =
       let size : end - first ≡ s.size = omega arith in
       ap (λ o. duplog_with o) (is ∙ ap (λ n. first_from (passing (λ member. member) state.backup) first n) size ∙ ap (λ k. first_from (passing (λ member. member) state.backup) k s.size) at_first
-      ∙ first_from-same _ _ s.first s.size (λ b low high. tracks.backup (inside-by state es p tracks some) b))
+      ∙ first_from-same _ _ s.first s.size (λ b low high. tracks.backup (inside-by state told es p tracks some) b))
       ∙ sym (add-inside some ∙ ap (λ v. if v then duplog_with (first_byte (is_backed es p) s) else None) scoped)
 
 -- ---- a store
 
-module _ (state : TxState) (es : List Event) (p : ℕ) (tracks : Tracks state es p) (s : Extent) where
+module _ (state : TxState) (told : ℕ → ℕ) (es : List Event) (p : ℕ) (tracks : Tracks state told es p) (s : Extent) where
   pub tracks-stored : (stored : RunMap Bool Members ghosts) (first end : ℕ) → first ≡ s.first → end ≡ s.first + s.size → 0 < state.depth →
-      ChangesBetween first end (λ member. true) state.stored stored → event_at es (suc p) ≡ Some (Store s) → Tracks (record state { stored = stored }) es (suc p)
+      ChangesBetween first end (λ member. true) state.stored stored → event_at es (suc p) ≡ Some (Store s) → Tracks (record state { stored = stored }) told es (suc p)
   unfolding begins ends adds closes_scope opens_scope stores is_between
   tracks-stored stored first end at_first at_end some changes here =
-      let inside = inside-kept es p (Store s) here refl refl ∙ inside-by state es p tracks some in
+      let inside = inside-kept es p (Store s) here refl refl ∙ inside-by state told es p tracks some in
       let same = scope-kept es p (Store s) here refl refl in record {
-        depth = depth-same state es p (Store s) here tracks refl refl;
-        backup = backup-same state es p (Store s) here tracks (inside-before state es p (Store s) here tracks refl refl) (λ b. refl);
-        scope = scope-same state es p (Store s) here tracks same;
+        depth = depth-same state told es p (Store s) here tracks refl refl;
+        backup = backup-same state told es p (Store s) here tracks (inside-before state told es p (Store s) here tracks refl refl) (λ b. refl);
+        scope = scope-same state told es p (Store s) here tracks same;
         stored = λ scoped b.
             let before = sym (in_scope-same es p (suc p) same) ∙ scoped in
             changes.states b
@@ -230,69 +235,70 @@ module _ (state : TxState) (es : List Event) (p : ℕ) (tracks : Tracks state es
       }
 
   -- a store outside of transactions, or without a scope, is not followed
-  pub tracks-store_outside : state.depth ≡ 0 → event_at es (suc p) ≡ Some (Store s) → Tracks state es (suc p)
+  pub tracks-store_outside : state.depth ≡ 0 → event_at es (suc p) ≡ Some (Store s) → Tracks state told es (suc p)
   unfolding begins ends adds closes_scope opens_scope
   tracks-store_outside none here =
-      let outside = inside-kept es p (Store s) here refl refl ∙ outside-by state es p tracks none in
+      let outside = inside-kept es p (Store s) here refl refl ∙ outside-by state told es p tracks none in
       let same = scope-kept es p (Store s) here refl refl in record {
-        depth = depth-same state es p (Store s) here tracks refl refl;
-        backup = backup-same state es p (Store s) here tracks (inside-before state es p (Store s) here tracks refl refl) (λ b. refl);
-        scope = scope-same state es p (Store s) here tracks same;
-        stored = stored-same state es p (Store s) here tracks same (λ b. ap (λ v. stores b (Store s) && v) outside ∙ and-false (stores b (Store s)));
+        depth = depth-same state told es p (Store s) here tracks refl refl;
+        backup = backup-same state told es p (Store s) here tracks (inside-before state told es p (Store s) here tracks refl refl) (λ b. refl);
+        scope = scope-same state told es p (Store s) here tracks same;
+        stored = stored-same state told es p (Store s) here tracks same (λ b. ap (λ v. stores b (Store s) && v) outside ∙ and-false (stores b (Store s)));
       }
 
-  pub tracks-store_unscoped : state.scope ≡ None → event_at es (suc p) ≡ Some (Store s) → Tracks state es (suc p)
+  pub tracks-store_unscoped : state.scope ≡ None → event_at es (suc p) ≡ Some (Store s) → Tracks state told es (suc p)
   unfolding begins ends adds closes_scope opens_scope
   tracks-store_unscoped none here =
       let same = scope-kept es p (Store s) here refl refl in record {
-        depth = depth-same state es p (Store s) here tracks refl refl;
-        backup = backup-same state es p (Store s) here tracks (inside-before state es p (Store s) here tracks refl refl) (λ b. refl);
-        scope = scope-same state es p (Store s) here tracks same;
-        stored = λ scoped b. absurd (both_ways (in_scope es p) (no_scope-by state es p tracks none) (sym (in_scope-same es p (suc p) same) ∙ scoped));
+        depth = depth-same state told es p (Store s) here tracks refl refl;
+        backup = backup-same state told es p (Store s) here tracks (inside-before state told es p (Store s) here tracks refl refl) (λ b. refl);
+        scope = scope-same state told es p (Store s) here tracks same;
+        stored = λ scoped b. absurd (both_ways (in_scope es p) (no_scope-by state told es p tracks none) (sym (in_scope-same es p (suc p) same) ∙ scoped));
       }
 
-  pub store-outside : state.depth ≡ 0 → None ≡ store_finding es p s
-  unfolding store_finding
-  store-outside none = sym (ap (λ v. if v && in_scope es p then nobackup_with (first_byte (lacks_backup es p) s) else None) (outside-by state es p tracks none))
+module _ (state : TxState) (told : ℕ → ℕ) (es fs : List Event) (p q : ℕ) (tracks : Tracks state told es p) (s : Extent) where
+  pub store-outside : state.depth ≡ 0 → None ≡ store_finding_by es p fs q s
+  unfolding store_finding_by
+  store-outside none = sym (ap (λ v. if v && in_scope es p then nobackup_with (first_byte (lacks_backup_by es p fs q) s) else None) (outside-by state told es p tracks none))
 
-  pub store-unscoped : state.scope ≡ None → None ≡ store_finding es p s
-  unfolding store_finding
+  pub store-unscoped : state.scope ≡ None → None ≡ store_finding_by es p fs q s
+  unfolding store_finding_by
   store-unscoped none =
-      sym (elim (in_transaction es p) as (λ v. (if v && in_scope es p then nobackup_with (first_byte (lacks_backup es p) s) else None) ≡ None) [
-        | true ↦ ap (λ v. if v then nobackup_with (first_byte (lacks_backup es p) s) else None) (no_scope-by state es p tracks none)
+      sym (elim (in_transaction es p) as (λ v. (if v && in_scope es p then nobackup_with (first_byte (lacks_backup_by es p fs q) s) else None) ≡ None) [
+        | true ↦ ap (λ v. if v then nobackup_with (first_byte (lacks_backup_by es p fs q) s) else None) (no_scope-by state told es p tracks none)
         | false ↦ refl
       ])
 
   pub store-found : (first end : ℕ) (found : Option ℕ) → first ≡ s.first → end ≡ s.first + s.size → 0 < state.depth → in_scope es p ≡ true →
-      found ≡ first_from (lacks_backup es p) first (end - first) → nobackup_with found ≡ store_finding es p s
-  unfolding store_finding
+      found ≡ first_from (lacks_backup_by es p fs q) first (end - first) → nobackup_with found ≡ store_finding_by es p fs q s
+  unfolding store_finding_by
   store-found first end found at_first at_end some scoped is =
       let size : end - first ≡ s.size = omega arith in
-      ap (λ o. nobackup_with o) (is ∙ ap (λ n. first_from (lacks_backup es p) first n) size ∙ ap (λ k. first_from (lacks_backup es p) k s.size) at_first)
-      ∙ sym (ap (λ v. if v && in_scope es p then nobackup_with (first_byte (lacks_backup es p) s) else None) (inside-by state es p tracks some)
-      ∙ ap (λ v. if v then nobackup_with (first_byte (lacks_backup es p) s) else None) scoped)
+      ap (λ o. nobackup_with o) (is ∙ ap (λ n. first_from (lacks_backup_by es p fs q) first n) size ∙ ap (λ k. first_from (lacks_backup_by es p fs q) k s.size) at_first)
+      ∙ sym (ap (λ v. if v && in_scope es p then nobackup_with (first_byte (lacks_backup_by es p fs q) s) else None) (inside-by state told es p tracks some)
+      ∙ ap (λ v. if v then nobackup_with (first_byte (lacks_backup_by es p fs q) s) else None) scoped)
 
 -- ---- a CHECKSTART
 
-module _ (state : TxState) (es : List Event) (p : ℕ) (tracks : Tracks state es p) where
-  pub tracks-nested : in_scope es p ≡ true → event_at es (suc p) ≡ Some CheckStart → Tracks state es (suc p)
+module _ (state : TxState) (told : ℕ → ℕ) (es : List Event) (p : ℕ) (tracks : Tracks state told es p) where
+  pub tracks-nested : in_scope es p ≡ true → event_at es (suc p) ≡ Some CheckStart → Tracks state told es (suc p)
   unfolding begins ends adds closes_scope stores
   tracks-nested scoped here =
       let same = scope-stays es p CheckStart here refl (scope-some es p scoped) in record {
-        depth = depth-same state es p CheckStart here tracks refl refl;
-        backup = backup-same state es p CheckStart here tracks (inside-before state es p CheckStart here tracks refl refl) (λ b. refl);
-        scope = scope-same state es p CheckStart here tracks same;
-        stored = stored-same state es p CheckStart here tracks same (λ b. refl);
+        depth = depth-same state told es p CheckStart here tracks refl refl;
+        backup = backup-same state told es p CheckStart here tracks (inside-before state told es p CheckStart here tracks refl refl) (λ b. refl);
+        scope = scope-same state told es p CheckStart here tracks same;
+        stored = stored-same state told es p CheckStart here tracks same (λ b. refl);
       }
 
-  pub tracks-opened : (stored : RunMap Bool Members ghosts) (place : ℕ) → ((b : ℕ) → state_at stored b ≡ false) → state.scope ≡ None → event_at es (suc p) ≡ Some CheckStart → place ≡ suc p →
-      Tracks (record state { scope = Some place; stored = stored }) es (suc p)
+  pub tracks-opened : (stored : RunMap Bool Members ghosts) (place : ℕ) → ((b : ℕ) → state_at stored b ≡ false) → state.scope ≡ None → event_at es (suc p) ≡ Some CheckStart → told (suc p) ≡ place →
+      Tracks (record state { scope = Some place; stored = stored }) told es (suc p)
   unfolding begins ends adds closes_scope opens_scope
   tracks-opened stored place empty none here at_place =
-      let now = scope-opened es p CheckStart here refl refl (unscoped-by state es p tracks none) in record {
-        depth = depth-same state es p CheckStart here tracks refl refl;
-        backup = backup-same state es p CheckStart here tracks (inside-before state es p CheckStart here tracks refl refl) (λ b. refl);
-        scope = ap (λ k. Some k) (at_place ∙ sym now) ∙ sym (scope_unless-some (scope_at es (suc p)) (omega arith));
+      let now = scope-opened es p CheckStart here refl refl (unscoped-by state told es p tracks none) in record {
+        depth = depth-same state told es p CheckStart here tracks refl refl;
+        backup = backup-same state told es p CheckStart here tracks (inside-before state told es p CheckStart here tracks refl refl) (λ b. refl);
+        scope = ap (λ k. Some k) (sym at_place ∙ ap told (sym now)) ∙ sym (as_told-some told (scope_at es (suc p)) (omega arith));
         stored = λ scoped b. empty b ∙ sym (scoped-opened es (suc p) b now);
       }
 
@@ -302,79 +308,113 @@ module _ (state : TxState) (es : List Event) (p : ℕ) (tracks : Tracks state es
 
   pub start-nothing : state.scope ≡ None → None ≡ start_finding es p
   unfolding start_finding
-  start-nothing none = sym (ap (λ v. if v then Some Nested else None) (no_scope-by state es p tracks none))
+  start-nothing none = sym (ap (λ v. if v then Some Nested else None) (no_scope-by state told es p tracks none))
 
 -- ---- a CHECKEND, and the section's end
 
-module _ (state : TxState) (es : List Event) (p : ℕ) (tracks : Tracks state es p) where
-  pub tracks-closed : (scope : Option ℕ) → scope ≡ None → event_at es (suc p) ≡ Some CheckEnd → Tracks (record state { scope = scope }) es (suc p)
+module _ (state : TxState) (told : ℕ → ℕ) (es : List Event) (p : ℕ) (tracks : Tracks state told es p) where
+  pub tracks-closed : (scope : Option ℕ) → scope ≡ None → event_at es (suc p) ≡ Some CheckEnd → Tracks (record state { scope = scope }) told es (suc p)
   unfolding begins ends adds closes_scope
   tracks-closed scope none here =
       let closed = scope-closed es p CheckEnd here refl in record {
-        depth = depth-same state es p CheckEnd here tracks refl refl;
-        backup = backup-same state es p CheckEnd here tracks (inside-before state es p CheckEnd here tracks refl refl) (λ b. refl);
-        scope = none ∙ sym (scope_unless-none (scope_at es (suc p)) closed);
+        depth = depth-same state told es p CheckEnd here tracks refl refl;
+        backup = backup-same state told es p CheckEnd here tracks (inside-before state told es p CheckEnd here tracks refl refl) (λ b. refl);
+        scope = none ∙ sym (as_told-none told (scope_at es (suc p)) closed);
         stored = λ some b. absurd (both_ways (in_scope es (suc p)) (unscoped-from es (suc p) closed) some);
       }
 
-  pub check-unopened : state.scope ≡ None → Unopened ≡ check_finding es p
-  unfolding check_finding
+module _ (state : TxState) (told : ℕ → ℕ) (es fs : List Event) (p q : ℕ) (tracks : Tracks state told es p) where
+  pub check-unopened : state.scope ≡ None → Unopened ≡ check_finding_by es p fs q
+  unfolding check_finding_by
   check-unopened none =
-      sym (ap (λ v. if not v then Unopened else if in_transaction es p then TxStillOpen (depth_at es p) else scope_passes_unless (first_from (is_left_open es p) 0 ADDRESS_LIMIT))
-      (no_scope-by state es p tracks none))
+      sym (ap (λ v. if not v then Unopened else if in_transaction es p then TxStillOpen (depth_at es p) else scope_passes_unless (first_from (is_left_open_by es p fs q) 0 ADDRESS_LIMIT))
+      (no_scope-by state told es p tracks none))
 
   check-scoped : in_scope es p ≡ true →
-      check_finding es p ≡ (if in_transaction es p then TxStillOpen (depth_at es p) else scope_passes_unless (first_from (is_left_open es p) 0 ADDRESS_LIMIT))
-  unfolding check_finding
+      check_finding_by es p fs q ≡ (if in_transaction es p then TxStillOpen (depth_at es p) else scope_passes_unless (first_from (is_left_open_by es p fs q) 0 ADDRESS_LIMIT))
+  unfolding check_finding_by
   check-scoped scoped =
-      ap (λ v. if not v then Unopened else if in_transaction es p then TxStillOpen (depth_at es p) else scope_passes_unless (first_from (is_left_open es p) 0 ADDRESS_LIMIT)) scoped
+      ap (λ v. if not v then Unopened else if in_transaction es p then TxStillOpen (depth_at es p) else scope_passes_unless (first_from (is_left_open_by es p fs q) 0 ADDRESS_LIMIT)) scoped
 
-  pub check-inside : in_scope es p ≡ true → 0 < state.depth → TxStillOpen state.depth ≡ check_finding es p
+  pub check-inside : in_scope es p ≡ true → 0 < state.depth → TxStillOpen state.depth ≡ check_finding_by es p fs q
   check-inside scoped some =
       ap (λ d. TxStillOpen d) tracks.depth
       ∙ sym (check-scoped scoped
-      ∙ ap (λ v. if v then TxStillOpen (depth_at es p) else scope_passes_unless (first_from (is_left_open es p) 0 ADDRESS_LIMIT)) (inside-by state es p tracks some))
+      ∙ ap (λ v. if v then TxStillOpen (depth_at es p) else scope_passes_unless (first_from (is_left_open_by es p fs q) 0 ADDRESS_LIMIT)) (inside-by state told es p tracks some))
 
-  pub check-found : (found : Option ℕ) → in_scope es p ≡ true → state.depth ≡ 0 → found ≡ first_from (is_left_open es p) 0 ADDRESS_LIMIT →
-      scope_passes_unless found ≡ check_finding es p
+  pub check-found : (found : Option ℕ) → in_scope es p ≡ true → state.depth ≡ 0 → found ≡ first_from (is_left_open_by es p fs q) 0 ADDRESS_LIMIT →
+      scope_passes_unless found ≡ check_finding_by es p fs q
   check-found found scoped none is =
       ap (λ o. scope_passes_unless o) is
       ∙ sym (check-scoped scoped
-      ∙ ap (λ v. if v then TxStillOpen (depth_at es p) else scope_passes_unless (first_from (is_left_open es p) 0 ADDRESS_LIMIT)) (outside-by state es p tracks none))
+      ∙ ap (λ v. if v then TxStillOpen (depth_at es p) else scope_passes_unless (first_from (is_left_open_by es p fs q) 0 ADDRESS_LIMIT)) (outside-by state told es p tracks none))
 
-  pub close-nothing : state.scope ≡ None → None ≡ close_finding es p
+module _ (state : TxState) (told : ℕ → ℕ) (es : List Event) (p : ℕ) (tracks : Tracks state told es p) where
+  pub close-nothing : state.scope ≡ None → None ≡ option_map (finding_as_told told) (close_finding es p)
   unfolding close_finding
-  close-nothing none = sym (ap (λ v. if v then Some (Unclosed (scope_at es p)) else None) (no_scope-by state es p tracks none))
+  close-nothing none = sym (ap (λ v. option_map (finding_as_told told) (if v then Some (Unclosed (scope_at es p)) else None)) (no_scope-by state told es p tracks none))
 
-  pub close-unclosed : (start : ℕ) → state.scope ≡ Some start → Some (Unclosed start) ≡ close_finding es p
+  pub close-unclosed : (start : ℕ) → state.scope ≡ Some start → Some (Unclosed start) ≡ option_map (finding_as_told told) (close_finding es p)
   unfolding close_finding
   close-unclosed start scope =
-      ap (λ k. Some (Unclosed k)) (sym (scope-by state es p tracks start scope).1)
-      ∙ sym (ap (λ v. if v then Some (Unclosed (scope_at es p)) else None) (in_scope-by state es p tracks start scope))
+      ap (λ k. Some (Unclosed k)) (sym (scope-by state told es p tracks start scope).1)
+      ∙ sym (ap (λ v. option_map (finding_as_told told) (if v then Some (Unclosed (scope_at es p)) else None)) (in_scope-by state told es p tracks start scope))
 
 -- ---- events that are not told
 
-tracks-other : (state : TxState) (es : List Event) (p : ℕ) (e : Event) → event_at es (suc p) ≡ Some e → begins e ≡ false → ends e ≡ false → closes_scope e ≡ false → opens_scope e ≡ false →
-    ((b : ℕ) → adds b e ≡ false) → ((b : ℕ) → stores b e ≡ false) → Tracks state es p → Tracks state es (suc p)
-tracks-other state es p e here no_begin no_end no_close no_open no_add no_store tracks =
+tracks-other : (state : TxState) (told : ℕ → ℕ) (es : List Event) (p : ℕ) (e : Event) → event_at es (suc p) ≡ Some e → begins e ≡ false → ends e ≡ false → closes_scope e ≡ false → opens_scope e ≡ false →
+    ((b : ℕ) → adds b e ≡ false) → ((b : ℕ) → stores b e ≡ false) → Tracks state told es p → Tracks state told es (suc p)
+tracks-other state told es p e here no_begin no_end no_close no_open no_add no_store tracks =
     let same = scope-kept es p e here no_close no_open in record {
-      depth = depth-same state es p e here tracks no_begin no_end;
-      backup = backup-same state es p e here tracks (inside-before state es p e here tracks no_begin no_end) no_add;
-      scope = scope-same state es p e here tracks same;
-      stored = stored-same state es p e here tracks same (λ b. ap (λ v. v && in_transaction es (suc p)) (no_store b));
+      depth = depth-same state told es p e here tracks no_begin no_end;
+      backup = backup-same state told es p e here tracks (inside-before state told es p e here tracks no_begin no_end) no_add;
+      scope = scope-same state told es p e here tracks same;
+      stored = stored-same state told es p e here tracks same (λ b. ap (λ v. v && in_transaction es (suc p)) (no_store b));
     }
 
-pub tracks-untracked : UntrackedEventsChangeNothing
+pub tracks-untracked : (state : TxState) (told : ℕ → ℕ) (es : List Event) (p : ℕ) (e : Event) → event_at es (suc p) ≡ Some e → is_untracked e ≡ true → Tracks state told es p → Tracks state told es (suc p)
 unfolding is_untracked begins ends adds closes_scope opens_scope stores
-tracks-untracked state es p (Store s) here untracked tracks = let bad : false ≡ true = untracked in cc
-tracks-untracked state es p TxBegin here untracked tracks = let bad : false ≡ true = untracked in cc
-tracks-untracked state es p (TxAdd s) here untracked tracks = let bad : false ≡ true = untracked in cc
-tracks-untracked state es p TxEnd here untracked tracks = let bad : false ≡ true = untracked in cc
-tracks-untracked state es p CheckStart here untracked tracks = let bad : false ≡ true = untracked in cc
-tracks-untracked state es p CheckEnd here untracked tracks = let bad : false ≡ true = untracked in cc
-tracks-untracked state es p (Flush s) here untracked tracks = tracks-other state es p (Flush s) here refl refl refl refl (λ b. refl) (λ b. refl) tracks
-tracks-untracked state es p Fence here untracked tracks = tracks-other state es p Fence here refl refl refl refl (λ b. refl) (λ b. refl) tracks
-tracks-untracked state es p (Persist s) here untracked tracks = tracks-other state es p (Persist s) here refl refl refl refl (λ b. refl) (λ b. refl) tracks
-tracks-untracked state es p (Ordered x y) here untracked tracks = tracks-other state es p (Ordered x y) here refl refl refl refl (λ b. refl) (λ b. refl) tracks
-tracks-untracked state es p (Exclude s) here untracked tracks = tracks-other state es p (Exclude s) here refl refl refl refl (λ b. refl) (λ b. refl) tracks
-tracks-untracked state es p (Include s) here untracked tracks = tracks-other state es p (Include s) here refl refl refl refl (λ b. refl) (λ b. refl) tracks
+tracks-untracked state told es p (Store s) here untracked tracks = let bad : false ≡ true = untracked in cc
+tracks-untracked state told es p TxBegin here untracked tracks = let bad : false ≡ true = untracked in cc
+tracks-untracked state told es p (TxAdd s) here untracked tracks = let bad : false ≡ true = untracked in cc
+tracks-untracked state told es p TxEnd here untracked tracks = let bad : false ≡ true = untracked in cc
+tracks-untracked state told es p CheckStart here untracked tracks = let bad : false ≡ true = untracked in cc
+tracks-untracked state told es p CheckEnd here untracked tracks = let bad : false ≡ true = untracked in cc
+tracks-untracked state told es p (Flush s) here untracked tracks = tracks-other state told es p (Flush s) here refl refl refl refl (λ b. refl) (λ b. refl) tracks
+tracks-untracked state told es p Fence here untracked tracks = tracks-other state told es p Fence here refl refl refl refl (λ b. refl) (λ b. refl) tracks
+tracks-untracked state told es p (Persist s) here untracked tracks = tracks-other state told es p (Persist s) here refl refl refl refl (λ b. refl) (λ b. refl) tracks
+tracks-untracked state told es p (Ordered x y) here untracked tracks = tracks-other state told es p (Ordered x y) here refl refl refl refl (λ b. refl) (λ b. refl) tracks
+tracks-untracked state told es p (Exclude s) here untracked tracks = tracks-other state told es p (Exclude s) here refl refl refl refl (λ b. refl) (λ b. refl) tracks
+tracks-untracked state told es p (Include s) here untracked tracks = tracks-other state told es p (Include s) here refl refl refl refl (λ b. refl) (λ b. refl) tracks
+
+-- ---- the events up to a place, and steps at the end of a list
+
+pub tracks-past : OnlyPastEventsCount
+tracks-past state told tells es fs p same told_same tracks = record {
+  depth = tracks.depth ∙ depth-alike es fs p same;
+  backup = λ inside b. tracks.backup (inside-alike es fs p same ∙ inside) b ∙ backed-alike es fs p same b;
+  scope = tracks.scope
+      ∙ ap (λ t. if scope_at es p == 0 then None else Some t) (told_same (scope_at es p) (scope-within es fs p same))
+      ∙ ap (scope_as_told tells) (scope-alike es fs p same);
+  stored = λ some b. tracks.stored (in_scope-alike es fs p same ∙ some) b ∙ scoped-alike es fs p same b;
+}
+
+-- an event at its place within each list, so at the end of each list
+pub follows-from : (place : ℕ) (old new : TxState) (e : Event) →
+    ((told : ℕ → ℕ) (es : List Event) (p : ℕ) → event_at es (suc p) ≡ Some e → told (suc p) ≡ place → Tracks old told es p → Tracks new told es (suc p)) →
+    FollowsAt place old new e
+follows-from place old new e step told es at_place tracks =
+    step told (es ++ e ∷ []) (length es) (at_the_end es e) at_place (tracks-past old told told es (es ++ e ∷ []) (length es) (same-longer es e) (λ k within. refl) tracks)
+
+-- and the other way round
+pub follows-within : StepsFollowWithin
+follows-within place old new e follows told es p here at_place tracks =
+    let size = length-taken es p e here in
+    let before : Tracks old told (take p es) (length (take p es)) =
+    subst (Tracks old told (take p es)) (sym size) (tracks-past old told told es (take p es) p (same-taken es p) (λ k within. refl) tracks) in
+    let after : Tracks new told (take p es ++ e ∷ []) (suc p) =
+    subst (λ n. Tracks new told (take p es ++ e ∷ []) (suc n)) size (follows told (take p es) (ap (λ n. told (suc n)) size ∙ at_place) before) in
+    tracks-past new told told (take p es ++ e ∷ []) es (suc p) (same-retaken es p e here) (λ k within. refl) after
+
+pub untracked-follows : UntrackedEventsChangeNothing
+untracked-follows state e untracked place = follows-from place state state e (λ told es p here at_place tracks. tracks-untracked state told es p e here untracked tracks)

@@ -1,8 +1,25 @@
 //! Laws of what a state stands for, each the clause of an empty function.
 
-ghost use Rattle.pmf_txcheck.specs.Tracking.{UntrackedEventsChangeNothing};
+ghost use Rattle.pmf_txcheck.specs.Laws.{OneListIsACase, OnlyPastEventsCount, StepsFollowWithin, UntrackedEventsChangeNothing};
 
 /// Write-backs, fences, assertions, exclusions and inclusions change nothing that a state stands for.
 pub fn untracked_events_change_nothing()
     ensures { UntrackedEventsChangeNothing }
+{}
+
+/// What a state stands for at a place is said of the events up to that place and of the places that they
+/// were told at, and of no others.
+pub fn only_past_events_count()
+    ensures { OnlyPastEventsCount }
+{}
+
+/// A call that follows an event at the end of a list follows it within a longer list too.
+pub fn steps_follow_within()
+    ensures { StepsFollowWithin }
+{}
+
+/// Where the state and the shadow stand for one list, the findings of stores and of CHECKENDs are those of
+/// the definitions.
+pub fn one_list_is_a_case()
+    ensures { OneListIsACase }
 {}

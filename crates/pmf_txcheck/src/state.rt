@@ -1,13 +1,14 @@
 //! The state of the transaction checker after some events.
 
-ghost use Rattle.std.specs.Prelude.{◌≡◌, ℕ, suc, ◌+◌, ◌-◌, ◌<◌, ◌≤◌, ◌^◌, List, Some, true, OnOk, OnErr, IfOk};
+ghost use Rattle.std.specs.Prelude.{◌≡◌, ℕ, ◌+◌, ◌-◌, ◌<◌, ◌≤◌, ◌^◌, List, true, option_map, OnOk, OnErr, IfOk};
 ghost use Rattle.pmf_event.specs.declared.event.Event.{Event};
 ghost use Rattle.pmf_event.specs.declared.span.TheConstants.{ADDRESS_LIMIT, SPAN_LIMIT};
-ghost use Rattle.pmf_event.specs.Ranges.{first_from, first_byte};
-ghost use Rattle.pmf_event.specs.Store.{event_at};
-ghost use Rattle.pmf_event.specs.Transactions.{depth_at, in_transaction, in_scope, is_left_open, lacks_backup, add_finding, check_finding, close_finding, end_finding, start_finding, store_finding};
+ghost use Rattle.pmf_event.specs.Ranges.{first_from};
+ghost use Rattle.pmf_event.specs.Transactions.{depth_at, in_transaction, in_scope, add_finding, close_finding, end_finding, start_finding};
 ghost use Rattle.pmf_shadow.specs.Shadow.{StandsFor};
-ghost use Rattle.pmf_txcheck.specs.Tracking.{Tracks, depth_of};
+ghost use Rattle.pmf_shadow.specs.Told.{finding_as_told};
+ghost use Rattle.pmf_txcheck.specs.Findings.{FindsOfCheckEnd, FindsOfStore, is_left_open_by, lacks_backup_by};
+ghost use Rattle.pmf_txcheck.specs.Tracking.{Follows, FollowsAt, Keeps, Tracks, depth_of};
 
 use crate::sets::{IsIn, IsOut, PutIn};
 use pmf_event::{ADDRESS_LIMIT, Event, Finding, Span};
@@ -34,7 +35,7 @@ pub struct TxState {
 impl TxState {
     /// The state of no events. Takes no memory.
     pub fn new(alloc: Global) -> TxState
-        ensures { (es : List Event) → Tracks result es 0 }
+        ensures { (told : ℕ → ℕ) (es : List Event) → Tracks result told es 0 }
     {
         TxState {
             alloc,
@@ -48,7 +49,8 @@ impl TxState {
     /// How many transactions run.
     pub fn depth(&self) -> u32
         ensures value { result ≡ depth_of self.now }
-        ensures depth { (es : List Event) (p : ℕ) → Tracks self.now es p → result ≡ depth_at es p }
+        ensures depth { (told : ℕ → ℕ) (es : List Event) (p : ℕ) → Tracks self.now told es p
+            → result ≡ depth_at es p }
     {
         self.depth
     }
@@ -56,8 +58,7 @@ impl TxState {
     /// Follows a TXBEGIN. An outermost transaction begins with nothing backed up. Takes no memory.
     pub fn begin(&mut self)
         requires { depth_of self.old < 2 ^ 32 - 1 }
-        ensures { (es : List Event) (p : ℕ) → Tracks self.old es p
-            → event_at es (suc p) ≡ Some Event.TxBegin → Tracks self.new es (suc p) }
+        ensures { Follows self.old self.new Event.TxBegin }
     {
         if self.depth == 0 {
             self.backup = RunMap::new(self.alloc, false);
@@ -67,9 +68,9 @@ impl TxState {
 
     /// Follows a TXEND, and says UNMATCHED where no transaction runs. Takes no memory.
     pub fn end(&mut self) -> Option<Finding>
-        ensures tracks { (es : List Event) (p : ℕ) → Tracks self.old es p
-            → event_at es (suc p) ≡ Some Event.TxEnd → Tracks self.new es (suc p) }
-        ensures finds { (es : List Event) (p : ℕ) → Tracks self.old es p → result ≡ end_finding es p }
+        ensures follows { Follows self.old self.new Event.TxEnd }
+        ensures finds { (told : ℕ → ℕ) (es : List Event) (p : ℕ) → Tracks self.old told es p
+            → result ≡ end_finding es p }
     {
         if self.depth == 0 {
             return Some(Finding::Unmatched);
@@ -82,17 +83,15 @@ impl TxState {
     /// with the least byte that was backed up before. Memory: at most two runs. After an `Err` the state
     /// stands for what it stood for.
     pub fn add(&mut self, span: Span) -> Result<Option<Finding>, AllocError>
-        ensures tracks { OnOk result ((es : List Event) (p : ℕ) → Tracks self.old es p
-            → event_at es (suc p) ≡ Some (Event.TxAdd span) → Tracks self.new es (suc p)) }
-        ensures finds { IfOk result (λ finding. (es : List Event) (p : ℕ) → Tracks self.old es p
-            → finding ≡ add_finding es p span) }
-        ensures unchanged { OnErr result ((es : List Event) (p : ℕ) → Tracks self.old es p
-            → Tracks self.new es p) }
+        ensures follows { OnOk result (Follows self.old self.new (Event.TxAdd span)) }
+        ensures finds { IfOk result (λ finding. (told : ℕ → ℕ) (es : List Event) (p : ℕ)
+            → Tracks self.old told es p → finding ≡ add_finding es p span) }
+        ensures unchanged { OnErr result (Keeps self.old self.new) }
     {
         if self.depth == 0 {
             return Ok(Some(Finding::Outside));
         }
-        let (first, end) = ends_of(&span);
+        let (first, end) = (span.first(), span.end());
         let finding = match self.scope {
             None => None,
             Some(_) => match self.backup.first_where(first, end, &IsIn) {
@@ -104,22 +103,19 @@ impl TxState {
         Ok(finding)
     }
 
-    /// Follows a store to the span. In a transaction and a scope it says NOBACKUP with the least included
-    /// byte that is not backed up. The shadow has followed the store already, so that a byte is included
-    /// as it is at the store. Memory: at most two runs. After an `Err` the state stands for what it stood
-    /// for.
+    /// Follows a store to the span. In a transaction and a scope it says NOBACKUP with the least byte that
+    /// the shadow includes and that is not backed up: where the shadow has followed the store already, a byte
+    /// is included as it is at the store. Memory: at most two runs. After an `Err` the state stands for what
+    /// it stood for.
     pub fn store(&mut self, shadow: &Shadow, span: Span) -> Result<Option<Finding>, AllocError>
-        ensures tracks { OnOk result ((es : List Event) (p : ℕ) → Tracks self.old es p
-            → event_at es (suc p) ≡ Some (Event.Store span) → Tracks self.new es (suc p)) }
-        ensures finds { IfOk result (λ finding. (es : List Event) (p : ℕ) → Tracks self.old es p
-            → (told : ℕ → ℕ) → StandsFor shadow.now told es (suc p) → finding ≡ store_finding es p span) }
-        ensures unchanged { OnErr result ((es : List Event) (p : ℕ) → Tracks self.old es p
-            → Tracks self.new es p) }
+        ensures follows { OnOk result (Follows self.old self.new (Event.Store span)) }
+        ensures finds { IfOk result (FindsOfStore self.old shadow.now span) }
+        ensures unchanged { OnErr result (Keeps self.old self.new) }
     {
         if self.depth == 0 || self.scope.is_none() {
             return Ok(None);
         }
-        let (first, end) = ends_of(&span);
+        let (first, end) = (span.first(), span.end());
         let finding = match self.least_bare(shadow, first, end) {
             None => None,
             Some(byte) => Some(Finding::NoBackup { byte }),
@@ -128,12 +124,11 @@ impl TxState {
         Ok(finding)
     }
 
-    /// Follows a CHECKSTART at this place, and says NESTED in a scope. Takes no memory.
+    /// Follows a CHECKSTART, keeps this place of it, and says NESTED in a scope. Takes no memory.
     pub fn check_start(&mut self, place: u32) -> Option<Finding>
-        ensures tracks { (es : List Event) (p : ℕ) → Tracks self.old es p
-            → event_at es (suc p) ≡ Some Event.CheckStart → place ≡ suc p
-            → Tracks self.new es (suc p) }
-        ensures finds { (es : List Event) (p : ℕ) → Tracks self.old es p → result ≡ start_finding es p }
+        ensures follows { FollowsAt place self.old self.new Event.CheckStart }
+        ensures finds { (told : ℕ → ℕ) (es : List Event) (p : ℕ) → Tracks self.old told es p
+            → result ≡ start_finding es p }
     {
         if self.scope.is_some() {
             return Some(Finding::Nested);
@@ -147,19 +142,19 @@ impl TxState {
     /// depth inside a transaction, else FAIL with the least included byte of the scope whose persist
     /// interval is open, or PASS. Takes no memory.
     pub fn check_end(&mut self, shadow: &Shadow) -> Finding
-        ensures tracks { (es : List Event) (p : ℕ) → Tracks self.old es p
-            → event_at es (suc p) ≡ Some Event.CheckEnd → Tracks self.new es (suc p) }
-        ensures finds { (es : List Event) (p : ℕ) → Tracks self.old es p
-            → (told : ℕ → ℕ) → StandsFor shadow.now told es (suc p) → result ≡ check_finding es p }
+        ensures follows { Follows self.old self.new Event.CheckEnd }
+        ensures finds { FindsOfCheckEnd self.old shadow.now result }
     {
         let finding = self.found_at_end(shadow);
         self.scope = None;
         finding
     }
 
-    /// What is found where the section ends here: UNCLOSED in a scope, with the place that opened it.
+    /// What is found where the section ends here: UNCLOSED in a scope, with the place that was told of the
+    /// event that opened it.
     pub fn close_section(&self) -> Option<Finding>
-        ensures { (es : List Event) (p : ℕ) → Tracks self.now es p → result ≡ close_finding es p }
+        ensures { (told : ℕ → ℕ) (es : List Event) (p : ℕ) → Tracks self.now told es p
+            → result ≡ option_map (finding_as_told told) (close_finding es p) }
     {
         match self.scope {
             None => None,
@@ -172,9 +167,9 @@ impl TxState {
     fn least_bare(&self, shadow: &Shadow, first: u64, end: u64) -> Option<u64>
         requires ends { end ≤ ADDRESS_LIMIT }
         requires small { end ≤ first + SPAN_LIMIT }
-        ensures { (es : List Event) (p : ℕ) → Tracks self.now es p → in_transaction es p ≡ true
-            → (told : ℕ → ℕ) → StandsFor shadow.now told es (suc p)
-            → result ≡ first_from (lacks_backup es p) first (end - first) }
+        ensures { (told tells : ℕ → ℕ) (es fs : List Event) (p q : ℕ) → Tracks self.now told es p
+            → in_transaction es p ≡ true → StandsFor shadow.now tells fs q
+            → result ≡ first_from (lacks_backup_by es p fs q) first (end - first) }
     {
         let mut at = first;
         while let Some(bare) = self.backup.first_where(at, end, &IsOut) {
@@ -189,8 +184,7 @@ impl TxState {
 
     // What a CHECKEND finds here.
     fn found_at_end(&self, shadow: &Shadow) -> Finding
-        ensures { (es : List Event) (p : ℕ) → Tracks self.now es p
-            → (told : ℕ → ℕ) → StandsFor shadow.now told es (suc p) → result ≡ check_finding es p }
+        ensures { FindsOfCheckEnd self.now shadow.now result }
     {
         if self.scope.is_none() {
             return Finding::Unopened;
@@ -207,9 +201,9 @@ impl TxState {
     // The least byte of the scope that the shadow includes and whose persist interval is open. A run
     // of the scope's bytes that is longer than a span is asked about span by span.
     fn least_left_open(&self, shadow: &Shadow) -> Option<u64>
-        ensures { (es : List Event) (p : ℕ) → Tracks self.now es p → in_scope es p ≡ true
-            → (told : ℕ → ℕ) → StandsFor shadow.now told es (suc p)
-            → result ≡ first_from (is_left_open es p) 0 ADDRESS_LIMIT }
+        ensures { (told tells : ℕ → ℕ) (es fs : List Event) (p q : ℕ) → Tracks self.now told es p
+            → in_scope es p ≡ true → StandsFor shadow.now tells fs q
+            → result ≡ first_from (is_left_open_by es p fs q) 0 ADDRESS_LIMIT }
     {
         let mut at = 0;
         while let Some(first) = self.stored.first_where(at, ADDRESS_LIMIT, &IsIn) {
@@ -221,18 +215,8 @@ impl TxState {
             if let Some(byte) = shadow.least_open(span) {
                 return Some(byte);
             }
-            at = first + span.size();
+            at = span.end();
         }
         None
     }
-}
-
-fn ends_of(span: &Span) -> (u64, u64)
-    ensures first { result.0 ≡ span.now.first }
-    ensures end { result.1 ≡ span.now.first + span.now.size }
-    ensures ordered { result.0 < result.1 }
-    ensures limit { result.1 ≤ ADDRESS_LIMIT }
-    ensures small { result.1 ≤ result.0 + SPAN_LIMIT }
-{
-    (span.first(), span.first() + span.size())
 }

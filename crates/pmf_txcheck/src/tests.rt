@@ -1,11 +1,10 @@
 //! What transactions and their scopes find, in tables.
 
-ghost use Rattle.std.specs.Prelude.{◌≡◌, ℕ, suc, ◌<◌, List, Some, OnOk};
+ghost use Rattle.std.specs.Prelude.{ℕ, ◌<◌, List, OnOk};
 ghost use Rattle.pmf_event.specs.declared.event.Event.{Event};
 ghost use Rattle.pmf_event.specs.declared.section.TheConstants.{EVENT_LIMIT};
-ghost use Rattle.pmf_event.specs.Store.{event_at};
 ghost use Rattle.pmf_shadow.specs.Shadow.{FollowsAt, StandsFor};
-ghost use Rattle.pmf_txcheck.specs.Tracking.{Tracks};
+ghost use Rattle.pmf_txcheck.specs.Tracking.{Tracks, FollowsAt as FollowsTransactionAt};
 
 use crate::state::TxState;
 use pmf_event::{EVENT_LIMIT, Event, Finding, Span, SpanFault};
@@ -114,9 +113,9 @@ fn follow_transactions(
     place: u32,
     event: Event,
 ) -> Result<Option<Finding>, AllocError>
-    requires { (es : List Event) × (p : ℕ) × Tracks state.old es p × (p < EVENT_LIMIT) }
-    ensures { OnOk result ((es : List Event) (p : ℕ) → Tracks state.old es p
-        → event_at es (suc p) ≡ Some event → place ≡ suc p → Tracks state.new es (suc p)) }
+    requires { (told : ℕ → ℕ) × (es : List Event) × (p : ℕ) × Tracks state.old told es p
+        × (p < EVENT_LIMIT) }
+    ensures { OnOk result (FollowsTransactionAt place state.old state.new event) }
 {
     let finding = match event {
         Event::Store(span) => state.store(shadow, span)?,
@@ -338,5 +337,30 @@ fn a_section_ends_in_the_scope_that_is_open(rt: HostRuntime) -> Result<(), Fail>
         assert_eq!(rt; found.close, want, "{what}");
         assert_eq!(rt; found.depth, depth, "{what}");
     }
+    Ok(())
+}
+
+#[test]
+fn the_place_that_opened_a_scope_is_the_one_that_was_told(rt: HostRuntime) {
+    let mut state = TxState::new(rt.alloc());
+    assert_eq!(rt; state.check_start(70), None);
+    assert_eq!(rt; state.check_start(80), Some(Finding::Nested));
+    assert_eq!(rt;
+        state.close_section(),
+        Some(Finding::Unclosed { start: 70 })
+    );
+}
+
+#[test]
+fn a_store_is_judged_by_the_shadow_that_is_handed_in(rt: HostRuntime) -> Result<(), Fail> {
+    let span = Span::make(0x1000, 8)?;
+    let untouched = Shadow::new(rt.alloc());
+    let mut excluding = Shadow::new(rt.alloc());
+    excluding.exclude(span)?;
+    let mut state = TxState::new(rt.alloc());
+    state.begin();
+    assert_eq!(rt; state.check_start(1), None);
+    assert_eq!(rt; state.store(&excluding, span)?, None);
+    assert_eq!(rt; state.store(&untouched, span)?, Some(no_backup(0x1000)));
     Ok(())
 }

@@ -3,12 +3,13 @@ use Rattle.std.specs.Prelude.{Some}
 use Rattle.std.proofs.lemmas.Option.{slice_get_read}
 use Rattle.pmf_event.specs.Store.{event_at}
 use Rattle.pmf_shadow.proofs.StandsLemmas.{follows-within}
+use Rattle.pmf_txcheck.proofs.TrackLemmas.{follows-within as tracks-within}
 use Rattle.pmf_txcheck.proofs.tests.found_of.Goals as goal
 
 pub loop-index-init : goal.loop-index-init
 loop-index-init g c = record {
   stands = c.new-shadow.ensures (λ k. k) c.args.events.now;
-  tracks = c.new-state.ensures c.args.events.now;
+  tracks = c.new-state.ensures (λ k. k) c.args.events.now;
 }
 
 pub loop-index-preserved : goal.loop-index-preserved
@@ -19,5 +20,5 @@ loop-index-preserved g c =
     let here : event_at es (suc i) ≡ Some c.index-events-index.result = slice_get_read es (length es) i c.index-events-index.result refl (omega arith) c.index-events-index.is in
     record {
       stands = rw add-one (follows-within (i + 1) _ _ _ c.in_ok-follow_bytes.ensures (λ k. k) es i here (sym (add-one i)) c.loop-index.invariant.stands);
-      tracks = rw add-one (c.in-Ok.ensures es i c.loop-index.invariant.tracks here (add-one i));
+      tracks = rw add-one (tracks-within (i + 1) _ _ _ c.in-Ok.ensures (λ k. k) es i here (sym (add-one i)) c.loop-index.invariant.tracks);
     }

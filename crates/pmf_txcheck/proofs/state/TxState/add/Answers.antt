@@ -1,31 +1,31 @@
 use Rattle.std.proofs.Common.{◌∙◌, sym, arith}
 use Rattle.std.specs.Prelude.{Some, None}
-use Rattle.pmf_txcheck.proofs.TrackLemmas.{tracks-outside, tracks-added, add-outside, add-unscoped, add-found, in_scope-by}
+use Rattle.pmf_txcheck.proofs.TrackLemmas.{tracks-outside, tracks-added, add-outside, add-unscoped, add-found, in_scope-by, follows-from}
 use Rattle.pmf_txcheck.proofs.state.TxState.add.Goals.{in-None, in-Some+in-None-first_where, in-Some+in-Some-first_where}
 use Rattle.pmf_txcheck.proofs.state.TxState.add.Goals as goal
 
-pub returns-then-self-eq0-clause-tracks : goal.returns-then-self-eq0-clause-tracks
-returns-then-self-eq0-clause-tracks c = λ es p tracks here. tracks-outside c.args.self.now es p tracks c.args.span c.if-self-eq0.true here
+pub returns-then-self-eq0-clause-follows : goal.returns-then-self-eq0-clause-follows
+returns-then-self-eq0-clause-follows c = λ place. follows-from place c.args.self.now _ _ (λ told es p here at_place tracks.
+    tracks-outside c.args.self.now told es p tracks c.args.span c.if-self-eq0.true here)
 
 pub returns-then-self-eq0-clause-finds : goal.returns-then-self-eq0-clause-finds
-returns-then-self-eq0-clause-finds c = λ es p tracks. add-outside c.args.self.now es p tracks c.args.span c.if-self-eq0.true
+returns-then-self-eq0-clause-finds c = λ told es p tracks. add-outside c.args.self.now told es p tracks c.args.span c.if-self-eq0.true
 
-pub returns-clause-tracks : goal.returns-clause-tracks
-returns-clause-tracks c = λ es p tracks here.
-    tracks-added c.args.self.now es p tracks c.args.span c.change.new.self c.ends_of-first.result.0 c.ends_of-first.result.1
-    c.ends_of-first.ensures.first c.ends_of-first.ensures.end (omega arith) c.in_ok-change.ensures.ok here
+pub returns-clause-follows : goal.returns-clause-follows
+returns-clause-follows c = λ place. follows-from place c.args.self.now _ _ (λ told es p here at_place tracks.
+    tracks-added c.args.self.now told es p tracks c.args.span c.change.new.self c.first-first.result c.end-end.result
+    c.first-first.ensures.value c.end-end.ensures.value (omega arith) c.in_ok-change.ensures.ok here)
 
 pub returns-clause-finds : goal.returns-clause-finds
-returns-clause-finds c = λ es p tracks.
+returns-clause-finds c = λ told es p tracks.
     let state = c.args.self.now in
     let s = c.args.span in
-    let ends = c.ends_of-first in
     elim c.match-self.branch [
-      | in-None w ↦ w.finding-is ∙ add-unscoped state es p tracks s (omega arith) w.in-None.is
+      | in-None w ↦ w.finding-is ∙ add-unscoped state told es p tracks s (omega arith) w.in-None.is
       | in-Some+in-None-first_where w ↦
-          w.finding-is ∙ add-found state es p tracks s ends.result.0 ends.result.1 None ends.ensures.first ends.ensures.end (omega arith) (in_scope-by state es p tracks w.in-Some.field-0 w.in-Some.is)
+          w.finding-is ∙ add-found state told es p tracks s c.first-first.result c.end-end.result None c.first-first.ensures.value c.end-end.ensures.value (omega arith) (in_scope-by state told es p tracks w.in-Some.field-0 w.in-Some.is)
           (sym w.in-None-first_where.is ∙ w.first_where.ensures)
       | in-Some+in-Some-first_where w ↦
-          w.finding-is ∙ add-found state es p tracks s ends.result.0 ends.result.1 (Some w.in-Some-first_where.byte) ends.ensures.first ends.ensures.end (omega arith) (in_scope-by state es p tracks w.in-Some.field-0 w.in-Some.is)
+          w.finding-is ∙ add-found state told es p tracks s c.first-first.result c.end-end.result (Some w.in-Some-first_where.byte) c.first-first.ensures.value c.end-end.ensures.value (omega arith) (in_scope-by state told es p tracks w.in-Some.field-0 w.in-Some.is)
           (sym w.in-Some-first_where.is ∙ w.first_where.ensures)
     ]

@@ -3,4 +3,4 @@ use Rattle.pmf_txcheck.proofs.TrackLemmas.{tracks-empty}
 use Rattle.pmf_txcheck.proofs.state.TxState.new.Goals as goal
 
 pub returns : goal.returns
-returns c = λ es. tracks-empty _ es refl refl
+returns c = λ told es. tracks-empty _ told es refl refl
