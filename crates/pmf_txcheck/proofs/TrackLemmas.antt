@@ -9,7 +9,7 @@ use Rattle.pmf_event.specs.declared.finding.Finding.TheVariants.{TxStillOpen, Un
 use Rattle.pmf_event.specs.Span.{Extent}
 use Rattle.pmf_event.specs.Ranges.{first_from, first_byte}
 use Rattle.pmf_event.specs.Store.{event_at, stores}
-use Rattle.pmf_event.specs.Transactions.{begins, ends, depth_at, in_transaction, is_outside, adds, is_backed, opens_scope, closes_scope, scope_at, in_scope, is_scoped, duplog_with, nobackup_with, scope_passes_unless, end_finding, add_finding, start_finding, close_finding}
+use Rattle.pmf_event.specs.Transactions.{begins, ends, depth_at, in_transaction, is_outside, adds, is_backed, opens_scope, closes_scope, scope_at, in_scope, is_scoped, lacks_backup, is_left_open, duplog_with, nobackup_with, scope_passes_unless, end_finding, add_finding, store_finding, start_finding, check_finding, close_finding}
 use Rattle.pmf_event.specs.declared.span.TheConstants.{ADDRESS_LIMIT}
 use Rattle.pmf_event.proofs.RangeLemmas.{first_from-same, some-from}
 use Rattle.pmf_event.proofs.TransactionLemmas.{depth-start, depth-begun, depth-ended, depth-kept, inside-from, outside-from, inside-depth, inside-kept, backed-begun, backed-added, backed-kept, scope-start, scope-some, scoped-from, unscoped-from, in_scope-same, scope-stays, scope-opened, scope-kept, scope-closed, scoped-opened, scoped-kept, scoped-stored}
@@ -21,7 +21,7 @@ use Rattle.pmf_shadow.specs.Told.{finding_as_told}
 use Rattle.pmf_shadow.proofs.SameLemmas.{same-longer, at_the_end, length-taken, same-taken, same-retaken}
 use Rattle.pmf_txcheck.specs.declared.state.TxState.{TxState}
 use Rattle.pmf_txcheck.specs.Findings.{lacks_backup_by, store_finding_by, is_left_open_by, check_finding_by}
-use Rattle.pmf_txcheck.specs.Laws.{is_untracked, UntrackedEventsChangeNothing, OnlyPastEventsCount, StepsFollowWithin}
+use Rattle.pmf_txcheck.specs.Laws.{is_untracked, UntrackedEventsChangeNothing, OnlyPastEventsCount, StepsFollowWithin, OneListIsACase}
 use Rattle.pmf_txcheck.specs.Tracking.{scope_as_told, Tracks, FollowsAt}
 use Rattle.pmf_txcheck.proofs.SameTransactionLemmas.{depth-alike, inside-alike, scope-alike, scope-within, in_scope-alike, backed-alike, scoped-alike}
 
@@ -418,3 +418,9 @@ follows-within place old new e follows told es p here at_place tracks =
 
 pub untracked-follows : UntrackedEventsChangeNothing
 untracked-follows state e untracked place = follows-from place state state e (λ told es p here at_place tracks. tracks-untracked state told es p e here untracked tracks)
+
+-- ---- one list for both
+
+pub one-list : OneListIsACase
+unfolding lacks_backup store_finding is_left_open check_finding lacks_backup_by store_finding_by is_left_open_by check_finding_by
+one-list = record { store = λ es p s. refl; check = λ es p. refl }

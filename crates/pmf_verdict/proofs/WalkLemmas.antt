@@ -1,7 +1,7 @@
 -- One more event of a walk: the shadow and the transactions stand for it, and the rows are those of its
 -- findings.
 use Rattle.std.proofs.Common.{◌≡◌, ℕ, suc, ◌-◌, true, List, [], ◌∷◌, ◌++◌, map, refl, sym, ◌∙◌, ap, arith, subst}
-use Rattle.std.specs.Prelude.{Option, Some}
+use Rattle.std.specs.Prelude.{Option, Some, None, option_map}
 use Rattle.std.proofs.lemmas.List.{append-nil}
 use Rattle.pmf_event.specs.declared.event.Event.{Event}
 use Rattle.pmf_event.specs.declared.event.Event.TheVariants.{Store, TxAdd, TxEnd, CheckStart, CheckEnd}
@@ -18,8 +18,9 @@ use Rattle.pmf_shadow.specs.Told.{finding_as_told}
 use Rattle.pmf_shadow.specs.Laws.{is_unseen}
 use Rattle.pmf_shadow.proofs.StandsLemmas.{follows-within, unseen-follows}
 use Rattle.pmf_txcheck.specs.declared.state.TxState.{TxState}
-use Rattle.pmf_txcheck.specs.Tracking.{Tracks, is_untracked}
-use Rattle.pmf_txcheck.proofs.TrackLemmas.{tracks-untracked}
+use Rattle.pmf_txcheck.specs.Laws.{is_untracked}
+use Rattle.pmf_txcheck.specs.Tracking.{Tracks, FollowsAt as FollowsTransactionAt}
+use Rattle.pmf_txcheck.proofs.TrackLemmas.{follows-within as tracks-within, untracked-follows}
 use Rattle.pmf_verdict.specs.declared.checking.Walk.{Walk}
 use Rattle.pmf_verdict.specs.Rows.{findings_of, row_at, rows_upto}
 use Rattle.pmf_verdict.specs.Walks.{Walks}
@@ -30,16 +31,25 @@ pub stands-next : (place : ℕ) (old new : Shadow) (e : Event) → FollowsAt pla
     StandsFor old (λ k. k) es p → StandsFor new (λ k. k) es (suc p)
 stands-next place old new e follows es p here at_place stands = follows-within place old new e follows (λ k. k) es p here (sym at_place) stands
 
+-- and so was the state of transactions
+pub tracks-next : (place : ℕ) (old new : TxState) (e : Event) → FollowsTransactionAt place old new e → (es : List Event) (p : ℕ) → event_at es (suc p) ≡ Some e → place ≡ suc p →
+    Tracks old (λ k. k) es p → Tracks new (λ k. k) es (suc p)
+tracks-next place old new e follows es p here at_place tracks = tracks-within place old new e follows (λ k. k) es p here (sym at_place) tracks
+
 pub as_told-same : (f : Finding) → finding_as_told (λ k. k) f ≡ f
 as_told-same (OrderedFail byte after crash) = refl
 as_told-same (Unclosed start) = refl
 as_told-same _ = refl
 
+pub if_any-as_told-same : (f : Option Finding) → option_map (finding_as_told (λ k. k)) f ≡ f
+if_any-as_told-same None = refl
+if_any-as_told-same (Some f) = ap (λ v. Some v) (as_told-same f)
+
 module _ (old new : Walk) (es : List Event) (p : ℕ) (e : Event) (here : event_at es (suc p) ≡ Some e) (walks : Walks old es p) where
   -- the shadow and the transactions followed the event, and its findings were said
   pub walks-said : (shadow : Shadow) (transactions : TxState) (place : ℕ) (fs : List Finding) →
       new ≡ record { shadow = shadow; transactions = transactions; rows = old.rows ++ map (row_at place) fs; profile = old.profile } →
-      StandsFor shadow (λ k. k) es (suc p) → Tracks transactions es (suc p) → place ≡ suc p →
+      StandsFor shadow (λ k. k) es (suc p) → Tracks transactions (λ k. k) es (suc p) → place ≡ suc p →
       findings_of old.profile es (suc p) (Some e) ≡ fs → Walks new es (suc p)
   walks-said shadow transactions place fs is stands tracks at_place found = subst (λ walk. Walks walk es (suc p)) (sym is) (record {
     stands = stands;
@@ -52,7 +62,7 @@ module _ (old new : Walk) (es : List Event) (p : ℕ) (e : Event) (here : event_
   -- the same of an event without findings
   pub walks-silent : (shadow : Shadow) (transactions : TxState) →
       new ≡ record { shadow = shadow; transactions = transactions; rows = old.rows; profile = old.profile } →
-      StandsFor shadow (λ k. k) es (suc p) → Tracks transactions es (suc p) → findings_of old.profile es (suc p) (Some e) ≡ [] → Walks new es (suc p)
+      StandsFor shadow (λ k. k) es (suc p) → Tracks transactions (λ k. k) es (suc p) → findings_of old.profile es (suc p) (Some e) ≡ [] → Walks new es (suc p)
   walks-silent shadow transactions is stands tracks none =
       walks-said shadow transactions (suc p) []
       (is ∙ ap (λ rs. record { shadow = shadow; transactions = transactions; rows = rs; profile = old.profile }) (sym (append-nil old.rows)))
@@ -63,8 +73,8 @@ module _ (old new : Walk) (es : List Event) (p : ℕ) (e : Event) (here : event_
   stands-still unseen = stands-next (suc p) old.shadow old.shadow e (unseen-follows old.shadow e unseen (suc p)) es p here refl walks.stands
 
   -- an event that the transactions need not be told of
-  pub tracks-still : is_untracked e ≡ true → Tracks old.transactions es (suc p)
-  tracks-still untracked = tracks-untracked old.transactions es p e here untracked walks.tracks
+  pub tracks-still : is_untracked e ≡ true → Tracks old.transactions (λ k. k) es (suc p)
+  tracks-still untracked = tracks-next (suc p) old.transactions old.transactions e (untracked-follows old.transactions e untracked (suc p)) es p here refl walks.tracks
 
 -- ---- what is found of an event by what the transactions say
 

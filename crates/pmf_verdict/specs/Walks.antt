@@ -11,7 +11,7 @@ use Rattle.pmf_verdict.specs.Rows.{rows_upto}
 -- are theirs, by the walk's profile
 pub record Walks (walk : Walk) (es : List Event) (p : ℕ) : Type 0 where
   pub stands : StandsFor walk.shadow (λ k. k) es p
-  pub tracks : Tracks walk.transactions es p
+  pub tracks : Tracks walk.transactions (λ k. k) es p
   pub rows_are : walk.rows ≡ rows_upto walk.profile es p
 
 -- the walk has followed the event at this place

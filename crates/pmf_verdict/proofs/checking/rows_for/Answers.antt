@@ -6,6 +6,7 @@ use Rattle.pmf_event.specs.Store.{event_at}
 use Rattle.pmf_event.specs.Transactions.{close_finding}
 use Rattle.pmf_verdict.specs.declared.checking.Walk.{Walk}
 use Rattle.pmf_verdict.specs.Rows.{row_at, rows_upto, rows_at_end, rows_of}
+use Rattle.pmf_verdict.proofs.WalkLemmas.{if_any-as_told-same}
 use Rattle.pmf_verdict.proofs.checking.rows_for.Goals as goal
 
 pub loop-index-init : goal.loop-index-init
@@ -37,4 +38,4 @@ returns c =
     (walks.rows_are ∙ ap (λ q. rows_upto q es i) c.loop-index.invariant.1 ∙ ap (rows_upto profile es) all)
     ∙ ap (λ q. rows_upto profile es (length es) ++ map (row_at q) (if_any found)) (add-one (length es))
     ∙ ap (λ f. rows_upto profile es (length es) ++ map (row_at (suc (length es))) (if_any f))
-    (c.close_section-found.ensures es i walks.tracks ∙ ap (close_finding es) all)
+    (c.close_section-found.ensures (λ k. k) es i walks.tracks ∙ if_any-as_told-same _ ∙ ap (close_finding es) all)

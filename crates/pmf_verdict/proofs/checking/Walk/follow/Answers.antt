@@ -1,12 +1,13 @@
 use Rattle.std.proofs.Common.{suc, [], ◌∷◌, refl, sym, ◌∙◌, ap, arith}
 use Rattle.std.specs.Prelude.{Some}
-use Rattle.pmf_event.specs.declared.event.Event.TheVariants.{Fence}
+use Rattle.pmf_event.specs.declared.event.Event.TheVariants.{Fence, TxBegin, TxEnd, CheckStart, CheckEnd}
 use Rattle.pmf_event.specs.FlushWarnings.{if_any}
 use Rattle.pmf_event.proofs.TransactionLemmas.{depth-bound}
 use Rattle.pmf_shadow.specs.Laws.{is_unseen}
-use Rattle.pmf_txcheck.specs.Tracking.{is_untracked}
+use Rattle.pmf_txcheck.specs.Laws.{is_untracked}
+use Rattle.pmf_txcheck.proofs.TrackLemmas.{one-list}
 use Rattle.pmf_verdict.specs.Rows.{findings_of}
-use Rattle.pmf_verdict.proofs.WalkLemmas.{walks-said, walks-silent, stands-next, stands-still, as_told-same, tracks-still, found-end, found-start, found-check}
+use Rattle.pmf_verdict.proofs.WalkLemmas.{walks-said, walks-silent, stands-next, stands-still, as_told-same, tracks-still, tracks-next, found-end, found-start, found-check}
 use Rattle.pmf_verdict.proofs.checking.Walk.follow.Goals as goal
 
 pub begin-requires : goal.begin-requires
@@ -66,7 +67,7 @@ returns-in-TxBegin-clause-walks c = λ es p walks here place.
     let own = here ∙ ap (λ e. Some e) c.in-TxBegin.is in
     let old = c.args.self.now in
     walks-silent old _ es p _ own walks old.shadow c.begin.new.self refl (stands-still old old es p _ own walks refl)
-    (c.begin.ensures es p walks.tracks own) refl
+    (tracks-next (suc p) old.transactions c.begin.new.self TxBegin (c.begin.ensures (suc p)) es p own refl walks.tracks) refl
 
 pub returns-in_ok-say_if_any-in-TxEnd-clause-walks : goal.returns-in_ok-say_if_any-in-TxEnd-clause-walks
 unfolding is_unseen
@@ -74,8 +75,8 @@ returns-in_ok-say_if_any-in-TxEnd-clause-walks c = λ es p walks here place.
     let own = here ∙ ap (λ e. Some e) c.in-TxEnd.is in
     let old = c.args.self.now in
     walks-said old c.say_if_any.new.self es p _ own walks old.shadow c.end-found.new.self c.args.place (if_any c.end-found.result)
-    c.in_ok-say_if_any-in-TxEnd.ensures (stands-still old old es p _ own walks refl) (c.end-found.ensures.tracks es p walks.tracks own) place
-    (found-end old.profile es p c.end-found.result (c.end-found.ensures.finds es p walks.tracks))
+    c.in_ok-say_if_any-in-TxEnd.ensures (stands-still old old es p _ own walks refl) (tracks-next (suc p) old.transactions c.end-found.new.self TxEnd (c.end-found.ensures.follows (suc p)) es p own refl walks.tracks) place
+    (found-end old.profile es p c.end-found.result (c.end-found.ensures.finds (λ k. k) es p walks.tracks))
 
 pub returns-in_ok-say_if_any-in-CheckStart-clause-walks : goal.returns-in_ok-say_if_any-in-CheckStart-clause-walks
 unfolding is_unseen
@@ -83,8 +84,8 @@ returns-in_ok-say_if_any-in-CheckStart-clause-walks c = λ es p walks here place
     let own = here ∙ ap (λ e. Some e) c.in-CheckStart.is in
     let old = c.args.self.now in
     walks-said old c.say_if_any-in-CheckStart.new.self es p _ own walks old.shadow c.check_start-found.new.self c.args.place (if_any c.check_start-found.result)
-    c.in_ok-say_if_any-in-CheckStart.ensures (stands-still old old es p _ own walks refl) (c.check_start-found.ensures.tracks es p walks.tracks own place) place
-    (found-start old.profile es p c.check_start-found.result (c.check_start-found.ensures.finds es p walks.tracks))
+    c.in_ok-say_if_any-in-CheckStart.ensures (stands-still old old es p _ own walks refl) (tracks-next c.args.place old.transactions c.check_start-found.new.self CheckStart c.check_start-found.ensures.follows es p own place walks.tracks) place
+    (found-start old.profile es p c.check_start-found.result (c.check_start-found.ensures.finds (λ k. k) es p walks.tracks))
 
 pub returns-in_ok-say-in-CheckEnd-clause-walks : goal.returns-in_ok-say-in-CheckEnd-clause-walks
 unfolding is_unseen
@@ -93,5 +94,5 @@ returns-in_ok-say-in-CheckEnd-clause-walks c = λ es p walks here place.
     let old = c.args.self.now in
     let stands = stands-still old old es p _ own walks refl in
     walks-said old c.say-in-CheckEnd.new.self es p _ own walks old.shadow c.check_end-finding.new.self c.args.place (c.check_end-finding.result ∷ [])
-    c.in_ok-say-in-CheckEnd.ensures stands (c.check_end-finding.ensures.tracks es p walks.tracks own) place
-    (found-check old.profile es p c.check_end-finding.result (c.check_end-finding.ensures.finds es p walks.tracks (λ k. k) stands))
+    c.in_ok-say-in-CheckEnd.ensures stands (tracks-next (suc p) old.transactions c.check_end-finding.new.self CheckEnd (c.check_end-finding.ensures.follows (suc p)) es p own refl walks.tracks) place
+    (found-check old.profile es p c.check_end-finding.result (c.check_end-finding.ensures.finds (λ k. k) (λ k. k) es es p (suc p) walks.tracks stands ∙ one-list.check es p))

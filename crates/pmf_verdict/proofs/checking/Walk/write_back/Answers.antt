@@ -3,7 +3,8 @@ use Rattle.std.specs.Prelude.{Option}
 use Rattle.pmf_event.specs.declared.finding.Finding.{Finding}
 use Rattle.pmf_event.specs.FlushWarnings.{is_pending, lines_where, doubled_finding, if_any, flush_findings}
 use Rattle.pmf_shadow.specs.Shadow.{StandsFor}
-use Rattle.pmf_txcheck.specs.Tracking.{Tracks, is_untracked}
+use Rattle.pmf_txcheck.specs.Laws.{is_untracked}
+use Rattle.pmf_txcheck.specs.Tracking.{Tracks}
 use Rattle.pmf_verdict.specs.declared.checking.Walk.{Walk}
 use Rattle.pmf_verdict.specs.Rows.{row_at, rows_upto}
 use Rattle.pmf_verdict.proofs.RowsLemmas.{rows_upto-flush}
@@ -26,7 +27,7 @@ returns-clause-walks c = λ es p walks here place.
     ∙ ap (λ (o : Option Finding). if_any (doubled_finding (lines_where (is_pending es p) c.args.span)) ++ if_any o) (c.check_flush-found.ensures.needless (λ k. k) es p walks.stands)) in
     record {
       stands = stands-next (suc p) _ _ _ (c.in_ok-flush.ensures.follows (suc p)) es p here refl stands;
-      tracks = subst (λ t. Tracks t es (suc p)) (sym transactions) (tracks-still old old es p _ here walks refl);
+      tracks = subst (λ t. Tracks t (λ k. k) es (suc p)) (sym transactions) (tracks-still old old es p _ here walks refl);
       rows_are = ap (λ (w : Walk). w.rows) second
           ∙ ap (λ rs. rs ++ map (row_at c.args.place) (if_any other)) (ap (λ (w : Walk). w.rows) first)
           ∙ ap (λ rs. (rs ++ map (row_at c.args.place) (if_any one)) ++ map (row_at c.args.place) (if_any other)) walks.rows_are
