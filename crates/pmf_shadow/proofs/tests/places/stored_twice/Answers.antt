@@ -1,6 +1,6 @@
 use Rattle.std.proofs.Common.{ℕ, ◌==◌, if◌then◌else◌, [], ◌∷◌, refl, arith}
 use Rattle.pmf_event.specs.declared.event.Event.TheVariants.{Store, Fence}
-use Rattle.pmf_shadow.proofs.tests.stored_twice.Goals as goal
+use Rattle.pmf_shadow.proofs.tests.places.stored_twice.Goals as goal
 
 pub fence-requires : goal.fence-requires
 fence-requires c =
