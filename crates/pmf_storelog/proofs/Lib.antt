@@ -3,6 +3,7 @@ pub mod NumberLemmas
 pub mod FieldLemmas
 pub mod DigitLemmas
 pub mod PartLemmas
+pub mod OrderLemmas
 pub mod LogLemmas
 pub mod SectionLemmas
 pub mod RisingLemmas

@@ -1,5 +1,5 @@
 -- The sections, the skipped records and the first fault of a list of records that more records follow.
-use Rattle.std.proofs.Common.{◌≡◌, ℕ, zero, suc, ◌+◌, ◌-◌, ◌<◌, ◌≤◌, Bool, true, false, cond, map, List, [], ◌∷◌, ◌++◌, Option, Some, None, Ok, length, take, refl, sym, ap, ◌∙◌, arith, add-one, length-append, ⊎_elim}
+use Rattle.std.proofs.Common.{◌≡◌, ℕ, zero, suc, ◌+◌, ◌-◌, ◌<◌, ◌≤◌, Bool, true, false, cond, map, List, [], ◌∷◌, ◌++◌, Option, Some, None, Result, Ok, Err, length, take, refl, sym, ap, ◌∙◌, arith, add-one, length-append, ⊎_elim}
 use Rattle.std.specs.Prelude.{◌==◌}
 use Rattle.std.specs.List.{filter}
 use Rattle.std.proofs.lemmas.List.{append_assoc, map-append, append-nil, take_at, take-append-le, take_all, get_or_append_left, get_or_at, length_push}
@@ -9,13 +9,17 @@ use Rattle.std.proofs.Math.Seq.{take-append-add}
 use Rattle.std.proofs.lemmas.Bool.{lt-ltb, le-ltb, cases_lt}
 use Rattle.pmf_event.specs.declared.event.Event.{Event}
 use Rattle.pmf_storelog.specs.declared.fault.TheConstants.{LOG_LIMIT}
+use Rattle.pmf_storelog.specs.declared.fault.Cause.{Cause}
 use Rattle.pmf_storelog.specs.declared.fault.Cause.TheVariants.{TooLong}
 use Rattle.pmf_storelog.specs.declared.fault.LogFault.{LogFault}
+use Rattle.pmf_storelog.specs.declared.record.Saying.{Saying}
 use Rattle.pmf_storelog.specs.declared.record.Saying.TheVariants.{Happens, Enters, Skipped}
 use Rattle.pmf_storelog.specs.Records.{record_of}
 use Rattle.pmf_storelog.specs.Sections.{with_event}
 use Rattle.pmf_storelog.specs.Separators.{records_of, ended_records}
-use Rattle.pmf_storelog.specs.LogText.{reading_at, number_after, current_at, current_of, numbered, numbered_among, numbered_events, events_in, numbers_with, numbers_among, numbers_of, is_skipped, skipped_of, refusal_after, refusal_at, or_else, first_fault_among, first_fault, too_long, shown_within, fault_within, shown_fault, fault_of, IsFaultOfAll}
+use Rattle.pmf_storelog.specs.LogText.{reading_at, number_after, current_at, current_of, numbered, numbered_among, numbered_events, events_in, entered, entered_among, entered_of, numbers_of, is_skipped, skipped_of, refusal_after, refusal_at, or_else, first_fault_among, first_fault, too_long, shown_within, fault_within, shown_fault, fault_of, IsFaultOfAll}
+use Rattle.pmf_storelog.specs.Rising.{with_number, in_order}
+use Rattle.pmf_storelog.proofs.OrderLemmas.{in_order-push}
 use Rattle.pmf_storelog.proofs.PartLemmas.{ended_records-more, records_of-unfinished, unfinished}
 
 -- the events of a section among numbered ones
@@ -26,6 +30,19 @@ one_event : (here : Bool) (number : ℕ) (events : List Event) (event : Event) �
     events ++ map (λ (entry : ℕ × Event). entry.1) (cond here ((number, event) ∷ []) []) ≡ cond here (events ++ event ∷ []) events
 one_event true number events event = refl
 one_event false number events event = append-nil events
+
+-- the numbers with that of the section that a reading is of
+abbrev pub numbers_with : Result Saying Cause → ℕ → List ℕ → List ℕ
+numbers_with (Ok (Happens event)) current numbers = with_number numbers current
+numbers_with (Ok (Enters number)) current numbers = with_number numbers number
+numbers_with (Ok Skipped) current numbers = numbers
+numbers_with (Err cause) current numbers = numbers
+
+pub in_order-entered : (reading : Result Saying Cause) (current : ℕ) (before : List ℕ) → in_order (before ++ entered current reading) ≡ numbers_with reading current (in_order before)
+in_order-entered (Ok (Happens event)) current before = in_order-push before current
+in_order-entered (Ok (Enters number)) current before = in_order-push before number
+in_order-entered (Ok Skipped) current before = ap in_order (append-nil before)
+in_order-entered (Err cause) current before = ap in_order (append-nil before)
 
 -- what the records before more of them say
 module _ (records more : List (List ℕ)) where
@@ -44,11 +61,11 @@ module _ (records more : List (List ℕ)) where
   numbered_among-append (suc k) le =
       rw (reading_at-append k (omega arith), current_at-append k (omega arith), numbered_among-append k (omega arith)) refl
 
-  pub numbers_among-append : (k : ℕ) → k ≤ length records → numbers_among (records ++ more) k ≡ numbers_among records k
-  unfolding numbers_among
-  numbers_among-append zero le = refl
-  numbers_among-append (suc k) le =
-      rw (reading_at-append k (omega arith), current_at-append k (omega arith), numbers_among-append k (omega arith)) refl
+  pub entered_among-append : (k : ℕ) → k ≤ length records → entered_among (records ++ more) k ≡ entered_among records k
+  unfolding entered_among
+  entered_among-append zero le = refl
+  entered_among-append (suc k) le =
+      rw (reading_at-append k (omega arith), current_at-append k (omega arith), entered_among-append k (omega arith)) refl
 
   refusal_at-append : (k : ℕ) → k < length records → refusal_at (records ++ more) k ≡ refusal_at records k
   unfolding refusal_at
@@ -80,11 +97,16 @@ module _ (records : List (List ℕ)) (text : List ℕ) where
       ap (numbered_among (records ++ text ∷ [])) one_more
       ∙ rw (reading_at-last, current_at-append records (text ∷ []) (length records) (omega arith), numbered_among-append records (text ∷ []) (length records) (omega arith)) refl
 
+  entered_of-push : entered_of (records ++ text ∷ []) ≡ entered_of records ++ entered (current_of records) (record_of text)
+  unfolding entered_of entered_among current_of
+  entered_of-push =
+      ap (entered_among (records ++ text ∷ [])) one_more
+      ∙ rw (reading_at-last, current_at-append records (text ∷ []) (length records) (omega arith), entered_among-append records (text ∷ []) (length records) (omega arith)) refl
+
+  -- the numbers of the sections with one more record are at most one insertion more
   pub numbers_of-push : numbers_of (records ++ text ∷ []) ≡ numbers_with (record_of text) (current_of records) (numbers_of records)
-  unfolding numbers_of numbers_among current_of
-  numbers_of-push =
-      ap (numbers_among (records ++ text ∷ [])) one_more
-      ∙ rw (reading_at-last, current_at-append records (text ∷ []) (length records) (omega arith), numbers_among-append records (text ∷ []) (length records) (omega arith)) refl
+  unfolding numbers_of
+  numbers_of-push = ap in_order entered_of-push ∙ in_order-entered (record_of text) (current_of records) (entered_of records)
 
   refusal_at-last : refusal_at (records ++ text ∷ []) (length records) ≡ refusal_after records (record_of text)
   unfolding refusal_at

@@ -16,10 +16,11 @@ use Rattle.pmf_storelog.specs.declared.record.Saying.TheVariants.{Happens, Enter
 use Rattle.pmf_storelog.specs.Separators.{records_of}
 use Rattle.pmf_storelog.specs.Records.{record_of}
 use Rattle.pmf_storelog.specs.Sections.{with_event}
-use Rattle.pmf_storelog.specs.LogText.{current_of, current_at, numbers_of, numbers_among, events_in, numbered_events, numbered_among, skipped_of, first_fault, first_fault_among, refusal_after, or_else, number_after, numbers_with, with_number, section_named, sections_of, value_of, value_unless, fault_of, log_of}
+use Rattle.pmf_storelog.specs.LogText.{current_of, current_at, entered_of, entered_among, numbers_of, events_in, numbered_events, numbered_among, skipped_of, first_fault, first_fault_among, refusal_after, or_else, number_after, section_named, sections_of, value_of, value_unless, fault_of, log_of}
+use Rattle.pmf_storelog.specs.Rising.{with_number}
 use Rattle.pmf_storelog.specs.Canonical.{canonical_text, line_of_event, line_of_marker}
 use Rattle.pmf_storelog.specs.Spelling.{AllValid}
-use Rattle.pmf_storelog.proofs.LogLemmas.{current_of-push, numbers_of-push, events_in-event, events_in-enter, skipped_of-event, skipped_of-enter, first_fault-push, fault_within-short}
+use Rattle.pmf_storelog.proofs.LogLemmas.{numbers_with, current_of-push, numbers_of-push, events_in-event, events_in-enter, skipped_of-event, skipped_of-enter, first_fault-push, fault_within-short}
 use Rattle.pmf_storelog.proofs.PlainLemmas.{text_of_event, text_of_marker}
 use Rattle.pmf_storelog.proofs.RoundTripLemmas.{EachFits, canonical_records, records_of-canonical, canonical-length}
 use Rattle.pmf_storelog.proofs.SpellingLemmas.{record_of-event, record_of-marker, all_fit}
@@ -44,11 +45,11 @@ below_is_no_end n m below =
     elim (n == m) as (λ v. (n == m) ≡ v → v ≡ false) [ true ↦ λ is. let same : n ≡ m = (Decides-eqb n m).0 is in absurd (omega arith) | false ↦ λ is. refl ] refl
 
 no_refusal_at_marker : (n : ℕ) (text : List ℕ) → record_of text ≡ Ok (Enters n) → refusal_after [] (record_of text) ≡ None
-unfolding refusal_after numbers_of numbers_among
+unfolding refusal_after entered_of entered_among
 no_refusal_at_marker n text says = rw says refl
 
 says-marker : (n : ℕ) (text : List ℕ) → record_of text ≡ Ok (Enters n) → Says n [] (text ∷ [])
-unfolding current_of current_at numbers_of numbers_among events_in numbered_events numbered_among skipped_of first_fault first_fault_among
+unfolding current_of current_at entered_of entered_among numbers_of events_in numbered_events numbered_among skipped_of first_fault first_fault_among
 says-marker n text says = record {
   current = current_of-push [] text ∙ ap (λ reading. number_after reading 0) says;
   numbers = numbers_of-push [] text ∙ ap (λ reading. numbers_with reading 0 []) says;

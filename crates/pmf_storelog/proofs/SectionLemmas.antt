@@ -20,7 +20,8 @@ use Rattle.pmf_storelog.specs.declared.fault.Cause.{Cause}
 use Rattle.pmf_storelog.specs.declared.fault.Cause.TheVariants.{OutOfMemory, TooManySections}
 use Rattle.pmf_storelog.specs.declared.fault.TheConstants.{SECTION_LIMIT}
 use Rattle.pmf_storelog.specs.declared.sections.OpenSections.{OpenSections}
-use Rattle.pmf_storelog.specs.LogText.{section_named, with_number}
+use Rattle.pmf_storelog.specs.LogText.{section_named}
+use Rattle.pmf_storelog.specs.Rising.{with_number}
 use Rattle.pmf_storelog.specs.Sections.{HasSections, Opens, StandsAt, current_place, with_event}
 
 -- the same said of equal numbers and events

@@ -12,7 +12,8 @@ use Rattle.pmf_storelog.specs.declared.record.Saying.TheVariants.{Happens, Enter
 use Rattle.pmf_storelog.specs.declared.tally.Tally.{Tally}
 use Rattle.pmf_storelog.specs.Separators.{trimmed, records_in}
 use Rattle.pmf_storelog.specs.Records.{record_of}
-use Rattle.pmf_storelog.specs.LogText.{current_at, current_of, numbered_among, numbered_events, events_in, with_number, numbers_among, numbers_of, skipped_of, first_fault, first_fault_among, refusal_after, cause_after, fault_at, out_of_memory}
+use Rattle.pmf_storelog.specs.LogText.{current_at, current_of, numbered_among, numbered_events, entered_among, entered_of, events_in, numbers_of, skipped_of, first_fault, first_fault_among, refusal_after, cause_after, fault_at, out_of_memory}
+use Rattle.pmf_storelog.specs.Rising.{with_number, in_order}
 use Rattle.pmf_storelog.specs.Answers.{IsShown}
 use Rattle.pmf_storelog.specs.Sections.{HasSections, with_event}
 use Rattle.pmf_storelog.specs.Tally.{HasTaken, AddsRecord, AddsSkipped, IsFaultFor}
@@ -20,7 +21,7 @@ use Rattle.pmf_storelog.proofs.LogLemmas.{current_of-push, numbers_of-push, even
 use Rattle.pmf_storelog.proofs.SectionLemmas.{sections_as}
 
 numbers_of-nil : numbers_of [] ≡ []
-unfolding numbers_of numbers_among
+unfolding numbers_of entered_of entered_among
 numbers_of-nil = refl
 
 current_of-nil : current_of [] ≡ 0
@@ -52,9 +53,14 @@ not_ok cause is = let same : false ≡ true = is in cc
 
 module _ (run : ℕ) (records : List (List ℕ)) (text : List ℕ) (old : Tally) (taken : HasTaken run records old) where
   -- the first fault is then the new record's
-  new_fault : first_fault (records ++ text ∷ []) ≡ fault_at (old.records + 1) (cause_after (numbers_of records) (length (events_in records (current_of records))) (record_of text))
+  new_fault : first_fault (records ++ text ∷ []) ≡ fault_at (old.records + 1) (cause_after (entered_of records) (length (events_in records (current_of records))) (record_of text))
   unfolding refusal_after
   new_fault = rw (first_fault-push records text, taken.faultless, taken.count) refl
+
+  -- how many sections there are with a marker's
+  one_entered : (number : ℕ) → length (in_order (number ∷ entered_of records)) ≡ length (with_number (numbers_of records) number)
+  unfolding numbers_of
+  one_entered number = refl
 
   pub taken_event : (event : Event) (new : Tally) → record_of text ≡ Ok (Happens event) →
       HasSections run (with_number (numbers_of records) (current_of records)) (with_event (events_in records) (current_of records) event) (current_of records) new.sections →
@@ -70,7 +76,7 @@ module _ (run : ℕ) (records : List (List ℕ)) (text : List ℕ) (old : Tally)
       HasSections run (with_number (numbers_of records) number) (events_in records) number new.sections →
       length (with_number (numbers_of records) number) ≤ SECTION_LIMIT → new.records ≡ old.records + 1 → new.skipped ≡ old.skipped → HasTaken run (records ++ text ∷ []) new
   taken_enter number new says sections room count skipped = record {
-    faultless = rw (new_fault, says, le-ltb SECTION_LIMIT (length (with_number (numbers_of records) number)) room) refl;
+    faultless = rw (new_fault, says, le-ltb SECTION_LIMIT (length (in_order (number ∷ entered_of records))) (omega (arith, room, one_entered number))) refl;
     sections = sections_as run _ _ _ _ _ _ new.sections (sym (rw (numbers_of-push records text, says) refl)) (events_in-enter records text number says) (sym (rw (current_of-push records text, says) refl)) sections;
     count = omega (arith, count, taken.count, length-append records (text ∷ []));
     skipped = skipped ∙ taken.skipped ∙ sym (skipped_of-enter records text number says);
@@ -127,7 +133,8 @@ module _ (run : ℕ) (records : List (List ℕ)) (text : List ℕ) (old : Tally)
   entered_err number mid (Ok took) (Err fault) says count full is = λ memory. absurd (is memory)
   entered_err number mid (Err cause) (Err fault) says count full is = λ memory.
       let why = full (is memory).0 in
-      rw (new_fault, says, lt-ltb _ _ why.1, (is memory).1, why.0, count) refl
+      let more : SECTION_LIMIT < length (in_order (number ∷ entered_of records)) = omega (arith, why.1, one_entered number) in
+      rw (new_fault, says, lt-ltb _ _ more, (is memory).1, why.0, count) refl
 
 -- a part is one record, or none
 pub records_in-none : records_in [] ≡ []

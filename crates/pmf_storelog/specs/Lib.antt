@@ -7,7 +7,9 @@ pub mod Records
 pub mod Fields
 pub mod Quick
 pub mod LogValue
+pub mod Rising
 pub mod LogText
+pub mod Laws
 pub mod FaultText
 pub mod Answers
 pub mod Sections

@@ -1,7 +1,5 @@
 -- What the bytes of a log say: its sections, or its first fault. Defined here.
 use Rattle.std.specs.Prelude.{◌≡◌, ℕ, zero, suc, ◌+◌, Bool, true, false, nat_lt, ◌==◌, List, [], ◌∷◌, ◌++◌, length, take, map, filter, slice_index_or, Option, Some, None, Result, Ok, Err, if◌then◌else◌, count_by}
-use Rattle.std.specs.Ordering.{nat_cmp}
-use Rattle.std.specs.BTreeSet.{insert_key}
 use Rattle.pmf_event.specs.Section.{Trace}
 use Rattle.pmf_event.specs.declared.event.Event.{Event}
 use Rattle.pmf_event.specs.declared.section.TheConstants.{EVENT_LIMIT}
@@ -13,6 +11,7 @@ use Rattle.pmf_storelog.specs.declared.record.Saying.{Saying}
 use Rattle.pmf_storelog.specs.declared.record.Saying.TheVariants.{Happens, Enters, Skipped}
 use Rattle.pmf_storelog.specs.Separators.{records_of, ended_records}
 use Rattle.pmf_storelog.specs.Records.{record_of}
+use Rattle.pmf_storelog.specs.Rising.{in_order}
 use Rattle.pmf_storelog.specs.LogValue.{LogValue}
 
 -- want of memory, which is no record's
@@ -63,25 +62,25 @@ numbered_events records = numbered_among records (length records)
 unfoldable pub events_in : List (List ℕ) → ℕ → List Event
 events_in records number = map (λ entry. entry.1) (filter (λ entry. entry.0 == number) (numbered_events records))
 
--- rising numbers with one more, unless it is among them
-abbrev pub with_number : List ℕ → ℕ → List ℕ
-with_number numbers number = insert_key nat_cmp numbers number
+-- the number of the section that a reading is of: a marker's, or the one current at an event
+abbrev pub entered : ℕ → Result Saying Cause → List ℕ
+entered current (Ok (Happens event)) = current ∷ []
+entered current (Ok (Enters number)) = number ∷ []
+entered current (Ok Skipped) = []
+entered current (Err cause) = []
 
--- the numbers with that of the section that a reading is of: a marker's, or the one current at an event
-abbrev pub numbers_with : Result Saying Cause → ℕ → List ℕ → List ℕ
-numbers_with (Ok (Happens event)) current numbers = with_number numbers current
-numbers_with (Ok (Enters number)) current numbers = with_number numbers number
-numbers_with (Ok Skipped) current numbers = numbers
-numbers_with (Err cause) current numbers = numbers
+-- the numbers of the sections that the first k records are of, in the order of the log
+unfoldable pub entered_among : List (List ℕ) → ℕ → List ℕ
+entered_among records zero = []
+entered_among records (suc k) = entered_among records k ++ entered (current_at records k) (reading_at records k)
 
--- the numbers of the sections of the first k records
-unfoldable pub numbers_among : List (List ℕ) → ℕ → List ℕ
-numbers_among records zero = []
-numbers_among records (suc k) = numbers_with (reading_at records k) (current_at records k) (numbers_among records k)
+-- the numbers of the sections that a list of records is of, in the order of the log, repeats included
+unfoldable pub entered_of : List (List ℕ) → List ℕ
+entered_of records = entered_among records (length records)
 
--- the numbers of the sections of a list of records, rising
+-- the numbers of the sections of a list of records: each once, rising
 unfoldable pub numbers_of : List (List ℕ) → List ℕ
-numbers_of records = numbers_among records (length records)
+numbers_of records = in_order (entered_of records)
 
 -- whether a reading is skipped
 abbrev pub says_nothing : Result Saying Cause → Bool
@@ -98,14 +97,14 @@ is_skipped text = says_nothing (record_of text)
 unfoldable pub skipped_of : List (List ℕ) → ℕ
 skipped_of records = count_by is_skipped records
 
--- why a record with this reading is refused after sections of these numbers, and so many events in the
--- current one, if it is; where no record before it was refused, neither is past its limit
+-- why a record with this reading is refused after records of sections with these numbers, and so many
+-- events in the current one, if it is; where no record before it was refused, neither is past its limit
 abbrev pub cause_after : List ℕ → ℕ → Result Saying Cause → Option Cause
-cause_after numbers events (Ok (Happens event)) = if events == EVENT_LIMIT then Some TooManyEvents else None
-cause_after numbers events (Ok (Enters number)) =
-    if nat_lt SECTION_LIMIT (length (with_number numbers number)) then Some TooManySections else None
-cause_after numbers events (Ok Skipped) = None
-cause_after numbers events (Err cause) = Some cause
+cause_after before events (Ok (Happens event)) = if events == EVENT_LIMIT then Some TooManyEvents else None
+cause_after before events (Ok (Enters number)) =
+    if nat_lt SECTION_LIMIT (length (in_order (number ∷ before))) then Some TooManySections else None
+cause_after before events (Ok Skipped) = None
+cause_after before events (Err cause) = Some cause
 
 -- the cause as the fault of the record of this number, if there is one
 abbrev pub fault_at : ℕ → Option Cause → Option LogFault
@@ -115,7 +114,7 @@ fault_at number (Some cause) = Some (record { at = number; cause = cause })
 -- why a record with this reading is refused after these records, if it is
 unfoldable pub refusal_after : List (List ℕ) → Result Saying Cause → Option LogFault
 refusal_after before reading =
-    fault_at (length before + 1) (cause_after (numbers_of before) (length (events_in before (current_of before))) reading)
+    fault_at (length before + 1) (cause_after (entered_of before) (length (events_in before (current_of before))) reading)
 
 -- why the record of index k is refused, if it is: by itself, or by what the records before it say
 unfoldable pub refusal_at : List (List ℕ) → ℕ → Option LogFault

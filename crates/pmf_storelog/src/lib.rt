@@ -21,6 +21,7 @@
 
 mod fault;
 mod fields;
+pub mod laws;
 mod line;
 #[cfg(test)]
 mod line_tests;

@@ -33,7 +33,8 @@ pub(crate) struct OpenSections {
 
 impl OpenSections {
     ghost use Rattle.pmf_event.specs.declared.event.Event.{Event};
-    ghost use Rattle.pmf_storelog.specs.LogText.{section_named, with_number};
+    ghost use Rattle.pmf_storelog.specs.LogText.{section_named};
+    ghost use Rattle.pmf_storelog.specs.Rising.{with_number};
     ghost use Rattle.pmf_storelog.specs.Sections.{HasSections, Opens, with_event};
     ghost use Rattle.pmf_storelog.specs.declared.fault.Cause.TheVariants.{OutOfMemory, TooManyEvents, TooManySections};
 

@@ -8,7 +8,8 @@ use Rattle.pmf_event.specs.declared.name.Name.{Name}
 use Rattle.pmf_event.specs.Section.{Trace}
 use Rattle.pmf_storelog.specs.LogText.{log_of}
 use Rattle.pmf_storelog.specs.LogValue.{LogValue}
-use Rattle.pmf_storelog.proofs.RisingLemmas.{IsBelow, Rising, name_in, numbers_rise}
+use Rattle.pmf_storelog.specs.Rising.{IsBelow, Rises}
+use Rattle.pmf_storelog.proofs.RisingLemmas.{name_in, numbers_rise}
 use Rattle.pmf_farm.specs.declared.fault.FarmFault.{FarmFault}
 use Rattle.pmf_farm.specs.declared.fault.FarmFault.TheVariants as fault
 use Rattle.pmf_farm.specs.Repeats.{has_name, times_named, StandsTwice}
@@ -49,7 +50,7 @@ module _ (run : ℕ) (name : Name) where
   ]
 
   -- of rising numbers each name is one at most
-  once : (ns : List ℕ) → Rising ns → count_by (is_name name) (map (name_in run) ns) ≤ 1
+  once : (ns : List ℕ) → Rises ns → count_by (is_name name) (map (name_in run) ns) ≤ 1
   once [] rising = omega arith
   once (n ∷ ns) rising = elim (cases_Bool (is_name name (name_in run n))) [
     | inl is ↦

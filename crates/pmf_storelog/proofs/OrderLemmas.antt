@@ -1,0 +1,153 @@
+-- The numbers of a list in order: they rise, are those of the list, and with one more are one insertion more.
+use Rattle.std.proofs.Common.{◌≡◌, ℕ, zero, suc, ◌<◌, List, [], ◌∷◌, ◌++◌, length, get_or, refl, sym, ◌∙◌, ap, subst, arith, inl, inr, Less, Equal, Greater}
+use Rattle.std.specs.Prelude.{◌⊎◌, Contains}
+use Rattle.std.specs.Ordering.{nat_cmp}
+use Rattle.std.specs.BTreeSet.{insert_key}
+use Rattle.std.specs.Cmp.{nat_cmp_is}
+use Rattle.std.proofs.lemmas.Bool.{cases_order}
+use Rattle.pmf_storelog.specs.Rising.{IsBelow, Rises, with_number, in_order}
+use Rattle.pmf_storelog.specs.Laws.{InOrderIsTheSetInOrder}
+
+-- the number is among them
+abbrev pub Has : ℕ → List ℕ → Type 0
+Has n [] = ⊥
+Has n (x ∷ xs) = (n ≡ x) ⊎ Has n xs
+
+below-less : (m n : ℕ) (xs : List ℕ) → m < n → IsBelow n xs → IsBelow m xs
+below-less m n [] less below = tt
+below-less m n (x ∷ xs) less below = ((let b = below.0 in omega (arith, b, less)), below-less m n xs less below.1)
+
+has-above : (m n : ℕ) (xs : List ℕ) → IsBelow m xs → Has n xs → m < n
+has-above m n [] below has = absurd has
+has-above m n (x ∷ xs) below has = elim has [ inl is ↦ subst (λ y. m < y) (sym is) below.0 | inr later ↦ has-above m n xs below.1 later ]
+
+-- how a number stands to another, as the order of keys says it
+order_of : (m n : ℕ) → ((nat_cmp m n ≡ Less) × (m < n)) ⊎ ((nat_cmp m n ≡ Equal) × (m ≡ n)) ⊎ ((nat_cmp m n ≡ Greater) × (n < m))
+order_of m n = elim (cases_order m n) [
+  | inl same ↦ inr (inl (sym (nat_cmp_is m n Equal same), same))
+  | inr other ↦ elim other [ inl less ↦ inl (sym (nat_cmp_is m n Less less), less) | inr more ↦ inr (inr (sym (nat_cmp_is m n Greater more), more)) ]
+]
+
+below-insert : (m n : ℕ) (xs : List ℕ) → m < n → IsBelow m xs → IsBelow m (insert_key nat_cmp xs n)
+below-insert m n [] less below = (less, tt)
+below-insert m n (x ∷ xs) less below = elim (order_of n x) [
+  | inl low ↦ rw low.0 (less, below)
+  | inr rest ↦ elim rest [ inl same ↦ rw same.0 below | inr high ↦ rw high.0 (below.0, below-insert m n xs less below.1) ]
+]
+
+rising-insert : (n : ℕ) (xs : List ℕ) → Rises xs → Rises (insert_key nat_cmp xs n)
+rising-insert n [] rising = (tt, tt)
+rising-insert n (x ∷ xs) rising = elim (order_of n x) [
+  | inl low ↦ rw low.0 ((low.1, below-less n x xs low.1 rising.0), rising)
+  | inr rest ↦ elim rest [ inl same ↦ rw same.0 rising | inr high ↦ rw high.0 (below-insert x n xs high.1 rising.0, rising-insert n xs rising.1) ]
+]
+
+pub has-insert : (n : ℕ) (xs : List ℕ) → Has n (insert_key nat_cmp xs n)
+has-insert n [] = inl refl
+has-insert n (x ∷ xs) = elim (order_of n x) [
+  | inl low ↦ rw low.0 (inl refl)
+  | inr rest ↦ elim rest [ inl same ↦ rw same.0 (inl same.1) | inr high ↦ rw high.0 (inr (has-insert n xs)) ]
+]
+
+pub insert-present : (n : ℕ) (xs : List ℕ) → Rises xs → Has n xs → insert_key nat_cmp xs n ≡ xs
+insert-present n [] rising has = absurd has
+insert-present n (x ∷ xs) rising has = elim (order_of n x) [
+  | inl low ↦ absurd (elim has [ inl is ↦ (let l = low.1 in omega (arith, is, l)) | inr later ↦ (let l = low.1 in let a = has-above x n xs rising.0 later in omega (arith, a, l)) ])
+  | inr rest ↦ elim rest [
+    | inl same ↦ rw same.0 refl
+    | inr high ↦ rw high.0 (ap (λ ys. x ∷ ys) (insert-present n xs rising.1 (elim has [ inl is ↦ absurd (let h = high.1 in omega (arith, is, h)) | inr later ↦ later ])))
+  ]
+]
+
+-- the numbers with one more have those that were there, and that one
+has-kept : (k n : ℕ) (xs : List ℕ) → Has k xs → Has k (insert_key nat_cmp xs n)
+has-kept k n [] has = absurd has
+has-kept k n (x ∷ xs) has = elim (order_of n x) [
+  | inl low ↦ rw low.0 (inr has)
+  | inr rest ↦ elim rest [
+    | inl same ↦ rw same.0 has
+    | inr high ↦ rw high.0 (elim has [ inl is ↦ inl is | inr later ↦ inr (has-kept k n xs later) ])
+  ]
+]
+
+has-either : (k n : ℕ) (xs : List ℕ) → Has k (insert_key nat_cmp xs n) → (k ≡ n) ⊎ Has k xs
+has-either k n [] has = has
+has-either k n (x ∷ xs) has = elim (order_of n x) [
+  | inl low ↦ rw low.0 at has
+  | inr rest ↦ elim rest [
+    | inl same ↦ inr (rw same.0 at has)
+    | inr high ↦
+        let found : (k ≡ x) ⊎ Has k (insert_key nat_cmp xs n) = rw high.0 at has in
+        elim found [ inl is ↦ inr (inl is) | inr later ↦ elim (has-either k n xs later) [ inl is ↦ inl is | inr there ↦ inr (inr there) ] ]
+  ]
+]
+
+pub in_order-rises : (ns : List ℕ) → Rises (in_order ns)
+in_order-rises [] = tt
+in_order-rises (n ∷ ns) = rising-insert n (in_order ns) (in_order-rises ns)
+
+has-in_order : (k : ℕ) (ns : List ℕ) → Has k ns → Has k (in_order ns)
+has-in_order k [] has = absurd has
+has-in_order k (n ∷ ns) has = elim has [
+  | inl is ↦ subst (λ m. Has m (in_order (n ∷ ns))) (sym is) (has-insert n (in_order ns))
+  | inr later ↦ has-kept k n (in_order ns) (has-in_order k ns later)
+]
+
+in_order-has : (k : ℕ) (ns : List ℕ) → Has k (in_order ns) → Has k ns
+in_order-has k [] has = absurd has
+in_order-has k (n ∷ ns) has = elim (has-either k n (in_order ns) has) [ inl is ↦ inl is | inr later ↦ inr (in_order-has k ns later) ]
+
+-- a number is among them at some place
+contains-has : (n : ℕ) (xs : List ℕ) (k : ℕ) → k < length xs → get_or xs k n ≡ n → Has n xs
+contains-has n [] k within is = absurd (omega (arith, within))
+contains-has n (x ∷ xs) zero within is = inl (sym is)
+contains-has n (x ∷ xs) (suc k) within is = inr (contains-has n xs k (omega (arith, within)) is)
+
+has-contains : (n : ℕ) (xs : List ℕ) → Has n xs → Contains xs n
+has-contains n [] has = absurd has
+has-contains n (x ∷ xs) has = elim has [
+  | inl is ↦ (0, omega arith, sym is)
+  | inr later ↦ let there = has-contains n xs later in (suc there.0, omega (arith, there.1), there.2)
+]
+
+pub the_set_in_order : InOrderIsTheSetInOrder
+the_set_in_order ns = (
+  in_order-rises ns,
+  λ n. (
+    λ c. has-contains n ns (in_order-has n ns (contains-has n (in_order ns) c.0 c.1 c.2)),
+    λ c. has-contains n (in_order ns) (has-in_order n ns (contains-has n ns c.0 c.1 c.2)),
+  ),
+)
+
+-- it is the same which of two numbers comes first
+low_first : (m n : ℕ) (xs : List ℕ) → m < n → with_number (with_number xs m) n ≡ with_number (with_number xs n) m
+low_first m n [] less =
+    let up : nat_cmp m n ≡ Less = sym (nat_cmp_is m n Less less) in
+    let down : nat_cmp n m ≡ Greater = sym (nat_cmp_is n m Greater less) in
+    rw (up, down) refl
+low_first m n (x ∷ xs) less =
+    let up : nat_cmp m n ≡ Less = sym (nat_cmp_is m n Less less) in
+    let down : nat_cmp n m ≡ Greater = sym (nat_cmp_is n m Greater less) in
+    elim (order_of m x) [
+      | inl low ↦ elim (order_of n x) [
+        | inl both ↦ rw (low.0, both.0, up, down) refl
+        | inr rest ↦ elim rest [ inl same ↦ rw (low.0, same.0, down, low.0) refl | inr high ↦ rw (low.0, high.0, down, low.0) refl ]
+      ]
+      | inr rest ↦
+          let above : nat_cmp n x ≡ Greater = sym (nat_cmp_is n x Greater (elim rest [ inl same ↦ (let s = same.1 in omega (arith, s, less)) | inr high ↦ (let h = high.1 in omega (arith, h, less)) ])) in
+          elim rest [
+            | inl same ↦ rw (same.0, above, same.0) refl
+            | inr high ↦ rw (high.0, above, high.0) (ap (λ ys. x ∷ ys) (low_first m n xs less))
+          ]
+    ]
+
+either_first : (m n : ℕ) (xs : List ℕ) → with_number (with_number xs m) n ≡ with_number (with_number xs n) m
+either_first m n xs = elim (order_of m n) [
+  | inl low ↦ low_first m n xs low.1
+  | inr rest ↦ elim rest [ inl same ↦ subst (λ k. with_number (with_number xs m) k ≡ with_number (with_number xs k) m) same.1 refl | inr high ↦ sym (low_first n m xs high.1) ]
+]
+
+-- one number more at the end is one insertion more
+pub in_order-push : (ns : List ℕ) (n : ℕ) → in_order (ns ++ n ∷ []) ≡ with_number (in_order ns) n
+in_order-push [] n = refl
+in_order-push (m ∷ ns) n = ap (λ ms. with_number ms m) (in_order-push ns n) ∙ either_first n m (in_order ns)

@@ -1,0 +1,15 @@
+//! Laws of the numbers of a log's sections, each the clause of an empty function.
+
+ghost use Rattle.pmf_storelog.specs.Laws.{InOrderIsTheSetInOrder, SectionNumbersRise};
+
+/// The numbers of the sections of a log rise strictly, whatever the order of its markers and however
+/// often a section comes again.
+pub fn section_numbers_rise()
+    ensures { SectionNumbersRise }
+{}
+
+/// The numbers of a list in order, of which the sections' numbers are defined, rise strictly, and a
+/// number is among them exactly where it is among those of the list.
+pub fn in_order_is_the_set_in_order()
+    ensures { InOrderIsTheSetInOrder }
+{}
