@@ -8,8 +8,8 @@ pub fn section_numbers_rise()
     ensures { SectionNumbersRise }
 {}
 
-/// The numbers of a list in order, of which the sections' numbers are defined, rise strictly, and a
-/// number is among them exactly where it is among those of the list.
+/// The numbers of a list in order, by which those of the sections are defined, rise strictly, and a
+/// number is among them exactly where it is in the list.
 pub fn in_order_is_the_set_in_order()
     ensures { InOrderIsTheSetInOrder }
 {}

@@ -6,7 +6,8 @@
 //! [`read_log`] answers exactly what `LogText.log_of` says of the bytes: the sections with the number
 //! of skipped records, or the first faulty record's fault. [`LogReader`] answers the same of all
 //! pieces fed to it, joined, and refuses as soon as the bytes fed show a fault that no later byte can
-//! change (`LogText.shown_fault`, `LogText.IsFaultOfAll`). The text itself is defined in `Separators`,
+//! change (`LogText.shown_fault`, `LogText.IsFaultOfAll`). The numbers of the sections are a set in
+//! order, and rise (`Rising`, [`laws`]). The text itself is defined in `Separators`,
 //! `Numbers` and `Records`; what a reader in mid-log stands for, in `Reader`; that want of memory is
 //! left out of each promise, in `Answers`.
 //!
