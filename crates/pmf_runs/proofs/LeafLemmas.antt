@@ -1,12 +1,12 @@
 -- The states of a leaf, by its keys and states.
 use Rattle.std.proofs.Common.{◌≡◌, ℕ, ◌+◌, ◌-◌, ◌/◌, ◌<◌, ◌≤◌, List, [], ◌∷◌, ◌++◌, length, get_or, set, take, drop, refl, sym, ◌∙◌, ap, subst, arith, inl, inr}
-use Rattle.std.specs.Prelude.{true, false, vec_len, ◌&&◌, nat_le, nat_lt, if◌then◌else◌, Option, IfSome}
+use Rattle.std.specs.Prelude.{true, false, ◌&&◌, nat_le, nat_lt, if◌then◌else◌, Option, IfSome}
 use Rattle.std.proofs.lemmas.Bool.{cases_lt, and_right, false≢true}
 use Rattle.std.specs.List.{insert, remove}
 use Rattle.std.proofs.lemmas.List.{get_or_read, set-get_or, take_rest}
 use Rattle.pmf_runs.specs.declared.leaf.Leaf.{Leaf}
 use Rattle.pmf_runs.specs.Ranks.{rank, at_rank, HasKey, SameStates, ChangesWithin, ChangesItems, low_rank, high_rank, IsTail, parting}
-use Rattle.pmf_runs.specs.Leaves.{leaf_state, leaf_begins, leaf_full, leaf_middle}
+use Rattle.pmf_runs.specs.Leaves.{leaf_state, leaf_begins, leaf_middle}
 use Rattle.pmf_runs.proofs.RankLemmas.{IsRank, rank-is, at_rank-insert, at_rank-remove, at_rank-changes, at_rank-take, at_rank-drop, insert-has, insert-keeps, le-true, lt-true, le-false, lt-false, last-rank}
 
 pub none-within : (low high k : ℕ) → high ≤ low → (nat_le low k && nat_lt k high) ≡ false

@@ -1,13 +1,13 @@
 -- The states of a level, by its keys and parts.
-use Rattle.std.proofs.Common.{◌≡◌, ℕ, zero, suc, ◌+◌, ◌-◌, ◌/◌, ◌<◌, ◌≤◌, Bool, true, List, [], ◌∷◌, length, get_or, set, take, drop, map, refl, sym, ◌∙◌, ap, subst, arith, inl, inr}
-use Rattle.std.specs.Prelude.{vec_len, nat_le, nat_lt, ◌&&◌, false, if◌then◌else◌, Option, None, Some, IfSome}
+use Rattle.std.proofs.Common.{◌≡◌, ℕ, zero, suc, ◌+◌, ◌-◌, ◌<◌, ◌≤◌, Bool, true, List, [], ◌∷◌, length, get_or, set, take, drop, map, refl, sym, ◌∙◌, ap, subst, arith, inl, inr}
+use Rattle.std.specs.Prelude.{nat_le, nat_lt, ◌&&◌, false, if◌then◌else◌, Option, None, Some, IfSome}
 use Rattle.std.specs.List.{insert, remove}
 use Rattle.std.proofs.lemmas.Bool.{cases_lt, cases_eq}
 use Rattle.std.proofs.lemmas.List.{get_or-map, get_or-set_same, get_or-set_other, length-set, set-get_or, map-set, length-map, take-map, drop-map}
 use Rattle.pmf_runs.specs.declared.level.Level.{Level}
 use Rattle.pmf_runs.specs.Ranks.{rank, at_rank, HasKey, IsFresh, SameStates, ChangesWithin, Splits, IsInner, reaches, falls_short, is_within, bound_at, IsTail, parting}
-use Rattle.pmf_runs.specs.Levels.{part_states, level_state, level_begins, level_full, level_middle, Rewrites, BeginsAt, GoesOn}
-use Rattle.pmf_runs.proofs.LeafLemmas.{le-is, none-within, all-within, lt-more}
+use Rattle.pmf_runs.specs.Levels.{part_states, level_state, level_begins, level_middle, Rewrites, BeginsAt, GoesOn}
+use Rattle.pmf_runs.proofs.LeafLemmas.{none-within, all-within, lt-more}
 use Rattle.pmf_runs.proofs.RankLemmas.{IsRank, rank-is, rank-key, bound_at-same, bound_at-other, at_rank-insert, at_rank-remove, at_rank-take, at_rank-drop, last-rank}
 
 map-insert : {X Y : Type 0} (f : X → Y) (xs : List X) (i : ℕ) (x : X) → map f (insert xs i x) ≡ insert (map f xs) i (f x)

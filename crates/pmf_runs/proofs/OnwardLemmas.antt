@@ -9,7 +9,7 @@ use Rattle.pmf_runs.specs.declared.leaf.Leaf.{Leaf}
 use Rattle.pmf_runs.specs.Ranks.{rank, at_rank, Rises, IsBeyond}
 use Rattle.pmf_runs.specs.Leaves.{leaf_state}
 use Rattle.pmf_runs.proofs.RankLemmas.{IsRank, rank-is, rank-unique, rank-above, rises-le}
-use Rattle.pmf_runs.proofs.LeafLemmas.{leaf-counted, rank-bound, state-read}
+use Rattle.pmf_runs.proofs.LeafLemmas.{leaf-counted, rank-bound}
 
 -- a key is the first number of the run after it
 rank-at : (keys : List ℕ) (i : ℕ) → Rises keys → 0 < i → i ≤ length keys → rank keys (get_or keys (i - 1) 0) ≡ i
