@@ -10,7 +10,7 @@ use Rattle.pmf_event.specs.Store.{event_at, at, stores, last, last_store}
 use Rattle.pmf_event.specs.Exclusion.{is_included}
 use Rattle.pmf_event.specs.Interval.{interval_at, is_open}
 use Rattle.pmf_event.specs.Persist.{is_checked, is_exposed}
-use Rattle.pmf_event.specs.Transactions.{begins, ends, rise, depth_at, in_transaction, is_outside, adds, is_backed, opens_scope, closes_scope, opens_after, scope_at, in_scope, stores_inside, is_scoped, lacks_backup, is_left_open}
+use Rattle.pmf_event.specs.Transactions.{begins, ends, rise, depth_at, in_transaction, is_outside, adds, is_backed, opens_scope, closes_scope, opens_after, scope_at, in_scope, stores_inside, is_scoped, is_left_open}
 use Rattle.pmf_event.proofs.PlacesLemmas.{greatest-step, greatest-zero, greatest-bound, greatest-passes, greatest-above, least-step, least-zero, least-bound, least-none_behind, count-step, count-mono, count-le}
 use Rattle.pmf_event.proofs.EventLemmas.{at-is, last-other, last-here}
 use Rattle.pmf_event.proofs.WriteBackLemmas.{last-bound}
@@ -326,17 +326,3 @@ left_open-exposed es p b scoped =
 pub left_open-none : (es : List Event) (p b : ℕ) → is_scoped es p b ≡ false → is_left_open es p b ≡ false
 unfolding is_left_open
 left_open-none es p b other = ap (λ v. v && is_included es (suc p) b && is_open (interval_at es (suc p) b)) other
-
--- ---- what lacks a backup
-
-pub bare-excluded : (es : List Event) (p b : ℕ) → is_included es (suc p) b ≡ false → lacks_backup es p b ≡ false
-unfolding lacks_backup
-bare-excluded es p b out = ap (λ v. v && not (is_backed es p b)) out
-
-pub bare-backed : (es : List Event) (p b : ℕ) → is_backed es p b ≡ true → lacks_backup es p b ≡ false
-unfolding lacks_backup
-bare-backed es p b backed = elim (is_included es (suc p) b) as (λ v. (v && not (is_backed es p b)) ≡ false) [ true ↦ ap not backed | false ↦ refl ]
-
-pub bare-from : (es : List Event) (p b : ℕ) → is_included es (suc p) b ≡ true → is_backed es p b ≡ false → lacks_backup es p b ≡ true
-unfolding lacks_backup
-bare-from es p b included out = and_from _ _ included (ap not out)

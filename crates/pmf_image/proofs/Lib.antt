@@ -3,8 +3,8 @@ pub mod OrderedLemmas
 pub mod FailureLemmas
 pub mod CertificateLemmas
 pub mod ExactLemmas
-pub mod RunLemmas
+pub mod BorderLemmas
 pub mod ScopeLemmas
-pub mod QuestionLemmas
+pub mod ByteSearchLemmas
 pub mod ContradictionLemmas
 pub mod WorkedRows

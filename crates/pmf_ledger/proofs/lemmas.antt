@@ -15,5 +15,5 @@ pub mod LinesLemmas
 pub mod GivingLemmas
 pub mod AlikeLemmas
 pub mod SpelledLemmas
-pub mod RoundTripLemmas
+pub mod LedgerTextLemmas
 pub mod LoadedLemmas

@@ -12,7 +12,7 @@ use Rattle.pmf_runs.specs.Leaves.{leaf_state}
 use Rattle.pmf_runs.proofs.RankLemmas.{IsRank, rank-is, rank-unique, rank-above, rises-le, lt-true, lt-false}
 use Rattle.pmf_runs.proofs.LeafLemmas.{state-read}
 use Rattle.pmf_runs.specs.Lines.{counted_from}
-use Rattle.pmf_runs.proofs.LineLemmas.{counted-same, counted-split, counted-none}
+use Rattle.pmf_runs.proofs.LineCountLemmas.{counted-same, counted-split, counted-none}
 
 -- ---- where a walk begins, and where an element ends
 

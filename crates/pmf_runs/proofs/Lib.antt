@@ -3,7 +3,7 @@ pub mod LeafLemmas
 pub mod LevelLemmas
 pub mod ChangingLemmas
 pub mod RunLemmas
-pub mod LineLemmas
+pub mod LineCountLemmas
 pub mod AskingLemmas
 pub mod LevelAskingLemmas
 pub mod RunAskingLemmas

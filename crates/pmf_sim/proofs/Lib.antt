@@ -1,5 +1,5 @@
-pub mod NumberLemmas
-pub mod StepLemmas
+pub mod NumberWordLemmas
+pub mod ScheduleLineLemmas
 pub mod ScheduleLemmas
 pub mod PlayingLemmas
 pub mod LedgersLemmas

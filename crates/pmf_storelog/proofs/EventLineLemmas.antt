@@ -15,7 +15,7 @@ use Rattle.pmf_storelog.specs.Numbers.{number_of}
 use Rattle.pmf_storelog.specs.Canonical.{name_of, fields_of_event}
 use Rattle.pmf_storelog.specs.Lines.{is_one_record, names_a_section, names_a_section_first, event_of_record, event_of_line}
 use Rattle.pmf_storelog.specs.Spelling.{AllValid}
-use Rattle.pmf_storelog.proofs.LineLemmas.{IsPlain, trimmed-plain}
+use Rattle.pmf_storelog.proofs.PlainRecordLemmas.{IsPlain, trimmed-plain}
 use Rattle.pmf_storelog.proofs.PlainLemmas.{text_of_event, text_of_event-plain}
 use Rattle.pmf_storelog.proofs.RoundTripLemmas.{line-length}
 use Rattle.pmf_storelog.proofs.SpellingLemmas.{all_fit, record_of-event}

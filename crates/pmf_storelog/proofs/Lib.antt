@@ -3,7 +3,7 @@ pub mod NumberLemmas
 pub mod FieldLemmas
 pub mod DigitLemmas
 pub mod PartLemmas
-pub mod OrderLemmas
+pub mod InOrderLemmas
 pub mod LogLemmas
 pub mod SectionLemmas
 pub mod RisingLemmas
@@ -15,7 +15,7 @@ pub mod EventLineLemmas
 pub mod FrontLemmas
 pub mod CanonicalLemmas
 pub mod QuickLemmas
-pub mod LineLemmas
+pub mod PlainRecordLemmas
 pub mod PlainLemmas
 pub mod RoundTripLemmas
 pub mod SpellingLemmas

@@ -19,7 +19,7 @@ use Rattle.pmf_storelog.specs.Sections.{with_event}
 use Rattle.pmf_storelog.specs.Separators.{records_of, ended_records}
 use Rattle.pmf_storelog.specs.LogText.{reading_at, number_after, current_at, current_of, numbered, numbered_among, numbered_events, events_in, entered, entered_among, entered_of, numbers_of, is_skipped, skipped_of, refusal_after, refusal_at, or_else, first_fault_among, first_fault, too_long, shown_within, fault_within, shown_fault, fault_of, IsFaultOfAll}
 use Rattle.pmf_storelog.specs.Rising.{with_number, in_order}
-use Rattle.pmf_storelog.proofs.OrderLemmas.{in_order-push}
+use Rattle.pmf_storelog.proofs.InOrderLemmas.{in_order-push}
 use Rattle.pmf_storelog.proofs.PartLemmas.{ended_records-more, records_of-unfinished, unfinished}
 
 -- the events of a section among numbered ones

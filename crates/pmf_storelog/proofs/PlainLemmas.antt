@@ -16,7 +16,7 @@ use Rattle.pmf_storelog.specs.Separators.{is_separator, is_blank}
 use Rattle.pmf_event.specs.Address.{address}
 use Rattle.pmf_storelog.specs.Canonical.{field_of, fields_of_span, fields_of_event, name_of}
 use Rattle.pmf_storelog.proofs.CanonicalLemmas.{Fits}
-use Rattle.pmf_storelog.proofs.LineLemmas.{IsPlain}
+use Rattle.pmf_storelog.proofs.PlainRecordLemmas.{IsPlain}
 
 -- no byte passes
 abbrev NoneIn : (ℕ → Bool) → List ℕ → Type 0

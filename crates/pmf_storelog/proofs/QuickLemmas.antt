@@ -21,7 +21,7 @@ use Rattle.pmf_storelog.specs.declared.fault.Cause.{Cause}
 use Rattle.pmf_storelog.specs.Separators.{is_separator, is_blank, parts_of}
 use Rattle.pmf_storelog.specs.Quick.{BeginsWithDigits, BeginsWithEvent, BeginsWithField, BeginsWithFields, BeginsWithNumber, BeginsWithPart, HasFields, IsClean}
 use Rattle.pmf_storelog.proofs.CanonicalLemmas.{numeral_of-digits, NoFieldEnd, no_field_end, fields_of-more, fields_of-last}
-use Rattle.pmf_storelog.proofs.LineLemmas.{IsPlain, records_in-plain}
+use Rattle.pmf_storelog.proofs.PlainRecordLemmas.{IsPlain, records_in-plain}
 use Rattle.pmf_storelog.proofs.PlainLemmas.{no_separator, no_blank}
 
 -- fewer than 16 digits leave room for one more

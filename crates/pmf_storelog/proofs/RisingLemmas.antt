@@ -16,7 +16,7 @@ use Rattle.pmf_storelog.specs.LogValue.{LogValue}
 use Rattle.pmf_storelog.specs.Separators.{records_of, ended_records}
 use Rattle.pmf_storelog.specs.Rising.{Rises, with_number, in_order}
 use Rattle.pmf_storelog.specs.Laws.{SectionNumbersRise}
-use Rattle.pmf_storelog.proofs.OrderLemmas.{Has, has-insert, insert-present, in_order-rises}
+use Rattle.pmf_storelog.proofs.InOrderLemmas.{Has, has-insert, insert-present, in_order-rises}
 use Rattle.pmf_storelog.proofs.LogLemmas.{entered_among-append, in_order-entered, numbers_with}
 
 -- at most as many numbers of sections as a log may have, and the current one among them if there is one

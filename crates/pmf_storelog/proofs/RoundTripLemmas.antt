@@ -9,7 +9,7 @@ use Rattle.pmf_event.specs.Span.{Extent}
 use Rattle.pmf_storelog.specs.Separators.{records_of}
 use Rattle.pmf_storelog.specs.Canonical.{field_of, fields_of_span, fields_of_event, name_of, line_of_event, line_of_marker, canonical_text}
 use Rattle.pmf_storelog.proofs.CanonicalLemmas.{Fits, hex-length}
-use Rattle.pmf_storelog.proofs.LineLemmas.{IsPlain, text_of_lines, records_of-lines}
+use Rattle.pmf_storelog.proofs.PlainRecordLemmas.{IsPlain, text_of_lines, records_of-lines}
 use Rattle.pmf_storelog.proofs.PlainLemmas.{AllFit, text_of_event, text_of_event-plain, text_of_marker, text_of_marker-plain}
 
 -- each event of a list has spans of 64 bits

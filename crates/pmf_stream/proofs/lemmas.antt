@@ -1,7 +1,7 @@
-pub mod TextLemmas
-pub mod JoiningLemmas
-pub mod ReadingLemmas
+pub mod WritingLemmas
+pub mod TextJoiningLemmas
+pub mod ReadAllLemmas
 pub mod StreamLemmas
 pub mod AnsweringLemmas
-pub mod SectionLemmas
+pub mod FoundSectionLemmas
 pub mod TakenLemmas

@@ -1,7 +1,7 @@
 pub mod FloorLemmas
-pub mod StandsLemmas
+pub mod WorldStandsLemmas
 pub mod GatheredLemmas
 pub mod TaskLemmas
 pub mod SentLemmas
-pub mod GatheringLemmas
+pub mod WorldLedgerLemmas
 pub mod TurningLemmas

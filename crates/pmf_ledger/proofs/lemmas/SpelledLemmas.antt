@@ -17,7 +17,7 @@ use Rattle.pmf_event.specs.declared.row.Row.{Row}
 use Rattle.pmf_storelog.specs.Separators.{is_separator}
 use Rattle.pmf_storelog.specs.Spelling.{AllValid}
 use Rattle.pmf_storelog.proofs.EventLineLemmas.{text-one_line}
-use Rattle.pmf_storelog.proofs.LineLemmas.{text_of_lines}
+use Rattle.pmf_storelog.proofs.PlainRecordLemmas.{text_of_lines}
 use Rattle.pmf_storelog.proofs.PlainLemmas.{text_of_event}
 use Rattle.pmf_verdict.specs.Text.{text_of_pair, text_of_finding, text_of_row}
 use Rattle.pmf_ledger.specs.Loading.{is_line_end, parts_of, lines_of, left_of}

@@ -2,7 +2,7 @@
 use Rattle.std.proofs.Common.{List}
 use Rattle.std.specs.List.{All}
 use Rattle.pmf_verdict.specs.Checked.{Checked}
-use Rattle.pmf_verdict.proofs.ExactLemmas.{rows_exact, same_lines}
+use Rattle.pmf_verdict.proofs.HoldingLemmas.{rows_exact, same_lines}
 use Rattle.pmf_verdict.proofs.FitLemmas.{failures_real}
 use Rattle.pmf_verdict.proofs.SoundLemmas.{passes_hold, orders_hold, scopes_hold}
 use Rattle.pmf_ledger.specs.TrueRows.{HasTrueRows}

@@ -17,7 +17,7 @@ use Rattle.pmf_world.specs.Turns.{FarmState, Turned}
 use Rattle.pmf_world.specs.Floors.{FloorValue, IsTurned, IsTurnedIfRoom}
 use Rattle.pmf_world.specs.Steps.{WorldState, stepped, turned}
 use Rattle.pmf_world.specs.Worlds.{IsOfWorld, Steps, WorldValue}
-use Rattle.pmf_world.proofs.lemmas.StandsLemmas.{steps-turned}
+use Rattle.pmf_world.proofs.lemmas.WorldStandsLemmas.{steps-turned}
 
 -- a floor and ledgers, as a world
 abbrev pub world_on : FloorValue → List LedgerValue → WorldValue

@@ -1,7 +1,7 @@
 use Rattle.std.proofs.Common.{◌≡◌, suc, arith, add-one}
 use Rattle.std.specs.Prelude.{Some}
 use Rattle.pmf_event.specs.Store.{event_at}
-use Rattle.pmf_image.proofs.RunLemmas.{event-read, runs-start, runs-span, runs-other, runs-alike}
+use Rattle.pmf_image.proofs.BorderLemmas.{event-read, runs-start, runs-span, runs-other, runs-alike}
 use Rattle.pmf_image.proofs.runs.end_of_run.Goals.{in_default, in-Store2}
 use Rattle.pmf_image.proofs.runs.end_of_run.Goals as goal
 

@@ -1,4 +1,4 @@
-use Rattle.pmf_image.proofs.RunLemmas.{RunsTo}
+use Rattle.pmf_image.proofs.BorderLemmas.{RunsTo}
 use Rattle.pmf_image.proofs.runs.end_of_run.Given as goal
 
 abbrev pub invariant-loop-event : goal.invariant-loop-event

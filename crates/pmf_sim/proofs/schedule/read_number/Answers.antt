@@ -1,6 +1,6 @@
 use Rattle.std.proofs.Common.{sym, ◌∙◌, arith, rules}
 use Rattle.std.proofs.lemmas.Bool.Decides.{nat_tests}
-use Rattle.pmf_sim.proofs.NumberLemmas.{number_of-long, number_of-none, number_of-some, number_of-rest, narrowed-cast}
+use Rattle.pmf_sim.proofs.NumberWordLemmas.{number_of-long, number_of-none, number_of-some, number_of-rest, narrowed-cast}
 use Rattle.pmf_sim.proofs.schedule.read_number.Goals as goal
 
 pub returns-then-word-gt10 : goal.returns-then-word-gt10

@@ -5,7 +5,7 @@ use Rattle.std.proofs.lemmas.Bool.Decides.{nat_tests}
 use Rattle.std.proofs.lemmas.Iterator.Splits.{YieldsList-from_slice_split}
 use Rattle.std.proofs.lemmas.List.{length_push}
 use Rattle.pmf_sim.specs.Schedule.{is_line_end}
-use Rattle.pmf_sim.proofs.StepLemmas.{turned, ended}
+use Rattle.pmf_sim.proofs.ScheduleLineLemmas.{turned, ended}
 use Rattle.pmf_sim.proofs.ScheduleLemmas.{IsAt, IsAt-start, at_empty, at_step, at_bad, at_end, told}
 use Rattle.pmf_sim.proofs.schedule.read_schedule.Goals as goal
 use Rattle.pmf_sim.proofs.schedule.read_schedule.Goals.{then-not-is_empty+in-Some-read_step+in_ok-push-in-Some-read_step, else-not-is_empty}

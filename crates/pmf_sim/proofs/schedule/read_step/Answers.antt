@@ -2,7 +2,7 @@
 use Rattle.std.proofs.Common.{sym, ap, ◌∙◌, rules, tests}
 use Rattle.std.proofs.lemmas.Iterator.Splits.{YieldsList-from_slice_split}
 use Rattle.pmf_sim.specs.Schedule.{is_blank, number_of, step_of_one, step_of_two}
-use Rattle.pmf_sim.proofs.StepLemmas.{taken, over, one_word, two_words, three_words, more_words}
+use Rattle.pmf_sim.proofs.ScheduleLineLemmas.{taken, over, one_word, two_words, three_words, more_words}
 use Rattle.pmf_sim.proofs.schedule.read_step.Goals as goal
 
 pub returns-in_err-first : goal.returns-in_err-first

@@ -1,4 +1,4 @@
-use Rattle.pmf_storelog.proofs.OrderLemmas.{the_set_in_order}
+use Rattle.pmf_storelog.proofs.InOrderLemmas.{the_set_in_order}
 use Rattle.pmf_storelog.proofs.laws.in_order_is_the_set_in_order.Goals as goal
 
 pub returns : goal.returns

@@ -1,7 +1,7 @@
 use Rattle.std.proofs.Common.{◌≤◌, map, length, sym, subst, arith}
 use Rattle.std.specs.Prelude.{Contains}
 use Rattle.std.proofs.lemmas.List.{take_all}
-use Rattle.pmf_stream.proofs.lemmas.SectionLemmas.{LacksNumber-more}
+use Rattle.pmf_stream.proofs.lemmas.FoundSectionLemmas.{LacksNumber-more}
 use Rattle.pmf_stream.proofs.explaining.find_section.Goals as goal
 
 pub loop-section-preserved : goal.loop-section-preserved

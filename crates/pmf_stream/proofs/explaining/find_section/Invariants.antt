@@ -1,5 +1,5 @@
 use Rattle.std.proofs.Common.{map, take}
-use Rattle.pmf_stream.proofs.lemmas.SectionLemmas.{LacksNumber}
+use Rattle.pmf_stream.proofs.lemmas.FoundSectionLemmas.{LacksNumber}
 use Rattle.pmf_stream.proofs.explaining.find_section.Given as goal
 
 abbrev pub invariant-loop-section : goal.invariant-loop-section

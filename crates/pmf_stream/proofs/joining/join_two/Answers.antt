@@ -1,4 +1,4 @@
-use Rattle.pmf_stream.proofs.lemmas.JoiningLemmas.{IsJoinFaultOf-refused, same_unless}
+use Rattle.pmf_stream.proofs.lemmas.TextJoiningLemmas.{IsJoinFaultOf-refused, same_unless}
 use Rattle.pmf_stream.proofs.joining.join_two.Goals as goal
 
 pub returns-in-Ok : goal.returns-in-Ok

@@ -1,5 +1,5 @@
 use Rattle.std.proofs.Common.{◌≡◌, ℕ, ◌≤◌, List, ◌++◌, length, take, sym, ◌∙◌, arith, length-take}
-use Rattle.pmf_stream.proofs.lemmas.ReadingLemmas.{Reading-more, HasReadBytes-more}
+use Rattle.pmf_stream.proofs.lemmas.ReadAllLemmas.{Reading-more, HasReadBytes-more}
 use Rattle.pmf_stream.proofs.reading.read_into.Goals as goal
 
 taken : (n : ℕ) (buffer : List ℕ) → n ≤ length buffer → n ≡ length (take n buffer)

@@ -1,5 +1,5 @@
 use Rattle.std.proofs.Common.{◌≡◌, ◌+◌, ◌-◌, length}
-use Rattle.pmf_stream.proofs.lemmas.ReadingLemmas.{Reading}
+use Rattle.pmf_stream.proofs.lemmas.ReadAllLemmas.{Reading}
 use Rattle.pmf_stream.proofs.reading.read_into.Given as goal
 
 abbrev pub invariant-loop-total : goal.invariant-loop-total

@@ -1,5 +1,5 @@
 use Rattle.std.proofs.Common.{arith, ◌∙◌}
-use Rattle.pmf_stream.proofs.lemmas.TextLemmas.{appends_more}
+use Rattle.pmf_stream.proofs.lemmas.WritingLemmas.{appends_more}
 use Rattle.pmf_stream.proofs.writing.write_text.Goals as goal
 
 pub loop-written-preserved : goal.loop-written-preserved

@@ -1,4 +1,4 @@
-use Rattle.pmf_verdict.proofs.ExactLemmas.{rows_exact, same_lines}
+use Rattle.pmf_verdict.proofs.HoldingLemmas.{rows_exact, same_lines}
 use Rattle.pmf_verdict.proofs.FitLemmas.{failures_real}
 use Rattle.pmf_verdict.proofs.SoundLemmas.{passes_hold, orders_hold, scopes_hold}
 use Rattle.pmf_verdict.proofs.checking.check.Goals as goal

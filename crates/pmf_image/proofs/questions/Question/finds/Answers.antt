@@ -1,5 +1,5 @@
 use Rattle.std.proofs.Common.{sym, ◌∙◌}
-use Rattle.pmf_image.proofs.QuestionLemmas.{no_byte-run}
+use Rattle.pmf_image.proofs.ByteSearchLemmas.{no_byte-run}
 use Rattle.pmf_image.proofs.questions.Question.finds.Goals as goal
 
 pub loop-byte-preserved : goal.loop-byte-preserved

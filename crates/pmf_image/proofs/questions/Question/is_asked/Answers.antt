@@ -1,5 +1,5 @@
 use Rattle.std.proofs.Common.{sym, ◌∙◌, ap, nat_lt}
-use Rattle.pmf_image.proofs.QuestionLemmas.{not_asked, asked-scoped, asked-checked}
+use Rattle.pmf_image.proofs.ByteSearchLemmas.{not_asked, asked-scoped, asked-checked}
 use Rattle.pmf_image.proofs.questions.Question.is_asked.Goals as goal
 
 pub returns-then-not-is_included : goal.returns-then-not-is_included

@@ -2,7 +2,7 @@ use Rattle.std.proofs.Common.{◌-◌, ◌∙◌, ap}
 use Rattle.pmf_runs.specs.declared.walk.Counted.{Counted}
 use Rattle.pmf_runs.specs.Runs.{passing}
 use Rattle.pmf_runs.proofs.AskingLemmas.{lines-law}
-use Rattle.pmf_runs.proofs.LineLemmas.{lines-counted}
+use Rattle.pmf_runs.proofs.LineCountLemmas.{lines-counted}
 use Rattle.pmf_runs.proofs.RunAskingLemmas.{passing-is, gap-asked, root-asked}
 use Rattle.pmf_runs.proofs.runs.RunMap.count_lines.Goals as goal
 

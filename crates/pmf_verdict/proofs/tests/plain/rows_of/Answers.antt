@@ -1,5 +1,5 @@
 use Rattle.std.proofs.Common.{◌≡◌, ◌+◌, length, sym, ◌∙◌, add-one, arith}
-use Rattle.pmf_verdict.proofs.PlainLemmas.{rows_upto-pushed, rows_of-closed}
+use Rattle.pmf_verdict.proofs.LookBackLemmas.{rows_upto-pushed, rows_of-closed}
 use Rattle.pmf_verdict.proofs.RowsLemmas.{rows_upto-none}
 use Rattle.pmf_verdict.proofs.tests.plain.rows_of.Goals as goal
 

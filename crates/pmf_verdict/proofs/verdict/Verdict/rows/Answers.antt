@@ -3,7 +3,7 @@ use Rattle.pmf_verdict.specs.Checked.{Checked, rows_in}
 use Rattle.pmf_verdict.specs.Explained.{FailuresAreReal}
 use Rattle.pmf_verdict.specs.Sound.{PassesHold, OrdersHold, ScopesHold}
 use Rattle.pmf_verdict.specs.Exact.{IsExact, SameLinesAreOneStore}
-use Rattle.pmf_verdict.proofs.ExactLemmas.{rows_exact, same_lines}
+use Rattle.pmf_verdict.proofs.HoldingLemmas.{rows_exact, same_lines}
 use Rattle.pmf_verdict.proofs.FitLemmas.{failures_real}
 use Rattle.pmf_verdict.proofs.SoundLemmas.{passes_hold, orders_hold, scopes_hold}
 use Rattle.pmf_verdict.proofs.verdict.Verdict.rows.Goals as goal

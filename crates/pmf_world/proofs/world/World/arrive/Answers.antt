@@ -4,7 +4,7 @@ use Rattle.pmf_ledger.specs.declared.taking.Taken.TheVariants as taken
 use Rattle.pmf_world.specs.Floors.{IsSent}
 use Rattle.pmf_world.specs.Gatherings.{TakesAt}
 use Rattle.pmf_world.specs.Worlds.{WorldValue}
-use Rattle.pmf_world.proofs.lemmas.GatheringLemmas.{arrive-steps}
+use Rattle.pmf_world.proofs.lemmas.WorldLedgerLemmas.{arrive-steps}
 use Rattle.pmf_world.proofs.world.World.arrive.Goals as goal
 
 pub returns-in-Added-clause-steps : goal.returns-in-Added-clause-steps

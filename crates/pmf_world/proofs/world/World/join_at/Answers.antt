@@ -3,7 +3,7 @@ use Rattle.std.specs.List.{All}
 use Rattle.std.proofs.lemmas.List.{set-get_or}
 use Rattle.std.proofs.lemmas.List.Elements.{All-set}
 use Rattle.pmf_world.specs.Worlds.{IsOfWorld}
-use Rattle.pmf_world.proofs.lemmas.GatheringLemmas.{clash_nowhere, is_ours-joined, joins-at, ledger-is, ledger-ours, set-again}
+use Rattle.pmf_world.proofs.lemmas.WorldLedgerLemmas.{clash_nowhere, is_ours-joined, joins-at, ledger-is, ledger-ours, set-again}
 use Rattle.pmf_world.proofs.world.World.join_at.Goals as goal
 
 pub join_both-requires-clause-agree : goal.join_both-requires-clause-agree

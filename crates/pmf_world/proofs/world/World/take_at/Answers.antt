@@ -2,7 +2,7 @@ use Rattle.std.proofs.Common.{rules, ◌<◌, length, subst, sym}
 use Rattle.std.specs.Prelude.{Contains}
 use Rattle.std.proofs.lemmas.List.Elements.{All-set}
 use Rattle.pmf_world.specs.Worlds.{IsOfWorld, WorldValue}
-use Rattle.pmf_world.proofs.lemmas.GatheringLemmas.{holds_no_other, is_ours-after, ledger-is, ledger-ours, takes-at}
+use Rattle.pmf_world.proofs.lemmas.WorldLedgerLemmas.{holds_no_other, is_ours-after, ledger-is, ledger-ours, takes-at}
 use Rattle.pmf_world.proofs.world.World.take_at.Goals as goal
 
 pub take_into-requires-clause-agrees : goal.take_into-requires-clause-agrees

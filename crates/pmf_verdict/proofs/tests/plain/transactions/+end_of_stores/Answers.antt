@@ -1,5 +1,5 @@
 use Rattle.std.proofs.Common.{arith}
-use Rattle.pmf_verdict.proofs.PlainLemmas.{nothing-at_start}
+use Rattle.pmf_verdict.proofs.LookBackLemmas.{nothing-at_start}
 use Rattle.pmf_verdict.proofs.tests.plain.transactions.+end_of_stores.Goals as goal
 
 pub returns-then-place-eq0-clause-ends : goal.returns-then-place-eq0-clause-ends

@@ -1,7 +1,7 @@
 use Rattle.std.proofs.Common.{◌≡◌, ◌-◌, true, false, sym, ap, ◌∙◌, arith, rules}
 use Rattle.pmf_event.specs.Ranges.{first_from}
 use Rattle.pmf_event.specs.Transactions.{in_scope, in_transaction, is_left_open, check_finding}
-use Rattle.pmf_verdict.proofs.PlainLemmas.{check_finding-below}
+use Rattle.pmf_verdict.proofs.LookBackLemmas.{check_finding-below}
 use Rattle.pmf_verdict.proofs.tests.plain.transactions.check_finding.Goals as goal
 
 pub returns-in-None : goal.returns-in-None

@@ -27,7 +27,7 @@ use Rattle.pmf_world.specs.Steps.{WorldState, set_at, with_set, arrive_found, jo
 use Rattle.pmf_world.specs.Worlds.{IsOfWorld, StandsFor, Steps, WorldValue, ledger_at, sections_at}
 use Rattle.pmf_world.specs.Gatherings.{JoinsAt, TakesAt, answer_of, with_ledger}
 use Rattle.pmf_world.proofs.lemmas.GatheredLemmas.{from_map, to_map}
-use Rattle.pmf_world.proofs.lemmas.StandsLemmas.{StandsFor-set}
+use Rattle.pmf_world.proofs.lemmas.WorldStandsLemmas.{StandsFor-set}
 
 has_its_name : (s : Trace) (name : Name) → s.name ≡ name → has_name name s ≡ true
 has_its_name s name is = subst (λ n. has_name n s ≡ true) is (rw (eq-eqb s.name.run s.name.run refl, eq-eqb s.name.number s.name.number refl) refl)

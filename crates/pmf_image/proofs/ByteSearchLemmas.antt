@@ -13,7 +13,7 @@ use Rattle.pmf_event.specs.Transactions.{is_scoped}
 use Rattle.pmf_image.specs.Certificate.{shows_in}
 use Rattle.pmf_image.specs.Runs.{Alike}
 use Rattle.pmf_image.specs.Questions.{is_asked, compares, answer_of}
-use Rattle.pmf_image.proofs.RunLemmas.{answer-alike}
+use Rattle.pmf_image.proofs.BorderLemmas.{answer-alike}
 
 -- no byte from first on and below end passes the test
 pub record NoByte (test : ℕ → Bool) (first end : ℕ) : Type 0 where

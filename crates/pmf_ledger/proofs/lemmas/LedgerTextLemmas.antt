@@ -18,7 +18,7 @@ use Rattle.pmf_storelog.specs.Canonical.{line_of_event}
 use Rattle.pmf_storelog.specs.Spelling.{AllValid}
 use Rattle.pmf_storelog.proofs.EventLineLemmas.{event_of_line-event}
 use Rattle.pmf_storelog.proofs.FrontLemmas.{BeginsWithNoDigit, number_in_front-decimal}
-use Rattle.pmf_storelog.proofs.LineLemmas.{text_of_lines}
+use Rattle.pmf_storelog.proofs.PlainRecordLemmas.{text_of_lines}
 use Rattle.pmf_storelog.proofs.PlainLemmas.{text_of_event}
 use Rattle.pmf_verdict.specs.Checked.{Checked, checked_by, rows_in}
 use Rattle.pmf_verdict.specs.Rows.{rows_of}
