@@ -187,30 +187,32 @@ fn a_section_may_have_as_many_events_as_the_limit_says(rt: HostRuntime) -> Resul
 }
 
 // Feeds this many separators.
-fn feed_separators(reader: &mut LogReader, count: usize) -> Result<(), LogFault> {
-    let piece = [b'|'; 65_536];
-    for _ in 0..count / piece.len() {
+/// So many bytes, in 4,096 records that are skipped, or fewer.
+fn feed_skipped(reader: &mut LogReader, count: usize) -> Result<(), LogFault> {
+    let mut piece = [b'x'; 65_536];
+    piece[65_535] = b'|';
+    for _ in 0..count / 65_536 {
         reader.feed(&piece)?;
     }
-    reader.feed(&piece[..count % piece.len()])
+    reader.feed(&piece[65_536 - count % 65_536..])
 }
 
 #[test]
 fn a_log_may_have_as_many_bytes_as_the_limit_says(rt: HostRuntime) -> Result<(), Fail> {
     let long = Err(LogFault {
-        at: 1,
+        at: 4097,
         cause: Cause::TooLong,
     });
     let mut reader = LogReader::new(rt.alloc(), 0);
-    feed_separators(&mut reader, LOG_LIMIT)?;
-    assert_eq!(rt; reader.finish()?.sections().len(), 0);
+    feed_skipped(&mut reader, LOG_LIMIT)?;
+    assert_eq!(rt; reader.finish()?.skipped(), 4096);
 
     let mut reader = LogReader::new(rt.alloc(), 0);
-    feed_separators(&mut reader, LOG_LIMIT)?;
+    feed_skipped(&mut reader, LOG_LIMIT)?;
     assert_eq!(rt; reader.feed(b"|"), long);
 
     let mut reader = LogReader::new(rt.alloc(), 0);
-    feed_separators(&mut reader, LOG_LIMIT - 5)?;
+    feed_skipped(&mut reader, LOG_LIMIT - 5)?;
     assert_eq!(rt; reader.feed(b"FENCE|"), long);
     Ok(())
 }
@@ -218,9 +220,9 @@ fn a_log_may_have_as_many_bytes_as_the_limit_says(rt: HostRuntime) -> Result<(),
 #[test]
 fn faults_before_the_limit_come_before_too_long(rt: HostRuntime) -> Result<(), Fail> {
     let mut reader = LogReader::new(rt.alloc(), 0);
-    feed_separators(&mut reader, LOG_LIMIT - 6)?;
+    feed_skipped(&mut reader, LOG_LIMIT - 6)?;
     let unknown = LogFault {
-        at: 1,
+        at: 4097,
         cause: Cause::UnknownMarker,
     };
     assert_eq!(rt; reader.feed(b"PMT.X||"), Err(unknown));
