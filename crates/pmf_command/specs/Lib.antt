@@ -5,3 +5,4 @@ pub use Rattle.pmf_stream.specs.Checking
 pub use Rattle.pmf_stream.specs.Asking
 pub use Rattle.pmf_stream.specs.Joining
 pub mod Statuses
+pub mod Words

@@ -4,8 +4,8 @@
 //! `specs/Statuses`: each answer of a command has one, by [`Ending`]. [`request_of`] is a function of the
 //! words alone. Every text that is written to standard output, help too, goes out by `write_text`.
 //!
-//! Not promised here: the words of help and fault lines, or that the words of the command line give the
-//! numbers that they name.
+//! Not promised here: the words of help and fault lines, or that a number spelled otherwise than in its plain
+//! decimal digits is the one that is meant.
 #![tactic(auto)]
 
 mod commands;

@@ -1,9 +1,16 @@
 //! What the words of the command line ask for.
 
-use clap::{Arg, ArgAction, Command, Error, value_parser};
+ghost use Rattle.std.specs.Prelude.{◌≡◌, List, false, Some, codes, map, option_map, IfOk};
+ghost use Rattle.std.specs.String.{string_bytes};
+ghost use Rattle.clap.specs.Words.{Row, Text, found_of, rows_of, rule_of, subcommand_rows_of};
+ghost use Rattle.clap.specs.declared.builder.value_parser.ValueParser.{ValueParser};
+ghost use Rattle.pmf_event.specs.declared.profile.Profile.{Profile};
+ghost use Rattle.pmf_command.specs.Words.{IsCheckOf, IsExplainOf, IsJoinOf, IsRequestBy, IsRequestOf, IsSimOf, HasWords, asked, asked_number, check_words, explain_words, file_words, join_words, large_number, ledger_flag, pmfarm_words, profile_option, program_words, run_option, sim_words, small_number};
+
+use clap::{Arg, ArgAction, ArgMatches, Command, Error, value_parser};
 use pmf_event::Profile;
 use pmf_stream::{Question, Settings};
-use std::alloc::Global;
+use std::alloc::{AllocError, Global};
 
 const AFTER_HELP: &str = "\
 Examples:
@@ -65,64 +72,98 @@ pub enum Request<'a> {
 
 /// Reads the words, the first of which is the program's name. Help and the version come as errors
 /// of their own kind, and so does want of memory.
-pub fn request_of<'a>(alloc: Global, words: &'a [String]) -> Result<Request<'a>, Error> {
+pub fn request_of<'a>(alloc: Global, words: &'a [String]) -> Result<Request<'a>, Error>
+    ensures { IfOk result (IsRequestOf (map string_bytes words.entry.now)) }
+{
     let matches = program(alloc)?.try_get_matches_from(words)?;
+    request_by(alloc, &matches)
+}
+
+// What the command that was found and its words ask for.
+fn request_by<'a>(alloc: Global, matches: &ArgMatches<'a>) -> Result<Request<'a>, Error>
+    ensures { IfOk result (λ request. (command : Text) (rows : List Row)
+        → subcommand_rows_of matches.now ≡ Some (command, rows) → IsRequestBy command rows request) }
+{
     // There are four commands, and the parser lets nothing pass without one.
     if let Some(explain) = matches.subcommand_matches("explain") {
-        return Ok(Request::Explain(Question {
-            run: explain.get_one::<u64>("run").unwrap_or(0),
-            profile: profile_of(explain.get_str("profile")),
-            section: explain.get_one::<u64>("section").unwrap_or(0),
-            event: explain.get_one::<u32>("event").unwrap_or(0),
-        }));
+        return Ok(Request::Explain(question_of(explain)));
     }
     if let Some(join) = matches.subcommand_matches("join") {
-        let mut names = Vec::new(alloc);
-        names.extend_from_slice(join.get_strs("file").unwrap_or(&[]))?;
-        return Ok(Request::Join(Files {
-            names,
-            ledger: join.get_flag("ledger"),
-        }));
+        let files = files_of(alloc, join)?;
+        return Ok(Request::Join(files));
     }
     if let Some(sim) = matches.subcommand_matches("sim") {
-        return Ok(Request::Sim(Simulation {
-            log: sim.get_str("log").unwrap_or(""),
-            workers: sim.get_one::<u32>("workers").unwrap_or(0),
-            ledgers: sim.get_one::<u32>("ledgers").unwrap_or(0),
-        }));
+        return Ok(Request::Sim(simulation_of(sim)));
     }
-    let settings = match matches.subcommand_matches("check") {
-        Some(check) => Settings {
-            workers: check.get_one::<u32>("workers").unwrap_or(1),
-            run: check.get_one::<u64>("run").unwrap_or(0),
-            profile: profile_of(check.get_str("profile")),
-            ledger: check.get_flag("ledger"),
-        },
-        None => Settings {
-            workers: 1,
-            run: 0,
-            profile: Profile::One,
-            ledger: false,
-        },
-    };
-    Ok(Request::Check(settings))
+    if let Some(check) = matches.subcommand_matches("check") {
+        return Ok(Request::Check(settings_of(check)));
+    }
+    Ok(Request::Check(Settings {
+        workers: 1,
+        run: 0,
+        profile: Profile::One,
+        ledger: false,
+    }))
+}
+
+fn settings_of(check: &ArgMatches<'_>) -> Settings
+    ensures { IsCheckOf (rows_of (found_of check.now)) result }
+{
+    Settings {
+        workers: check.get_one::<u32>("workers").unwrap_or(1),
+        run: check.get_one::<u64>("run").unwrap_or(0),
+        profile: profile_of(check.get_str("profile")),
+        ledger: check.get_flag("ledger"),
+    }
+}
+
+fn question_of(explain: &ArgMatches<'_>) -> Question
+    ensures { IsExplainOf (rows_of (found_of explain.now)) result }
+{
+    Question {
+        run: explain.get_one::<u64>("run").unwrap_or(0),
+        profile: profile_of(explain.get_str("profile")),
+        section: explain.get_one::<u64>("section").unwrap_or(0),
+        event: explain.get_one::<u32>("event").unwrap_or(0),
+    }
+}
+
+fn files_of<'a>(alloc: Global, join: &ArgMatches<'a>) -> Result<Files<'a>, AllocError>
+    ensures { IfOk result (IsJoinOf (rows_of (found_of join.now))) }
+{
+    let mut names = Vec::new(alloc);
+    names.extend_from_slice(join.get_strs("file").unwrap_or(&[]))?;
+    Ok(Files {
+        names,
+        ledger: join.get_flag("ledger"),
+    })
+}
+
+fn simulation_of<'a>(sim: &ArgMatches<'a>) -> Simulation<'a>
+    ensures { IsSimOf (rows_of (found_of sim.now)) result }
+{
+    Simulation {
+        log: sim.get_str("log").unwrap_or(""),
+        workers: sim.get_one::<u32>("workers").unwrap_or(0),
+        ledgers: sim.get_one::<u32>("ledgers").unwrap_or(0),
+    }
 }
 
 // The parser lets `1` and `2` pass alone.
-fn profile_of(word: Option<&str>) -> Profile {
+fn profile_of(word: Option<&str>) -> Profile
+    ensures one { option_map (λ w. w.now) word.entry ≡ Some (codes "1") → result ≡ Profile.One }
+    ensures two { option_map (λ w. w.now) word.entry ≡ Some (codes "2") → result ≡ Profile.Two }
+{
     match word {
         Some("2") => Profile::Two,
         _ => Profile::One,
     }
 }
 
-fn program<'a>(alloc: Global) -> Result<Command<'a>, Error> {
-    let program = Command::new(alloc, "pmfarm")
-        .bin_name("pmfarm")?
-        .version("0.1.0")
-        .about("Checks the store log of a program that uses persistent memory")
-        .after_help(AFTER_HELP)
-        .subcommand_required(true)
+fn program<'a>(alloc: Global) -> Result<Command<'a>, Error>
+    ensures { IfOk result (λ made. (p q : ValueParser) × HasWords (pmfarm_words p q) made) }
+{
+    let program = no_command(alloc)?
         .subcommand(check(alloc)?)?
         .subcommand(explain(alloc)?)?
         .subcommand(join(alloc)?)?
@@ -130,8 +171,25 @@ fn program<'a>(alloc: Global) -> Result<Command<'a>, Error> {
     Ok(program)
 }
 
+// The program before it has a command.
+fn no_command<'a>(alloc: Global) -> Result<Command<'a>, Error>
+    ensures { IfOk result (HasWords program_words) }
+{
+    let named = Command::new(alloc, "pmfarm").bin_name("pmfarm")?;
+    Ok(
+        named
+            .version("0.1.0")
+            .about("Checks the store log of a program that uses persistent memory")
+            .after_help(AFTER_HELP)
+            .subcommand_required(true),
+    )
+}
+
 // The run and the profile, which `check` and `explain` take.
-fn run<'a>(alloc: Global) -> Arg<'a> {
+fn run<'a>(alloc: Global) -> Arg<'a>
+    ensures rule { rule_of result ≡ run_option }
+    ensures local { result.global ≡ false }
+{
     Arg::new(alloc, "run")
         .long("run")
         .value_name("R")
@@ -140,7 +198,10 @@ fn run<'a>(alloc: Global) -> Arg<'a> {
         .help("The run in the name of each section")
 }
 
-fn profile<'a>(alloc: Global) -> Arg<'a> {
+fn profile<'a>(alloc: Global) -> Arg<'a>
+    ensures rule { (q : ValueParser) × (rule_of result ≡ profile_option q) }
+    ensures local { result.global ≡ false }
+{
     Arg::new(alloc, "profile")
         .long("profile")
         .value_name("P")
@@ -150,14 +211,66 @@ fn profile<'a>(alloc: Global) -> Arg<'a> {
 }
 
 // The flag that `check` and `join` take.
-fn ledger<'a>(alloc: Global) -> Arg<'a> {
+fn ledger<'a>(alloc: Global) -> Arg<'a>
+    ensures rule { rule_of result ≡ ledger_flag }
+    ensures local { result.global ≡ false }
+{
     Arg::new(alloc, "ledger")
         .long("ledger")
         .action(ArgAction::SetTrue)
         .help("Write the ledger text instead of the report")
 }
 
-fn check<'a>(alloc: Global) -> Result<Command<'a>, Error> {
+fn section<'a>(alloc: Global) -> Arg<'a>
+    ensures rule { rule_of result ≡ asked_number (codes "section") large_number }
+    ensures local { result.global ≡ false }
+{
+    Arg::new(alloc, "section")
+        .long("section")
+        .value_name("N")
+        .value_parser(value_parser!(u64))
+        .required(true)
+        .help("The number of the section")
+}
+
+// An option that has to be given, with a number below 2^32.
+fn asked_number<'a>(alloc: Global, name: &'a str, value: &'a str) -> Arg<'a>
+    ensures rule { rule_of result ≡ asked_number name.entry.now small_number }
+    ensures local { result.global ≡ false }
+{
+    Arg::new(alloc, name)
+        .long(name)
+        .value_name(value)
+        .value_parser(value_parser!(u32))
+        .required(true)
+}
+
+fn log<'a>(alloc: Global) -> Arg<'a>
+    ensures rule { rule_of result ≡ asked (codes "log") }
+    ensures local { result.global ≡ false }
+{
+    Arg::new(alloc, "log")
+        .long("log")
+        .value_name("FILE")
+        .required(true)
+        .help("The log with whose sections the schedule is played")
+}
+
+fn file<'a>(alloc: Global) -> Arg<'a>
+    ensures rule { rule_of result ≡ file_words }
+    ensures local { result.global ≡ false }
+{
+    Arg::new(alloc, "file")
+        .value_name("FILE")
+        .action(ArgAction::Append)
+        .num_args(1..)
+        .required(true)
+        .help("A ledger, as `check --ledger` writes it")
+}
+
+fn check<'a>(alloc: Global) -> Result<Command<'a>, Error>
+    ensures { IfOk result (λ made. (q : ValueParser) × HasWords (check_words q) made) }
+{
     let workers = Arg::new(alloc, "workers")
         .long("workers")
         .value_name("N")
@@ -174,66 +287,42 @@ fn check<'a>(alloc: Global) -> Result<Command<'a>, Error> {
     Ok(check)
 }
 
-fn explain<'a>(alloc: Global) -> Result<Command<'a>, Error> {
-    let section = Arg::new(alloc, "section")
-        .long("section")
-        .value_name("N")
-        .value_parser(value_parser!(u64))
-        .required(true)
-        .help("The number of the section");
-    let event = Arg::new(alloc, "event")
-        .long("event")
-        .value_name("K")
-        .value_parser(value_parser!(u32))
-        .required(true)
-        .help("The place of the event in its section, counted from 1");
+fn explain<'a>(alloc: Global) -> Result<Command<'a>, Error>
+    ensures { IfOk result (λ made. (q : ValueParser) × HasWords (explain_words q) made) }
+{
+    let event = asked_number(alloc, "event", "K").help(
+        "The place of the event in its section, counted from 1",
+    );
     let explain = Command::new(alloc, "explain")
         .about("Writes the rows of one event, and the crash image that shows its failure")
         .after_help(AFTER_HELP)
-        .arg(section)?
+        .arg(section(alloc))?
         .arg(event)?
         .arg(run(alloc))?
         .arg(profile(alloc))?;
     Ok(explain)
 }
 
-fn join<'a>(alloc: Global) -> Result<Command<'a>, Error> {
-    let file = Arg::new(alloc, "file")
-        .value_name("FILE")
-        .action(ArgAction::Append)
-        .num_args(1..)
-        .required(true)
-        .help("A ledger, as `check --ledger` writes it");
+fn join<'a>(alloc: Global) -> Result<Command<'a>, Error>
+    ensures { IfOk result (HasWords join_words) }
+{
     let join = Command::new(alloc, "join")
         .about("Checks ledgers again, joins them, and writes the report of all their sections")
         .after_help(AFTER_HELP)
         .arg(ledger(alloc))?
-        .arg(file)?;
+        .arg(file(alloc))?;
     Ok(join)
 }
 
-fn sim<'a>(alloc: Global) -> Result<Command<'a>, Error> {
-    let log = Arg::new(alloc, "log")
-        .long("log")
-        .value_name("FILE")
-        .required(true)
-        .help("The log with whose sections the schedule is played");
-    let workers = Arg::new(alloc, "workers")
-        .long("workers")
-        .value_name("W")
-        .value_parser(value_parser!(u32))
-        .required(true)
-        .help("How many workers there are, 1 to 64");
-    let ledgers = Arg::new(alloc, "ledgers")
-        .long("ledgers")
-        .value_name("K")
-        .value_parser(value_parser!(u32))
-        .required(true)
-        .help("How many ledgers there are, 0 to 64");
+fn sim<'a>(alloc: Global) -> Result<Command<'a>, Error>
+    ensures { IfOk result (HasWords sim_words) }
+{
+    let workers = asked_number(alloc, "workers", "W").help("How many workers there are, 1 to 64");
+    let ledgers = asked_number(alloc, "ledgers", "K").help("How many ledgers there are, 0 to 64");
     let sim = Command::new(alloc, "sim")
         .about("Plays a schedule from standard input by hand, and writes what each step comes to")
         .after_help(AFTER_HELP)
-        .arg(log)?
+        .arg(log(alloc))?
         .arg(workers)?
         .arg(ledgers)?;
     Ok(sim)
