@@ -6,9 +6,8 @@ use Rattle.pmf_runs.specs.declared.page.Page.{Page}
 use Rattle.pmf_runs.specs.declared.level.Level.{Level}
 use Rattle.pmf_runs.specs.declared.runs.RunMap.{RunMap}
 use Rattle.pmf_runs.specs.declared.state.State.{Ghosts}
-use Rattle.pmf_runs.specs.Groups.{group_joined, groups_joined}
-use Rattle.pmf_runs.specs.Joined.{Joined, AllJoined}
-use Rattle.pmf_runs.specs.Pages.{page_joined, pages_joined}
+use Rattle.pmf_runs.specs.Joined.{Joined, AllJoined, JoinedBut}
+use Rattle.pmf_runs.specs.Pages.{pages_joined}
 use Rattle.pmf_runs.specs.Runs.{root_joined, IsJoined}
 use Rattle.pmf_runs.proofs.JoinedLemmas.{joined-plain, plain-joined}
 use Rattle.pmf_runs.proofs.JoinedLevelLemmas.{parts-all, all-parts-joined}
@@ -21,16 +20,16 @@ none-other x is = absurd (cc is)
 
 module _ {S M : Type 0} {laws : Ghosts S M} where
   pages-plain : (level : Level (Page S M laws)) → pages_joined level None None → AllJoined (λ page. Joined page.leaf) level
-  pages-plain level whole = parts-all page_joined (λ page. Joined page.leaf) level (λ page joined. joined-plain page.leaf joined) whole
+  pages-plain level whole = parts-all (λ page. JoinedBut page.leaf) (λ page. Joined page.leaf) level (λ page joined. joined-plain page.leaf joined) whole
 
   plain-pages : (level : Level (Page S M laws)) → AllJoined (λ page. Joined page.leaf) level → pages_joined level None None
-  plain-pages level all = all-parts-joined page_joined (λ page. Joined page.leaf) level (λ page joined. plain-joined page.leaf joined) all
+  plain-pages level all = all-parts-joined (λ page. JoinedBut page.leaf) (λ page. Joined page.leaf) level (λ page joined. plain-joined page.leaf joined) all
 
-  groups-plain : (level : Level (Group S M laws)) → groups_joined level None None → AllJoined (λ group. AllJoined (λ page. Joined page.leaf) group.level) level
-  groups-plain level whole = parts-all group_joined (λ group. AllJoined (λ page. Joined page.leaf) group.level) level (λ group joined. pages-plain group.level joined) whole
+  groups-plain : (level : Level (Group S M laws)) → root_joined level None None → AllJoined (λ group. AllJoined (λ page. Joined page.leaf) group.level) level
+  groups-plain level whole = parts-all (λ group. pages_joined group.level) (λ group. AllJoined (λ page. Joined page.leaf) group.level) level (λ group joined. pages-plain group.level joined) whole
 
-  plain-groups : (level : Level (Group S M laws)) → AllJoined (λ group. AllJoined (λ page. Joined page.leaf) group.level) level → groups_joined level None None
-  plain-groups level all = all-parts-joined group_joined (λ group. AllJoined (λ page. Joined page.leaf) group.level) level (λ group all. plain-pages group.level all) all
+  plain-groups : (level : Level (Group S M laws)) → AllJoined (λ group. AllJoined (λ page. Joined page.leaf) group.level) level → root_joined level None None
+  plain-groups level all = all-parts-joined (λ group. pages_joined group.level) (λ group. AllJoined (λ page. Joined page.leaf) group.level) level (λ group all. plain-pages group.level all) all
 
   pub joined-root : (runs : RunMap S M laws) (root : Level (Group S M laws)) → runs.root ≡ Some root → root_joined root None None → IsJoined runs
   joined-root runs root is whole = record {

@@ -2,7 +2,7 @@
 use Rattle.std.specs.Prelude.{◌≡◌, ◌⊎◌, ◌<◌, ◌≤◌, ◌+◌, ℕ, List, length, get_or, Option, None, Some, IfSome}
 use Rattle.pmf_runs.specs.declared.leaf.Leaf.{Leaf}
 use Rattle.pmf_runs.specs.declared.level.Level.{Level}
-use Rattle.pmf_runs.specs.Ranks.{rank, HasKey, IsFresh, bound_at}
+use Rattle.pmf_runs.specs.Ranks.{rank, HasKey, IsFresh, ChangesWithin, Splits, bound_at}
 
 -- no two neighbouring states of the leaf are equal
 pub record Joined {S : Type 0} (leaf : Leaf S) : Type 0 where
@@ -39,3 +39,15 @@ InOrder from end = IfSome from (λ a. IfSome end (λ b. a ≤ b))
 pub record JoinsParts {P : Type 0} (joined : P → Option ℕ → Option ℕ → Type 0) (low last : ℕ) (from end : Option ℕ) (i : ℕ) (old new : List P) : Type 0 where
   pub done : (k : ℕ) (part : P) → low ≤ k → k < i → k < length old → joined (get_or old k part) (bound_at low k from) (bound_at last k end) → joined (get_or new k part) None None
   pub rest : (k : ℕ) (part : P) → (k < low) ⊎ (i ≤ k) → get_or new k part ≡ get_or old k part
+
+-- the states of the numbers from first up to the end are changed, and runs differ where they did
+abbrev pub ChangesRange : {P S : Type 0} → (P → S → ℕ → S) → (P → Option ℕ → Option ℕ → Type 0) → ℕ → ℕ → (S → S) → P → P → Type 0
+ChangesRange state joined first end change old new = ChangesWithin (Some first) (Some end) change (state old) (state new) × (joined old None None → joined new None None)
+
+-- the states between two bounds are changed, and runs differ where they did but at the bounds
+abbrev pub ChangesCut : {P S : Type 0} → (P → S → ℕ → S) → (P → Option ℕ → Option ℕ → Type 0) → Option ℕ → Option ℕ → (S → S) → P → P → Type 0
+ChangesCut state joined from end change old new = ChangesWithin from end change (state old) (state new) × (joined old from end → joined new None None)
+
+-- the numbers from the middle on have their states in a part of their own, and runs differ in both where they did
+abbrev pub Halves : {P S : Type 0} → (P → S → ℕ → S) → (P → Option ℕ → Option ℕ → Type 0) → ℕ → P → P → P → Type 0
+Halves state joined middle old new part = Splits middle (state old) (state new) (state part) × (joined old None None → joined new None None × joined part None None)

@@ -5,6 +5,5 @@ pub mod Lines
 pub mod Levels
 pub mod Joined
 pub mod Pages
-pub mod Groups
 pub mod Runs
 pub mod Members

@@ -4,17 +4,18 @@ use Rattle.pmf_runs.specs.declared.group.Group.{Group}
 use Rattle.pmf_runs.specs.declared.level.Level.{Level}
 use Rattle.pmf_runs.specs.declared.runs.RunMap.{RunMap}
 use Rattle.pmf_runs.specs.declared.state.State.{Ghosts}
-use Rattle.pmf_runs.specs.Groups.{groups_state, groups_joined}
-use Rattle.pmf_runs.specs.Joined.{Joined, AllJoined}
+use Rattle.pmf_runs.specs.Joined.{Joined, AllJoined, PartsJoined}
+use Rattle.pmf_runs.specs.Levels.{level_state}
+use Rattle.pmf_runs.specs.Pages.{pages_state, pages_joined}
 
 -- whether the number lies from first up to the end
 unfoldable pub is_between : ℕ → ℕ → ℕ → Bool
 is_between first end b = nat_le first b && nat_lt b end
 
 module _ {S M : Type 0} {laws : Ghosts S M} where
-  -- the state that the root gives a number
+  -- the state that the root gives a number: that in the level of the group that it is handed to
   abbrev pub root_state : Level (Group S M laws) → S → ℕ → S
-  root_state = groups_state
+  root_state = level_state (λ group. pages_state group.level)
 
   -- the state that the root gives a number, or the gap's where there is none
   abbrev pub state_within : Option (Level (Group S M laws)) → S → ℕ → S
@@ -43,7 +44,7 @@ module _ {S M : Type 0} {laws : Ghosts S M} where
 
   -- the runs of each leaf under a root differ, but where one was cut at the numbers
   abbrev pub root_joined : Level (Group S M laws) → Option ℕ → Option ℕ → Type 0
-  root_joined = groups_joined
+  root_joined = PartsJoined (λ group. pages_joined group.level)
 
   -- no two neighbouring states of a leaf are equal
   pub record IsJoined (runs : RunMap S M laws) : Type 0 where

@@ -1,8 +1,8 @@
 //! A level of pages with its summary.
 
 ghost use Rattle.std.specs.Prelude.{◌≡◌, ◌≤◌, ℕ, true, false, None, Some, OnOk, OnErr, IfOk, IfSome};
-ghost use Rattle.pmf_runs.specs.Ranks.{SameStates, ChangesWithin, Splits, CoversAll};
-ghost use Rattle.pmf_runs.specs.Joined.{InOrder};
+ghost use Rattle.pmf_runs.specs.Ranks.{SameStates, CoversAll};
+ghost use Rattle.pmf_runs.specs.Joined.{InOrder, ChangesRange, ChangesCut, Halves};
 ghost use Rattle.pmf_runs.specs.Levels.{level_full, level_middle};
 ghost use Rattle.pmf_runs.specs.Pages.{pages_state, pages_begins, pages_joined};
 
@@ -42,9 +42,8 @@ impl<S: State> Group<S> {
         change: &C,
     ) -> Result<Effect, AllocError>
         requires { first ≤ end }
-        ensures ok { OnOk result (ChangesWithin (Some first) (Some end) (C.changed change.now) (pages_state self.old.level) (pages_state self.new.level)) }
+        ensures ok { OnOk result (ChangesRange pages_state pages_joined first end (C.changed change.now) self.old.level self.new.level) }
         ensures unchanged { OnErr result (SameStates (pages_state self.old.level) (pages_state self.new.level)) }
-        ensures joined { OnOk result (pages_joined self.old.level None None → pages_joined self.new.level None None) }
     {
         if !change.may_alter(self.summary) {
             return Ok(Effect::None);
@@ -61,8 +60,7 @@ impl<S: State> Group<S> {
         requires from { IfSome from (pages_begins self.old.level) }
         requires end { IfSome end (pages_begins self.old.level) }
         requires order { InOrder from end }
-        ensures changes { ChangesWithin from end (C.changed change.now) (pages_state self.old.level) (pages_state self.new.level) }
-        ensures joined { pages_joined self.old.level from end → pages_joined self.new.level None None }
+        ensures { ChangesCut pages_state pages_joined from end (C.changed change.now) self.old.level self.new.level }
     {
         if from.is_none() && end.is_none() && !change.may_alter(self.summary) {
             return;
@@ -74,10 +72,8 @@ impl<S: State> Group<S> {
     /// Hands out what lies from that key on. After an `Err` nothing is changed.
     fn halve(&mut self, place: u64) -> Result<Group<S>, AllocError>
         requires { level_full self.old.level ≡ true }
-        ensures splits { IfOk result (λ part. Splits (level_middle self.old.level place) (pages_state self.old.level) (pages_state self.new.level) (pages_state part.level)) }
+        ensures ok { IfOk result (λ part. Halves pages_state pages_joined (level_middle self.old.level place) self.old.level self.new.level part.level) }
         ensures unchanged { OnErr result (SameStates (pages_state self.old.level) (pages_state self.new.level)) }
-        ensures low { OnOk result (pages_joined self.old.level None None → pages_joined self.new.level None None) }
-        ensures high { IfOk result (λ part. pages_joined self.old.level None None → pages_joined part.level None None) }
     {
         let rest = self.level.halve(place)?;
         self.summary = self.level.summary();

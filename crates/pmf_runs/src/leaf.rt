@@ -1,7 +1,7 @@
 //! The lowest part of a map: at most 64 runs.
 
 ghost use Rattle.std.specs.Prelude.{◌≡◌, false, Option, None, Some, ◌≤◌, ◌<◌, ◌+◌, ◌-◌, ℕ, true, OnOk, OnErr, IfOk, IfSome, get_or, length, vec_len};
-ghost use Rattle.pmf_runs.specs.Ranks.{Rises, rank, SameStates, ChangesWithin, ChangesItems, IsFresh, Splits, AltersWithin, IsStop, IsTail, CoversAll, AllSettled};
+ghost use Rattle.pmf_runs.specs.Ranks.{Rises, rank, SameStates, ChangesItems, IsFresh, AltersWithin, IsStop, IsTail, CoversAll, AllSettled};
 
 use crate::keys::{high_rank, is_key, is_rank, low_rank, parting, rank_near};
 use crate::room::make_room;
@@ -28,7 +28,7 @@ pub(crate) struct Leaf<S> {
 
 impl<S: State> Leaf<S> {
     ghost use Rattle.pmf_runs.specs.Leaves.{leaf_state, leaf_begins, leaf_full, leaf_middle};
-    ghost use Rattle.pmf_runs.specs.Joined.{JoinedBut, JoinedBeside, InOrder};
+    ghost use Rattle.pmf_runs.specs.Joined.{JoinedBut, JoinedBeside, InOrder, ChangesRange, ChangesCut, Halves};
 
     /// The leaf in which each number has this state.
     pub(crate) fn new(alloc: Global, state: S) -> Result<Leaf<S>, AllocError>
@@ -122,9 +122,8 @@ impl<S: State> Leaf<S> {
         change: &C,
     ) -> Result<(), AllocError>
         requires { first ≤ end }
-        ensures ok { OnOk result (ChangesWithin (Some first) (Some end) (C.changed change.now) (leaf_state self.old) (leaf_state self.new)) }
+        ensures ok { OnOk result (ChangesRange leaf_state JoinedBut first end (C.changed change.now) self.old self.new) }
         ensures unchanged { OnErr result (SameStates (leaf_state self.old) (leaf_state self.new)) }
-        ensures joined { OnOk result (JoinedBut self.old None None → JoinedBut self.new None None) }
     {
         self.hint = rank_near(&self.keys, first, near);
         self.begin(first)?;
@@ -181,8 +180,7 @@ impl<S: State> Leaf<S> {
         requires from { IfSome from (leaf_begins self.old) }
         requires end { IfSome end (leaf_begins self.old) }
         requires order { InOrder from end }
-        ensures changes { ChangesWithin from end (C.changed change.now) (leaf_state self.old) (leaf_state self.new) }
-        ensures joined { JoinedBut self.old from end → JoinedBut self.new None None }
+        ensures { ChangesCut leaf_state JoinedBut from end (C.changed change.now) self.old self.new }
     {
         let low = low_rank(&self.keys, from, self.hint);
         let high = high_rank(&self.keys, end, self.hint);
@@ -258,10 +256,8 @@ impl<S: State> Leaf<S> {
     /// Hands out what lies from that key on. After an `Err` nothing is changed.
     pub(crate) fn halve(&mut self, place: u64) -> Result<Leaf<S>, AllocError>
         requires { leaf_full self.old ≡ true }
-        ensures splits { IfOk result (λ part. Splits (leaf_middle self.old place) (leaf_state self.old) (leaf_state self.new) (leaf_state part)) }
+        ensures ok { IfOk result (Halves leaf_state JoinedBut (leaf_middle self.old place) self.old self.new) }
         ensures unchanged { OnErr result (SameStates (leaf_state self.old) (leaf_state self.new)) }
-        ensures low { OnOk result (JoinedBut self.old None None → JoinedBut self.new None None) }
-        ensures high { IfOk result (λ part. JoinedBut self.old None None → JoinedBut part None None) }
     {
         let half = parting(&self.keys, place);
         let mut keys = Vec::new(*self.keys.allocator());

@@ -1,7 +1,7 @@
 //! A level of a map: parts, and the keys between them.
 
 ghost use Rattle.std.specs.Prelude.{◌≡◌, false, Option, None, Some, ◌≤◌, ◌<◌, ◌+◌, ◌-◌, ℕ, true, OnOk, OnErr, IfOk, IfSome, get_or, length, vec_len};
-ghost use Rattle.pmf_runs.specs.Ranks.{Rises, rank, SameStates, ChangesWithin, IsFresh, Splits, CoversAll, IsTail, AllSettled};
+ghost use Rattle.pmf_runs.specs.Ranks.{Rises, rank, SameStates, IsFresh, CoversAll, IsTail, AllSettled};
 
 use crate::keys::{
     bound_at, high_rank, inner_bound, is_key, is_rank, low_rank, parting, rank_near, rank_of,
@@ -28,7 +28,7 @@ pub(crate) struct Level<P> {
 
 impl<P> Level<P> {
     ghost use Rattle.pmf_runs.specs.Levels.{level_state, level_begins, level_full, level_middle, BeginsAt, GoesOn, IsFullAt, Rewrites};
-    ghost use Rattle.pmf_runs.specs.Joined.{PartsJoined, JoinsParts, InOrder};
+    ghost use Rattle.pmf_runs.specs.Joined.{PartsJoined, JoinsParts, InOrder, ChangesRange, ChangesCut, Halves};
 
     /// The level of one part.
     pub(crate) fn new<S: State>(alloc: Global, part: P) -> Result<Level<P>, AllocError>
@@ -169,10 +169,8 @@ impl<P> Level<P> {
     where
         P: Part<S>,
         requires { level_full self.old ≡ true }
-        ensures splits { IfOk result (λ part. Splits (level_middle self.old place) (level_state P.state self.old) (level_state P.state self.new) (level_state P.state part)) }
+        ensures ok { IfOk result (Halves (level_state P.state) (PartsJoined P.joined) (level_middle self.old place) self.old self.new) }
         ensures unchanged { OnErr result (SameStates (level_state P.state self.old) (level_state P.state self.new)) }
-        ensures low { OnOk result (PartsJoined P.joined self.old None None → PartsJoined P.joined self.new None None) }
-        ensures high { IfOk result (λ part. PartsJoined P.joined self.old None None → PartsJoined P.joined part None None) }
     {
         let half = parting(&self.keys, place);
         let mut keys = Vec::new(*self.keys.allocator());
@@ -199,8 +197,7 @@ impl<P> Level<P> {
         requires from { IfSome from (level_begins P.begins self.old) }
         requires end { IfSome end (level_begins P.begins self.old) }
         requires order { InOrder from end }
-        ensures changes { ChangesWithin from end (C.changed change.now) (level_state P.state self.old) (level_state P.state self.new) }
-        ensures joined { PartsJoined P.joined self.old from end → PartsJoined P.joined self.new None None }
+        ensures { ChangesCut (level_state P.state) (PartsJoined P.joined) from end (C.changed change.now) self.old self.new }
     {
         self.rewrite_all(from, end, change);
         let low = low_rank(&self.keys, from, self.hint);
@@ -266,8 +263,7 @@ impl<P> Level<P> {
         requires from { IfSome from (level_begins P.begins self.old) }
         requires end { IfSome end (level_begins P.begins self.old) }
         requires order { InOrder from end }
-        ensures changes { ChangesWithin from end (C.changed change.now) (level_state P.state self.old) (level_state P.state self.new) }
-        ensures joined { PartsJoined P.joined self.old from end → PartsJoined P.joined self.new None None }
+        ensures { ChangesCut (level_state P.state) (PartsJoined P.joined) from end (C.changed change.now) self.old self.new }
     {
         let low = low_rank(&self.keys, from, self.hint);
         let first = inner_bound(&self.keys, low, from);
@@ -315,9 +311,8 @@ impl<P> Level<P> {
     where
         P: Part<S>,
         requires { first ≤ end }
-        ensures ok { OnOk result (ChangesWithin (Some first) (Some end) (C.changed change.now) (level_state P.state self.old) (level_state P.state self.new)) }
+        ensures ok { OnOk result (ChangesRange (level_state P.state) (PartsJoined P.joined) first end (C.changed change.now) self.old self.new) }
         ensures unchanged { OnErr result (SameStates (level_state P.state self.old) (level_state P.state self.new)) }
-        ensures joined { OnOk result (PartsJoined P.joined self.old None None → PartsJoined P.joined self.new None None) }
     {
         let index = rank_near(&self.keys, first, self.hint);
         if self.parts[index].is_full() {
@@ -340,9 +335,8 @@ impl<P> Level<P> {
         P: Part<S>,
         requires order { first ≤ end }
         requires rank { index ≡ rank self.old.keys.items first }
-        ensures ok { OnOk result (ChangesWithin (Some first) (Some end) (C.changed change.now) (level_state P.state self.old) (level_state P.state self.new)) }
+        ensures ok { OnOk result (ChangesRange (level_state P.state) (PartsJoined P.joined) first end (C.changed change.now) self.old self.new) }
         ensures unchanged { OnErr result (SameStates (level_state P.state self.old) (level_state P.state self.new)) }
-        ensures joined { OnOk result (PartsJoined P.joined self.old None None → PartsJoined P.joined self.new None None) }
     {
         self.split_full(index, first)?;
         let index = rank_near(&self.keys, first, index);
@@ -361,9 +355,8 @@ impl<P> Level<P> {
         P: Part<S>,
         requires order { first ≤ end }
         requires rank { index ≡ rank self.old.keys.items first }
-        ensures ok { OnOk result (ChangesWithin (Some first) (Some end) (C.changed change.now) (level_state P.state self.old) (level_state P.state self.new)) }
+        ensures ok { OnOk result (ChangesRange (level_state P.state) (PartsJoined P.joined) first end (C.changed change.now) self.old self.new) }
         ensures unchanged { OnErr result (SameStates (level_state P.state self.old) (level_state P.state self.new)) }
-        ensures joined { OnOk result (PartsJoined P.joined self.old None None → PartsJoined P.joined self.new None None) }
     {
         if !is_before(&self.keys, index, end) {
             return self.change_across(first, end, change);
@@ -383,9 +376,8 @@ impl<P> Level<P> {
     where
         P: Part<S>,
         requires { first ≤ end }
-        ensures ok { OnOk result (ChangesWithin (Some first) (Some end) (C.changed change.now) (level_state P.state self.old) (level_state P.state self.new)) }
+        ensures ok { OnOk result (ChangesRange (level_state P.state) (PartsJoined P.joined) first end (C.changed change.now) self.old self.new) }
         ensures unchanged { OnErr result (SameStates (level_state P.state self.old) (level_state P.state self.new)) }
-        ensures joined { OnOk result (PartsJoined P.joined self.old None None → PartsJoined P.joined self.new None None) }
     {
         self.space_for(first)?;
         self.space_for(end)?;

@@ -1,8 +1,8 @@
 //! A leaf with its summary.
 
 ghost use Rattle.std.specs.Prelude.{◌≡◌, ◌≤◌, ℕ, true, false, None, Some, OnOk, OnErr, IfOk, IfSome};
-ghost use Rattle.pmf_runs.specs.Ranks.{SameStates, ChangesWithin, Splits, CoversAll};
-ghost use Rattle.pmf_runs.specs.Joined.{JoinedBut, InOrder};
+ghost use Rattle.pmf_runs.specs.Ranks.{SameStates, CoversAll};
+ghost use Rattle.pmf_runs.specs.Joined.{JoinedBut, InOrder, ChangesRange, ChangesCut, Halves};
 ghost use Rattle.pmf_runs.specs.Leaves.{leaf_state, leaf_begins, leaf_full, leaf_middle};
 
 use crate::leaf::Leaf;
@@ -40,9 +40,8 @@ impl<S: State> Page<S> {
         change: &C,
     ) -> Result<Effect, AllocError>
         requires { first ≤ end }
-        ensures ok { OnOk result (ChangesWithin (Some first) (Some end) (C.changed change.now) (leaf_state self.old.leaf) (leaf_state self.new.leaf)) }
+        ensures ok { OnOk result (ChangesRange leaf_state JoinedBut first end (C.changed change.now) self.old.leaf self.new.leaf) }
         ensures unchanged { OnErr result (SameStates (leaf_state self.old.leaf) (leaf_state self.new.leaf)) }
-        ensures joined { OnOk result (JoinedBut self.old.leaf None None → JoinedBut self.new.leaf None None) }
     {
         if !change.may_alter(self.summary) {
             return Ok(Effect::None);
@@ -64,8 +63,7 @@ impl<S: State> Page<S> {
         requires from { IfSome from (leaf_begins self.old.leaf) }
         requires end { IfSome end (leaf_begins self.old.leaf) }
         requires order { InOrder from end }
-        ensures changes { ChangesWithin from end (C.changed change.now) (leaf_state self.old.leaf) (leaf_state self.new.leaf) }
-        ensures joined { JoinedBut self.old.leaf from end → JoinedBut self.new.leaf None None }
+        ensures { ChangesCut leaf_state JoinedBut from end (C.changed change.now) self.old.leaf self.new.leaf }
     {
         if from.is_none() && end.is_none() && !change.may_alter(self.summary) {
             return;
@@ -77,10 +75,8 @@ impl<S: State> Page<S> {
     /// Hands out what lies from that key on. After an `Err` nothing is changed.
     fn halve(&mut self, place: u64) -> Result<Page<S>, AllocError>
         requires { leaf_full self.old.leaf ≡ true }
-        ensures splits { IfOk result (λ part. Splits (leaf_middle self.old.leaf place) (leaf_state self.old.leaf) (leaf_state self.new.leaf) (leaf_state part.leaf)) }
+        ensures ok { IfOk result (λ part. Halves leaf_state JoinedBut (leaf_middle self.old.leaf place) self.old.leaf self.new.leaf part.leaf) }
         ensures unchanged { OnErr result (SameStates (leaf_state self.old.leaf) (leaf_state self.new.leaf)) }
-        ensures low { OnOk result (JoinedBut self.old.leaf None None → JoinedBut self.new.leaf None None) }
-        ensures high { IfOk result (λ part. JoinedBut self.old.leaf None None → JoinedBut part.leaf None None) }
     {
         let rest = self.leaf.halve(place)?;
         self.summary = self.leaf.summary();

@@ -3,8 +3,8 @@
 ghost use Rattle.std.specs.Prelude.{◌≡◌, ◌≤◌, ◌-◌, ℕ, Bool, true, Option, None, Some, IfOk, OnOk, OnErr, IfSome};
 ghost use Rattle.pmf_event.specs.Ranges.{first_from, least_from, lesser};
 ghost use Rattle.pmf_runs.specs.Lines.{counted_from};
-ghost use Rattle.pmf_runs.specs.Ranks.{SameStates, ChangesWithin, CoversAll, IsTail, Splits};
-ghost use Rattle.pmf_runs.specs.Joined.{InOrder};
+ghost use Rattle.pmf_runs.specs.Ranks.{SameStates, CoversAll, IsTail};
+ghost use Rattle.pmf_runs.specs.Joined.{InOrder, ChangesRange, ChangesCut, Halves};
 
 use crate::state::{Change, Effect, Key, State, Test};
 use crate::walk::Counted;
@@ -46,10 +46,8 @@ pub(crate) trait Part<S: State>: Drop {
     /// Hands out what lies from that number on.
     fn split(&mut self, place: u64) -> Result<Self, AllocError>
         requires { full self.old ≡ true }
-        ensures splits { IfOk result (λ part. Splits (middle self.old place) (state self.old) (state self.new) (state part)) }
-        ensures unchanged { OnErr result (SameStates (state self.old) (state self.new)) }
-        ensures low { OnOk result (joined self.old None None → joined self.new None None) }
-        ensures high { IfOk result (λ part. joined self.old None None → joined part None None) };
+        ensures ok { IfOk result (Halves state joined (middle self.old place) self.old self.new) }
+        ensures unchanged { OnErr result (SameStates (state self.old) (state self.new)) };
 
     /// Splits what is full on the way to the number.
     fn make_space(&mut self, place: u64) -> Result<(), AllocError>
@@ -73,17 +71,15 @@ pub(crate) trait Part<S: State>: Drop {
         change: &C,
     ) -> Result<Effect, AllocError>
         requires { first ≤ end }
-        ensures ok { OnOk result (ChangesWithin (Some first) (Some end) (C.changed change.now) (state self.old) (state self.new)) }
-        ensures unchanged { OnErr result (SameStates (state self.old) (state self.new)) }
-        ensures joined { OnOk result (joined self.old None None → joined self.new None None) };
+        ensures ok { OnOk result (ChangesRange state joined first end (C.changed change.now) self.old self.new) }
+        ensures unchanged { OnErr result (SameStates (state self.old) (state self.new)) };
 
     /// Changes the states between two bounds at which runs begin. It takes no memory.
     fn rewrite<C: Change<S>>(&mut self, from: Option<u64>, end: Option<u64>, change: &C)
         requires from { IfSome from (begins self.old) }
         requires end { IfSome end (begins self.old) }
         requires order { InOrder from end }
-        ensures changes { ChangesWithin from end (C.changed change.now) (state self.old) (state self.new) }
-        ensures joined { joined self.old from end → joined self.new None None };
+        ensures { ChangesCut state joined from end (C.changed change.now) self.old self.new };
 
     /// The least number from `first` up to `end` whose state passes. An empty range has none, also one
     /// whose end is below its first number.

@@ -11,4 +11,4 @@ invariant_of-self g c = record {
 pub renewed-summary-requires : goal.renewed-summary-requires
 renewed-summary-requires g c =
     covers-changed g.S.State.covers c.args.self.now.summary c.widened.result (Some c.args.first) (Some c.args.end) (g.C.Change.changed c.args.change.now)
-    (pages_state c.args.self.now.level) (pages_state c.change_range.new.self) c.args.self.now.covered c.widened.ensures.before c.widened.ensures.after c.in_ok-done.ensures.ok
+    (pages_state c.args.self.now.level) (pages_state c.change_range.new.self) c.args.self.now.covered c.widened.ensures.before c.widened.ensures.after c.in_ok-done.ensures.ok.0

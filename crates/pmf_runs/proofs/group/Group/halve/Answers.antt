@@ -1,4 +1,6 @@
-use Rattle.pmf_runs.specs.Pages.{pages_state}
+use Rattle.std.proofs.Common.{sym, subst}
+use Rattle.std.specs.Prelude.{None}
+use Rattle.pmf_runs.specs.Pages.{pages_state, pages_joined}
 use Rattle.pmf_runs.proofs.ChangingLemmas.{covers-same, splits-same}
 use Rattle.pmf_runs.proofs.group.Group.halve.Goals as goal
 
@@ -7,5 +9,7 @@ invariant_of-self g c = record {
   covered = covers-same g.S.State.covers c.args.self.now.summary (pages_state c.args.self.now.level) (pages_state c.halve.new.self) c.args.self.now.covered c.in_err-rest.ensures.unchanged;
 }
 
-pub returns-clause-splits : goal.returns-clause-splits
-returns-clause-splits g c = splits-same _ (pages_state c.args.self.now.level) (pages_state c.halve.new.self) (pages_state c.in_ok-rest.rest) (pages_state c.around.result.level) c.in_ok-rest.ensures.splits c.around.ensures.same
+pub returns-clause-ok : goal.returns-clause-ok
+returns-clause-ok g c = (
+    splits-same _ (pages_state c.args.self.now.level) (pages_state c.halve.new.self) (pages_state c.in_ok-rest.rest) (pages_state c.around.result.level) c.in_ok-rest.ensures.ok.0 c.around.ensures.same,
+    λ joined. let both = c.in_ok-rest.ensures.ok.1 joined in (both.0, subst (λ l. pages_joined l None None) (sym c.around.ensures.level) both.1))

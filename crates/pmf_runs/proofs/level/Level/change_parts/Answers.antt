@@ -20,12 +20,12 @@ loop-i-preserved g c =
     let change = g.C.Change.changed c.args.change.now in
     let state = g.P.Part.state in
     let first : ChangesWithin (bound_at c.args.low c.loop-i.i c.args.from) c.bound_at-last.result change (state c.index_mut.result.now) (state c.rewrite.new.self) =
-    subst (λ o. ChangesWithin o c.bound_at-last.result change (state c.index_mut.result.now) (state c.rewrite.new.self)) c.bound_at-first.ensures c.rewrite.ensures.changes in
+    subst (λ o. ChangesWithin o c.bound_at-last.result change (state c.index_mut.result.now) (state c.rewrite.new.self)) c.bound_at-first.ensures c.rewrite.ensures.0 in
     let both : ChangesWithin (bound_at c.args.low c.loop-i.i c.args.from) (bound_at c.args.high c.loop-i.i c.args.end) change (state c.index_mut.result.now) (state c.rewrite.new.self) =
     subst (λ o. ChangesWithin (bound_at c.args.low c.loop-i.i c.args.from) o change (state c.index_mut.result.now) (state c.rewrite.new.self)) c.bound_at-last.ensures first in
     let joined = g.P.Part.joined in
     let law : joined c.index_mut.result.now (bound_at c.args.low c.loop-i.i c.args.from) (bound_at c.args.high c.loop-i.i c.args.end) → joined c.rewrite.new.self None None = λ was.
-    c.rewrite.ensures.joined (subst (λ o. joined c.index_mut.result.now o c.bound_at-last.result) (sym c.bound_at-first.ensures)
+    c.rewrite.ensures.1 (subst (λ o. joined c.index_mut.result.now o c.bound_at-last.result) (sym c.bound_at-first.ensures)
     (subst (joined c.index_mut.result.now (bound_at c.args.low c.loop-i.i c.args.from)) (sym c.bound_at-last.ensures) was)) in
     let high = c.requires.high in
     let test = c.loop-i-test.true in

@@ -34,7 +34,7 @@ pub returns-clause-same : goal.returns-clause-same
 returns-clause-same g c =
     let read = subst (λ ps. c.index_mut.result.now ≡ get_or ps c.args.index c.index_mut.result.now) c.make_room-2.ensures.items c.index_mut.ensures.value in
     let at : g.P.Part.middle c.index_mut.result.now c.args.place ≡ c.args.middle = ap (λ p. g.P.Part.middle p c.args.place) read ∙ c.requires.full.is_middle c.index_mut.result.now in
-    let splits = subst (λ p. Splits p (g.P.Part.state c.index_mut.result.now) (g.P.Part.state c.split.new.self) (g.P.Part.state c.in_ok-part.part)) at c.in_ok-part.ensures.splits in
+    let splits = subst (λ p. Splits p (g.P.Part.state c.index_mut.result.now) (g.P.Part.state c.split.new.self) (g.P.Part.state c.in_ok-part.part)) at c.in_ok-part.ensures.ok.0 in
     level-split g.P.Part.state c.args.self.now _ c.index_mut.result.now c.split.new.self c.in_ok-part.part c.args.middle c.args.index c.requires.rank read splits
     (c.in-Ok.ensures.items ∙ ap (λ ks. insert ks c.args.index c.args.middle) c.make_room.ensures.items)
     (c.in-Ok-insert.ensures.items ∙ ap (λ ps. insert (set ps c.args.index c.split.new.self) (c.args.index + 1) c.in_ok-part.part) c.make_room-2.ensures.items)
@@ -43,4 +43,4 @@ pub returns-clause-joined : goal.returns-clause-joined
 returns-clause-joined g c =
     let read = subst (λ ps. c.index_mut.result.now ≡ get_or ps c.args.index c.index_mut.result.now) c.make_room-2.ensures.items c.index_mut.ensures.value in
     parts-split g.P.Part.joined c.args.self.now _ c.index_mut.result.now c.split.new.self c.in_ok-part.part c.args.index (omega (arith, c.requires.full.within, c.args.self.now.parts.ok.0)) read
-    (c.in-Ok-insert.ensures.items ∙ ap (λ ps. insert (set ps c.args.index c.split.new.self) (c.args.index + 1) c.in_ok-part.part) c.make_room-2.ensures.items) c.in_ok-part.ensures.low c.in_ok-part.ensures.high
+    (c.in-Ok-insert.ensures.items ∙ ap (λ ps. insert (set ps c.args.index c.split.new.self) (c.args.index + 1) c.in_ok-part.part) c.make_room-2.ensures.items) (λ whole. (c.in_ok-part.ensures.ok.1 whole).0) (λ whole. (c.in_ok-part.ensures.ok.1 whole).1)

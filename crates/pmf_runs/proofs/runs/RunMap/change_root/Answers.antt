@@ -9,8 +9,8 @@ returns-in_err-change_range-in-Some-clause-unchanged g c =
 
 pub returns-clause-ok : goal.returns-clause-ok
 returns-clause-ok g c =
-    changes-root c.args.self.now _ c.in-Some.root c.change_range.new.self c.args.first c.args.end (g.C.Change.changed c.args.change.now) c.in-Some.is refl refl c.in_ok-change_range-in-Some.ensures.ok
+    changes-root c.args.self.now _ c.in-Some.root c.change_range.new.self c.args.first c.args.end (g.C.Change.changed c.args.change.now) c.in-Some.is refl refl c.in_ok-change_range-in-Some.ensures.ok.0
 
 pub returns-clause-joined : goal.returns-clause-joined
 returns-clause-joined g c = λ whole.
-    joined-root _ c.change_range.new.self refl (c.in_ok-change_range-in-Some.ensures.joined (root-joined c.args.self.now c.in-Some.root c.in-Some.is whole))
+    joined-root _ c.change_range.new.self refl (c.in_ok-change_range-in-Some.ensures.ok.1 (root-joined c.args.self.now c.in-Some.root c.in-Some.is whole))
