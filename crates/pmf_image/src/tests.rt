@@ -6,32 +6,9 @@ ghost use Rattle.pmf_image.specs.Certificate.{Fits};
 mod contradicting;
 
 use super::*;
-use pmf_event::{Event, LINE_SIZE, Span, SpanFault};
-use std::alloc::Global;
+use pmf_event::{Event, LINE_SIZE, Span};
+use pmf_fixtures::{FENCE, FLUSH, STORE, Step, events_of};
 use std::test::Fail;
-
-/// An event by its numbers.
-#[derive(Clone, Copy, Debug, PartialEq, Eq)]
-enum Step {
-    Store(u64, u64),
-    Flush(u64, u64),
-    Fence,
-    Persist(u64, u64),
-    Ordered((u64, u64), (u64, u64)),
-    Exclude(u64, u64),
-    Include(u64, u64),
-    TxBegin,
-    TxAdd(u64, u64),
-    TxEnd,
-    CheckStart,
-    CheckEnd,
-}
-
-const STORE: Step = Step::Store(0x1000, 8);
-
-const FLUSH: Step = Step::Flush(0x1000, 0x40);
-
-const FENCE: Step = Step::Fence;
 
 const PERSIST: Step = Step::Persist(0x1000, 8);
 
@@ -67,37 +44,6 @@ const TOGETHER: &[Step] = &[
 const STORED_TWICE: &[Step] = &[STORE, FENCE, STORE];
 
 const FULL: Option<u64> = Some(0x2000);
-
-impl Step {
-    fn event(self) -> Result<Event, SpanFault> {
-        match self {
-            Step::Store(first, size) => Ok(Event::Store(Span::make(first, size)?)),
-            Step::Flush(first, size) => Ok(Event::Flush(Span::make(first, size)?)),
-            Step::Fence => Ok(Event::Fence),
-            Step::Persist(first, size) => Ok(Event::Persist(Span::make(first, size)?)),
-            Step::Ordered(a, b) => {
-                let first = Span::make(a.0, a.1)?;
-                let second = Span::make(b.0, b.1)?;
-                Ok(Event::Ordered(first, second))
-            }
-            Step::Exclude(first, size) => Ok(Event::Exclude(Span::make(first, size)?)),
-            Step::Include(first, size) => Ok(Event::Include(Span::make(first, size)?)),
-            Step::TxBegin => Ok(Event::TxBegin),
-            Step::TxAdd(first, size) => Ok(Event::TxAdd(Span::make(first, size)?)),
-            Step::TxEnd => Ok(Event::TxEnd),
-            Step::CheckStart => Ok(Event::CheckStart),
-            Step::CheckEnd => Ok(Event::CheckEnd),
-        }
-    }
-}
-
-fn events_of(alloc: Global, steps: &[Step]) -> Result<Vec<Event>, Fail> {
-    let mut events = Vec::new(alloc);
-    for step in steps {
-        events.push(step.event()?)?;
-    }
-    Ok(events)
-}
 
 /// Whether the certificate may speak of the events.
 fn fits(events: &[Event], certificate: Certificate) -> bool

@@ -1,8 +1,9 @@
 -- What a shadow memory stands for: for every byte, what is kept is what the definitions say of the first
 -- p events of a list, with the places that were told of the stores. What a cache line is follows from its
 -- bytes.
-use Rattle.std.specs.Prelude.{◌≡◌, ℕ, suc, ◌+◌, ◌==◌, nat_lt, [], ◌∷◌, ◌++◌, List, length, Option, None, Some, if◌then◌else◌}
+use Rattle.std.specs.Prelude.{◌≡◌, ℕ, suc, ◌+◌, ◌<◌, ◌==◌, nat_lt, [], ◌∷◌, ◌++◌, List, length, Option, None, Some, if◌then◌else◌}
 use Rattle.pmf_event.specs.declared.event.Event.{Event}
+use Rattle.pmf_event.specs.declared.section.TheConstants.{EVENT_LIMIT}
 use Rattle.pmf_event.specs.Line.{line_of_byte}
 use Rattle.pmf_event.specs.Places.{count}
 use Rattle.pmf_event.specs.Store.{at, stores, is_fence, last_store, epoch_of}
@@ -33,6 +34,14 @@ pub record StandsFor (shadow : Shadow) (told : ℕ → ℕ) (es : List Event) (p
   pub excluded : (b : ℕ) → (state_at shadow.bytes b).excluded ≡ is_excluded es p b
   pub sized : HasBytes es p
 
+-- this is so of each list that the shadow stands for, with the places that were told and the number of events
+abbrev pub ForEachList : Shadow → ((ℕ → ℕ) → List Event → ℕ → Type 0) → Type 0
+ForEachList shadow says = (told : ℕ → ℕ) (es : List Event) (p : ℕ) → StandsFor shadow told es p → says told es p
+
+-- the shadow stands for fewer events than a section may have
+abbrev pub HasRoom : Shadow → Type 0
+HasRoom shadow = (told : ℕ → ℕ) × (es : List Event) × (p : ℕ) × StandsFor shadow told es p × (p < EVENT_LIMIT)
+
 -- whatever list the old shadow stood for, the new one stands for that list with the event at its end, which
 -- was told at this place
 abbrev pub FollowsAt : ℕ → Shadow → Shadow → Event → Type 0
@@ -45,7 +54,7 @@ Follows old new e = (place : ℕ) → FollowsAt place old new e
 
 -- the new shadow stands for all that the old one stood for
 abbrev pub Keeps : Shadow → Shadow → Type 0
-Keeps old new = (told : ℕ → ℕ) (es : List Event) (p : ℕ) → StandsFor old told es p → StandsFor new told es p
+Keeps old new = ForEachList old (StandsFor new)
 
 -- the epoch after that of a write-back, once a fence has ended it
 abbrev pub closing : ℕ → Option ℕ → Option ℕ

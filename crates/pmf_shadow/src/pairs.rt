@@ -1,14 +1,13 @@
 //! The least pair of an order assertion, found by a few walks and not by trying pairs.
 
-ghost use Rattle.std.specs.Prelude.{◌≡◌, ℕ, ◌%◌, ◌<◌, List};
-ghost use Rattle.pmf_event.specs.declared.event.Event.{Event};
+ghost use Rattle.std.specs.Prelude.{◌≡◌, ◌%◌, ◌<◌};
 ghost use Rattle.pmf_event.specs.declared.span.TheConstants.{ADDRESS_LIMIT, LINE_SIZE};
 ghost use Rattle.pmf_event.specs.Span.{IsValidExtent};
 ghost use Rattle.pmf_event.specs.Ranges.{first_byte, lesser};
 ghost use Rattle.pmf_event.specs.Order.{least_pair};
 ghost use Rattle.pmf_runs.specs.Runs.{passing, keyed};
 ghost use Rattle.pmf_shadow.specs.Pairs.{by_epochs, by_line, by_lines, kept, off_line, on_line, pairs_of, IsLeastValue};
-ghost use Rattle.pmf_shadow.specs.Shadow.{StandsFor};
+ghost use Rattle.pmf_shadow.specs.Shadow.{ForEachList};
 ghost use Rattle.pmf_shadow.specs.States.{kept_opening, kept_place};
 ghost use Rattle.pmf_shadow.specs.Told.{KeepsOrder};
 
@@ -21,8 +20,7 @@ impl Shadow {
     /// The least unordered pair of a byte of `a` and a byte of `b`, or with `shown` the least
     /// certified one, by the profile's rule. The places that were told of the stores are in their order.
     pub fn least_pair(&self, a: Span, b: Span, shown: bool, profile: Profile) -> Option<(u64, u64)>
-        ensures { (told : ℕ → ℕ) (es : List Event) (p : ℕ) → StandsFor self.now told es p
-            → KeepsOrder told es p → result ≡ least_pair (pairs_of shown profile es p) a b }
+        ensures { ForEachList self.now (λ told es p. KeepsOrder told es p → result ≡ least_pair (pairs_of shown profile es p) a b) }
     {
         match (shown, profile) {
             (false, Profile::One) => self.least_by_epochs(&a, &b),
@@ -49,8 +47,7 @@ impl Shadow {
     // The least pair by the order of stores on one line, and by epochs elsewhere. The earliest epoch
     // of `b` lies on one line; every byte off that line meets it there.
     fn least_by_lines(&self, a: &Span, b: &Span, ties: bool) -> Option<(u64, u64)>
-        ensures { (told : ℕ → ℕ) (es : List Event) (p : ℕ) → StandsFor self.now told es p
-            → KeepsOrder told es p → result ≡ least_pair (by_lines ties (kept self.now.bytes)) a.now b.now }
+        ensures { ForEachList self.now (λ told es p. KeepsOrder told es p → result ≡ least_pair (by_lines ties (kept self.now.bytes)) a.now b.now) }
     {
         let epoch = self.bytes.least_key(b.first(), b.end(), &Opening)?;
         let early = self.first_in(b, &OpensIn { epoch })?;

@@ -1,8 +1,7 @@
 //! The shadow of some events: the states of bytes, and how many fences there were.
 
-ghost use Rattle.std.specs.Prelude.{◌≡◌, ℕ, ◌+◌, ◌<◌, List, OnOk, OnErr, is_some};
+ghost use Rattle.std.specs.Prelude.{◌≡◌, ℕ, ◌+◌, List, OnOk, OnErr, is_some};
 ghost use Rattle.pmf_event.specs.declared.event.Event.{Event};
-ghost use Rattle.pmf_event.specs.declared.section.TheConstants.{EVENT_LIMIT};
 ghost use Rattle.pmf_event.specs.Span.{IsValidExtent};
 ghost use Rattle.pmf_event.specs.Ranges.{first_byte};
 ghost use Rattle.pmf_event.specs.Interval.{interval_at};
@@ -10,7 +9,7 @@ ghost use Rattle.pmf_event.specs.Exclusion.{is_included};
 ghost use Rattle.pmf_event.specs.Persist.{is_checked, is_exposed};
 ghost use Rattle.pmf_event.specs.FlushWarnings.{is_clean, is_pending, lines_where};
 ghost use Rattle.pmf_runs.specs.Runs.{passing};
-ghost use Rattle.pmf_shadow.specs.Shadow.{StandsFor, FollowsAt, Follows, Keeps, closing};
+ghost use Rattle.pmf_shadow.specs.Shadow.{StandsFor, ForEachList, HasRoom, FollowsAt, Follows, Keeps, closing};
 ghost use Rattle.pmf_shadow.specs.Told.{interval_as_told};
 
 use crate::byte::{
@@ -83,8 +82,7 @@ impl Shadow {
 
     /// Follows a fence. It walks nothing and takes no memory.
     pub fn fence(&mut self)
-        requires { (told : ℕ → ℕ) × (es : List Event) × (p : ℕ) × StandsFor self.old told es p
-            × (p < EVENT_LIMIT) }
+        requires { HasRoom self.old }
         ensures { Follows self.old self.new Event.Fence }
     {
         self.fences += 1;
@@ -112,11 +110,29 @@ impl Shadow {
         Ok(())
     }
 
+    /// Follows any event: a store made at this place, a write-back, a fence, an exclusion, an inclusion, or one
+    /// that changes nothing of a shadow. Memory: at most two runs. After an `Err` the shadow stands for what
+    /// it stood for.
+    pub fn follow(&mut self, place: u32, event: Event) -> Result<(), AllocError>
+        requires { HasRoom self.old }
+        ensures follows { OnOk result (FollowsAt place self.old self.new event) }
+        ensures unchanged { OnErr result (Keeps self.old self.new) }
+    {
+        match event {
+            Event::Store(span) => self.store(place, span)?,
+            Event::Flush(span) => self.flush(span)?,
+            Event::Fence => self.fence(),
+            Event::Exclude(span) => self.exclude(span)?,
+            Event::Include(span) => self.include(span)?,
+            _ => {}
+        }
+        Ok(())
+    }
+
     /// The persist interval of the byte, with the place that was told of its last store, or `None` where no
     /// store has covered it.
     pub fn interval_at(&self, byte: u64) -> Option<Interval>
-        ensures { (told : ℕ → ℕ) (es : List Event) (p : ℕ) → StandsFor self.now told es p
-            → result ≡ interval_as_told told (interval_at es p byte) }
+        ensures { ForEachList self.now (λ told es p. result ≡ interval_as_told told (interval_at es p byte)) }
     {
         match self.bytes.at(byte).stored() {
             None => None,
@@ -130,24 +146,21 @@ impl Shadow {
 
     /// Whether a byte of the span is checked: written, and not excluded.
     pub fn written_included(&self, span: Span) -> bool
-        ensures { (told : ℕ → ℕ) (es : List Event) (p : ℕ) → StandsFor self.now told es p
-            → result ≡ is_some (first_byte (is_checked es p) span) }
+        ensures { ForEachList self.now (λ told es p. result ≡ is_some (first_byte (is_checked es p) span)) }
     {
         self.first_in(&span, &IsChecked).is_some()
     }
 
     /// The least checked byte of the span whose persist interval is open.
     pub fn least_open(&self, span: Span) -> Option<u64>
-        ensures { (told : ℕ → ℕ) (es : List Event) (p : ℕ) → StandsFor self.now told es p
-            → result ≡ first_byte (is_exposed es p) span }
+        ensures { ForEachList self.now (λ told es p. result ≡ first_byte (is_exposed es p) span) }
     {
         self.first_in(&span, &IsLate { epoch: self.fences })
     }
 
     /// The least byte of the span that is not excluded, written or not.
     pub fn least_included(&self, span: Span) -> Option<u64>
-        ensures { (told : ℕ → ℕ) (es : List Event) (p : ℕ) → StandsFor self.now told es p
-            → result ≡ first_byte (is_included es p) span }
+        ensures { ForEachList self.now (λ told es p. result ≡ first_byte (is_included es p) span) }
     {
         self.first_in(&span, &IsIncluded)
     }
@@ -155,16 +168,14 @@ impl Shadow {
     /// Of the lines that the span meets, those with a write-back that no fence has completed: the
     /// least, and how many.
     pub fn pending_lines(&self, span: Span) -> Option<Lines>
-        ensures { (told : ℕ → ℕ) (es : List Event) (p : ℕ) → StandsFor self.now told es p
-            → result ≡ lines_where (is_pending es p) span }
+        ensures { ForEachList self.now (λ told es p. result ≡ lines_where (is_pending es p) span) }
     {
         self.flush_lines(span).pending
     }
 
     /// Of the lines that the span meets, those with nothing to write back: the least, and how many.
     pub fn clean_lines(&self, span: Span) -> Option<Lines>
-        ensures { (told : ℕ → ℕ) (es : List Event) (p : ℕ) → StandsFor self.now told es p
-            → result ≡ lines_where (is_clean es p) span }
+        ensures { ForEachList self.now (λ told es p. result ≡ lines_where (is_clean es p) span) }
     {
         self.flush_lines(span).clean
     }
@@ -172,10 +183,8 @@ impl Shadow {
     /// What a write-back of the span's lines would find: both of these at once, so that lines are counted
     /// once.
     pub fn flush_lines(&self, span: Span) -> FlushLines
-        ensures pending { (told : ℕ → ℕ) (es : List Event) (p : ℕ) → StandsFor self.now told es p
-            → result.pending ≡ lines_where (is_pending es p) span }
-        ensures clean { (told : ℕ → ℕ) (es : List Event) (p : ℕ) → StandsFor self.now told es p
-            → result.clean ≡ lines_where (is_clean es p) span }
+        ensures pending { ForEachList self.now (λ told es p. result.pending ≡ lines_where (is_pending es p) span) }
+        ensures clean { ForEachList self.now (λ told es p. result.clean ≡ lines_where (is_clean es p) span) }
     {
         let undurable = IsUndurable { epoch: self.fences };
         let alone = IsPending { epoch: self.fences };

@@ -1,12 +1,11 @@
 //! What a shadow answers after some events.
 
-ghost use Rattle.std.specs.Prelude.{ℕ, ◌≤◌, ◌<◌, List, length, OnOk};
-ghost use Rattle.pmf_event.specs.declared.event.Event.{Event};
+ghost use Rattle.std.specs.Prelude.{◌≤◌, length};
 ghost use Rattle.pmf_event.specs.declared.section.TheConstants.{EVENT_LIMIT};
-ghost use Rattle.pmf_shadow.specs.Shadow.{StandsFor, FollowsAt};
 
 use crate::shadow::Shadow;
-use pmf_event::{EVENT_LIMIT, Event, Interval, Lines, Profile, Span, SpanFault};
+use pmf_event::{EVENT_LIMIT, Event, Interval, Lines, Profile, Span};
+use pmf_fixtures::{FENCE, FLUSH, OTHER, STORE, Step, events_of};
 use std::alloc::{AllocError, Global};
 use std::process::Abort;
 use std::test::Fail;
@@ -18,41 +17,8 @@ mod random;
 
 use plain::{BASE, BYTES, Plain};
 
-/// An event by its numbers.
-#[derive(Clone, Copy, Debug, PartialEq, Eq)]
-enum Step {
-    Store(u64, u64),
-    Flush(u64, u64),
-    Fence,
-    Exclude(u64, u64),
-    Include(u64, u64),
-}
-
-const STORE: Step = Step::Store(0x1000, 8);
-
-const FLUSH: Step = Step::Flush(0x1000, 0x40);
-
-const FENCE: Step = Step::Fence;
-
-const OTHER: Step = Step::Store(0x2000, 8);
-
-impl Step {
-    fn event(self) -> Result<Event, SpanFault> {
-        match self {
-            Step::Store(first, size) => Ok(Event::Store(Span::make(first, size)?)),
-            Step::Flush(first, size) => Ok(Event::Flush(Span::make(first, size)?)),
-            Step::Fence => Ok(Event::Fence),
-            Step::Exclude(first, size) => Ok(Event::Exclude(Span::make(first, size)?)),
-            Step::Include(first, size) => Ok(Event::Include(Span::make(first, size)?)),
-        }
-    }
-}
-
 fn shadow_after(rt: &impl Abort, alloc: Global, steps: &[Step]) -> Result<Shadow, Fail> {
-    let mut events = Vec::new(alloc);
-    for step in steps {
-        events.push(step.event()?)?;
-    }
+    let events = events_of(alloc, steps)?;
     Ok(shadow_of(rt, alloc, events.as_slice())?)
 }
 
@@ -75,29 +41,12 @@ fn follow_all(alloc: Global, events: &[Event]) -> (Shadow, usize)
 {
     let mut shadow = Shadow::new(alloc);
     for (index, event) in events.iter().enumerate() {
-        match follow(&mut shadow, index as u32 + 1, *event) {
+        match shadow.follow(index as u32 + 1, *event) {
             Ok(()) => {}
             Err(AllocError) => return (shadow, index),
         }
     }
     (shadow, events.len())
-}
-
-/// Follows one event, which is no assertion and no marker of a transaction.
-fn follow(shadow: &mut Shadow, place: u32, event: Event) -> Result<(), AllocError>
-    requires { (told : ℕ → ℕ) × (es : List Event) × (p : ℕ) × StandsFor shadow.old told es p
-        × (p < EVENT_LIMIT) }
-    ensures { OnOk result (FollowsAt place shadow.old shadow.new event) }
-{
-    match event {
-        Event::Store(span) => shadow.store(place, span)?,
-        Event::Flush(span) => shadow.flush(span)?,
-        Event::Fence => shadow.fence(),
-        Event::Exclude(span) => shadow.exclude(span)?,
-        Event::Include(span) => shadow.include(span)?,
-        _ => return Err(AllocError),
-    }
-    Ok(())
 }
 
 /// Each question about each byte is answered as the definitions say.

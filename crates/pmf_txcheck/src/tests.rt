@@ -3,11 +3,11 @@
 ghost use Rattle.std.specs.Prelude.{ℕ, ◌<◌, List, OnOk};
 ghost use Rattle.pmf_event.specs.declared.event.Event.{Event};
 ghost use Rattle.pmf_event.specs.declared.section.TheConstants.{EVENT_LIMIT};
-ghost use Rattle.pmf_shadow.specs.Shadow.{FollowsAt, StandsFor};
 ghost use Rattle.pmf_txcheck.specs.Tracking.{Tracks, FollowsAt as FollowsTransactionAt};
 
 use crate::state::TxState;
-use pmf_event::{EVENT_LIMIT, Event, Finding, Span, SpanFault};
+use pmf_event::{EVENT_LIMIT, Event, Finding, Span};
+use pmf_fixtures::{Step, events_of};
 use pmf_shadow::Shadow;
 use std::alloc::{AllocError, Global};
 use std::process::Abort;
@@ -18,39 +18,7 @@ mod plain;
 
 use plain::{BASE, BYTES, Plain};
 
-/// An event by its numbers.
-#[derive(Clone, Copy, Debug, PartialEq, Eq)]
-enum Step {
-    Store(u64, u64),
-    Flush(u64, u64),
-    Fence,
-    Exclude(u64, u64),
-    Include(u64, u64),
-    TxBegin,
-    TxAdd(u64, u64),
-    TxEnd,
-    CheckStart,
-    CheckEnd,
-}
-
 use Step::{CheckEnd, CheckStart, Exclude, Fence, Flush, Include, Store, TxAdd, TxBegin, TxEnd};
-
-impl Step {
-    fn event(self) -> Result<Event, SpanFault> {
-        match self {
-            Store(first, size) => Ok(Event::Store(Span::make(first, size)?)),
-            Flush(first, size) => Ok(Event::Flush(Span::make(first, size)?)),
-            Fence => Ok(Event::Fence),
-            Exclude(first, size) => Ok(Event::Exclude(Span::make(first, size)?)),
-            Include(first, size) => Ok(Event::Include(Span::make(first, size)?)),
-            TxBegin => Ok(Event::TxBegin),
-            TxAdd(first, size) => Ok(Event::TxAdd(Span::make(first, size)?)),
-            TxEnd => Ok(Event::TxEnd),
-            CheckStart => Ok(Event::CheckStart),
-            CheckEnd => Ok(Event::CheckEnd),
-        }
-    }
-}
 
 /// What is found of some events, each with its place, and where the section ends.
 #[derive(Debug, Drop)]
@@ -70,7 +38,7 @@ fn found_of(rt: &impl Abort, alloc: Global, events: &[Event]) -> Result<Found, A
     let mut rows = Vec::new(alloc);
     for (index, event) in events.iter().enumerate() {
         let place = index as u32 + 1;
-        follow_bytes(&mut shadow, place, *event)?;
+        shadow.follow(place, *event)?;
         let finding = match follow_transactions(&mut state, &shadow, place, *event) {
             Ok(finding) => finding,
             Err(AllocError) => {
@@ -87,23 +55,6 @@ fn found_of(rt: &impl Abort, alloc: Global, events: &[Event]) -> Result<Found, A
         close: state.close_section(),
         depth: state.depth(),
     })
-}
-
-/// Follows one event by the shadow, which is to be the first.
-fn follow_bytes(shadow: &mut Shadow, place: u32, event: Event) -> Result<(), AllocError>
-    requires { (told : ℕ → ℕ) × (es : List Event) × (p : ℕ) × StandsFor shadow.old told es p
-        × (p < EVENT_LIMIT) }
-    ensures { OnOk result (FollowsAt place shadow.old shadow.new event) }
-{
-    match event {
-        Event::Store(span) => shadow.store(place, span)?,
-        Event::Flush(span) => shadow.flush(span)?,
-        Event::Fence => shadow.fence(),
-        Event::Exclude(span) => shadow.exclude(span)?,
-        Event::Include(span) => shadow.include(span)?,
-        _ => {}
-    }
-    Ok(())
 }
 
 /// Follows one event by the state.
@@ -155,10 +106,7 @@ fn assert_kept(rt: &impl Abort, state: &TxState, plain: &Plain) {
 }
 
 fn found_after(rt: &impl Abort, alloc: Global, steps: &[Step]) -> Result<Found, Fail> {
-    let mut events = Vec::new(alloc);
-    for step in steps {
-        events.push(step.event()?)?;
-    }
+    let events = events_of(alloc, steps)?;
     Ok(found_of(rt, alloc, events.as_slice())?)
 }
 

@@ -14,4 +14,4 @@ loop-index-preserved c =
     let es = c.args.events.now in
     let i = c.loop-index.index in
     let here : event_at es (suc i) ≡ Some c.index-events-index.result = slice_get_read es (length es) i c.index-events-index.result refl (omega arith) c.index-events-index.is in
-    rw add-one (follows-within (i + 1) _ _ _ c.in_ok-follow.ensures (λ k. k) es i here (sym (add-one i)) c.loop-index.invariant)
+    rw add-one (follows-within (i + 1) _ _ _ c.in_ok-follow.ensures.follows (λ k. k) es i here (sym (add-one i)) c.loop-index.invariant)

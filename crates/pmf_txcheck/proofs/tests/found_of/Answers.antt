@@ -19,6 +19,6 @@ loop-index-preserved g c =
     let i = c.loop-index.index in
     let here : event_at es (suc i) ≡ Some c.index-events-index.result = slice_get_read es (length es) i c.index-events-index.result refl (omega arith) c.index-events-index.is in
     record {
-      stands = rw add-one (follows-within (i + 1) _ _ _ c.in_ok-follow_bytes.ensures (λ k. k) es i here (sym (add-one i)) c.loop-index.invariant.stands);
+      stands = rw add-one (follows-within (i + 1) _ _ _ c.in_ok-follow.ensures.follows (λ k. k) es i here (sym (add-one i)) c.loop-index.invariant.stands);
       tracks = rw add-one (tracks-within (i + 1) _ _ _ c.in-Ok.ensures (λ k. k) es i here (sym (add-one i)) c.loop-index.invariant.tracks);
     }

@@ -5,7 +5,7 @@ use Rattle.pmf_event.specs.Span.{Extent}
 use Rattle.pmf_shadow.specs.Laws.{is_unseen}
 use Rattle.pmf_shadow.specs.Shadow.{FollowsAt}
 use Rattle.pmf_shadow.proofs.StandsLemmas.{unseen-follows}
-use Rattle.pmf_txcheck.proofs.tests.follow_bytes.Goals as goal
+use Rattle.pmf_shadow.proofs.shadow.Shadow.follow.Goals as goal
 
 unseen-unless : (e : Event) → ((s : Extent) → e ≡ Store s → ⊥) → ((s : Extent) → e ≡ Flush s → ⊥) → (e ≡ Fence → ⊥) → ((s : Extent) → e ≡ Exclude s → ⊥) → ((s : Extent) → e ≡ Include s → ⊥) →
     is_unseen e ≡ true
@@ -23,22 +23,22 @@ unseen-unless TxEnd no_store no_flush no_fence no_exclude no_include = refl
 unseen-unless CheckStart no_store no_flush no_fence no_exclude no_include = refl
 unseen-unless CheckEnd no_store no_flush no_fence no_exclude no_include = refl
 
-pub returns-in_ok-store-in-Store : goal.returns-in_ok-store-in-Store
-returns-in_ok-store-in-Store c = subst (FollowsAt c.args.place c.args.shadow.now c.store.new.self) (sym c.in-Store.is) c.in_ok-store-in-Store.ensures.follows
+pub returns-in_ok-store-in-Store-clause-follows : goal.returns-in_ok-store-in-Store-clause-follows
+returns-in_ok-store-in-Store-clause-follows c = subst (FollowsAt c.args.place c.args.self.now c.store.new.self) (sym c.in-Store.is) c.in_ok-store-in-Store.ensures.follows
 
-pub returns-in_ok-flush-in-Flush : goal.returns-in_ok-flush-in-Flush
-returns-in_ok-flush-in-Flush c = subst (FollowsAt c.args.place c.args.shadow.now c.flush.new.self) (sym c.in-Flush.is) (c.in_ok-flush-in-Flush.ensures.follows c.args.place)
+pub returns-in_ok-flush-in-Flush-clause-follows : goal.returns-in_ok-flush-in-Flush-clause-follows
+returns-in_ok-flush-in-Flush-clause-follows c = subst (FollowsAt c.args.place c.args.self.now c.flush.new.self) (sym c.in-Flush.is) (c.in_ok-flush-in-Flush.ensures.follows c.args.place)
 
-pub returns-in-Fence : goal.returns-in-Fence
-returns-in-Fence c = subst (FollowsAt c.args.place c.args.shadow.now c.fence.new.self) (sym c.in-Fence.is) (c.fence.ensures c.args.place)
+pub returns-in-Fence-clause-follows : goal.returns-in-Fence-clause-follows
+returns-in-Fence-clause-follows c = subst (FollowsAt c.args.place c.args.self.now c.fence.new.self) (sym c.in-Fence.is) (c.fence.ensures c.args.place)
 
-pub returns-in_ok-exclude-in-Exclude : goal.returns-in_ok-exclude-in-Exclude
-returns-in_ok-exclude-in-Exclude c = subst (FollowsAt c.args.place c.args.shadow.now c.exclude.new.self) (sym c.in-Exclude.is) (c.in_ok-exclude-in-Exclude.ensures.follows c.args.place)
+pub returns-in_ok-exclude-in-Exclude-clause-follows : goal.returns-in_ok-exclude-in-Exclude-clause-follows
+returns-in_ok-exclude-in-Exclude-clause-follows c = subst (FollowsAt c.args.place c.args.self.now c.exclude.new.self) (sym c.in-Exclude.is) (c.in_ok-exclude-in-Exclude.ensures.follows c.args.place)
 
-pub returns-in_ok-include-in-Include : goal.returns-in_ok-include-in-Include
-returns-in_ok-include-in-Include c = subst (FollowsAt c.args.place c.args.shadow.now c.include.new.self) (sym c.in-Include.is) (c.in_ok-include-in-Include.ensures.follows c.args.place)
+pub returns-in_ok-include-in-Include-clause-follows : goal.returns-in_ok-include-in-Include-clause-follows
+returns-in_ok-include-in-Include-clause-follows c = subst (FollowsAt c.args.place c.args.self.now c.include.new.self) (sym c.in-Include.is) (c.in_ok-include-in-Include.ensures.follows c.args.place)
 
-pub returns-in_default : goal.returns-in_default
-returns-in_default c =
+pub returns-in_default-clause-follows : goal.returns-in_default-clause-follows
+returns-in_default-clause-follows c =
     let other = c.in_default in
-    unseen-follows c.args.shadow.now c.args.event (unseen-unless c.args.event other.not-Store other.not-Flush other.not-Fence other.not-Exclude other.not-Include) c.args.place
+    unseen-follows c.args.self.now c.args.event (unseen-unless c.args.event other.not-Store other.not-Flush other.not-Fence other.not-Exclude other.not-Include) c.args.place
