@@ -1,9 +1,8 @@
 //! What a write-back finds: lines that had nothing to write back, or were written back already.
 
-ghost use Rattle.std.specs.Prelude.{◌≡◌, ℕ, List};
-ghost use Rattle.pmf_event.specs.declared.event.Event.{Event};
+ghost use Rattle.std.specs.Prelude.{◌≡◌};
 ghost use Rattle.pmf_event.specs.FlushWarnings.{is_clean, is_pending, lines_where, doubled_finding, needless_finding};
-ghost use Rattle.pmf_shadow.specs.Shadow.{StandsFor};
+ghost use Rattle.pmf_shadow.specs.Shadow.{ForEachList};
 
 use pmf_event::{Finding, Span};
 use pmf_shadow::Shadow;
@@ -21,10 +20,8 @@ pub struct FlushFindings {
 /// What is found of a write-back over the span that comes after the events that the shadow stands for:
 /// it is judged before it takes effect.
 pub fn check_flush(shadow: &Shadow, span: Span) -> FlushFindings
-    ensures doubled { (told : ℕ → ℕ) (es : List Event) (p : ℕ) → StandsFor shadow.now told es p
-        → result.doubled ≡ doubled_finding (lines_where (is_pending es p) span) }
-    ensures needless { (told : ℕ → ℕ) (es : List Event) (p : ℕ) → StandsFor shadow.now told es p
-        → result.needless ≡ needless_finding (lines_where (is_clean es p) span) }
+    ensures doubled { ForEachList shadow.now (λ told es p. result.doubled ≡ doubled_finding (lines_where (is_pending es p) span)) }
+    ensures needless { ForEachList shadow.now (λ told es p. result.needless ≡ needless_finding (lines_where (is_clean es p) span)) }
 {
     let lines = shadow.flush_lines(span);
     let doubled = match lines.pending {

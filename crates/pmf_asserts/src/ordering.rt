@@ -1,10 +1,9 @@
 //! What an order assertion finds.
 
-ghost use Rattle.std.specs.Prelude.{◌≡◌, ℕ, ◌<◌, List};
-ghost use Rattle.pmf_event.specs.declared.event.Event.{Event};
+ghost use Rattle.std.specs.Prelude.{◌≡◌, ◌<◌};
 ghost use Rattle.pmf_event.specs.Store.{last_store};
 ghost use Rattle.pmf_event.specs.Order.{ordered_finding};
-ghost use Rattle.pmf_shadow.specs.Shadow.{StandsFor};
+ghost use Rattle.pmf_shadow.specs.Shadow.{ForEachList};
 ghost use Rattle.pmf_shadow.specs.Told.{KeepsOrder, finding_as_told};
 
 use pmf_event::{Finding, Profile, Span};
@@ -15,9 +14,7 @@ use pmf_shadow::Shadow;
 /// after which a crash shows it, SAMELINE with the least unordered pair where none is certified, else PASS (PMTest,
 /// ASPLOS 2019: isOrderedBefore; SAMELINE and the least pair are the project's own).
 pub fn check_ordered(shadow: &Shadow, a: Span, b: Span, profile: Profile) -> Finding
-    ensures { (told : ℕ → ℕ) (es : List Event) (p : ℕ) → StandsFor shadow.now told es p
-        → KeepsOrder told es p
-        → result ≡ finding_as_told told (ordered_finding profile es p a b) }
+    ensures { ForEachList shadow.now (λ told es p. KeepsOrder told es p → result ≡ finding_as_told told (ordered_finding profile es p a b)) }
 {
     if !shadow.written_included(a) {
         return Finding::OrderedEmpty;
@@ -41,10 +38,8 @@ pub fn check_ordered(shadow: &Shadow, a: Span, b: Span, profile: Profile) -> Fin
 
 // The place that was told of the last store of the byte, or 0 where it is unwritten.
 fn last_store(shadow: &Shadow, byte: u64) -> u32
-    ensures written { (told : ℕ → ℕ) (es : List Event) (p : ℕ) → StandsFor shadow.now told es p
-        → 0 < last_store es p byte → result ≡ told (last_store es p byte) }
-    ensures unwritten { (told : ℕ → ℕ) (es : List Event) (p : ℕ) → StandsFor shadow.now told es p
-        → last_store es p byte ≡ 0 → result ≡ 0 }
+    ensures written { ForEachList shadow.now (λ told es p. 0 < last_store es p byte → result ≡ told (last_store es p byte)) }
+    ensures unwritten { ForEachList shadow.now (λ told es p. last_store es p byte ≡ 0 → result ≡ 0) }
 {
     match shadow.interval_at(byte) {
         None => 0,

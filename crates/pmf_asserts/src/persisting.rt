@@ -1,9 +1,8 @@
 //! What a persist assertion finds.
 
-ghost use Rattle.std.specs.Prelude.{◌≡◌, ℕ, List};
-ghost use Rattle.pmf_event.specs.declared.event.Event.{Event};
+ghost use Rattle.std.specs.Prelude.{◌≡◌};
 ghost use Rattle.pmf_event.specs.Persist.{persist_finding};
-ghost use Rattle.pmf_shadow.specs.Shadow.{StandsFor};
+ghost use Rattle.pmf_shadow.specs.Shadow.{ForEachList};
 
 use pmf_event::{Finding, Span};
 use pmf_shadow::Shadow;
@@ -12,8 +11,7 @@ use pmf_shadow::Shadow;
 /// where no byte is checked, FAIL with the least checked byte whose persist interval is open, else
 /// PASS (PMTest, ASPLOS 2019: isPersist).
 pub fn check_persist(shadow: &Shadow, span: Span) -> Finding
-    ensures { (told : ℕ → ℕ) (es : List Event) (p : ℕ) → StandsFor shadow.now told es p
-        → result ≡ persist_finding es p span }
+    ensures { ForEachList shadow.now (λ told es p. result ≡ persist_finding es p span) }
 {
     if !shadow.written_included(span) {
         return Finding::PersistEmpty;

@@ -22,6 +22,10 @@ pub record Tracks (state : TxState) (told : ℕ → ℕ) (es : List Event) (p : 
   pub scope : state.scope ≡ scope_as_told told (scope_at es p)
   pub stored : in_scope es p ≡ true → (b : ℕ) → state_at state.stored b ≡ is_scoped es p b
 
+-- this is so of each list that the state stands for, with the places that were told and the number of events
+abbrev pub ForEachList : TxState → ((ℕ → ℕ) → List Event → ℕ → Type 0) → Type 0
+ForEachList state says = (told : ℕ → ℕ) (es : List Event) (p : ℕ) → Tracks state told es p → says told es p
+
 -- whatever list the old state stood for, the new one stands for that list with the event at its end, which
 -- was told at this place
 abbrev pub FollowsAt : ℕ → TxState → TxState → Event → Type 0
@@ -34,4 +38,4 @@ Follows old new e = (place : ℕ) → FollowsAt place old new e
 
 -- the new state stands for all that the old one stood for
 abbrev pub Keeps : TxState → TxState → Type 0
-Keeps old new = (told : ℕ → ℕ) (es : List Event) (p : ℕ) → Tracks old told es p → Tracks new told es p
+Keeps old new = ForEachList old (Tracks new)

@@ -8,7 +8,7 @@ ghost use Rattle.pmf_event.specs.Transactions.{depth_at, in_transaction, in_scop
 ghost use Rattle.pmf_shadow.specs.Shadow.{StandsFor};
 ghost use Rattle.pmf_shadow.specs.Told.{finding_as_told};
 ghost use Rattle.pmf_txcheck.specs.Findings.{FindsOfCheckEnd, FindsOfStore, is_left_open_by, lacks_backup_by};
-ghost use Rattle.pmf_txcheck.specs.Tracking.{Follows, FollowsAt, Keeps, Tracks, depth_of};
+ghost use Rattle.pmf_txcheck.specs.Tracking.{Follows, FollowsAt, ForEachList, Keeps, Tracks, depth_of};
 
 use crate::sets::{IsIn, IsOut, PutIn};
 use pmf_event::{ADDRESS_LIMIT, Event, Finding, Span};
@@ -49,8 +49,7 @@ impl TxState {
     /// How many transactions run.
     pub fn depth(&self) -> u32
         ensures value { result ≡ depth_of self.now }
-        ensures depth { (told : ℕ → ℕ) (es : List Event) (p : ℕ) → Tracks self.now told es p
-            → result ≡ depth_at es p }
+        ensures depth { ForEachList self.now (λ told es p. result ≡ depth_at es p) }
     {
         self.depth
     }
@@ -69,8 +68,7 @@ impl TxState {
     /// Follows a TXEND, and says UNMATCHED where no transaction runs. Takes no memory.
     pub fn end(&mut self) -> Option<Finding>
         ensures follows { Follows self.old self.new Event.TxEnd }
-        ensures finds { (told : ℕ → ℕ) (es : List Event) (p : ℕ) → Tracks self.old told es p
-            → result ≡ end_finding es p }
+        ensures finds { ForEachList self.old (λ told es p. result ≡ end_finding es p) }
     {
         if self.depth == 0 {
             return Some(Finding::Unmatched);
@@ -84,8 +82,7 @@ impl TxState {
     /// stands for what it stood for.
     pub fn add(&mut self, span: Span) -> Result<Option<Finding>, AllocError>
         ensures follows { OnOk result (Follows self.old self.new (Event.TxAdd span)) }
-        ensures finds { IfOk result (λ finding. (told : ℕ → ℕ) (es : List Event) (p : ℕ)
-            → Tracks self.old told es p → finding ≡ add_finding es p span) }
+        ensures finds { IfOk result (λ finding. ForEachList self.old (λ told es p. finding ≡ add_finding es p span)) }
         ensures unchanged { OnErr result (Keeps self.old self.new) }
     {
         if self.depth == 0 {
@@ -127,8 +124,7 @@ impl TxState {
     /// Follows a CHECKSTART, keeps this place of it, and says NESTED in a scope. Takes no memory.
     pub fn check_start(&mut self, place: u32) -> Option<Finding>
         ensures follows { FollowsAt place self.old self.new Event.CheckStart }
-        ensures finds { (told : ℕ → ℕ) (es : List Event) (p : ℕ) → Tracks self.old told es p
-            → result ≡ start_finding es p }
+        ensures finds { ForEachList self.old (λ told es p. result ≡ start_finding es p) }
     {
         if self.scope.is_some() {
             return Some(Finding::Nested);
@@ -153,8 +149,7 @@ impl TxState {
     /// What is found where the section ends here: UNCLOSED in a scope, with the place that was told of the
     /// event that opened it.
     pub fn close_section(&self) -> Option<Finding>
-        ensures { (told : ℕ → ℕ) (es : List Event) (p : ℕ) → Tracks self.now told es p
-            → result ≡ option_map (finding_as_told told) (close_finding es p) }
+        ensures { ForEachList self.now (λ told es p. result ≡ option_map (finding_as_told told) (close_finding es p)) }
     {
         match self.scope {
             None => None,
