@@ -59,7 +59,7 @@ fn hands_of(
 }
 
 // What the thread of a worker does.
-fn run_worker<R: Wait, G: Gate>(
+fn work_on_thread<R: Wait, G: Gate>(
     rt: &R,
     alloc: Global,
     board: &Board,
@@ -132,7 +132,7 @@ fn farm_out<R: Threads + Wait + Sync, G: Gate + Sync>(
                     move ||
                         requires own { hand.pass.board ≡ board.now }
                         requires all { vec_len queue.now.sections ≡ board.now.words }
-                    { run_worker(rt, alloc, board, hand, queue, profile, gate) },
+                    { work_on_thread(rt, alloc, board, hand, queue, profile, gate) },
                 ));
             }
             collect(rt, channel, roll)
@@ -161,7 +161,7 @@ fn gather<G: Gate>(
 }
 
 // The ledger of the sections, by workers whose number fits.
-fn run_all<R: Threads + Wait + Sync, G: Gate + Sync>(
+fn check_all<R: Threads + Wait + Sync, G: Gate + Sync>(
     rt: &R,
     alloc: Global,
     sections: &[Arc<Section>],
@@ -228,7 +228,7 @@ pub fn run<R: Threads + Wait + Sync, G: Gate + Sync>(
     if sections.len() > MOST_SECTIONS as usize {
         return Err(FarmFault::TooManySections);
     }
-    match run_all(rt, alloc, sections, workers, profile, gate) {
+    match check_all(rt, alloc, sections, workers, profile, gate) {
         Ok(ledger) => Ok(ledger),
         Err(fault) => Err(fault),
     }

@@ -1,4 +1,4 @@
--- Runs of alike bytes: between two borders all bytes are alike, and alike bytes answer alike.
+-- Stretches of alike bytes: between two borders all bytes are alike, and alike bytes answer alike.
 use Rattle.std.proofs.Common.{◌≡◌, ℕ, zero, suc, ◌+◌, ◌-◌, ◌<◌, ◌≤◌, not, ◌&&◌, nat_lt, nat_le, if◌then◌else◌, List, length, refl, sym, ◌∙◌, ap, arith, inl, inr, subst}
 use Rattle.std.specs.Prelude.{Some, None, nat_eq, get_or, ◌⊎◌}
 use Rattle.std.specs.Option.{option_eq}
@@ -20,7 +20,7 @@ use Rattle.pmf_image.specs.declared.questions.Question.{Question}
 use Rattle.pmf_image.specs.declared.questions.Question.TheVariants.{FallsShort, IsShown, IsLost, ScopeFallsShort}
 use Rattle.pmf_image.specs.Image.{count_of, is_fenced, floor_of, reach_of, reaches, shows}
 use Rattle.pmf_image.specs.Certificate.{image_of, cut_in, shows_in}
-use Rattle.pmf_image.specs.Runs.{AlikeAt, Alike}
+use Rattle.pmf_image.specs.Borders.{AlikeAt, Alike}
 use Rattle.pmf_image.specs.Questions.{is_asked, compares, answer_of}
 use Rattle.pmf_image.proofs.ImageLemmas.{reach-untorn}
 use Rattle.pmf_image.proofs.CertificateLemmas.{cut-is}
@@ -99,29 +99,29 @@ event-zero : (es : List Event) → event_at es 0 ≡ None
 unfolding event_at
 event-zero es = refl
 
--- ---- a pass over the events, for the end of a run
+-- ---- a pass over the events, for the end of a stretch
 
 -- up to this end all bytes from b on are alike to it, at the first i places
-pub record RunsTo (es : List Event) (c : Certificate) (b limit i end : ℕ) : Type 0 where
+pub record StretchesTo (es : List Event) (c : Certificate) (b limit i end : ℕ) : Type 0 where
   pub above : b < end
   pub below : end ≤ limit
   pub full_line : (x : ℕ) → b ≤ x → x < end → option_eq nat_eq c.full_line (Some (line_of_byte b)) ≡ option_eq nat_eq c.full_line (Some (line_of_byte x))
   pub places : (x : ℕ) → b ≤ x → x < end → (k : ℕ) → k ≤ i → AlikeAt es b x k
 
 module _ (es : List Event) (c : Certificate) (b limit : ℕ) where
-  pub runs-start : (end : ℕ) → b < end → end ≤ limit →
+  pub stretch-start : (end : ℕ) → b < end → end ≤ limit →
       ((x : ℕ) → b ≤ x → x < end → option_eq nat_eq c.full_line (Some (line_of_byte b)) ≡ option_eq nat_eq c.full_line (Some (line_of_byte x))) →
-      RunsTo es c b limit 0 end
-  runs-start end above below full = record {
+      StretchesTo es c b limit 0 end
+  stretch-start end above below full = record {
     above = above;
     below = below;
     full_line = full;
     places = λ x from until k within. let same : k ≡ 0 = omega arith in alike_at-none es b x k (ap (event_at es) same ∙ event-zero es);
   }
 
-  runs-step : (i end next : ℕ) (e : Event) → RunsTo es c b limit i end → event_at es (suc i) ≡ Some e → b < next → next ≤ end →
-      ((x : ℕ) → b ≤ x → x < next → AlikeTo b x e) → RunsTo es c b limit (suc i) next
-  runs-step i end next e before here above below alike = record {
+  stretch-step : (i end next : ℕ) (e : Event) → StretchesTo es c b limit i end → event_at es (suc i) ≡ Some e → b < next → next ≤ end →
+      ((x : ℕ) → b ≤ x → x < next → AlikeTo b x e) → StretchesTo es c b limit (suc i) next
+  stretch-step i end next e before here above below alike = record {
     above = above;
     below = let limited = before.below in omega arith;
     full_line = λ x from until. before.full_line x from (omega arith);
@@ -131,27 +131,27 @@ module _ (es : List Event) (c : Certificate) (b limit : ℕ) where
     ];
   }
 
-  pub runs-other : (i end next : ℕ) (e : Event) → RunsTo es c b limit i end → event_at es (suc i) ≡ Some e →
+  pub stretch-other : (i end next : ℕ) (e : Event) → StretchesTo es c b limit i end → event_at es (suc i) ≡ Some e →
       ((s : Extent) → e ≡ Store s → ⊥) → ((s : Extent) → e ≡ Flush s → ⊥) → ((s : Extent) → e ≡ Exclude s → ⊥) → ((s : Extent) → e ≡ Include s → ⊥) →
-      next ≡ end → RunsTo es c b limit (suc i) next
-  runs-other i end next e before here no_store no_flush no_exclude no_include same =
-      runs-step i end next e before here (let above = before.above in omega arith) (omega arith) (λ x from until. alike-other b x e no_store no_flush no_exclude no_include)
+      next ≡ end → StretchesTo es c b limit (suc i) next
+  stretch-other i end next e before here no_store no_flush no_exclude no_include same =
+      stretch-step i end next e before here (let above = before.above in omega arith) (omega arith) (λ x from until. alike-other b x e no_store no_flush no_exclude no_include)
 
   -- an event with a span
-  pub runs-span : (i end next : ℕ) (e : Event) (s : Extent) → RunsTo es c b limit i end → event_at es (suc i) ≡ Some e →
+  pub stretch-span : (i end next : ℕ) (e : Event) (s : Extent) → StretchesTo es c b limit i end → event_at es (suc i) ≡ Some e →
       (e ≡ Store s) ⊎ ((e ≡ Flush s) ⊎ ((e ≡ Exclude s) ⊎ (e ≡ Include s))) → b < next → next ≤ end →
       ((x : ℕ) → b ≤ x → x < next → covers_byte s b ≡ covers_byte s x) →
-      ((x : ℕ) → b ≤ x → x < next → meets_line s (line_of_byte b) ≡ meets_line s (line_of_byte x)) → RunsTo es c b limit (suc i) next
-  runs-span i end next e s before here is above below bytes lines =
-      runs-step i end next e before here above below (λ x from until. alike-span s b x (bytes x from until) (lines x from until) e is)
+      ((x : ℕ) → b ≤ x → x < next → meets_line s (line_of_byte b) ≡ meets_line s (line_of_byte x)) → StretchesTo es c b limit (suc i) next
+  stretch-span i end next e s before here is above below bytes lines =
+      stretch-step i end next e before here above below (λ x from until. alike-span s b x (bytes x from until) (lines x from until) e is)
 
-  pub runs-alike : (i end x : ℕ) → RunsTo es c b limit i end → i ≡ length es → b ≤ x → x < end → Alike es c b x
-  runs-alike i end x run all from until = record {
+  pub stretch-alike : (i end x : ℕ) → StretchesTo es c b limit i end → i ≡ length es → b ≤ x → x < end → Alike es c b x
+  stretch-alike i end x reached all from until = record {
     places = λ k. elim (cases_lt (length es) k) [
       | inl past ↦ alike_at-none es b x k (event-none es k past)
-      | inr within ↦ run.places x from until k (omega arith)
+      | inr within ↦ reached.places x from until k (omega arith)
     ];
-    full_line = run.full_line x from until;
+    full_line = reached.full_line x from until;
   }
 
 -- ---- alike bytes answer alike

@@ -11,7 +11,7 @@ use Rattle.pmf_event.specs.Exclusion.{is_excluded, is_included}
 use Rattle.pmf_event.specs.Persist.{is_checked}
 use Rattle.pmf_event.specs.Transactions.{is_scoped}
 use Rattle.pmf_image.specs.Certificate.{shows_in}
-use Rattle.pmf_image.specs.Runs.{Alike}
+use Rattle.pmf_image.specs.Borders.{Alike}
 use Rattle.pmf_image.specs.Questions.{is_asked, compares, answer_of}
 use Rattle.pmf_image.proofs.BorderLemmas.{answer-alike}
 
@@ -59,10 +59,10 @@ answer-asked q es p c b asked = ap (λ v. v && compares q (shows_in es c b) (las
 
 -- ---- the search
 
--- where one byte of a run answers no, all do
-pub no_byte-run : (q : Question) (es : List Event) (p : ℕ) (c : Certificate) (first b end : ℕ) → NoByte (answer_of q es p c) first b →
+-- where one byte of a stretch answers no, all do
+pub no_byte-stretch : (q : Question) (es : List Event) (p : ℕ) (c : Certificate) (first b end : ℕ) → NoByte (answer_of q es p c) first b →
     answer_of q es p c b ≡ false → b < end → ((x : ℕ) → b ≤ x → x < end → Alike es c b x) → NoByte (answer_of q es p c) first end
-no_byte-run q es p c first b end before other above alike = record {
+no_byte-stretch q es p c first b end before other above alike = record {
   from = let low = before.from in omega arith;
   none = λ x low high. elim (cases_lt x b) [
     | inl earlier ↦ before.none x low earlier

@@ -10,6 +10,6 @@ pub mod Image
 pub mod Holds
 pub mod Certificate
 pub mod Contradiction
-pub mod Runs
+pub mod Borders
 pub mod Questions
 pub mod Laws

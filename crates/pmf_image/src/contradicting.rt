@@ -22,9 +22,9 @@ use pmf_event::{ADDRESS_LIMIT, Event, Span};
 ///
 /// No byte is looked at one by one. Bytes are alike from one border to the next, where a border is an end
 /// of a span that is stored to, written back, excluded or included, an end of the lines that it meets, or
-/// an end of the full line. For each run between two borders inside the assertion's spans, however many
+/// an end of the full line. For each stretch between two borders inside the assertion's spans, however many
 /// bytes it has, there are at most four passes over the events; at the end of a scope there are five for each
-/// run at all, and one more. Takes no memory.
+/// stretch at all, and one more. Takes no memory.
 pub fn contradicts(events: &[Event], place: u32, certificate: Certificate) -> bool
     requires fits { Fits events.now certificate }
     requires some { 0 < place }

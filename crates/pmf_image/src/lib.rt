@@ -11,11 +11,11 @@
 //! Not promised here: that the hardware keeps these rules. Not modelled: values of bytes.
 #![tactic(auto)]
 
+mod borders;
 mod certificate;
 mod contradicting;
 pub mod laws;
 mod questions;
-mod runs;
 mod transactions;
 
 pub use certificate::{Certificate, cut, last_store, shows};

@@ -6,7 +6,7 @@ ghost use Rattle.pmf_event.specs.Store.{last_store};
 ghost use Rattle.pmf_image.specs.Questions.{SomeByte, answer_of, compares, is_asked};
 
 use crate::certificate::{Certificate, last_store, shows};
-use crate::runs::end_of_run;
+use crate::borders::end_of_stretch;
 use crate::transactions::{is_included, scope_at};
 use pmf_event::Event;
 
@@ -27,7 +27,7 @@ pub enum Question {
 impl Question {
     // Whether the byte is asked, and the answer is yes. At most four passes over the events, and three but
     // for the question of a scope.
-    pub fn answer(self, events: &[Event], place: u32, certificate: Certificate, byte: u64) -> bool
+    pub fn passes(self, events: &[Event], place: u32, certificate: Certificate, byte: u64) -> bool
         requires fits { Fits events.now certificate }
         requires some { 0 < place }
         requires within { place ≤ length events.now }
@@ -66,8 +66,8 @@ impl Question {
         }
     }
 
-    // Whether the answer is yes for a byte from `first` on and below `end`. Asks one byte of each run of
-    // bytes that are alike.
+    // Whether the answer is yes for a byte from `first` on and below `end`. Asks one byte of each stretch
+    // of bytes that are alike.
     pub fn finds(
         self,
         events: &[Event],
@@ -83,10 +83,10 @@ impl Question {
     {
         let mut byte = first;
         while byte < end {
-            if self.answer(events, place, certificate, byte) {
+            if self.passes(events, place, certificate, byte) {
                 return true;
             }
-            byte = end_of_run(events, certificate, byte, end);
+            byte = end_of_stretch(events, certificate, byte, end);
         }
         false
     }

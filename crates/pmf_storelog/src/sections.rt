@@ -177,13 +177,13 @@ fn in_order(
 {
     let mut list = Vec::new(alloc);
     for (_, place) in places {
-        hand_out(&mut list, shared, *place)?;
+        push_section(&mut list, shared, *place)?;
     }
     Ok(list)
 }
 
 // Puts the section at the place at the end of the list.
-fn hand_out(
+fn push_section(
     list: &mut Vec<Arc<Section>>,
     shared: &[Arc<Section>],
     place: usize,

@@ -49,7 +49,7 @@ impl Walk {
         }
     }
 
-    fn say(&mut self, place: u32, finding: Finding) -> Result<(), AllocError>
+    fn push(&mut self, place: u32, finding: Finding) -> Result<(), AllocError>
         ensures { OnOk result (self.new ≡ record self.old
             { rows = self.old.rows ++ row_at place finding ∷ [] }) }
     {
@@ -57,12 +57,12 @@ impl Walk {
         Ok(())
     }
 
-    fn say_if_any(&mut self, place: u32, finding: Option<Finding>) -> Result<(), AllocError>
+    fn push_if_any(&mut self, place: u32, finding: Option<Finding>) -> Result<(), AllocError>
         ensures { OnOk result (self.new ≡ record self.old
             { rows = self.old.rows ++ map (row_at place) (if_any finding) }) }
     {
         if let Some(finding) = finding {
-            self.say(place, finding)?;
+            self.push(place, finding)?;
         }
         Ok(())
     }
@@ -74,7 +74,7 @@ impl Walk {
     {
         self.shadow.store(place, span)?;
         let found = self.transactions.store(&self.shadow, span)?;
-        self.say_if_any(place, found)?;
+        self.push_if_any(place, found)?;
         Ok(())
     }
 
@@ -84,8 +84,8 @@ impl Walk {
         ensures profile { OnOk result (self.new.profile ≡ self.old.profile) }
     {
         let found = check_flush(&self.shadow, span);
-        self.say_if_any(place, found.doubled)?;
-        self.say_if_any(place, found.needless)?;
+        self.push_if_any(place, found.doubled)?;
+        self.push_if_any(place, found.needless)?;
         self.shadow.flush(span)?;
         Ok(())
     }
@@ -95,7 +95,7 @@ impl Walk {
         ensures profile { OnOk result (self.new.profile ≡ self.old.profile) }
     {
         let found = self.transactions.add(span)?;
-        self.say_if_any(place, found)?;
+        self.push_if_any(place, found)?;
         Ok(())
     }
 
@@ -112,11 +112,11 @@ impl Walk {
             Event::Fence => self.shadow.fence(),
             Event::Persist(span) => {
                 let finding = check_persist(&self.shadow, span);
-                self.say(place, finding)?
+                self.push(place, finding)?
             }
             Event::Ordered(a, b) => {
                 let finding = check_ordered(&self.shadow, a, b, self.profile);
-                self.say(place, finding)?
+                self.push(place, finding)?
             }
             Event::Exclude(span) => self.shadow.exclude(span)?,
             Event::Include(span) => self.shadow.include(span)?,
@@ -124,15 +124,15 @@ impl Walk {
             Event::TxAdd(span) => self.back_up(place, span)?,
             Event::TxEnd => {
                 let found = self.transactions.end();
-                self.say_if_any(place, found)?
+                self.push_if_any(place, found)?
             }
             Event::CheckStart => {
                 let found = self.transactions.check_start(place);
-                self.say_if_any(place, found)?
+                self.push_if_any(place, found)?
             }
             Event::CheckEnd => {
                 let finding = self.transactions.check_end(&self.shadow);
-                self.say(place, finding)?
+                self.push(place, finding)?
             }
         }
         Ok(())
@@ -148,7 +148,7 @@ fn rows_for(alloc: Global, events: &[Event], profile: Profile) -> Result<Rows, A
         walk.follow(index as u32 + 1, *event)?;
     }
     let found = walk.transactions.close_section();
-    walk.say_if_any(events.len() as u32 + 1, found)?;
+    walk.push_if_any(events.len() as u32 + 1, found)?;
     let mut rows = walk.rows;
     rows.shrink_to_fit();
     Ok(rows)

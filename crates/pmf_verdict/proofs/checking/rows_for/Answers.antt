@@ -33,7 +33,7 @@ returns c =
     let found = c.close_section-found.result in
     let all : i ≡ length es = omega arith in
     c.shrink_to_fit.ensures
-    ∙ ap (λ (w : Walk). w.rows) c.in_ok-say_if_any.ensures
+    ∙ ap (λ (w : Walk). w.rows) c.in_ok-push_if_any.ensures
     ∙ ap (λ rs. rs ++ map (row_at (length es + 1)) (if_any found))
     (walks.rows_are ∙ ap (λ q. rows_upto q es i) c.loop-index.invariant.1 ∙ ap (rows_upto profile es) all)
     ∙ ap (λ q. rows_upto profile es (length es) ++ map (row_at q) (if_any found)) (add-one (length es))

@@ -25,24 +25,24 @@ returns-in-Fence-clause-walks c = λ es p walks here place.
     walks-silent old _ es p _ own walks c.fence.new.self old.transactions refl (stands-next (suc p) old.shadow c.fence.new.self Fence (c.fence.ensures (suc p)) es p own refl walks.stands)
     (tracks-still old old es p _ own walks refl) refl
 
-pub returns-in_ok-say-in-Persist-clause-walks : goal.returns-in_ok-say-in-Persist-clause-walks
+pub returns-in_ok-push-in-Persist-clause-walks : goal.returns-in_ok-push-in-Persist-clause-walks
 unfolding findings_of is_unseen is_untracked
-returns-in_ok-say-in-Persist-clause-walks c = λ es p walks here place.
+returns-in_ok-push-in-Persist-clause-walks c = λ es p walks here place.
     let own = here ∙ ap (λ e. Some e) c.in-Persist.is in
     let old = c.args.self.now in
     let stands = stands-still old old es p _ own walks refl in
-    walks-said old c.say.new.self es p _ own walks old.shadow old.transactions c.args.place (c.check_persist-finding.result ∷ [])
-    c.in_ok-say-in-Persist.ensures stands (tracks-still old old es p _ own walks refl) place
+    walks-said old c.push.new.self es p _ own walks old.shadow old.transactions c.args.place (c.check_persist-finding.result ∷ [])
+    c.in_ok-push-in-Persist.ensures stands (tracks-still old old es p _ own walks refl) place
     (ap (λ f. f ∷ []) (sym (c.check_persist-finding.ensures (λ k. k) es (suc p) stands)))
 
-pub returns-in_ok-say-in-Ordered-clause-walks : goal.returns-in_ok-say-in-Ordered-clause-walks
+pub returns-in_ok-push-in-Ordered-clause-walks : goal.returns-in_ok-push-in-Ordered-clause-walks
 unfolding findings_of is_unseen is_untracked
-returns-in_ok-say-in-Ordered-clause-walks c = λ es p walks here place.
+returns-in_ok-push-in-Ordered-clause-walks c = λ es p walks here place.
     let own = here ∙ ap (λ e. Some e) c.in-Ordered.is in
     let old = c.args.self.now in
     let stands = stands-still old old es p _ own walks refl in
-    walks-said old c.say-in-Ordered.new.self es p _ own walks old.shadow old.transactions c.args.place (c.check_ordered-finding.result ∷ [])
-    c.in_ok-say-in-Ordered.ensures stands (tracks-still old old es p _ own walks refl) place
+    walks-said old c.push-in-Ordered.new.self es p _ own walks old.shadow old.transactions c.args.place (c.check_ordered-finding.result ∷ [])
+    c.in_ok-push-in-Ordered.ensures stands (tracks-still old old es p _ own walks refl) place
     (ap (λ f. f ∷ []) (sym (c.check_ordered-finding.ensures (λ k. k) es (suc p) stands (λ i j s t below within first second. below) ∙ as_told-same _)))
 
 pub returns-in_ok-exclude-in-Exclude-clause-walks : goal.returns-in_ok-exclude-in-Exclude-clause-walks
@@ -69,30 +69,30 @@ returns-in-TxBegin-clause-walks c = λ es p walks here place.
     walks-silent old _ es p _ own walks old.shadow c.begin.new.self refl (stands-still old old es p _ own walks refl)
     (tracks-next (suc p) old.transactions c.begin.new.self TxBegin (c.begin.ensures (suc p)) es p own refl walks.tracks) refl
 
-pub returns-in_ok-say_if_any-in-TxEnd-clause-walks : goal.returns-in_ok-say_if_any-in-TxEnd-clause-walks
+pub returns-in_ok-push_if_any-in-TxEnd-clause-walks : goal.returns-in_ok-push_if_any-in-TxEnd-clause-walks
 unfolding is_unseen
-returns-in_ok-say_if_any-in-TxEnd-clause-walks c = λ es p walks here place.
+returns-in_ok-push_if_any-in-TxEnd-clause-walks c = λ es p walks here place.
     let own = here ∙ ap (λ e. Some e) c.in-TxEnd.is in
     let old = c.args.self.now in
-    walks-said old c.say_if_any.new.self es p _ own walks old.shadow c.end-found.new.self c.args.place (if_any c.end-found.result)
-    c.in_ok-say_if_any-in-TxEnd.ensures (stands-still old old es p _ own walks refl) (tracks-next (suc p) old.transactions c.end-found.new.self TxEnd (c.end-found.ensures.follows (suc p)) es p own refl walks.tracks) place
+    walks-said old c.push_if_any.new.self es p _ own walks old.shadow c.end-found.new.self c.args.place (if_any c.end-found.result)
+    c.in_ok-push_if_any-in-TxEnd.ensures (stands-still old old es p _ own walks refl) (tracks-next (suc p) old.transactions c.end-found.new.self TxEnd (c.end-found.ensures.follows (suc p)) es p own refl walks.tracks) place
     (found-end old.profile es p c.end-found.result (c.end-found.ensures.finds (λ k. k) es p walks.tracks))
 
-pub returns-in_ok-say_if_any-in-CheckStart-clause-walks : goal.returns-in_ok-say_if_any-in-CheckStart-clause-walks
+pub returns-in_ok-push_if_any-in-CheckStart-clause-walks : goal.returns-in_ok-push_if_any-in-CheckStart-clause-walks
 unfolding is_unseen
-returns-in_ok-say_if_any-in-CheckStart-clause-walks c = λ es p walks here place.
+returns-in_ok-push_if_any-in-CheckStart-clause-walks c = λ es p walks here place.
     let own = here ∙ ap (λ e. Some e) c.in-CheckStart.is in
     let old = c.args.self.now in
-    walks-said old c.say_if_any-in-CheckStart.new.self es p _ own walks old.shadow c.check_start-found.new.self c.args.place (if_any c.check_start-found.result)
-    c.in_ok-say_if_any-in-CheckStart.ensures (stands-still old old es p _ own walks refl) (tracks-next c.args.place old.transactions c.check_start-found.new.self CheckStart c.check_start-found.ensures.follows es p own place walks.tracks) place
+    walks-said old c.push_if_any-in-CheckStart.new.self es p _ own walks old.shadow c.check_start-found.new.self c.args.place (if_any c.check_start-found.result)
+    c.in_ok-push_if_any-in-CheckStart.ensures (stands-still old old es p _ own walks refl) (tracks-next c.args.place old.transactions c.check_start-found.new.self CheckStart c.check_start-found.ensures.follows es p own place walks.tracks) place
     (found-start old.profile es p c.check_start-found.result (c.check_start-found.ensures.finds (λ k. k) es p walks.tracks))
 
-pub returns-in_ok-say-in-CheckEnd-clause-walks : goal.returns-in_ok-say-in-CheckEnd-clause-walks
+pub returns-in_ok-push-in-CheckEnd-clause-walks : goal.returns-in_ok-push-in-CheckEnd-clause-walks
 unfolding is_unseen
-returns-in_ok-say-in-CheckEnd-clause-walks c = λ es p walks here place.
+returns-in_ok-push-in-CheckEnd-clause-walks c = λ es p walks here place.
     let own = here ∙ ap (λ e. Some e) c.in-CheckEnd.is in
     let old = c.args.self.now in
     let stands = stands-still old old es p _ own walks refl in
-    walks-said old c.say-in-CheckEnd.new.self es p _ own walks old.shadow c.check_end-finding.new.self c.args.place (c.check_end-finding.result ∷ [])
-    c.in_ok-say-in-CheckEnd.ensures stands (tracks-next (suc p) old.transactions c.check_end-finding.new.self CheckEnd (c.check_end-finding.ensures.follows (suc p)) es p own refl walks.tracks) place
+    walks-said old c.push-in-CheckEnd.new.self es p _ own walks old.shadow c.check_end-finding.new.self c.args.place (c.check_end-finding.result ∷ [])
+    c.in_ok-push-in-CheckEnd.ensures stands (tracks-next (suc p) old.transactions c.check_end-finding.new.self CheckEnd (c.check_end-finding.ensures.follows (suc p)) es p own refl walks.tracks) place
     (found-check old.profile es p c.check_end-finding.result (c.check_end-finding.ensures.finds (λ k. k) (λ k. k) es es p (suc p) walks.tracks stands ∙ one-list.check es p))

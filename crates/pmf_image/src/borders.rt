@@ -1,34 +1,34 @@
-//! Runs of bytes that no event, and no certificate, tells apart.
+//! Stretches of bytes that no event, and no certificate, tells apart.
 
 ghost use Rattle.std.specs.Prelude.{ℕ, ◌≡◌, ◌⊎◌, ◌<◌, ◌≤◌, Some, nat_eq};
 ghost use Rattle.std.specs.Option.{option_eq};
 ghost use Rattle.pmf_event.specs.Line.{line_of_byte, meets_line};
 ghost use Rattle.pmf_event.specs.Span.{covers_byte};
 ghost use Rattle.pmf_image.specs.Certificate.{Fits, IsLine};
-ghost use Rattle.pmf_image.specs.Runs.{Alike};
+ghost use Rattle.pmf_image.specs.Borders.{Alike};
 
 use crate::certificate::Certificate;
 use pmf_event::{Event, LINE_SIZE, Span, line_of};
 
-// The end of a run of bytes from this one on that are all alike to it, at `end` at the latest. One pass
-// over the events: a run ends at the next border. The borders are where a span of a store, a write-back, an
+// The end of a stretch of bytes from this one on that are all alike to it, at `end` at the latest. One pass
+// over the events: a stretch ends at the next border. The borders are where a span of a store, a write-back, an
 // exclusion or an inclusion begins and ends, where the lines that it meets do, and where the full line does.
-pub fn end_of_run(events: &[Event], certificate: Certificate, byte: u64, end: u64) -> u64
+pub fn end_of_stretch(events: &[Event], certificate: Certificate, byte: u64, end: u64) -> u64
     requires fits { Fits events.now certificate }
     requires before { byte < end }
     ensures above { byte < result }
     ensures below { result ≤ end }
     ensures alike { (x : ℕ) → byte ≤ x → x < result → Alike events.now certificate byte x }
 {
-    let mut run_end = before_line(certificate.full_line, byte, end);
+    let mut stretch_end = before_line(certificate.full_line, byte, end);
     for event in events {
         match event {
             Event::Store(span) | Event::Flush(span) | Event::Exclude(span) | Event::Include(span) =>
-                run_end = before_borders(*span, byte, run_end),
+                stretch_end = before_borders(*span, byte, stretch_end),
             _ => {}
         }
     }
-    run_end
+    stretch_end
 }
 
 // The least border of the full line above the byte; the end, if that comes first or no line is full.
@@ -74,7 +74,7 @@ fn before_border(border: u64, byte: u64, end: u64) -> u64
     ensures above { byte < result }
     ensures below { result ≤ end }
     ensures border { byte < border → result ≤ border }
-    // No other byte ends a run.
+    // No other byte ends a stretch.
     ensures which { (result ≡ border) ⊎ (result ≡ end) }
 {
     if byte < border && border < end {
