@@ -2,12 +2,9 @@
 
 ghost use Rattle.std.specs.Prelude.{◌≡◌};
 
-mod fakes;
-
-use self::fakes::ByteSink;
 use crate::{SCHEDULE_LIMIT, SimFault, sim_text, sim_to};
 use pmf_storelog::{Cause, LogFault};
-use pmf_stream::StreamFault;
+use pmf_stream::{ByteSink, StreamFault};
 use pmf_world::WorldNewFault;
 use std::alloc::{AllocError, Global};
 use std::process::Abort;

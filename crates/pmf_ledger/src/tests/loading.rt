@@ -3,23 +3,11 @@
 use super::{assert_names, name};
 use crate::{Ledger, LedgerFault, load_ledger};
 use pmf_event::{Profile, SpanFault};
+use pmf_fixtures::LEDGER;
 use pmf_storelog::{Cause, LogFault};
 use std::alloc::Global;
 use std::process::Abort;
 use std::test::Fail;
-
-const GOOD: &str = "\
-PMFARM-LEDGER 1
-section 0.0 events=1 rows=0
-FENCE
-section 0.1 events=4 rows=1
-STORE;0x1000;0x0;0x8
-FLUSH;0x1000;0x40
-FENCE
-PMT.PERSIST;0x1000;0x8
-4 PERSIST PASS
-end verdicts=2
-";
 
 // A section whose row is another by the other profile.
 const SAME_LINE: &str = "\
@@ -82,15 +70,15 @@ fn assert_changed(
     new: &str,
     want: LedgerFault,
 ) -> Result<(), Fail> {
-    let text = GOOD.replacen(alloc, old, new, 1)?;
-    assert!(rt; text.as_str() != GOOD, "{old:?}");
+    let text = LEDGER.replacen(alloc, old, new, 1)?;
+    assert!(rt; text.as_str() != LEDGER, "{old:?}");
     assert_refused(rt, alloc, text.as_bytes(), want);
     Ok(())
 }
 
 #[test]
 fn the_good_text_is_loaded_with_its_sections(rt: HostRuntime) -> Result<(), Fail> {
-    let ledger = loaded(rt.alloc(), GOOD)?;
+    let ledger = loaded(rt.alloc(), LEDGER)?;
     assert_names(&rt, &ledger, &[name(0, 0), name(0, 1)]);
     assert_eq!(rt; ledger.profile(), Profile::One);
     let events = ledger.get(name(0, 1)).map(|it| it.section().events().len());
@@ -102,7 +90,7 @@ fn the_good_text_is_loaded_with_its_sections(rt: HostRuntime) -> Result<(), Fail
 
 #[test]
 fn a_text_cut_short_lacks_its_next_line(rt: HostRuntime) {
-    let text = GOOD.as_bytes();
+    let text = LEDGER.as_bytes();
     let mut line = 1;
     for cut in 0..text.len() {
         assert_refused(&rt, rt.alloc(), &text[..cut], not_a_ledger(line));

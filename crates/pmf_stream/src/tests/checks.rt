@@ -2,7 +2,8 @@
 
 ghost use Rattle.std.specs.Prelude.{◌≡◌};
 
-use super::fakes::{ByteSink, PieceSource};
+use super::fakes::PieceSource;
+use crate::memory::ByteSink;
 use crate::checking::{CheckLogFault, Done, check_stream};
 use crate::device::Device;
 use crate::fault::StreamFault;

@@ -3,7 +3,8 @@
 ghost use Rattle.std.specs.Prelude.{◌≡◌};
 
 use super::checks::failed_calls;
-use super::fakes::{ByteSink, PieceSource};
+use super::fakes::PieceSource;
+use crate::memory::ByteSink;
 use crate::asking::{AskFault, explain_stream};
 use crate::device::Device;
 use crate::explaining::{ExplainFault, explain_text};

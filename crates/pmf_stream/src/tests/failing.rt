@@ -1,7 +1,8 @@
 //! Logs and reports that come or go in pieces, and devices that fail in between.
 
 use super::checks::{RUN, checks, done, refused};
-use super::fakes::{ByteSink, InterruptedOnce, PieceSource};
+use super::fakes::{InterruptedOnce, PieceSource};
+use crate::memory::ByteSink;
 use crate::checking::check_stream;
 use crate::device::Device;
 use crate::failed::Failed;

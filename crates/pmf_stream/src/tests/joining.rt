@@ -2,28 +2,16 @@
 
 ghost use Rattle.std.specs.Prelude.{◌≡◌};
 
-use super::fakes::ByteSink;
+use crate::memory::ByteSink;
 use crate::device::Device;
 use crate::fault::StreamFault;
 use crate::joining::{JoinTextFault, Joined, join_texts, join_to};
 use pmf_event::{Name, Profile};
+use pmf_fixtures::LEDGER;
 use pmf_ledger::{JoinFault, LedgerFault};
 use std::alloc::{AllocError, Global};
 use std::process::Abort;
 use std::test::Fail;
-
-const FIRST: &str = "\
-PMFARM-LEDGER 1
-section 0.0 events=1 rows=0
-FENCE
-section 0.1 events=4 rows=1
-STORE;0x1000;0x0;0x8
-FLUSH;0x1000;0x40
-FENCE
-PMT.PERSIST;0x1000;0x8
-4 PERSIST PASS
-end verdicts=2
-";
 
 const SECOND: &str = "\
 PMFARM-LEDGER 1
@@ -121,12 +109,12 @@ fn joins(rt: &impl Abort, alloc: Global, texts: &[&str], want: &str) -> Result<(
 #[test]
 fn texts_join_in_any_order_and_number_to_one(rt: HostRuntime) -> Result<(), Fail> {
     let alloc = rt.alloc();
-    joins(&rt, alloc, &[FIRST, SECOND], BOTH)?;
-    joins(&rt, alloc, &[SECOND, FIRST], BOTH)?;
-    joins(&rt, alloc, &[FIRST, FIRST], FIRST)?;
+    joins(&rt, alloc, &[LEDGER, SECOND], BOTH)?;
+    joins(&rt, alloc, &[SECOND, LEDGER], BOTH)?;
+    joins(&rt, alloc, &[LEDGER, LEDGER], LEDGER)?;
     joins(&rt, alloc, &[SECOND, SECOND], SECOND)?;
-    joins(&rt, alloc, &[SECOND, BOTH, FIRST, SECOND], BOTH)?;
-    joins(&rt, alloc, &[EMPTY, FIRST], FIRST)?;
+    joins(&rt, alloc, &[SECOND, BOTH, LEDGER, SECOND], BOTH)?;
+    joins(&rt, alloc, &[EMPTY, LEDGER], LEDGER)?;
     joins(&rt, alloc, &[], EMPTY)?;
     joins(&rt, alloc, &[EMPTY_OF_TWO], EMPTY_OF_TWO)?;
     Ok(())
@@ -136,7 +124,7 @@ fn texts_join_in_any_order_and_number_to_one(rt: HostRuntime) -> Result<(), Fail
 fn the_first_refusal_is_told(rt: HostRuntime) -> Result<(), Fail> {
     let cases = [
         (
-            &[FIRST, FORGED][..],
+            &[LEDGER, FORGED][..],
             JoinTextFault::Load {
                 index: 1,
                 fault: LedgerFault::FalseRows { name: SHARED },
@@ -150,7 +138,7 @@ fn the_first_refusal_is_told(rt: HostRuntime) -> Result<(), Fail> {
             },
         ),
         (
-            &[FIRST, SECOND, "PMFARM-LEDGER 1\n", FORGED][..],
+            &[LEDGER, SECOND, "PMFARM-LEDGER 1\n", FORGED][..],
             JoinTextFault::Load {
                 index: 2,
                 fault: LedgerFault::NotALedger { line: 2 },
@@ -161,13 +149,13 @@ fn the_first_refusal_is_told(rt: HostRuntime) -> Result<(), Fail> {
             JoinTextFault::Join(JoinFault::Conflict { name: SHARED }),
         ),
         (
-            &[FIRST, OTHER, FORGED][..],
+            &[LEDGER, OTHER, FORGED][..],
             JoinTextFault::Join(JoinFault::Conflict {
                 name: Name { run: 0, number: 0 },
             }),
         ),
         (
-            &[FIRST, EMPTY_OF_TWO][..],
+            &[LEDGER, EMPTY_OF_TWO][..],
             JoinTextFault::Join(JoinFault::ProfileMismatch),
         ),
         (
@@ -204,7 +192,7 @@ fn writes(
 #[test]
 fn the_report_or_the_text_of_all_is_written(rt: HostRuntime) -> Result<(), Fail> {
     let alloc = rt.alloc();
-    let texts = bytes_of(alloc, &[FIRST, FAILING])?;
+    let texts = bytes_of(alloc, &[LEDGER, FAILING])?;
     let sink = ByteSink::new(alloc);
     writes(
         &rt,
@@ -215,7 +203,7 @@ fn the_report_or_the_text_of_all_is_written(rt: HostRuntime) -> Result<(), Fail>
         Ok(Joined { fails: 1 }),
         REPORT,
     );
-    let texts = bytes_of(alloc, &[FIRST, SECOND])?;
+    let texts = bytes_of(alloc, &[LEDGER, SECOND])?;
     let sink = ByteSink::new(alloc);
     writes(
         &rt,
@@ -240,7 +228,7 @@ fn a_refusal_writes_nothing_and_a_write_that_fails_is_told(rt: HostRuntime) -> R
     let sink = ByteSink::new(alloc);
     let refused = Err(StreamFault::Refused(forged));
     writes(&rt, &texts, alloc, sink, false, refused, b"");
-    let texts = bytes_of(alloc, &[FIRST, FAILING])?;
+    let texts = bytes_of(alloc, &[LEDGER, FAILING])?;
     for room in [0, 10, REPORT.len() - 1] {
         let sink = ByteSink::new(alloc).failing_after(room);
         let cut = Err(StreamFault::WriteFault {

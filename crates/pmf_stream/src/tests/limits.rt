@@ -1,7 +1,8 @@
 //! The limits of a log, by streams that repeat a piece.
 
 use super::checks::{RUN, checks, done, refused};
-use super::fakes::{ByteSink, PieceSource};
+use super::fakes::PieceSource;
+use crate::memory::ByteSink;
 use crate::checking::{CheckLogFault, Done};
 use crate::fault::StreamFault;
 use pmf_storelog::Cause;

@@ -1,7 +1,8 @@
 //! Whole logs: the report of each that is accepted, and the first fault of each that is refused.
 
 use super::checks::{RUN, checks_log, done, refused};
-use super::fakes::{ByteSink, PieceSource};
+use super::fakes::PieceSource;
+use crate::memory::ByteSink;
 use crate::checking::check_stream;
 use crate::settings::Settings;
 use pmf_event::{Profile, SpanFault};

@@ -3,7 +3,8 @@
 ghost use Rattle.std.specs.Prelude.{◌≡◌, ◌<◌};
 ghost use Rattle.pmf_stream.specs.Failures.{CanCountOneMore};
 
-use super::fakes::{ByteSink, PieceSource};
+use super::fakes::PieceSource;
+use crate::memory::ByteSink;
 use crate::device::Device;
 use crate::failed::Failed;
 use crate::sink::{Sink, StdSink};

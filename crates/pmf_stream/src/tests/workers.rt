@@ -1,7 +1,8 @@
 //! A check by several workers, by none, and by workers that are lost.
 
 use super::checks::{RUN, done, refused};
-use super::fakes::{ByteSink, PieceSource};
+use super::fakes::PieceSource;
+use crate::memory::ByteSink;
 use crate::checking::{CheckLogFault, Done, check_stream};
 use crate::fault::StreamFault;
 use crate::settings::Settings;

@@ -11,5 +11,6 @@ invariant_of-self g c = record {
 
 pub returns-clause-ok : goal.returns-clause-ok
 returns-clause-ok g c = (
-    splits-same _ (pages_state c.args.self.now.level) (pages_state c.halve.new.self) (pages_state c.in_ok-rest.rest) (pages_state c.around.result.level) c.in_ok-rest.ensures.ok.0 c.around.ensures.same,
-    λ joined. let both = c.in_ok-rest.ensures.ok.1 joined in (both.0, subst (λ l. pages_joined l None None) (sym c.around.ensures.level) both.1))
+  splits-same _ (pages_state c.args.self.now.level) (pages_state c.halve.new.self) (pages_state c.in_ok-rest.rest) (pages_state c.around.result.level) c.in_ok-rest.ensures.ok.0 c.around.ensures.same,
+  λ joined. let both = c.in_ok-rest.ensures.ok.1 joined in (both.0, subst (λ l. pages_joined l None None) (sym c.around.ensures.level) both.1),
+)

@@ -24,12 +24,12 @@ returns g c =
     let at_high : ChangesItems (low_rank c.args.self.now.keys.items c.args.from) (high_rank c.args.self.now.keys.items c.args.end) change c.deref_mut.result.now c.change_between.new.states =
     subst (λ n. ChangesItems (low_rank c.args.self.now.keys.items c.args.from) n change c.deref_mut.result.now c.change_between.new.states) high at_low in
     let changes : ChangesItems (low_rank c.args.self.now.keys.items c.args.from) (high_rank c.args.self.now.keys.items c.args.end) change c.args.self.now.states.items c.change_between.new.states =
-    subst (λ xs. ChangesItems (low_rank c.args.self.now.keys.items c.args.from) (high_rank c.args.self.now.keys.items c.args.end) change xs c.change_between.new.states) c.deref_mut.ensures.value at_high in
-    (
-    changes-rewritten c.args.self.now _ c.join_between.new.self c.args.from c.args.end change c.join_between.ensures.same c.requires.from c.requires.end refl
-    (subst (ChangesItems (low_rank c.args.self.now.keys.items c.args.from) (high_rank c.args.self.now.keys.items c.args.end) change c.args.self.now.states.items)
-    (sym (with_items_is c.args.self.now.states c.change_between.new.states (changes.len ∙ sym c.args.self.now.states.ok.0))) changes),
-    λ joined. joined-rewritten c.args.self.now _ c.join_between.new.self c.low_rank-low.result c.high_rank-high.result c.args.from c.args.end change c.join_between.ensures.joined
-    c.requires.from c.requires.end c.requires.order low high refl
-    (subst (ChangesItems (low_rank c.args.self.now.keys.items c.args.from) (high_rank c.args.self.now.keys.items c.args.end) change c.args.self.now.states.items)
-    (sym (with_items_is c.args.self.now.states c.change_between.new.states (changes.len ∙ sym c.args.self.now.states.ok.0))) changes) joined)
+    subst (λ xs. ChangesItems (low_rank c.args.self.now.keys.items c.args.from) (high_rank c.args.self.now.keys.items c.args.end) change xs c.change_between.new.states) c.deref_mut.ensures.value at_high in (
+      changes-rewritten c.args.self.now _ c.join_between.new.self c.args.from c.args.end change c.join_between.ensures.same c.requires.from c.requires.end refl
+          (subst (ChangesItems (low_rank c.args.self.now.keys.items c.args.from) (high_rank c.args.self.now.keys.items c.args.end) change c.args.self.now.states.items)
+          (sym (with_items_is c.args.self.now.states c.change_between.new.states (changes.len ∙ sym c.args.self.now.states.ok.0))) changes),
+      λ joined. joined-rewritten c.args.self.now _ c.join_between.new.self c.low_rank-low.result c.high_rank-high.result c.args.from c.args.end change c.join_between.ensures.joined
+          c.requires.from c.requires.end c.requires.order low high refl
+          (subst (ChangesItems (low_rank c.args.self.now.keys.items c.args.from) (high_rank c.args.self.now.keys.items c.args.end) change c.args.self.now.states.items)
+          (sym (with_items_is c.args.self.now.states c.change_between.new.states (changes.len ∙ sym c.args.self.now.states.ok.0))) changes) joined,
+    )

@@ -17,10 +17,11 @@ returns-in_err-begin-2-clause-unchanged g c =
 
 pub returns-clause-ok : goal.returns-clause-ok
 returns-clause-ok g c = (
-    changes-after (Some c.args.first) (Some c.args.end) (g.C.Change.changed c.args.change.now) (leaf_state c.args.self.now) _ _
-    (same-both (leaf_state c.args.self.now) _ _ (same-both (leaf_state c.args.self.now) _ _ (same-items c.args.self.now _ refl refl) c.in_ok-begin.ensures.same) c.in_ok-begin-2.ensures.same)
-    c.change_all.ensures.0,
-    λ joined. c.change_all.ensures.1 (c.in_ok-begin-2.ensures.joined (Some c.args.first) (joined-swap _ _ _ (c.in_ok-begin.ensures.joined None (joined-same c.args.self.now _ None None refl refl joined)))))
+  changes-after (Some c.args.first) (Some c.args.end) (g.C.Change.changed c.args.change.now) (leaf_state c.args.self.now) _ _
+      (same-both (leaf_state c.args.self.now) _ _ (same-both (leaf_state c.args.self.now) _ _ (same-items c.args.self.now _ refl refl) c.in_ok-begin.ensures.same) c.in_ok-begin-2.ensures.same)
+      c.change_all.ensures.0,
+  λ joined. c.change_all.ensures.1 (c.in_ok-begin-2.ensures.joined (Some c.args.first) (joined-swap _ _ _ (c.in_ok-begin.ensures.joined None (joined-same c.args.self.now _ None None refl refl joined)))),
+)
 
 pub change_all-requires-clause-order : goal.change_all-requires-clause-order
 change_all-requires-clause-order g c = c.requires

@@ -13,9 +13,11 @@ returns-clause-ok g c =
     subst (λ ks. c.args.index < length ks → c.args.end ≤ get_or ks c.args.index 0) c.deref.ensures.value (c.is_before.ensures c.if-not-is_before.false) in
     let bound = level-bound c.args.self.now c.args.first in
     let is = c.requires.rank in
-    on-ok c.change.result (λ both. (level-changed g.P.Part.state (g.C.Change.changed c.args.change.now) c.args.self.now _ c.index_mut.result.now c.change.new.self c.args.first c.args.end c.args.index
-    c.requires.rank before c.index_mut.ensures.value both.0 refl refl,
-    parts-kept g.P.Part.joined c.args.self.now _ c.index_mut.result.now c.change.new.self c.args.index (omega arith) c.index_mut.ensures.value refl refl both.1)) c.change.ensures.ok
+    on-ok c.change.result (λ both. (
+      level-changed g.P.Part.state (g.C.Change.changed c.args.change.now) c.args.self.now _ c.index_mut.result.now c.change.new.self c.args.first c.args.end c.args.index
+          c.requires.rank before c.index_mut.ensures.value both.0 refl refl,
+      parts-kept g.P.Part.joined c.args.self.now _ c.index_mut.result.now c.change.new.self c.args.index (omega arith) c.index_mut.ensures.value refl refl both.1,
+    )) c.change.ensures.ok
 
 pub returns-clause-unchanged : goal.returns-clause-unchanged
 returns-clause-unchanged g c =

@@ -11,8 +11,9 @@ split_full-requires g c = let bound = level-bound c.args.self.now c.args.first i
 pub returns-clause-ok : goal.returns-clause-ok
 returns-clause-ok g c =
     on-ok c.change_at.result (λ both. (
-    changes-after (Some c.args.first) (Some c.args.end) (g.C.Change.changed c.args.change.now) (level_state g.P.Part.state c.args.self.now) _ _ c.split_full.ensures.same both.0,
-    λ whole. both.1 (c.in_ok-split_full.ensures.joined whole))) c.change_at.ensures.ok
+      changes-after (Some c.args.first) (Some c.args.end) (g.C.Change.changed c.args.change.now) (level_state g.P.Part.state c.args.self.now) _ _ c.split_full.ensures.same both.0,
+      λ whole. both.1 (c.in_ok-split_full.ensures.joined whole),
+    )) c.change_at.ensures.ok
 
 pub returns-clause-unchanged : goal.returns-clause-unchanged
 returns-clause-unchanged g c =

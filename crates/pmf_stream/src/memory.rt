@@ -1,11 +1,14 @@
-//! A sink that fails when a test wants it.
+//! A sink in memory.
 
-ghost use Rattle.std.specs.Prelude.{◌≡◌, Some};
+ghost use Rattle.std.specs.Prelude.{◌≡◌, [], Some};
 
-use pmf_stream::{Device, Failed, Sink};
+use crate::device::Device;
+use crate::failed::Failed;
+use crate::sink::Sink;
 use std::alloc::Global;
 
-// Keeps what is written, at most `most` bytes a call, and fails once it holds `room` bytes.
+/// A [`Sink`] that keeps what is written to it: for a program that wants the text itself, and for tests of
+/// what stands on a sink. It fails once it holds as many bytes as it may, or where memory is refused.
 #[derive(Drop)]
 pub struct ByteSink {
     bytes: Vec<u8>,
@@ -15,8 +18,10 @@ pub struct ByteSink {
 }
 
 impl ByteSink {
+    /// The sink that holds nothing, and takes all that memory allows. Takes no memory.
     pub fn new(alloc: Global) -> ByteSink
-        ensures { result.failures ≡ 0 }
+        ensures empty { result.bytes.items ≡ [] }
+        ensures failures { result.failures ≡ 0 }
     {
         ByteSink {
             bytes: Vec::new(alloc),
@@ -26,24 +31,28 @@ impl ByteSink {
         }
     }
 
-    // Takes at most this many bytes a call.
+    /// The same that takes at most this many bytes a call.
     pub fn taking(mut self, most: usize) -> ByteSink
-        ensures { result.failures ≡ self.failures }
+        ensures kept { result.bytes ≡ self.bytes }
+        ensures failures { result.failures ≡ self.failures }
     {
         self.most = most;
         self
     }
 
-    // Fails once it holds this many bytes.
+    /// The same that fails once it holds this many bytes.
     pub fn failing_after(mut self, room: usize) -> ByteSink
-        ensures { result.failures ≡ self.failures }
+        ensures kept { result.bytes ≡ self.bytes }
+        ensures failures { result.failures ≡ self.failures }
     {
         self.room = room;
         self
     }
 
-    // What was written.
-    pub fn bytes(&self) -> &[u8] {
+    /// What was written.
+    pub fn bytes(&self) -> &[u8]
+        ensures { result.now ≡ self.now.bytes.items }
+    {
         self.bytes.as_slice()
     }
 }
