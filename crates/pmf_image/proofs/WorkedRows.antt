@@ -5,7 +5,7 @@ use Rattle.pmf_event.specs.Span.{Extent}
 use Rattle.pmf_event.specs.declared.event.Event.{Event}
 use Rattle.pmf_event.specs.declared.event.Event.TheVariants.{Store, Flush, Fence, Persist, Ordered, TxBegin, TxEnd, CheckStart, CheckEnd}
 use Rattle.pmf_event.specs.Places.{greatest, least, count, some_between, highest}
-use Rattle.pmf_event.specs.Store.{event_at, at, last, last_store, stores, stores_line, flushes, is_fence}
+use Rattle.pmf_event.specs.Store.{event_at, at, last, stores, stores_line, flushes, is_fence}
 use Rattle.pmf_event.specs.Exclusion.{excludes, marks, is_excluded, is_included}
 use Rattle.pmf_event.specs.Persist.{is_checked}
 use Rattle.pmf_image.specs.Image.{Image, IsAllowed, count_of, is_fenced, floor_of, value_of, is_in, cut_of, reach_of, reaches, shows}

@@ -5,8 +5,8 @@ ghost use Rattle.pmf_image.specs.Certificate.{Fits};
 ghost use Rattle.pmf_event.specs.Store.{last_store};
 ghost use Rattle.pmf_image.specs.Questions.{SomeByte, answer_of, compares, is_asked};
 
-use crate::certificate::{Certificate, last_store, shows};
 use crate::borders::end_of_stretch;
+use crate::certificate::{Certificate, last_store, shows};
 use crate::transactions::{is_included, scope_at};
 use pmf_event::Event;
 

@@ -1,5 +1,5 @@
 -- What the definitions of transactions say at p looks only at the events up to p.
-use Rattle.std.proofs.Common.{◌≡◌, ℕ, zero, suc, ◌-◌, ◌≤◌, Bool, not, ◌&&◌, nat_lt, max, List, refl, sym, ◌∙◌, ap, ap₂, arith}
+use Rattle.std.proofs.Common.{◌≡◌, ℕ, zero, suc, ◌-◌, ◌≤◌, not, ◌&&◌, nat_lt, max, List, ◌∙◌, ap, ap₂, arith}
 use Rattle.pmf_event.specs.declared.event.Event.{Event}
 use Rattle.pmf_event.specs.Places.{greatest, least, count, highest}
 use Rattle.pmf_event.specs.Store.{at, stores, last}

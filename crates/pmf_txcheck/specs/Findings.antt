@@ -1,7 +1,7 @@
 -- What is found of a store and of a CHECKEND where a state and a shadow stand for lists of their own: the depth,
 -- the backup and the scope are those of the first p events of the one list, and what is included and which
 -- intervals are open is that of the first q events of the other.
-use Rattle.std.specs.Prelude.{◌≡◌, ℕ, Bool, not, ◌&&◌, List, Option, None, Some, if◌then◌else◌}
+use Rattle.std.specs.Prelude.{◌≡◌, ℕ, Bool, not, ◌&&◌, List, Option, None, if◌then◌else◌}
 use Rattle.pmf_event.specs.declared.event.Event.{Event}
 use Rattle.pmf_event.specs.declared.finding.Finding.{Finding}
 use Rattle.pmf_event.specs.declared.finding.Finding.TheVariants.{TxStillOpen, Unopened}

@@ -16,9 +16,8 @@ use std::test::Fail;
 mod memory;
 mod plain;
 
-use plain::{BASE, BYTES, Plain};
-
 use Step::{CheckEnd, CheckStart, Exclude, Fence, Flush, Include, Store, TxAdd, TxBegin, TxEnd};
+use plain::{BASE, BYTES, Plain};
 
 /// What is found of some events, each with its place, and where the section ends.
 #[derive(Debug, Drop)]

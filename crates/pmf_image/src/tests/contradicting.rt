@@ -2,6 +2,7 @@
 
 use super::*;
 use pmf_event::SPAN_LIMIT;
+use std::alloc::Global;
 use std::process::Abort;
 
 const ORDERED: Step = Step::Ordered((0x1000, 8), (0x2000, 8));
