@@ -1,0 +1,4 @@
+pub mod CursorLemmas
+pub mod PassedLemmas
+pub mod NumberFoundLemmas
+pub mod LocationLemmas
