@@ -2,3 +2,5 @@ pub mod CursorLemmas
 pub mod PassedLemmas
 pub mod NumberFoundLemmas
 pub mod LocationLemmas
+pub mod GivingLemmas
+pub mod SolidLemmas

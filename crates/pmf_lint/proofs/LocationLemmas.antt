@@ -12,7 +12,7 @@ use Rattle.pmf_lint.specs.Locating.{Gives, StandsAt, IsLocation}
 use Rattle.pmf_lint.specs.declared.passing.Passed.{Passed}
 use Rattle.pmf_lint.proofs.CursorLemmas.{anew_all}
 
-pub slice_get-at : (xs : List (List ℕ)) (y : List ℕ) (ys : List (List ℕ)) → slice_get (xs ++ y ∷ ys) (length xs) ≡ Some y
+pub slice_get-at : {A : Type 0} (xs : List A) (y : A) (ys : List A) → slice_get (xs ++ y ∷ ys) (length xs) ≡ Some y
 slice_get-at [] y ys = refl
 slice_get-at (x ∷ xs) y ys = slice_get-at xs y ys
 

@@ -4,3 +4,4 @@ pub use Rattle.pmf_storelog.specs.LogText
 pub mod Walking
 pub mod Passing
 pub mod Locating
+pub mod Laws

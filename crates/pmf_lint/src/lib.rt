@@ -6,6 +6,7 @@
 //! Not promised here: that memory suffices, or that a log is what the program did.
 #![tactic(auto)]
 
+pub mod laws;
 mod locating;
 mod passing;
 mod walking;
