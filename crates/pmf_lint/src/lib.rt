@@ -9,6 +9,8 @@
 pub mod laws;
 mod locating;
 mod passing;
+#[cfg(test)]
+mod tests;
 mod walking;
 
 pub use locating::{LocateFault, Located, locate_event, locate_text};
