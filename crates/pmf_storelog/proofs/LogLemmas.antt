@@ -23,7 +23,7 @@ use Rattle.pmf_storelog.proofs.InOrderLemmas.{in_order-push}
 use Rattle.pmf_storelog.proofs.PartLemmas.{ended_records-more, records_of-unfinished, unfinished}
 
 -- the events of a section among numbered ones
-abbrev in_section : ℕ → List (ℕ × Event) → List Event
+abbrev pub in_section : ℕ → List (ℕ × Event) → List Event
 in_section number entries = map (λ entry. entry.1) (filter (λ entry. entry.0 == number) entries)
 
 one_event : (here : Bool) (number : ℕ) (events : List Event) (event : Event) →
@@ -46,16 +46,16 @@ in_order-entered (Err cause) current before = ap in_order (append-nil before)
 
 -- what the records before more of them say
 module _ (records more : List (List ℕ)) where
-  reading_at-append : (k : ℕ) → k < length records → reading_at (records ++ more) k ≡ reading_at records k
+  pub reading_at-append : (k : ℕ) → k < length records → reading_at (records ++ more) k ≡ reading_at records k
   unfolding reading_at
   reading_at-append k within = ap record_of (get_or_append_left records more [] k within)
 
-  current_at-append : (k : ℕ) → k ≤ length records → current_at (records ++ more) k ≡ current_at records k
+  pub current_at-append : (k : ℕ) → k ≤ length records → current_at (records ++ more) k ≡ current_at records k
   unfolding current_at
   current_at-append zero le = refl
   current_at-append (suc k) le = rw (reading_at-append k (omega arith), current_at-append k (omega arith)) refl
 
-  numbered_among-append : (k : ℕ) → k ≤ length records → numbered_among (records ++ more) k ≡ numbered_among records k
+  pub numbered_among-append : (k : ℕ) → k ≤ length records → numbered_among (records ++ more) k ≡ numbered_among records k
   unfolding numbered_among
   numbered_among-append zero le = refl
   numbered_among-append (suc k) le =
@@ -78,10 +78,10 @@ module _ (records more : List (List ℕ)) where
 
 -- what one more record adds
 module _ (records : List (List ℕ)) (text : List ℕ) where
-  one_more : length (records ++ text ∷ []) ≡ suc (length records)
+  pub one_more : length (records ++ text ∷ []) ≡ suc (length records)
   one_more = length_push records text ∙ add-one (length records)
 
-  reading_at-last : reading_at (records ++ text ∷ []) (length records) ≡ record_of text
+  pub reading_at-last : reading_at (records ++ text ∷ []) (length records) ≡ record_of text
   unfolding reading_at
   reading_at-last = ap record_of (get_or_at records text [] [] (length records) refl)
 
@@ -91,7 +91,7 @@ module _ (records : List (List ℕ)) (text : List ℕ) where
       ap (current_at (records ++ text ∷ [])) one_more
       ∙ rw (reading_at-last, current_at-append records (text ∷ []) (length records) (omega arith)) refl
 
-  numbered_events-push : numbered_events (records ++ text ∷ []) ≡ numbered_events records ++ numbered (current_of records) (record_of text)
+  pub numbered_events-push : numbered_events (records ++ text ∷ []) ≡ numbered_events records ++ numbered (current_of records) (record_of text)
   unfolding numbered_events numbered_among current_of
   numbered_events-push =
       ap (numbered_among (records ++ text ∷ [])) one_more
@@ -120,7 +120,7 @@ module _ (records : List (List ℕ)) (text : List ℕ) where
       ∙ rw (first_fault_among-append records (text ∷ []) (length records) (omega arith), refusal_at-last) refl
 
   -- the events of each section, by what the record says
-  events_in-push : (number : ℕ) → events_in (records ++ text ∷ []) number ≡ events_in records number ++ in_section number (numbered (current_of records) (record_of text))
+  pub events_in-push : (number : ℕ) → events_in (records ++ text ∷ []) number ≡ events_in records number ++ in_section number (numbered (current_of records) (record_of text))
   unfolding events_in
   events_in-push number =
       ap (in_section number) numbered_events-push

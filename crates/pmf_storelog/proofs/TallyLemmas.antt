@@ -24,11 +24,11 @@ numbers_of-nil : numbers_of [] ≡ []
 unfolding numbers_of entered_of entered_among
 numbers_of-nil = refl
 
-current_of-nil : current_of [] ≡ 0
+pub current_of-nil : current_of [] ≡ 0
 unfolding current_of current_at
 current_of-nil = refl
 
-events_in-nil : (number : ℕ) → events_in [] number ≡ []
+pub events_in-nil : (number : ℕ) → events_in [] number ≡ []
 unfolding events_in numbered_events numbered_among
 events_in-nil number = refl
 

@@ -16,6 +16,7 @@
 //!
 //! [`read_event`] reads a single text line as one event (`Lines`), and [`read_number_in_front`] a number
 //! at the front of a text (`Numbers`): with [`push_event`] they serve other texts that hold events.
+//! [`trim`] and [`read_record`] (`Separators`, `Records`) serve who goes through a log's records itself.
 //!
 //! Not promised here: that memory suffices, or that a log is what the program did.
 #![tactic(auto)]
@@ -54,4 +55,6 @@ pub use log::Log;
 pub use number::read_number_in_front;
 pub use reader::LogReader;
 pub use reading::read_log;
+pub use record::{Saying, read_record};
+pub use trimming::trim;
 pub use writing::{push_event, write_section};

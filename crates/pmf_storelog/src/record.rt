@@ -12,7 +12,7 @@ use pmf_event::{Event, Span};
 
 /// What a record says that isn't refused.
 #[derive(Drop)]
-pub(crate) enum Saying {
+pub enum Saying {
     /// The event happens, in the section that is current.
     Happens(Event),
     /// The section of this number becomes current.
@@ -21,9 +21,9 @@ pub(crate) enum Saying {
     Skipped,
 }
 
-/// What a trimmed record says, or why it is refused.
+/// What a trimmed record says, or why it is refused. Takes no memory.
 #[inline]
-pub(crate) fn read_record(text: &[u8]) -> Result<Saying, Cause>
+pub fn read_record(text: &[u8]) -> Result<Saying, Cause>
     ensures { result ≡ record_of text.now }
 {
     match read_quickly(text) {

@@ -5,7 +5,7 @@ ghost use Rattle.pmf_storelog.specs.Separators.{is_blank, trimmed, without_end_b
 
 /// The bytes without the spaces and tabs at both ends.
 #[inline]
-pub(crate) fn trim(part: &[u8]) -> &[u8]
+pub fn trim(part: &[u8]) -> &[u8]
     ensures { result.now ≡ trimmed part.now }
 {
     trim_end(trim_front(part))

@@ -1,0 +1,6 @@
+pub mod CursorLemmas
+pub mod PassedLemmas
+pub mod NumberFoundLemmas
+pub mod LocationLemmas
+pub mod GivingLemmas
+pub mod SolidLemmas

@@ -1,0 +1,16 @@
+//! What a log's user asks beside its check: where an event stands in the log.
+//!
+//! [`locate_event`] names the record that gave an event of a section, and the offset at which it begins
+//! (`Locating`). Which record that is, and at which offset, is settled by the definition alone ([`laws`]).
+//!
+//! Not promised here: that memory suffices, or that a log is what the program did.
+#![tactic(auto)]
+
+pub mod laws;
+mod locating;
+mod passing;
+#[cfg(test)]
+mod tests;
+mod walking;
+
+pub use locating::{LocateFault, Located, locate_event, locate_text};

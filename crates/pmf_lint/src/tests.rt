@@ -1,0 +1,3 @@
+//! Where events of logs stand.
+
+mod locating;
