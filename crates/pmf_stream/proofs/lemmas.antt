@@ -5,3 +5,4 @@ pub mod StreamLemmas
 pub mod AnsweringLemmas
 pub mod FoundSectionLemmas
 pub mod TakenLemmas
+pub mod FailingLemmas

@@ -22,12 +22,18 @@ IsRefusalOf question left rest found =
     (found.question ≡ question) × (bytes : List ℕ) × HasReadAll LOG_LIMIT left rest bytes
     × IsRefusal question.run question.section question.event bytes found.fault
 
+-- `no section R.N`, and `no event K in section R.N`
+abbrev pub no_section : ℕ → ℕ → List ℕ
+no_section run section = codes "no section " ++ decimal run ++ codes "." ++ decimal section
+
+abbrev pub no_event : ℕ → ℕ → ℕ → List ℕ
+no_event run section event = codes "no event " ++ decimal event ++ codes " in section " ++ decimal run ++ codes "." ++ decimal section
+
 -- the text of a refusal of this question
 abbrev pub text_of_refusal : Question → ExplainFault → List ℕ
 text_of_refusal question (fault.Log found) = text_of_fault found
-text_of_refusal question fault.NoSection = codes "no section " ++ decimal question.run ++ codes "." ++ decimal question.section
-text_of_refusal question fault.NoEvent =
-    codes "no event " ++ decimal question.event ++ codes " in section " ++ decimal question.run ++ codes "." ++ decimal question.section
+text_of_refusal question fault.NoSection = no_section question.run question.section
+text_of_refusal question fault.NoEvent = no_event question.run question.section question.event
 text_of_refusal question fault.OutOfMemory = codes "out of memory"
 
 -- the text of a refusal that tells its question

@@ -2,6 +2,7 @@ pub use Rattle.pmf_event.specs.Section
 pub use Rattle.pmf_image.specs.Certificate
 pub use Rattle.pmf_storelog.specs.LogValue
 pub use Rattle.pmf_storelog.specs.LogText
+pub use Rattle.pmf_lint.specs.Locating
 pub use Rattle.pmf_ledger.specs.Report
 pub use Rattle.pmf_ledger.specs.LedgerText
 pub use Rattle.pmf_ledger.specs.Gathered
@@ -18,4 +19,6 @@ pub mod Answering
 pub mod Checking
 pub mod Explanation
 pub mod Asking
+pub mod Seeking
+pub mod Failing
 pub mod Joining

@@ -136,7 +136,7 @@ fn image_text(
 }
 
 #[tactic(auto, unfolding(crate::specs::Explanation::text_of_image))]
-fn push_image(text: &mut String, certificate: Certificate) -> Result<(), AllocError>
+pub(crate) fn push_image(text: &mut String, certificate: Certificate) -> Result<(), AllocError>
     ensures { OnOk result
         (string_bytes text.new ≡ string_bytes text.old ++ text_of_image certificate) }
 {
@@ -156,7 +156,7 @@ fn push_line(text: &mut String, line: Option<u64>) -> Result<(), AllocError>
 }
 
 #[tactic(auto, unfolding(crate::specs::Explanation::text_of_bytes))]
-fn push_bytes(
+pub(crate) fn push_bytes(
     text: &mut String,
     events: &[Event],
     certificate: Certificate,

@@ -2,7 +2,7 @@
 //!
 //! What is read comes from a [`Source`], what is written goes to a [`Sink`] by [`write_text`]; both count
 //! their failed calls. The clauses cite std's `KnownBytes` for the bytes and `specs/Failures` for the
-//! failed calls. What a command answers is one definition of its own (`specs/Checking`, `specs/Asking`)
+//! failed calls. What a command answers is one definition of its own (`specs/Checking`, `specs/Asking`, `specs/Seeking`, `specs/Failing`)
 //! in the words of one skeleton (`specs/Answering`): at Ok its whole text was written, at WriteFault
 //! exactly so many bytes of it, and ReadFault and WriteFault are told exactly where a read or a write
 //! failed.
@@ -15,10 +15,12 @@ mod checking;
 mod device;
 mod explaining;
 mod failed;
+mod failing;
 mod fault;
 mod joining;
 mod memory;
 mod reading;
+mod seeking;
 mod settings;
 mod sink;
 mod source;
@@ -31,11 +33,13 @@ pub use checking::{CheckLogFault, Done, check_stream};
 pub use device::{Counted, Device};
 pub use explaining::{ExplainFault, explain_text};
 pub use failed::Failed;
+pub use failing::{LogRefusal, explain_all_stream, explain_all_text};
 pub use fault::StreamFault;
 pub use joining::{JoinTextFault, Joined, join_texts, join_to};
 pub use memory::ByteSink;
 pub use reading::read_all;
-pub use settings::{Question, Settings};
+pub use seeking::{SeekFault, locate_stream};
+pub use settings::{Question, Settings, Sought};
 pub use sink::{Sink, StdSink};
 pub use source::{Source, StdSource};
 pub use writing::{Cut, write_answer, write_text};

@@ -27,3 +27,14 @@ pub struct Question {
     /// The place of the event in its section, from 1.
     pub event: u32,
 }
+
+/// What `locate` is told by its words.
+#[derive(Clone, Copy, Debug, PartialEq, Eq)]
+pub struct Sought {
+    /// The run in the name of each section.
+    pub run: u64,
+    /// The number of the section.
+    pub section: u64,
+    /// The place of the event in its section, from 1.
+    pub event: u32,
+}

@@ -43,7 +43,8 @@ fn first_certificate(rows: &[Row], place: u32) -> Option<Certificate>
     None
 }
 
-fn certificate_of(place: u32, finding: Finding) -> Option<Certificate>
+/// The certificate of this finding at the place: `Some` exactly of a FAIL of PERSIST, ORDERED or CHECKEND.
+pub fn certificate_of(place: u32, finding: Finding) -> Option<Certificate>
     ensures { result ≡ certificate_of place finding }
 {
     match finding {

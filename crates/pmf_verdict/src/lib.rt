@@ -19,7 +19,7 @@ mod text;
 mod verdict;
 
 pub use checking::{CheckFault, check};
-pub use explaining::explain;
+pub use explaining::{certificate_of, explain};
 pub use outcome::{Outcome, outcome_of};
 pub use text::{push_row, write_rows, write_rows_at};
 pub use verdict::Verdict;
