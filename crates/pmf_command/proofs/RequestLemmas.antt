@@ -65,6 +65,7 @@ texts-named (Some s) d ts is = let same : Some (map (λ v. v.now) s.now) ≡ Som
 
 -- ---- the words of the program
 
-pub is_simple-words : (p q : ValueParser) → is_simple (pmfarm_words p q) ≡ true
+pub is_simple-words : (all : Bool) (p q : ValueParser) → is_simple (pmfarm_words all p q) ≡ true
 unfolding clap_on_literals
-is_simple-words p q = refl
+is_simple-words true p q = refl
+is_simple-words false p q = refl

@@ -17,6 +17,11 @@ use Rattle.pmf_stream.specs.declared.checking.Done.{Done}
 use Rattle.pmf_stream.specs.declared.asking.AskFault.{AskFault}
 use Rattle.pmf_stream.specs.declared.explaining.ExplainFault.{ExplainFault}
 use Rattle.pmf_stream.specs.declared.explaining.ExplainFault.TheVariants as explaining
+use Rattle.pmf_lint.specs.declared.locating.LocateFault.{LocateFault}
+use Rattle.pmf_lint.specs.declared.locating.LocateFault.TheVariants as locating
+use Rattle.pmf_stream.specs.declared.seeking.SeekFault.{SeekFault}
+use Rattle.pmf_stream.specs.declared.failing.LogRefusal.{LogRefusal}
+use Rattle.pmf_stream.specs.declared.failing.LogRefusal.TheVariants as failing
 use Rattle.pmf_stream.specs.declared.joining.Joined.{Joined}
 use Rattle.pmf_stream.specs.declared.joining.JoinTextFault.{JoinTextFault}
 use Rattle.pmf_stream.specs.declared.joining.JoinTextFault.TheVariants as texts
@@ -76,7 +81,7 @@ abbrev pub status_of_check_fault : CheckLogFault → Status
 status_of_check_fault (checking.Log fault) = status_of_log_fault fault
 status_of_check_fault (checking.Farm fault) = status_of_farm_fault fault
 
--- how the program ends where the event is explained, or the schedule played
+-- how the program ends where rows are explained, an event located, or the schedule played
 abbrev pub status_of_asked : Unit {0} → Status
 status_of_asked done = NoFail
 
@@ -90,6 +95,22 @@ status_of_explain_fault explaining.OutOfMemory = NoMemory
 -- how the program ends where what is asked for is refused
 abbrev pub status_of_refusal : AskFault → Status
 status_of_refusal refusal = status_of_explain_fault refusal.fault
+
+-- how the program ends where an event is not located
+abbrev pub status_of_locate_fault : LocateFault → Status
+status_of_locate_fault (locating.Log fault) = status_of_log_fault fault
+status_of_locate_fault locating.NoSection = Refused
+status_of_locate_fault locating.NoEvent = Refused
+status_of_locate_fault locating.OutOfMemory = NoMemory
+
+-- how the program ends where what is sought is not found
+abbrev pub status_of_seek_fault : SeekFault → Status
+status_of_seek_fault refusal = status_of_locate_fault refusal.fault
+
+-- how the program ends where the rows of a log are not explained
+abbrev pub status_of_log_refusal : LogRefusal → Status
+status_of_log_refusal (failing.Log fault) = status_of_log_fault fault
+status_of_log_refusal failing.OutOfMemory = NoMemory
 
 -- how the program ends where ledgers are joined
 abbrev pub status_of_joined : Joined → Status

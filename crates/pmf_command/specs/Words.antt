@@ -1,6 +1,8 @@
 -- The words of the command line: the commands and options of the program, and what they ask for. Defined here,
 -- in the words of `clap`.
 use Rattle.std.specs.Prelude.{◌≡◌, ℕ, ◌<◌, ◌^◌, pos, Bool, true, false, List, [], ◌∷◌, map, Option, None, Some, codes}
+use Rattle.std.specs.List.{list_any}
+use Rattle.std.specs.Str.{bytes_eq}
 use Rattle.std.specs.Fmt.{decimal}
 use Rattle.clap.specs.Words.{App, Row, Rule, Text, all_of, first_of, one_of, app_of, new_app, new_rule, subcommand_of, with_rule, with_subcommand}
 use Rattle.clap.specs.Simple.{new_shape}
@@ -12,6 +14,8 @@ use Rattle.pmf_event.specs.declared.profile.Profile.{Profile}
 use Rattle.pmf_event.specs.declared.profile.Profile.TheVariants as profile
 use Rattle.pmf_stream.specs.declared.settings.Question.{Question}
 use Rattle.pmf_stream.specs.declared.settings.Settings.{Settings}
+use Rattle.pmf_stream.specs.declared.settings.Sought.{Sought}
+use Rattle.pmf_stream.specs.declared.settings.Whole.{Whole}
 use Rattle.pmf_command.specs.declared.request.Files.{Files}
 use Rattle.pmf_command.specs.declared.request.Simulation.{Simulation}
 use Rattle.pmf_command.specs.declared.request.Request.{Request}
@@ -42,27 +46,35 @@ asked_number name parser = record (asked name) { parser = Some parser }
 abbrev pub number : Text → ValueParser → Text → Rule
 number name parser default = record (option name) { parser = Some parser; defaults = default ∷ [] }
 
--- `--run R`, `--profile P`, which takes one of two words, and the flag `--ledger`
+-- `--run R`, `--profile P`, which takes one of two words, and a flag
 abbrev pub run_option : Rule
 run_option = number (codes "run") large_number (codes "0")
 
 abbrev pub profile_option : ValueParser → Rule
 profile_option words = number (codes "profile") words (codes "1")
 
-abbrev pub ledger_flag : Rule
-ledger_flag = record (new_rule (codes "ledger")) { long = Some (codes "ledger"); action = Some SetTrue }
+abbrev pub flag : Text → Rule
+flag name = record (new_rule name) { long = Some name; action = Some SetTrue }
 
 -- ---- the commands
 
 abbrev pub check_words : ValueParser → App
 check_words words =
     with_rule (with_rule (with_rule (with_rule (new_app (codes "check"))
-    (number (codes "workers") small_number (codes "1"))) run_option) (profile_option words)) ledger_flag
+    (number (codes "workers") small_number (codes "1"))) run_option) (profile_option words)) (flag (codes "ledger"))
 
-abbrev pub explain_words : ValueParser → App
-explain_words words =
-    with_rule (with_rule (with_rule (with_rule (new_app (codes "explain"))
-    (asked_number (codes "section") large_number)) (asked_number (codes "event") small_number)) run_option) (profile_option words)
+-- with the flag `--all` no event is asked for
+abbrev pub explain_words : Bool → ValueParser → App
+explain_words true words =
+    with_rule (with_rule (with_rule (new_app (codes "explain")) (flag (codes "all"))) run_option) (profile_option words)
+explain_words false words =
+    with_rule (with_rule (with_rule (with_rule (with_rule (new_app (codes "explain"))
+    (asked_number (codes "section") large_number)) (asked_number (codes "event") small_number)) (flag (codes "all"))) run_option) (profile_option words)
+
+abbrev pub locate_words : App
+locate_words =
+    with_rule (with_rule (with_rule (new_app (codes "locate"))
+    (asked_number (codes "section") large_number)) (asked_number (codes "event") small_number)) run_option
 
 -- the ledgers that are to be joined, one or more
 abbrev pub file_words : Rule
@@ -74,22 +86,23 @@ file_words = record (new_rule (codes "file")) {
 }
 
 abbrev pub join_words : App
-join_words = with_rule (with_rule (new_app (codes "join")) ledger_flag) file_words
+join_words = with_rule (with_rule (new_app (codes "join")) (flag (codes "ledger"))) file_words
 
 abbrev pub sim_words : App
 sim_words =
     with_rule (with_rule (with_rule (new_app (codes "sim"))
     (asked (codes "log"))) (asked_number (codes "workers") small_number)) (asked_number (codes "ledgers") small_number)
 
--- the program with its four commands
+-- the program with its five commands, and whether an explanation of all is asked for
 abbrev pub program_words : App
 program_words = record (new_app (codes "pmfarm")) {
   top = record (new_shape (codes "pmfarm")) { has_version = true; subcommand_required = true };
 }
 
-abbrev pub pmfarm_words : ValueParser → ValueParser → App
-pmfarm_words p q =
-    with_subcommand (with_subcommand (with_subcommand (with_subcommand program_words (check_words p).top) (explain_words q).top) join_words.top) sim_words.top
+abbrev pub pmfarm_words : Bool → ValueParser → ValueParser → App
+pmfarm_words all p q =
+    with_subcommand (with_subcommand (with_subcommand (with_subcommand (with_subcommand program_words (check_words p).top)
+    (explain_words all q).top) locate_words.top) join_words.top) sim_words.top
 
 -- the command has these words, and no option that its subcommands share
 pub record HasWords (words : App) (c : Command) : Type 0 where
@@ -126,6 +139,17 @@ pub record IsExplainOf (rows : List Row) (q : Question) : Type 0 where
   pub section : IsNumberOf rows (codes "section") 64 q.section
   pub event : IsNumberOf rows (codes "event") 32 q.event
 
+-- the run and the profile are those that the words of `explain --all` name
+pub record IsExplainAllOf (rows : List Row) (w : Whole) : Type 0 where
+  pub run : IsNumberOf rows (codes "run") 64 w.run
+  pub profile_is : IsProfileOf rows w.profile
+
+-- the event is the one that the words of `locate` name
+pub record IsLocateOf (rows : List Row) (s : Sought) : Type 0 where
+  pub run : IsNumberOf rows (codes "run") 64 s.run
+  pub section : IsNumberOf rows (codes "section") 64 s.section
+  pub event : IsNumberOf rows (codes "event") 32 s.event
+
 -- the files are those that the words of `join` name, in their order
 pub record IsJoinOf (rows : List Row) (f : Files) : Type 0 where
   pub names : (names : List Text) → all_of (codes "file") rows ≡ Some names → map (λ s. s.now) f.names.items ≡ names
@@ -142,9 +166,14 @@ abbrev pub IsCheckBy : List Row → Request → Type 0
 IsCheckBy rows (request.Check settings) = IsCheckOf rows settings
 IsCheckBy rows _ = ⊥
 
-abbrev pub IsExplainBy : List Row → Request → Type 0
-IsExplainBy rows (request.Explain question) = IsExplainOf rows question
-IsExplainBy rows _ = ⊥
+abbrev pub IsExplainBy : Bool → List Row → Request → Type 0
+IsExplainBy false rows (request.Explain question) = IsExplainOf rows question
+IsExplainBy true rows (request.ExplainAll whole) = IsExplainAllOf rows whole
+IsExplainBy all rows _ = ⊥
+
+abbrev pub IsLocateBy : List Row → Request → Type 0
+IsLocateBy rows (request.Locate sought) = IsLocateOf rows sought
+IsLocateBy rows _ = ⊥
 
 abbrev pub IsJoinBy : List Row → Request → Type 0
 IsJoinBy rows (request.Join files) = IsJoinOf rows files
@@ -155,14 +184,19 @@ IsSimBy rows (request.Sim simulation) = IsSimOf rows simulation
 IsSimBy rows _ = ⊥
 
 -- the request is what a command and its words ask for
-pub record IsRequestBy (command : Text) (rows : List Row) (asked : Request) : Type 0 where
+pub record IsRequestBy (all : Bool) (command : Text) (rows : List Row) (asked : Request) : Type 0 where
   pub check : command ≡ codes "check" → IsCheckBy rows asked
-  pub explain : command ≡ codes "explain" → IsExplainBy rows asked
+  pub explain : command ≡ codes "explain" → IsExplainBy all rows asked
+  pub locate : command ≡ codes "locate" → IsLocateBy rows asked
   pub join : command ≡ codes "join" → IsJoinBy rows asked
   pub sim : command ≡ codes "sim" → IsSimBy rows asked
+
+-- whether one of the words is `--all`
+unfoldable pub names_all : List Text → Bool
+names_all words = list_any (bytes_eq (codes "--all")) words
 
 -- the request is what these words ask for, the first of which names the program
 abbrev pub IsRequestOf : List Text → Request → Type 0
 IsRequestOf words asked =
-    (p q : ValueParser) × ((command : Text) (rows : List Row) → subcommand_of (pmfarm_words p q) words ≡ Some (command, rows) →
-    IsRequestBy command rows asked)
+    (p q : ValueParser) × ((command : Text) (rows : List Row) → subcommand_of (pmfarm_words (names_all words) p q) words ≡ Some (command, rows) →
+    IsRequestBy (names_all words) command rows asked)

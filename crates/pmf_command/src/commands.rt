@@ -7,17 +7,21 @@ ghost use Rattle.pmf_sim.specs.Simulation.{IsSimRefusalOf, IsSimulationOf};
 ghost use Rattle.pmf_stream.specs.Answering.{Answers, TellsFaults};
 ghost use Rattle.pmf_stream.specs.Asking.{IsExplanationOf, IsRefusalOf};
 ghost use Rattle.pmf_stream.specs.Checking.{IsCheckFaultOf, IsReportOf};
+ghost use Rattle.pmf_stream.specs.Failing.{ExplainsAllOf, IsRefusalOfAllRead};
 ghost use Rattle.pmf_stream.specs.Failures.{CanCountOneMore};
 ghost use Rattle.pmf_stream.specs.Joining.{IsJoinedText, IsRefusalOfTexts};
+ghost use Rattle.pmf_stream.specs.Seeking.{IsLocationOf, IsSeekRefusalOf};
 ghost use Rattle.pmf_stream.specs.declared.asking.AskFault.{AskFault};
 ghost use Rattle.pmf_stream.specs.declared.checking.CheckLogFault.{CheckLogFault};
 ghost use Rattle.pmf_stream.specs.declared.checking.Done.{Done};
+ghost use Rattle.pmf_stream.specs.declared.failing.LogRefusal.{LogRefusal};
 ghost use Rattle.pmf_stream.specs.declared.fault.StreamFault.{StreamFault};
 ghost use Rattle.pmf_stream.specs.declared.joining.Joined.{Joined};
 ghost use Rattle.pmf_stream.specs.declared.joining.JoinTextFault.{JoinTextFault};
-ghost use Rattle.pmf_command.specs.Statuses.{IsAnswerTo, status_of, status_of_asked, status_of_check_fault, status_of_done, status_of_joined, status_of_refusal, status_of_sim_fault, status_of_text_fault};
+ghost use Rattle.pmf_stream.specs.declared.seeking.SeekFault.{SeekFault};
+ghost use Rattle.pmf_command.specs.Statuses.{IsAnswerTo, status_of, status_of_asked, status_of_check_fault, status_of_done, status_of_joined, status_of_log_refusal, status_of_refusal, status_of_seek_fault, status_of_sim_fault, status_of_text_fault};
 
-use crate::diagnostics::{fail, fail_file, out_of_memory, refuse_words, say_skipped};
+use crate::diagnostics::{fail, fail_file, out_of_memory, refuse_words, print_skipped};
 use crate::ending::Ending;
 use crate::request::{Files, Request, Simulation, request_of};
 use crate::status::Status;
@@ -26,8 +30,9 @@ use pmf_ledger::LEDGER_LIMIT;
 use pmf_sim::{SCHEDULE_LIMIT, SimFault, sim_to};
 use pmf_storelog::LOG_LIMIT;
 use pmf_stream::{
-    JoinTextFault, Joined, Question, Settings, Sink, Source, StdSink, StdSource, StreamFault,
-    check_stream, explain_stream, join_to, read_all, write_text,
+    JoinTextFault, Joined, Question, Settings, Sink, Sought, Source, StdSink, StdSource,
+    StreamFault, Whole, check_stream, explain_all_stream, explain_stream, join_to, locate_stream,
+    read_all, write_text,
 };
 use std::alloc::Global;
 use std::fmt::Display;
@@ -38,7 +43,7 @@ use std::{env, fs, io};
 
 /// Does what the words of the command line ask for. Workers' threads are started by the second handle: the program's
 /// `main` has it.
-pub fn run<T: Threads + Wait + Sync>(rt: &HostRuntime, threads: &T) -> Status {
+pub fn execute<T: Threads + Wait + Sync>(rt: &HostRuntime, threads: &T) -> Status {
     let alloc = rt.alloc();
     let words = match words_of(rt) {
         Ok(words) => words,
@@ -46,11 +51,13 @@ pub fn run<T: Threads + Wait + Sync>(rt: &HostRuntime, threads: &T) -> Status {
         Err(_) => return refuse_words(rt, "error: a word of the command line is not UTF-8\n"),
     };
     match request_of(alloc, words.as_slice()) {
-        Ok(Request::Check(settings)) => run_check(rt, threads, settings),
-        Ok(Request::Explain(question)) => run_explain(rt, question),
-        Ok(Request::Join(files)) => run_join(rt, &files),
-        Ok(Request::Sim(simulation)) => run_sim(rt, &simulation),
-        Err(error) => answer(rt, alloc, &error),
+        Ok(Request::Check(settings)) => check_input(rt, threads, settings),
+        Ok(Request::Explain(question)) => explain_input(rt, question),
+        Ok(Request::ExplainAll(whole)) => explain_all_input(rt, whole),
+        Ok(Request::Locate(sought)) => locate_input(rt, sought),
+        Ok(Request::Join(files)) => join_files(rt, &files),
+        Ok(Request::Sim(simulation)) => simulate(rt, &simulation),
+        Err(error) => report_words(rt, alloc, &error),
     }
 }
 
@@ -60,7 +67,7 @@ fn words_of(rt: &HostRuntime) -> io::Result<Vec<String>> {
 }
 
 /// Checks the log on standard input and writes its report to standard output.
-fn run_check<T: Threads + Wait + Sync>(
+fn check_input<T: Threads + Wait + Sync>(
     rt: &HostRuntime,
     threads: &T,
     settings: Settings,
@@ -91,13 +98,13 @@ fn check_to<R: Eprint, T: Threads + Wait + Sync, S: Source, W: Sink>(
 {
     let answer = check_stream(threads, alloc, source, sink, settings, &OpenGate);
     if let Ok(done) = &answer {
-        say_skipped(rt, done.skipped);
+        print_skipped(rt, done.skipped);
     }
-    tell(rt, answer)
+    report_ending(rt, answer)
 }
 
 /// Says on standard error why a stream is not answered, if it is not, and how the program ends.
-fn tell<R: Eprint, T: Ending + Drop, E: Ending + Display + Drop>(
+fn report_ending<R: Eprint, T: Ending + Drop, E: Ending + Display + Drop>(
     rt: &R,
     answer: Result<T, StreamFault<E>>,
 ) -> Status
@@ -113,7 +120,7 @@ fn tell<R: Eprint, T: Ending + Drop, E: Ending + Display + Drop>(
 }
 
 /// Reads the log on standard input and writes the explanation of one event to standard output.
-fn run_explain(rt: &HostRuntime, question: Question) -> Status {
+fn explain_input(rt: &HostRuntime, question: Question) -> Status {
     let mut source = StdSource::new(rt.reader());
     let mut sink = StdSink::new(io::writer(rt));
     explain_to(rt, rt.alloc(), &mut source, &mut sink, question)
@@ -138,12 +145,70 @@ fn explain_to<R: Eprint, S: Source, W: Sink>(
         (W.failed_calls sink.old) (W.failed_calls sink.new) sink.old sink.new answer }
 {
     let answer = explain_stream(alloc, source, sink, question);
-    tell(rt, answer)
+    report_ending(rt, answer)
+}
+
+/// Reads the log on standard input and writes the explanation of each row that counts as fail to standard output.
+fn explain_all_input(rt: &HostRuntime, whole: Whole) -> Status {
+    let mut source = StdSource::new(rt.reader());
+    let mut sink = StdSink::new(io::writer(rt));
+    explain_all_to(rt, rt.alloc(), &mut source, &mut sink, whole)
+}
+
+/// Reads the log of the source and writes the explanation of each row that counts as fail to the sink.
+fn explain_all_to<R: Eprint, S: Source, W: Sink>(
+    rt: &R,
+    alloc: Global,
+    source: &mut S,
+    sink: &mut W,
+    whole: Whole,
+) -> Status
+    requires read { CanCountOneMore (S.failed_calls source.old) }
+    requires write { CanCountOneMore (W.failed_calls sink.old) }
+    ensures { (answer : Result (Unit {0}) (StreamFault LogRefusal))
+        × (result ≡ status_of status_of_asked status_of_log_refusal answer)
+        × Answers (ExplainsAllOf whole (S.left source.old) (S.left source.new))
+        (IsRefusalOfAllRead whole (S.left source.old) (S.left source.new))
+        (W.held sink.old) (W.held sink.new) answer
+        × TellsFaults (S.failed_calls source.old) (S.failed_calls source.new)
+        (W.failed_calls sink.old) (W.failed_calls sink.new) sink.old sink.new answer }
+{
+    let answer = explain_all_stream(alloc, source, sink, whole);
+    report_ending(rt, answer)
+}
+
+/// Reads the log on standard input and writes where one event stands in it to standard output.
+fn locate_input(rt: &HostRuntime, sought: Sought) -> Status {
+    let mut source = StdSource::new(rt.reader());
+    let mut sink = StdSink::new(io::writer(rt));
+    locate_to(rt, rt.alloc(), &mut source, &mut sink, sought)
+}
+
+/// Reads the log of the source and writes where one event stands in it to the sink.
+fn locate_to<R: Eprint, S: Source, W: Sink>(
+    rt: &R,
+    alloc: Global,
+    source: &mut S,
+    sink: &mut W,
+    sought: Sought,
+) -> Status
+    requires read { CanCountOneMore (S.failed_calls source.old) }
+    requires write { CanCountOneMore (W.failed_calls sink.old) }
+    ensures { (answer : Result (Unit {0}) (StreamFault SeekFault))
+        × (result ≡ status_of status_of_asked status_of_seek_fault answer)
+        × Answers (IsLocationOf sought (S.left source.old) (S.left source.new))
+        (IsSeekRefusalOf sought (S.left source.old) (S.left source.new))
+        (W.held sink.old) (W.held sink.new) answer
+        × TellsFaults (S.failed_calls source.old) (S.failed_calls source.new)
+        (W.failed_calls sink.old) (W.failed_calls sink.new) sink.old sink.new answer }
+{
+    let answer = locate_stream(alloc, source, sink, sought);
+    report_ending(rt, answer)
 }
 
 /// Joins the ledgers of the files, which are read whole before any is loaded, and writes the report of all to
 /// standard output.
-fn run_join(rt: &HostRuntime, files: &Files) -> Status {
+fn join_files(rt: &HostRuntime, files: &Files) -> Status {
     let alloc = rt.alloc();
     let mut texts = Vec::new(alloc);
     for name in files.names.iter() {
@@ -161,7 +226,7 @@ fn run_join(rt: &HostRuntime, files: &Files) -> Status {
 
 /// Plays the schedule on standard input with the sections of the log in the file, which is read first, and writes what
 /// comes of it to standard output.
-fn run_sim(rt: &HostRuntime, simulation: &Simulation) -> Status {
+fn simulate(rt: &HostRuntime, simulation: &Simulation) -> Status {
     let alloc = rt.alloc();
     let log = match read_file::<SimFault>(rt, simulation.log, LOG_LIMIT) {
         Ok(log) => log,
@@ -169,7 +234,7 @@ fn run_sim(rt: &HostRuntime, simulation: &Simulation) -> Status {
     };
     let schedule = match read_all(alloc, &mut StdSource::new(rt.reader()), SCHEDULE_LIMIT) {
         Ok(schedule) => schedule,
-        Err(fault) => return tell::<_, (), SimFault>(rt, Err(fault)),
+        Err(fault) => return report_ending::<_, (), SimFault>(rt, Err(fault)),
     };
     let mut sink = StdSink::new(io::writer(rt));
     let Simulation {
@@ -200,7 +265,7 @@ fn play_to<R: Eprint, W: Sink>(
         sink.old sink.new answer }
 {
     let answer = sim_to(alloc, log, schedule, workers, ledgers, sink);
-    tell(rt, answer)
+    report_ending(rt, answer)
 }
 
 /// Joins the texts of the files with these names and writes the report of all, or their ledger text, to the sink.
@@ -222,7 +287,7 @@ fn join_all<R: Eprint, W: Sink>(
         sink.old sink.new answer }
 {
     let answer = join_to(alloc, texts, sink, as_ledger);
-    tell_joined(rt, names, answer)
+    report_joined(rt, names, answer)
 }
 
 // The bytes of the file, at most one more than the limit.
@@ -255,7 +320,7 @@ fn read_file<E: Display + Drop>(
 }
 
 /// Says on standard error why the texts of these files are not joined, if they are not, and how the program ends.
-fn tell_joined<R: Eprint>(
+fn report_joined<R: Eprint>(
     rt: &R,
     names: &[&str],
     answer: Result<Joined, StreamFault<JoinTextFault>>,
@@ -267,12 +332,12 @@ fn tell_joined<R: Eprint>(
             return fail_file(rt, *name, *fault, fault.status());
         }
     }
-    tell(rt, answer)
+    report_ending(rt, answer)
 }
 
 /// Writes what `clap` has to say: help and the version to standard output, a fault to standard
 /// error.
-fn answer<R: Print + Eprint>(rt: &R, alloc: Global, error: &clap::Error) -> Status
+fn report_words<R: Print + Eprint>(rt: &R, alloc: Global, error: &clap::Error) -> Status
     ensures { IsAnswerTo (kind_of error.now) result }
 {
     let Ok(text) = format!(in alloc; "{error}") else {

@@ -45,7 +45,7 @@ pub fn refuse_words<R: Eprint>(rt: &R, text: &str) -> Status
 }
 
 /// Says on standard error how many records of a log were skipped, if any were.
-pub fn say_skipped<R: Eprint>(rt: &R, records: u64) {
+pub fn print_skipped<R: Eprint>(rt: &R, records: u64) {
     if records > 0 {
         let _ = eprintln!(rt; "pmfarm: skipped {records} records");
     }

@@ -1,15 +1,19 @@
 //! The status of each answer of a command.
 
 ghost use Rattle.std.specs.Prelude.{◌≡◌};
-ghost use Rattle.pmf_command.specs.Statuses.{status_of_asked, status_of_check_fault, status_of_done, status_of_explain_fault, status_of_farm_fault, status_of_fails, status_of_fault, status_of_join_fault, status_of_joined, status_of_ledger_fault, status_of_log_fault, status_of_new_fault, status_of_refusal, status_of_sim_fault, status_of_text_fault};
+ghost use Rattle.pmf_command.specs.Statuses.{status_of_asked, status_of_check_fault, status_of_done, status_of_explain_fault, status_of_farm_fault, status_of_fails, status_of_fault, status_of_join_fault, status_of_joined, status_of_ledger_fault, status_of_log_fault, status_of_log_refusal, status_of_new_fault, status_of_refusal, status_of_seek_fault, status_of_sim_fault, status_of_text_fault};
 ghost use Rattle.pmf_command.specs.declared.status.Status.{Status};
 
 use crate::status::Status;
 use pmf_farm::FarmFault;
 use pmf_ledger::{JoinFault, LedgerFault};
+use pmf_lint::LocateFault;
 use pmf_sim::SimFault;
 use pmf_storelog::{Cause, LogFault};
-use pmf_stream::{AskFault, CheckLogFault, Done, ExplainFault, JoinTextFault, Joined, StreamFault};
+use pmf_stream::{
+    AskFault, CheckLogFault, Done, ExplainFault, JoinTextFault, Joined, LogRefusal, SeekFault,
+    StreamFault,
+};
 use pmf_world::WorldNewFault;
 
 /// What a command did, or why it refused: the program ends as this says.
@@ -107,6 +111,31 @@ impl Ending for ExplainFault {
             ExplainFault::NoSection | ExplainFault::NoEvent => Status::Refused,
             ExplainFault::OutOfMemory => Status::NoMemory,
             ExplainFault::Log(fault) => fault.status(),
+        }
+    }
+}
+
+/// What is sought is not found.
+impl Ending for SeekFault {
+    ghost ends_as = { status_of_seek_fault };
+
+    fn status(&self) -> Status {
+        match self.fault {
+            LocateFault::NoSection | LocateFault::NoEvent => Status::Refused,
+            LocateFault::OutOfMemory => Status::NoMemory,
+            LocateFault::Log(fault) => fault.status(),
+        }
+    }
+}
+
+/// The rows are not explained.
+impl Ending for LogRefusal {
+    ghost ends_as = { status_of_log_refusal };
+
+    fn status(&self) -> Status {
+        match self {
+            LogRefusal::Log(fault) => fault.status(),
+            LogRefusal::OutOfMemory => Status::NoMemory,
         }
     }
 }

@@ -1,6 +1,6 @@
 //! The words of the command line, and how the program ends.
 //!
-//! [`run`] does what the words ask for, over the streams of `pmf_stream`. The statuses stand in
+//! [`execute`] does what the words ask for, over the streams of `pmf_stream`. The statuses stand in
 //! `specs/Statuses`: each answer of a command has one, by [`Ending`]. [`request_of`] is a function of the
 //! words alone. Every text that is written to standard output, help too, goes out by `write_text`.
 //!
@@ -14,7 +14,7 @@ mod ending;
 mod request;
 mod status;
 
-pub use commands::run;
+pub use commands::execute;
 pub use ending::Ending;
 pub use request::{Files, Request, Simulation, request_of};
 pub use status::Status;

@@ -1,15 +1,15 @@
 //! What the words of the command line ask for.
 
-ghost use Rattle.std.specs.Prelude.{◌≡◌, List, false, Some, codes, map, option_map, IfOk};
+ghost use Rattle.std.specs.Prelude.{◌≡◌, List, false, true, Some, codes, map, option_map, IfOk};
 ghost use Rattle.std.specs.String.{string_bytes};
 ghost use Rattle.clap.specs.Words.{Row, Text, found_of, rows_of, rule_of, subcommand_rows_of};
 ghost use Rattle.clap.specs.declared.builder.value_parser.ValueParser.{ValueParser};
 ghost use Rattle.pmf_event.specs.declared.profile.Profile.{Profile};
-ghost use Rattle.pmf_command.specs.Words.{IsCheckOf, IsExplainOf, IsJoinOf, IsRequestBy, IsRequestOf, IsSimOf, HasWords, asked, asked_number, check_words, explain_words, file_words, join_words, large_number, ledger_flag, pmfarm_words, profile_option, program_words, run_option, sim_words, small_number};
+ghost use Rattle.pmf_command.specs.Words.{IsCheckOf, IsExplainAllOf, IsExplainBy, IsExplainOf, IsJoinOf, IsLocateOf, IsRequestBy, IsRequestOf, IsSimOf, HasWords, asked, asked_number, check_words, explain_words, file_words, flag, join_words, large_number, locate_words, names_all, pmfarm_words, profile_option, program_words, run_option, sim_words, small_number};
 
 use clap::{Arg, ArgAction, ArgMatches, Command, Error, value_parser};
 use pmf_event::Profile;
-use pmf_stream::{Question, Settings};
+use pmf_stream::{Question, Settings, Sought, Whole};
 use std::alloc::{AllocError, Global};
 
 const AFTER_HELP: &str = "\
@@ -22,6 +22,9 @@ Examples:
                                     a pair on one line is also ordered by its stores
   pmfarm explain --section 0 --event 6 < store.log
                                     what a crash can leave where event 6 fails
+  pmfarm explain --all < store.log  the same of each row that counts as fail
+  pmfarm locate --section 0 --event 6 < store.log
+                                    the record that gave event 6
   pmfarm check --ledger --run 7 < store.log > 7.ledger
                                     the checked sections themselves, to be joined
   pmfarm join 7.ledger 8.ledger     the report of both, each section once
@@ -29,9 +32,34 @@ Examples:
                                     what each step of the schedule comes to
 
 Exit status:
-  0  no row of the report counts as fail, or the event was explained, or the
-     schedule was played
+  0  no row of the report counts as fail, or the rows were explained, or the
+     event was located, or the schedule was played
   1  some row counts as fail
+  2  the input or the command line was refused
+  3  memory ran out
+  4  a read or a write failed";
+
+const EXPLAIN_HELP: &str = "\
+Examples:
+  pmfarm explain --section 0 --event 3 < store.log
+                                    the row `3 PERSIST FAIL byte=0x1000 crash=3`
+  pmfarm explain --section 0 --event 3 --run 7 --profile 2 < store.log
+                                    the same of a report with these options
+  pmfarm explain --all < store.log  each row that counts as fail, also one of
+                                    a section's end, which has no event
+
+What is written of a row that fails:
+  image crash=3 full=none           a crash after event 3; no line is there in
+                                    full, or this one is
+  byte=0x1000 cut=0 shows=0 last=1  of a byte that the row names
+  cut      how many stores of the byte's cache line are there
+  shows    the event whose store the byte shows, or 0: none
+  last     the event of its last store up to the row
+  no image                          the row has none: it is no FAIL of PERSIST,
+                                    ORDERED or CHECKEND
+
+Exit status:
+  0  the rows were explained
   2  the input or the command line was refused
   3  memory ran out
   4  a read or a write failed";
@@ -63,6 +91,10 @@ pub enum Request<'a> {
     Check(Settings),
     /// Read the log on standard input, and write the explanation of one event to standard output.
     Explain(Question),
+    /// Read the log on standard input, and write the explanation of each row that counts as fail to standard output.
+    ExplainAll(Whole),
+    /// Read the log on standard input, and write where one event stands in it to standard output.
+    Locate(Sought),
     /// Join the ledgers of the files, and write the report of all, or their ledger text, to standard output.
     Join(Files<'a>),
     /// Play the schedule on standard input, and write what each step comes to, and each ledger's report, to standard
@@ -75,18 +107,38 @@ pub enum Request<'a> {
 pub fn request_of<'a>(alloc: Global, words: &'a [String]) -> Result<Request<'a>, Error>
     ensures { IfOk result (IsRequestOf (map string_bytes words.entry.now)) }
 {
-    let matches = program(alloc)?.try_get_matches_from(words)?;
-    request_by(alloc, &matches)
+    let all = names_all(words);
+    let matches = program(alloc, all)?.try_get_matches_from(words)?;
+    request_by(alloc, &matches, all)
+}
+
+// Whether one of the words is `--all`.
+fn names_all(words: &[String]) -> bool
+    ensures { result ≡ names_all (map string_bytes words.now) }
+{
+    for word in words {
+        if word.as_str() == "--all" {
+            return true;
+        }
+    }
+    false
 }
 
 // What the command that was found and its words ask for.
-fn request_by<'a>(alloc: Global, matches: &ArgMatches<'a>) -> Result<Request<'a>, Error>
+fn request_by<'a>(
+    alloc: Global,
+    matches: &ArgMatches<'a>,
+    all: bool,
+) -> Result<Request<'a>, Error>
     ensures { IfOk result (λ request. (command : Text) (rows : List Row)
-        → subcommand_rows_of matches.now ≡ Some (command, rows) → IsRequestBy command rows request) }
+        → subcommand_rows_of matches.now ≡ Some (command, rows) → IsRequestBy all command rows request) }
 {
-    // There are four commands, and the parser lets nothing pass without one.
+    // There are five commands, and the parser lets nothing pass without one.
     if let Some(explain) = matches.subcommand_matches("explain") {
-        return Ok(Request::Explain(question_of(explain)));
+        return Ok(explain_by(explain, all));
+    }
+    if let Some(locate) = matches.subcommand_matches("locate") {
+        return Ok(Request::Locate(sought_of(locate)));
     }
     if let Some(join) = matches.subcommand_matches("join") {
         let files = files_of(alloc, join)?;
@@ -114,6 +166,35 @@ fn settings_of(check: &ArgMatches<'_>) -> Settings
         run: check.get_one::<u64>("run").unwrap_or(0),
         profile: profile_of(check.get_str("profile")),
         ledger: check.get_flag("ledger"),
+    }
+}
+
+// What the words of `explain` ask for, with `--all` or without it.
+fn explain_by<'a>(explain: &ArgMatches<'_>, all: bool) -> Request<'a>
+    ensures { IsExplainBy all (rows_of (found_of explain.now)) result }
+{
+    if all {
+        return Request::ExplainAll(whole_of(explain));
+    }
+    Request::Explain(question_of(explain))
+}
+
+fn whole_of(explain: &ArgMatches<'_>) -> Whole
+    ensures { IsExplainAllOf (rows_of (found_of explain.now)) result }
+{
+    Whole {
+        run: explain.get_one::<u64>("run").unwrap_or(0),
+        profile: profile_of(explain.get_str("profile")),
+    }
+}
+
+fn sought_of(locate: &ArgMatches<'_>) -> Sought
+    ensures { IsLocateOf (rows_of (found_of locate.now)) result }
+{
+    Sought {
+        run: locate.get_one::<u64>("run").unwrap_or(0),
+        section: locate.get_one::<u64>("section").unwrap_or(0),
+        event: locate.get_one::<u32>("event").unwrap_or(0),
     }
 }
 
@@ -160,12 +241,13 @@ fn profile_of(word: Option<&str>) -> Profile
     }
 }
 
-fn program<'a>(alloc: Global) -> Result<Command<'a>, Error>
-    ensures { IfOk result (λ made. (p q : ValueParser) × HasWords (pmfarm_words p q) made) }
+fn program<'a>(alloc: Global, all: bool) -> Result<Command<'a>, Error>
+    ensures { IfOk result (λ made. (p q : ValueParser) × HasWords (pmfarm_words all p q) made) }
 {
     let program = no_command(alloc)?
         .subcommand(check(alloc)?)?
-        .subcommand(explain(alloc)?)?
+        .subcommand(explain(alloc, all)?)?
+        .subcommand(locate(alloc)?)?
         .subcommand(join(alloc)?)?
         .subcommand(sim(alloc)?)?;
     Ok(program)
@@ -212,13 +294,24 @@ fn profile<'a>(alloc: Global) -> Arg<'a>
 
 // The flag that `check` and `join` take.
 fn ledger<'a>(alloc: Global) -> Arg<'a>
-    ensures rule { rule_of result ≡ ledger_flag }
+    ensures rule { rule_of result ≡ flag (codes "ledger") }
     ensures local { result.global ≡ false }
 {
     Arg::new(alloc, "ledger")
         .long("ledger")
         .action(ArgAction::SetTrue)
         .help("Write the ledger text instead of the report")
+}
+
+// The flag of `explain`.
+fn all<'a>(alloc: Global) -> Arg<'a>
+    ensures rule { rule_of result ≡ flag (codes "all") }
+    ensures local { result.global ≡ false }
+{
+    Arg::new(alloc, "all")
+        .long("all")
+        .action(ArgAction::SetTrue)
+        .help("Each row of the log that counts as fail, in place of one event")
 }
 
 fn section<'a>(alloc: Global) -> Arg<'a>
@@ -287,20 +380,60 @@ fn check<'a>(alloc: Global) -> Result<Command<'a>, Error>
     Ok(check)
 }
 
-fn explain<'a>(alloc: Global) -> Result<Command<'a>, Error>
-    ensures { IfOk result (λ made. (q : ValueParser) × HasWords (explain_words q) made) }
+// The place of an event, which has to be given.
+fn event<'a>(alloc: Global) -> Arg<'a>
+    ensures rule { rule_of result ≡ asked_number (codes "event") small_number }
+    ensures local { result.global ≡ false }
 {
-    let event = asked_number(alloc, "event", "K").help(
-        "The place of the event in its section, counted from 1",
-    );
+    asked_number(alloc, "event", "K").help("The place of the event in its section, counted from 1")
+}
+
+fn explain<'a>(alloc: Global, all: bool) -> Result<Command<'a>, Error>
+    ensures { IfOk result (λ made. (q : ValueParser) × HasWords (explain_words all q) made) }
+{
+    if all {
+        return explain_rows(alloc);
+    }
+    explain_event(alloc)
+}
+
+fn explain_event<'a>(alloc: Global) -> Result<Command<'a>, Error>
+    ensures { IfOk result (λ made. (q : ValueParser) × HasWords (explain_words false q) made) }
+{
     let explain = Command::new(alloc, "explain")
         .about("Writes the rows of one event, and the crash image that shows its failure")
-        .after_help(AFTER_HELP)
+        .after_help(EXPLAIN_HELP)
         .arg(section(alloc))?
-        .arg(event)?
+        .arg(event(alloc))?
+        .arg(all(alloc))?
         .arg(run(alloc))?
         .arg(profile(alloc))?;
     Ok(explain)
+}
+
+// With `--all` no event is asked for.
+fn explain_rows<'a>(alloc: Global) -> Result<Command<'a>, Error>
+    ensures { IfOk result (λ made. (q : ValueParser) × HasWords (explain_words true q) made) }
+{
+    let explain = Command::new(alloc, "explain")
+        .about("Writes each row that counts as fail, and the crash image that shows it")
+        .after_help(EXPLAIN_HELP)
+        .arg(all(alloc))?
+        .arg(run(alloc))?
+        .arg(profile(alloc))?;
+    Ok(explain)
+}
+
+fn locate<'a>(alloc: Global) -> Result<Command<'a>, Error>
+    ensures { IfOk result (HasWords locate_words) }
+{
+    let locate = Command::new(alloc, "locate")
+        .about("Writes which record of the log gave one event, and where that record stands")
+        .after_help(AFTER_HELP)
+        .arg(section(alloc))?
+        .arg(event(alloc))?
+        .arg(run(alloc))?;
+    Ok(locate)
 }
 
 fn join<'a>(alloc: Global) -> Result<Command<'a>, Error>

@@ -19,6 +19,7 @@ use Rattle.pmf_verdict.specs.Rows.{rows_of}
 use Rattle.pmf_verdict.specs.Text.{text_of_row}
 use Rattle.pmf_stream.specs.Explanation.{text_of_bytes, text_of_image}
 use Rattle.pmf_stream.specs.Reading.{HasReadAll}
+use Rattle.pmf_stream.specs.declared.settings.Whole.{Whole}
 use Rattle.pmf_stream.specs.declared.failing.LogRefusal.{LogRefusal}
 use Rattle.pmf_stream.specs.declared.failing.LogRefusal.TheVariants as refusal
 
@@ -60,11 +61,11 @@ IsRefusalOfAll run bytes (refusal.Log found) = found ≢ out_of_memory → log_o
 IsRefusalOfAll run bytes refusal.OutOfMemory = Unit {0}
 
 -- what was read is explained by this text
-abbrev pub ExplainsAllOf : ℕ → Profile → Option (List ℕ) → Option (List ℕ) → Unit {0} → List ℕ → Type 0
-ExplainsAllOf run profile left rest done text =
-    (bytes : List ℕ) × HasReadAll LOG_LIMIT left rest bytes × ExplainsAll run profile bytes text
+abbrev pub ExplainsAllOf : Whole → Option (List ℕ) → Option (List ℕ) → Unit {0} → List ℕ → Type 0
+ExplainsAllOf whole left rest done text =
+    (bytes : List ℕ) × HasReadAll LOG_LIMIT left rest bytes × ExplainsAll whole.run whole.profile bytes text
 
 -- what was read is refused for this reason
-abbrev pub IsRefusalOfAllRead : ℕ → Option (List ℕ) → Option (List ℕ) → LogRefusal → Type 0
-IsRefusalOfAllRead run left rest found =
-    (bytes : List ℕ) × HasReadAll LOG_LIMIT left rest bytes × IsRefusalOfAll run bytes found
+abbrev pub IsRefusalOfAllRead : Whole → Option (List ℕ) → Option (List ℕ) → LogRefusal → Type 0
+IsRefusalOfAllRead whole left rest found =
+    (bytes : List ℕ) × HasReadAll LOG_LIMIT left rest bytes × IsRefusalOfAll whole.run bytes found

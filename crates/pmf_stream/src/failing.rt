@@ -15,6 +15,7 @@ ghost use Rattle.pmf_stream.specs.Reading.{ReadsWithin};
 use crate::explaining::{push_bytes, push_image};
 use crate::fault::StreamFault;
 use crate::reading::read_all;
+use crate::settings::Whole;
 use crate::sink::Sink;
 use crate::source::Source;
 use crate::writing::write_answer;
@@ -77,14 +78,13 @@ pub fn explain_all_stream<R: Source, W: Sink>(
     alloc: Global,
     reader: &mut R,
     writer: &mut W,
-    run: u64,
-    profile: Profile,
+    whole: Whole,
 ) -> Result<(), StreamFault<LogRefusal>>
     requires read { CanCountOneMore (R.failed_calls reader.old) }
     requires write { CanCountOneMore (W.failed_calls writer.old) }
     // What was read is explained or refused, and exactly the explanation was written.
-    ensures answer { Answers (ExplainsAllOf run profile (R.left reader.old) (R.left reader.new))
-        (IsRefusalOfAllRead run (R.left reader.old) (R.left reader.new))
+    ensures answer { Answers (ExplainsAllOf whole (R.left reader.old) (R.left reader.new))
+        (IsRefusalOfAllRead whole (R.left reader.old) (R.left reader.new))
         (W.held writer.old) (W.held writer.new) result }
     ensures faults { TellsFaults (R.failed_calls reader.old) (R.failed_calls reader.new)
         (W.failed_calls writer.old) (W.failed_calls writer.new) writer.old writer.new result }
@@ -95,7 +95,7 @@ pub fn explain_all_stream<R: Source, W: Sink>(
         Ok(log) => log,
         Err(fault) => return Err(fault),
     };
-    let text = match explain_all_text(alloc, &log, run, profile) {
+    let text = match explain_all_text(alloc, &log, whole.run, whole.profile) {
         Ok(text) => text,
         Err(fault) => return Err(StreamFault::Refused(fault)),
     };

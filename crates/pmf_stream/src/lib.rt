@@ -39,7 +39,7 @@ pub use joining::{JoinTextFault, Joined, join_texts, join_to};
 pub use memory::ByteSink;
 pub use reading::read_all;
 pub use seeking::{SeekFault, locate_stream};
-pub use settings::{Question, Settings, Sought};
+pub use settings::{Question, Settings, Sought, Whole};
 pub use sink::{Sink, StdSink};
 pub use source::{Source, StdSource};
 pub use writing::{Cut, write_answer, write_text};

@@ -38,3 +38,12 @@ pub struct Sought {
     /// The place of the event in its section, from 1.
     pub event: u32,
 }
+
+/// What `explain --all` is told by its words.
+#[derive(Clone, Copy, Debug, PartialEq, Eq)]
+pub struct Whole {
+    /// The run in the name of each section.
+    pub run: u64,
+    /// By which rule order assertions judge two bytes of one line.
+    pub profile: Profile,
+}

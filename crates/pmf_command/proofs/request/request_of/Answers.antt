@@ -10,7 +10,7 @@ pub returns : goal.returns
 returns c =
     let made = c.in_ok-program.ensures in
     let words = map string_bytes c.args.words.now in
-    let named = (c.in_ok-matches.ensures.matches (ap is_simple made.2.app ∙ is_simple-words made.0 made.1)).1 in
+    let named = (c.in_ok-matches.ensures.matches (ap is_simple made.2.app ∙ is_simple-words c.names_all-all.result made.0 made.1)).1 in
     IfOk-weaker c.request_by.result _ _ (λ request follows. (
       made.0,
       made.1,
