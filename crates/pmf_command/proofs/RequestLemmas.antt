@@ -1,7 +1,8 @@
 -- What the matches of a command say of its options, and what the parts of a command have to do with its words.
-use Rattle.std.proofs.Common.{◌≡◌, ℕ, ◌<◌, ◌^◌, Bool, List, refl, sym, ◌∙◌, ap, Option, Some, None, Result, Ok, Err, option_map, map, codes, true, false, Bor}
+use Rattle.std.proofs.Common.{◌≡◌, ℕ, ◌<◌, ◌^◌, Bool, List, [], ◌∷◌, ◌||◌, refl, sym, ◌∙◌, ap, Option, Some, None, Result, Ok, Err, option_map, map, codes, true, false, Bor}
 use Rattle.std.specs.Prelude.{unwrap_or}
 use Rattle.std.specs.declared.num.ParseIntError.{ParseIntError}
+use Rattle.std.specs.List.{list_any}
 use Rattle.std.specs.Fmt.{decimal}
 use Rattle.std.specs.Str.Parse.{ParsesUnsigned, ExplainsUnsignedError, HasUnsignedDigitsIfOk}
 use Rattle.std.proofs.lemmas.Fmt.{parse-decimal}
@@ -64,6 +65,10 @@ texts-named None d ts is = let bad : None ≡ Some ts = is in cc
 texts-named (Some s) d ts is = let same : Some (map (λ v. v.now) s.now) ≡ Some ts = is in cc
 
 -- ---- the words of the program
+
+pub any-map : {X : Type 0} (f : X → Text) (p : Text → Bool) (xs : List X) → list_any (λ x. p (f x)) xs ≡ list_any p (map f xs)
+any-map f p [] = refl
+any-map f p (x ∷ xs) = ap (λ b. p (f x) || b) (any-map f p xs)
 
 pub is_simple-words : (all : Bool) (p q : ValueParser) → is_simple (pmfarm_words all p q) ≡ true
 unfolding clap_on_literals

@@ -192,8 +192,8 @@ pub record IsRequestBy (all : Bool) (command : Text) (rows : List Row) (asked : 
   pub sim : command ≡ codes "sim" → IsSimBy rows asked
 
 -- whether one of the words is `--all`
-unfoldable pub names_all : List Text → Bool
-names_all words = list_any (bytes_eq (codes "--all")) words
+abbrev pub names_all : List Text → Bool
+names_all words = list_any (λ word. bytes_eq word (codes "--all")) words
 
 -- the request is what these words ask for, the first of which names the program
 abbrev pub IsRequestOf : List Text → Request → Type 0

@@ -1,11 +1,13 @@
 //! What the words of the command line ask for.
 
 ghost use Rattle.std.specs.Prelude.{◌≡◌, List, false, true, Some, codes, map, option_map, IfOk};
+ghost use Rattle.std.specs.List.{list_any};
+ghost use Rattle.std.specs.Str.{bytes_eq};
 ghost use Rattle.std.specs.String.{string_bytes};
 ghost use Rattle.clap.specs.Words.{Row, Text, found_of, rows_of, rule_of, subcommand_rows_of};
 ghost use Rattle.clap.specs.declared.builder.value_parser.ValueParser.{ValueParser};
 ghost use Rattle.pmf_event.specs.declared.profile.Profile.{Profile};
-ghost use Rattle.pmf_command.specs.Words.{IsCheckOf, IsExplainAllOf, IsExplainBy, IsExplainOf, IsJoinOf, IsLocateOf, IsRequestBy, IsRequestOf, IsSimOf, HasWords, asked, asked_number, check_words, explain_words, file_words, flag, join_words, large_number, locate_words, names_all, pmfarm_words, profile_option, program_words, run_option, sim_words, small_number};
+ghost use Rattle.pmf_command.specs.Words.{IsCheckOf, IsExplainAllOf, IsExplainBy, IsExplainOf, IsJoinOf, IsLocateOf, IsRequestBy, IsRequestOf, IsSimOf, HasWords, asked, asked_number, check_words, explain_words, file_words, flag, join_words, large_number, locate_words, pmfarm_words, profile_option, program_words, run_option, sim_words, small_number};
 
 use clap::{Arg, ArgAction, ArgMatches, Command, Error, value_parser};
 use pmf_event::Profile;
@@ -114,7 +116,7 @@ pub fn request_of<'a>(alloc: Global, words: &'a [String]) -> Result<Request<'a>,
 
 // Whether one of the words is `--all`.
 fn names_all(words: &[String]) -> bool
-    ensures { result ≡ names_all (map string_bytes words.now) }
+    ensures { result ≡ list_any (λ word. bytes_eq (string_bytes word) (codes "--all")) words.now }
 {
     for word in words {
         if word.as_str() == "--all" {
