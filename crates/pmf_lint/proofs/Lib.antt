@@ -4,3 +4,4 @@ pub mod NumberFoundLemmas
 pub mod LocationLemmas
 pub mod GivingLemmas
 pub mod SolidLemmas
+pub mod NamingLemmas

@@ -5,3 +5,4 @@ pub mod Walking
 pub mod Passing
 pub mod Locating
 pub mod Laws
+pub mod Naming

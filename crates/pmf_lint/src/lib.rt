@@ -7,10 +7,14 @@
 #![tactic(auto)]
 
 pub mod laws;
+mod listing;
 mod locating;
+mod naming;
 mod passing;
+mod rolling;
 #[cfg(test)]
 mod tests;
 mod walking;
 
+pub use naming::{LISTED, Named};
 pub use locating::{LocateFault, Located, locate_event, locate_text};
