@@ -5,3 +5,5 @@ pub mod LocationLemmas
 pub mod GivingLemmas
 pub mod SolidLemmas
 pub mod NamingLemmas
+pub mod InsideLemmas
+pub mod CoverLemmas

@@ -1,5 +1,5 @@
 -- Which stores of a section no later assertion covers. Defined here.
-use Rattle.std.specs.Prelude.{ℕ, suc, Bool, true, false, not, ◌&&◌, ◌||◌, is_some, List, Option, Some, None, length}
+use Rattle.std.specs.Prelude.{◌≡◌, ℕ, suc, Bool, true, false, not, ◌&&◌, ◌||◌, is_some, ◌<◌, List, Option, Some, None, length, slice_index_or}
 use Rattle.pmf_event.specs.declared.event.Event.{Event}
 use Rattle.pmf_event.specs.declared.event.Event.TheVariants.{Store, Persist, Ordered, CheckEnd}
 use Rattle.pmf_event.specs.Span.{Extent, covers_byte}
@@ -7,6 +7,8 @@ use Rattle.pmf_event.specs.Places.{count, some_between}
 use Rattle.pmf_event.specs.Ranges.{first_byte}
 use Rattle.pmf_event.specs.Store.{event_at, at}
 use Rattle.pmf_event.specs.Transactions.{closes_scope, in_scope, in_transaction}
+use Rattle.pmf_runs.specs.Runs.{state_at}
+use Rattle.pmf_lint.specs.declared.covering.Later.{Later}
 
 -- whether the event is an assertion of persistence or of an order that names the byte
 unfoldable pub names : ℕ → Event → Bool
@@ -43,3 +45,23 @@ is_uncovered es p = lacks_cover es p (event_at es p)
 -- how many stores of a section no later assertion covers
 unfoldable pub uncovered_of : List Event → ℕ
 uncovered_of es = count (is_uncovered es) (length es)
+
+-- the span of a store
+abbrev pub stored_by : Event → Option Extent
+stored_by (Store s) = Some s
+stored_by _ = None
+
+-- whether there is a span, and the byte is one of it
+abbrev pub is_in : Option Extent → ℕ → Bool
+is_in None b = false
+is_in (Some s) b = covers_byte s b
+
+-- what is kept of the events after place p: the bytes that their assertions name, and whether a CHECKEND is among them
+pub record StandsAfter (later : Later) (es : List Event) (p : ℕ) : Type 0 where
+  pub named : (b : ℕ) → state_at later.named b ≡ is_named_after es p b
+  pub closed : later.closed ≡ is_closed_after es p
+
+-- the list says of each place whether it stands in a transaction and a scope
+pub record AreInside (es : List Event) (inside : List Bool) : Type 0 where
+  pub long : length inside ≡ length es
+  pub each : (k : ℕ) (d : Bool) → k < length es → slice_index_or inside k d ≡ is_inside es (suc k)

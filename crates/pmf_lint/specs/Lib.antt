@@ -6,3 +6,4 @@ pub mod Passing
 pub mod Locating
 pub mod Laws
 pub mod Naming
+pub mod Covering

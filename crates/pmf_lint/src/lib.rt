@@ -6,12 +6,15 @@
 //! Not promised here: that memory suffices, or that a log is what the program did.
 #![tactic(auto)]
 
+mod covering;
+mod inside;
 pub mod laws;
 mod listing;
 mod locating;
 mod naming;
 mod passing;
 mod rolling;
+mod sets;
 #[cfg(test)]
 mod tests;
 mod walking;
