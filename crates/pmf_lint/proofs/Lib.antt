@@ -7,3 +7,5 @@ pub mod SolidLemmas
 pub mod NamingLemmas
 pub mod InsideLemmas
 pub mod CoverLemmas
+pub mod TallySumLemmas
+pub mod LintLemmas

@@ -24,7 +24,7 @@ LacksNumber-more value xs number i x within is apart before = λ t found same.
       | inr last ↦ apart (ap (λ (t : Trace). t.name.number) last ∙ same)
     ]
 
-by_fault : (fault : Option LogFault) (value log : LogValue) → value_unless fault value ≡ Ok log → (fault ≡ None) × (log ≡ value)
+pub by_fault : (fault : Option LogFault) (value log : LogValue) → value_unless fault value ≡ Ok log → (fault ≡ None) × (log ≡ value)
 by_fault None value log is = (refl, cc)
 by_fault (Some fault) value log is = cc
 

@@ -7,3 +7,5 @@ pub mod Locating
 pub mod Laws
 pub mod Naming
 pub mod Covering
+pub mod Summing
+pub mod Linting

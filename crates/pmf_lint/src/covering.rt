@@ -91,7 +91,7 @@ fn put_in(set: &mut RunMap<bool>, span: Option<Span>) -> Result<(), AllocError>
     }
 }
 
-fn one_if(holds: bool) -> u64
+pub(crate) fn one_if(holds: bool) -> u64
     ensures { result ≡ (if holds then 1 else 0) }
 {
     if holds { 1 } else { 0 }

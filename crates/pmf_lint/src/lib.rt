@@ -9,15 +9,23 @@
 mod covering;
 mod inside;
 pub mod laws;
+mod linting;
 mod listing;
 mod locating;
 mod naming;
+mod nearness;
 mod passing;
 mod rolling;
 mod sets;
+mod summing;
+mod telling;
 #[cfg(test)]
 mod tests;
 mod walking;
 
+pub use linting::{Lint, LintFault, lint_log};
 pub use naming::{LISTED, Named};
 pub use locating::{LocateFault, Located, locate_event, locate_text};
+pub use nearness::{is_text, near};
+pub use summing::Sums;
+pub use telling::lint_text;
