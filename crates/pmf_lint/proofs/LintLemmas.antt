@@ -1,5 +1,5 @@
 -- What is told of a log that was read.
-use Rattle.std.proofs.Common.{◌≡◌, ℕ, ◌+◌, List, [], ◌∷◌, ◌++◌, Ok, length, take, map, refl, sym, ap, subst, ◌∙◌, arith}
+use Rattle.std.proofs.Common.{◌≡◌, ℕ, List, [], ◌∷◌, ◌++◌, Ok, length, take, sym, ap, subst}
 use Rattle.std.proofs.lemmas.List.{length-map}
 use Rattle.pmf_storelog.specs.Separators.{records_of}
 use Rattle.pmf_storelog.specs.LogValue.{LogValue}

@@ -1,6 +1,6 @@
 -- Counts over lists, and the sums of sections, with one more.
-use Rattle.std.proofs.Common.{◌≡◌, ℕ, ◌+◌, ◌*◌, ◌-◌, ◌^◌, ◌<◌, ◌≤◌, Bool, cond, List, [], ◌∷◌, ◌++◌, length, take, get_or, map, refl, sym, ◌∙◌, ap, arith}
-use Rattle.std.specs.Prelude.{count_by, sum_by}
+use Rattle.std.proofs.Common.{◌≡◌, ℕ, ◌+◌, ◌*◌, ◌^◌, ◌<◌, ◌≤◌, Bool, cond, List, [], ◌∷◌, ◌++◌, length, take, get_or, map, refl, sym, ◌∙◌, ap, arith}
+use Rattle.std.specs.Prelude.{count_by}
 use Rattle.std.proofs.lemmas.List.{take_more, map-append}
 use Rattle.std.proofs.lemmas.List.Sums.{sum_by-append}
 use Rattle.pmf_event.specs.Section.{Trace}
@@ -20,8 +20,13 @@ count_more p xs i x n one b within is passes once so_far =
 sums_of-push : (ts : List Trace) (t : Trace) → sums_of (ts ++ t ∷ []) ≡ both (sums_of ts) (sums_of (t ∷ []))
 unfolding sums_of
 sums_of-push ts t =
-    rw (sum_by-append (λ (t : Trace). length t.events) ts (t ∷ []), sum_by-append (λ (t : Trace). count_by (λ e. asserts e) t.events) ts (t ∷ []), sum_by-append (λ (t : Trace). empty_of t) ts (t ∷ []),
-    sum_by-append (λ (t : Trace). count_by (λ e. is_store e) t.events) ts (t ∷ []), sum_by-append (λ (t : Trace). uncovered_of t.events) ts (t ∷ [])) refl
+    rw (
+      sum_by-append (λ (t : Trace). length t.events) ts (t ∷ []),
+      sum_by-append (λ (t : Trace). count_by (λ e. asserts e) t.events) ts (t ∷ []),
+      sum_by-append (λ (t : Trace). empty_of t) ts (t ∷ []),
+      sum_by-append (λ (t : Trace). count_by (λ e. is_store e) t.events) ts (t ∷ []),
+      sum_by-append (λ (t : Trace). uncovered_of t.events) ts (t ∷ []),
+    ) refl
 
 pub sums_more : {A : Type 0} (value : A → Trace) (xs : List A) (i : ℕ) (x : A) → i < length xs → x ≡ get_or xs i x →
     sums_of (map value (take (i + 1) xs)) ≡ both (sums_of (map value (take i xs))) (sums_of (value x ∷ []))

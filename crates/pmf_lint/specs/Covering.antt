@@ -1,7 +1,7 @@
 -- Which stores of a section no later assertion covers. Defined here.
-use Rattle.std.specs.Prelude.{◌≡◌, ℕ, suc, Bool, true, false, not, ◌&&◌, ◌||◌, is_some, ◌<◌, List, Option, Some, None, length, slice_index_or}
+use Rattle.std.specs.Prelude.{◌≡◌, ℕ, suc, Bool, false, not, ◌&&◌, ◌||◌, is_some, ◌<◌, List, Option, Some, None, length, slice_index_or}
 use Rattle.pmf_event.specs.declared.event.Event.{Event}
-use Rattle.pmf_event.specs.declared.event.Event.TheVariants.{Store, Persist, Ordered, CheckEnd}
+use Rattle.pmf_event.specs.declared.event.Event.TheVariants.{Store, Persist, Ordered}
 use Rattle.pmf_event.specs.Span.{Extent, covers_byte}
 use Rattle.pmf_event.specs.Places.{count, some_between}
 use Rattle.pmf_event.specs.Ranges.{first_byte}

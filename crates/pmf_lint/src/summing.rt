@@ -139,7 +139,10 @@ fn is_empty(row: &Row) -> bool
 fn asserts(event: &Event) -> bool
     ensures { result ≡ asserts event.now }
 {
-    matches!(event, Event::Persist(_) | Event::Ordered(_, _) | Event::CheckEnd)
+    matches!(
+        event,
+        Event::Persist(_) | Event::Ordered(_, _) | Event::CheckEnd
+    )
 }
 
 #[tactic(auto, unfolding(crate::specs::Summing::is_store))]

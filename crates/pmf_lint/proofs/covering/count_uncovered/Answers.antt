@@ -1,4 +1,4 @@
-use Rattle.std.proofs.Common.{◌≡◌, ◌+◌, ◌-◌, ◌<◌, ◌≤◌, ℕ, suc, cond, length, sym, ◌∙◌, ap, subst, arith}
+use Rattle.std.proofs.Common.{◌≡◌, ◌+◌, ◌-◌, ◌<◌, suc, length, ◌∙◌, ap, subst, arith}
 use Rattle.pmf_event.specs.Places.{count}
 use Rattle.pmf_lint.specs.Covering.{is_inside, is_uncovered, StandsAfter}
 use Rattle.pmf_lint.proofs.CoverLemmas.{counted_all, counted_more, few_more}

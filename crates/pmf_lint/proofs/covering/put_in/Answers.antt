@@ -1,4 +1,4 @@
-use Rattle.std.proofs.Common.{◌≡◌, ◌||◌, ◌∙◌, ap, sym, ℕ}
+use Rattle.std.proofs.Common.{◌||◌, ◌∙◌, ap, sym}
 use Rattle.pmf_runs.specs.Runs.{state_at}
 use Rattle.pmf_lint.specs.Covering.{is_in}
 use Rattle.pmf_lint.proofs.CoverLemmas.{put_there}

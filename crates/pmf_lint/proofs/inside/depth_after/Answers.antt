@@ -1,4 +1,4 @@
-use Rattle.std.proofs.Common.{◌∙◌, sym, arith}
+use Rattle.std.proofs.Common.{◌∙◌, sym}
 use Rattle.pmf_lint.proofs.InsideLemmas.{depth_begun, depth_ended, depth_kept}
 use Rattle.pmf_lint.proofs.inside.depth_after.Goals as goal
 

@@ -1,4 +1,4 @@
-use Rattle.std.proofs.Common.{◌≡◌, ◌+◌, ◌≤◌, ℕ, List, [], length, length-append, take, sym, ap, subst, ◌∙◌, arith, ◌∷◌, ◌++◌}
+use Rattle.std.proofs.Common.{[], length-append, take, sym, subst, arith, ◌∷◌}
 use Rattle.pmf_storelog.specs.Separators.{records_of}
 use Rattle.pmf_lint.specs.Naming.{Tallies}
 use Rattle.pmf_lint.proofs.CursorLemmas.{anew_first, records_of-nil}

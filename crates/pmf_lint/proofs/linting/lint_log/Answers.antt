@@ -1,4 +1,4 @@
-use Rattle.std.proofs.Common.{◌≡◌, ◌∙◌, length, map, sym, ap, subst, List}
+use Rattle.std.proofs.Common.{◌∙◌, length, sym, ap, subst, List}
 use Rattle.std.proofs.lemmas.List.{length-map}
 use Rattle.pmf_event.specs.Section.{Trace}
 use Rattle.pmf_storelog.specs.Separators.{records_of}

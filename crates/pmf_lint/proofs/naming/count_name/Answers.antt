@@ -1,5 +1,4 @@
-use Rattle.std.proofs.Common.{◌≡◌, ◌<◌, ◌++◌, ◌∙◌, ap, slice_set, length, map, take, drop, arith, sym}
-use Rattle.std.proofs.lemmas.List.{length-append, length-map, take-append-drop}
+use Rattle.std.proofs.Common.{◌∙◌, ap, slice_set, arith}
 use Rattle.std.proofs.lemmas.List.Edits.{map_over_more}
 use Rattle.pmf_lint.specs.Naming.{counting}
 use Rattle.pmf_lint.proofs.naming.count_name.Goals as goal

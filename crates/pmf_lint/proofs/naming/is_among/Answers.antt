@@ -1,5 +1,4 @@
-use Rattle.std.proofs.Common.{◌≡◌, true, sym, ◌∙◌, ap}
-use Rattle.std.specs.Str.{bytes_eq}
+use Rattle.std.proofs.Common.{sym, ◌∙◌}
 use Rattle.pmf_lint.proofs.NamingLemmas.{among_at}
 use Rattle.pmf_lint.proofs.naming.is_among.Goals as goal
 

@@ -1,4 +1,4 @@
-use Rattle.std.proofs.Common.{◌≡◌, refl, arith}
+use Rattle.std.proofs.Common.{refl, arith}
 use Rattle.pmf_lint.proofs.NamingLemmas.{Count-none, known_more_names}
 use Rattle.pmf_lint.proofs.naming.known_counts.Goals as goal
 

@@ -1,4 +1,4 @@
-use Rattle.std.proofs.Common.{◌≡◌, ◌∙◌, ◌+◌, ◌*◌, ◌^◌, sym, ap, subst, arith}
+use Rattle.std.proofs.Common.{◌∙◌, ◌+◌, ◌*◌, ◌^◌, sym, ap, subst}
 use Rattle.pmf_lint.specs.Summing.{IsWithin, both}
 use Rattle.pmf_lint.proofs.TallySumLemmas.{none_within, sums_more, within_both}
 use Rattle.pmf_lint.proofs.summing.sum.Goals as goal

@@ -1,5 +1,4 @@
-use Rattle.std.proofs.Common.{◌≡◌, ◌<◌, ◌≤◌, length, sym, ap, subst, ◌∙◌, refl, arith, false, List, ℕ}
-use Rattle.std.specs.List.{All}
+use Rattle.std.proofs.Common.{sym, ap, ◌∙◌, refl, arith, List}
 use Rattle.pmf_lint.specs.declared.naming.Named.{Named}
 use Rattle.pmf_lint.specs.Naming.{is_among, names_in}
 use Rattle.pmf_lint.proofs.NamingLemmas.{lists_again, lists_new, lists_other, others_few, small_counts}

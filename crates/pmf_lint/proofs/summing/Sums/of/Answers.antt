@@ -1,4 +1,4 @@
-use Rattle.std.proofs.Common.{◌≡◌, ◌∙◌, sym, ap, length, arith}
+use Rattle.std.proofs.Common.{◌∙◌, ap, length}
 use Rattle.std.specs.Prelude.{count_by}
 use Rattle.pmf_event.specs.Section.{Trace}
 use Rattle.pmf_lint.specs.Covering.{uncovered_of}
