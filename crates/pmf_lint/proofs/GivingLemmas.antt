@@ -1,6 +1,6 @@
 -- The events of a section before and behind the record that gave one.
-use Rattle.std.proofs.Common.{◌≡◌, ℕ, ◌+◌, ◌-◌, ◌<◌, ◌≤◌, List, [], ◌∷◌, ◌++◌, Some, length, length-append, take, drop, get_or, map, refl, sym, ap, subst, ◌∙◌, arith, append_assoc, inl, inr}
-use Rattle.std.specs.Prelude.{slice_get, ◌==◌}
+use Rattle.std.proofs.Common.{◌≡◌, ℕ, ◌+◌, ◌-◌, ◌<◌, List, [], ◌∷◌, ◌++◌, Some, length, length-append, take, drop, get_or, refl, sym, ap, ◌∙◌, arith, append_assoc, inl, inr}
+use Rattle.std.specs.Prelude.{slice_get}
 use Rattle.std.proofs.lemmas.Bool.{eq-eqb, cases_lt}
 use Rattle.std.proofs.lemmas.List.{append-nil, take_more, take-take, take-append-drop, length-take-le}
 use Rattle.pmf_event.specs.declared.event.Event.{Event}
@@ -15,8 +15,7 @@ pub events_in-more : (xs ys : List (List ℕ)) (number : ℕ) → (more : List E
 events_in-more xs [] number = ([], ap (λ (zs : List (List ℕ)). events_in zs number) (append-nil xs) ∙ sym (append-nil (events_in xs number)))
 events_in-more xs (y ∷ ys) number =
     let rest = events_in-more (xs ++ y ∷ []) ys number in
-    let here = in_section number (numbered (current_of xs) (record_of y)) in
-    (
+    let here = in_section number (numbered (current_of xs) (record_of y)) in (
       here ++ rest.0,
       ap (λ (zs : List (List ℕ)). events_in zs number) (sym (append_assoc xs (y ∷ []) ys)) ∙ rest.1
           ∙ ap (λ (es : List Event). es ++ rest.0) (events_in-push xs y number) ∙ append_assoc (events_in xs number) (in_section number (numbered (current_of xs) (record_of y))) rest.0,

@@ -4,3 +4,8 @@ pub mod NumberFoundLemmas
 pub mod LocationLemmas
 pub mod GivingLemmas
 pub mod SolidLemmas
+pub mod NamingLemmas
+pub mod InsideLemmas
+pub mod CoverLemmas
+pub mod TallySumLemmas
+pub mod LintLemmas

@@ -1,14 +1,14 @@
 -- The record that a walk has come to, as the one that gave an event.
-use Rattle.std.proofs.Common.{◌≡◌, ℕ, zero, suc, ◌+◌, ◌<◌, ◌≤◌, List, [], ◌∷◌, ◌++◌, Some, length, length-append, take, drop, refl, sym, ap, subst, ◌∙◌, arith, append_assoc}
+use Rattle.std.proofs.Common.{◌≡◌, ℕ, ◌+◌, List, [], ◌∷◌, ◌++◌, Some, length, length-append, take, drop, refl, sym, ap, subst, ◌∙◌, arith, append_assoc}
 use Rattle.std.specs.Prelude.{slice_get}
 use Rattle.std.proofs.lemmas.List.{take_at}
 use Rattle.pmf_storelog.specs.Separators.{records_of}
 use Rattle.pmf_storelog.specs.Records.{record_of}
 use Rattle.pmf_storelog.specs.LogText.{current_at, current_of, events_in, numbered, reading_at}
 use Rattle.pmf_storelog.proofs.LogLemmas.{current_at-append, reading_at-append, reading_at-last}
-use Rattle.pmf_lint.specs.Walking.{BeginsAnew, IsNext}
+use Rattle.pmf_lint.specs.Walking.{IsNext}
 use Rattle.pmf_lint.specs.Passing.{GivesNext, HasPassed}
-use Rattle.pmf_lint.specs.Locating.{Gives, StandsAt, IsLocation}
+use Rattle.pmf_lint.specs.Locating.{Gives, IsLocation}
 use Rattle.pmf_lint.specs.declared.passing.Passed.{Passed}
 use Rattle.pmf_lint.proofs.CursorLemmas.{anew_all}
 
@@ -58,7 +58,7 @@ module _ (bytes : List ℕ) (start offset : ℕ) (text : List ℕ) (next : ℕ) 
     stands = record {
       is = subst (λ (records : List (List ℕ)). slice_get records (length (records_of (take start bytes))) ≡ Some text) all_records
           (ap (λ (records : List (List ℕ)). slice_get records (length (records_of (take start bytes)))) (whole (records_of (take start bytes)) (records_of (drop next bytes)) text)
-              ∙ slice_get-at (records_of (take start bytes)) text (records_of (drop next bytes)));
+          ∙ slice_get-at (records_of (take start bytes)) text (records_of (drop next bytes)));
       before = found.before ∙ subst (λ (records : List (List ℕ)). records_of (take start bytes) ≡ take (length (records_of (take start bytes))) records) all_records
           (sym (take_before (records_of (take start bytes)) (records_of (drop next bytes)) text));
       here = found.here;

@@ -1,5 +1,5 @@
 -- The section of a number, among those of a log.
-use Rattle.std.proofs.Common.{◌≡◌, ℕ, ◌+◌, ◌<◌, List, [], ◌∷◌, ◌++◌, Ok, Err, Some, None, Option, Result, map, length, take, get_or, sym, ◌∙◌, ap, subst, inl, inr, refl}
+use Rattle.std.proofs.Common.{◌≡◌, ℕ, ◌+◌, ◌<◌, List, [], ◌∷◌, ◌++◌, Ok, Some, None, Option, map, length, take, get_or, sym, ◌∙◌, ap, subst, inl, inr, refl}
 use Rattle.std.specs.Prelude.{Contains}
 use Rattle.std.proofs.lemmas.List.{take_more, map-append, get_or-map, length-map}
 use Rattle.std.proofs.lemmas.List.Elements.{Contains-push_cases, Contains-get_or}
@@ -24,7 +24,7 @@ LacksNumber-more value xs number i x within is apart before = λ t found same.
       | inr last ↦ apart (ap (λ (t : Trace). t.name.number) last ∙ same)
     ]
 
-by_fault : (fault : Option LogFault) (value log : LogValue) → value_unless fault value ≡ Ok log → (fault ≡ None) × (log ≡ value)
+pub by_fault : (fault : Option LogFault) (value log : LogValue) → value_unless fault value ≡ Ok log → (fault ≡ None) × (log ≡ value)
 by_fault None value log is = (refl, cc)
 by_fault (Some fault) value log is = cc
 

@@ -1,11 +1,11 @@
 -- The bytes of a log that are neither separators nor blanks all stand in its records, so that a record begins at one offset.
-use Rattle.std.proofs.Common.{◌≡◌, ℕ, zero, suc, ◌+◌, ◌-◌, ◌<◌, ◌≤◌, Bool, true, false, cond, List, [], ◌∷◌, ◌++◌, Some, length, length-append, take, drop, get_or, map, reverse, All, refl, sym, ap, subst, ◌∙◌, arith, inl, inr}
+use Rattle.std.proofs.Common.{◌≡◌, ℕ, zero, suc, ◌+◌, ◌-◌, ◌<◌, Bool, true, false, cond, List, [], ◌∷◌, ◌++◌, Some, length, take, drop, get_or, map, reverse, All, refl, sym, ap, subst, ◌∙◌, arith, inl, inr}
 use Rattle.std.specs.Prelude.{not, ◌||◌, slice_get}
-use Rattle.std.specs.List.{count_by, sum_by, filter, prefix_len, suffix_len, slice_split, onto_first, AllByRecursion}
-use Rattle.std.proofs.lemmas.Bool.{cases_lt, false≢true, lt-ltb}
-use Rattle.std.proofs.lemmas.List.{get_or-reverse, get_or-drop, get_or-take, length-take-le, length-drop, length-reverse, take-append-drop, take_at}
-use Rattle.std.proofs.lemmas.List.Elements.{All-from_get_or, All-contains}
-use Rattle.std.proofs.lemmas.List.Sums.{prefix_len_passes, prefix_len_stops, prefix_len-le-length, suffix_len-le-length, sum_by-append, sum_by-take-drop}
+use Rattle.std.specs.List.{filter, prefix_len, suffix_len, slice_split, onto_first, AllByRecursion}
+use Rattle.std.proofs.lemmas.Bool.{cases_lt, lt-ltb}
+use Rattle.std.proofs.lemmas.List.{get_or-reverse, get_or-drop, get_or-take, length-take-le, length-drop, take-append-drop}
+use Rattle.std.proofs.lemmas.List.Elements.{All-from_get_or}
+use Rattle.std.proofs.lemmas.List.Sums.{prefix_len_passes, prefix_len-le-length, suffix_len-le-length}
 use Rattle.std.proofs.Math.Seq.{take-add}
 use Rattle.pmf_storelog.specs.Separators.{is_separator, is_blank, is_filled, trimmed, without_front_blanks, without_end_blanks, records_in, parts_of, records_of}
 use Rattle.pmf_lint.specs.Locating.{StandsAt}

@@ -5,3 +5,7 @@ pub mod Walking
 pub mod Passing
 pub mod Locating
 pub mod Laws
+pub mod Naming
+pub mod Covering
+pub mod Summing
+pub mod Linting

@@ -1,3 +1,4 @@
 //! Where events of logs stand.
 
+mod linting;
 mod locating;

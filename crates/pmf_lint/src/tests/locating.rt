@@ -7,7 +7,8 @@ use std::test::Fail;
 
 // Two sections that take turns, blanks, empty records, CR LF, skipped records, and a stack behind the last
 // field that is read. Before a marker section 0 is current.
-const TURNS: &[u8] = b"FENCE||START\r\n  STORE;0x10;0;8;main;x.c:7 \t|PMT.SECTION;3| \t |PMT.CHECKSTART
+const TURNS: &[u8] =
+    b"FENCE||START\r\n  STORE;0x10;0;8;main;x.c:7 \t|PMT.SECTION;3| \t |PMT.CHECKSTART
 \tPMT.SECTION;0|FENCE |PMT.SECTION;3|STOER|FLUSH;0x10;8";
 
 // The number of the record, where it begins, and its text.
@@ -38,7 +39,10 @@ fn an_event_stands_where_its_record_does(rt: HostRuntime) {
         (2, 0, no_section),
     ];
     for (section, event, want) in cases {
-        assert!(rt; place_of(rt.alloc(), TURNS, section, event) == want, "at {section} {event}");
+        assert!(rt;
+            place_of(rt.alloc(), TURNS, section, event) == want,
+            "at {section} {event}"
+        );
     }
 }
 
@@ -59,6 +63,9 @@ fn the_text_is_a_line_of_numbers_and_the_record(rt: HostRuntime) -> Result<(), F
     let text = locate_text(rt.alloc(), TURNS, 5, 0, 2)?;
     let want = b"record=3 offset=16 length=25\nSTORE;0x10;0;8;main;x.c:7\n";
     assert!(rt; text.as_slice() == want.as_slice());
-    assert_eq!(rt; locate_text(rt.alloc(), TURNS, 5, 1, 2).err(), Some(LocateFault::NoSection));
+    assert_eq!(rt;
+        locate_text(rt.alloc(), TURNS, 5, 1, 2).err(),
+        Some(LocateFault::NoSection)
+    );
     Ok(())
 }

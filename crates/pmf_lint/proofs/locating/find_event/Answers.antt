@@ -1,5 +1,4 @@
-use Rattle.std.proofs.Common.{◌≡◌, ◌+◌, ◌<◌, ◌≤◌, length, take, ℕ, List, [], sym, ap, subst, ◌∙◌, arith}
-use Rattle.pmf_storelog.specs.Separators.{records_of}
+use Rattle.std.proofs.Common.{ℕ, List, sym, subst, arith}
 use Rattle.pmf_lint.specs.Passing.{HasPassed}
 use Rattle.pmf_lint.proofs.CursorLemmas.{anew_first, records_of-nil}
 use Rattle.pmf_lint.proofs.LocationLemmas.{located}

@@ -1,9 +1,7 @@
-use Rattle.std.proofs.Common.{◌≡◌, ◌+◌, ◌<◌, ◌≤◌, length, take, ℕ, List, [], sym, ap, subst, ◌∙◌, arith}
-use Rattle.pmf_storelog.specs.Separators.{records_of}
+use Rattle.std.proofs.Common.{◌≤◌, length, ℕ, sym, ap, subst, ◌∙◌, arith}
 use Rattle.std.proofs.lemmas.Bool.{false≢true}
 use Rattle.pmf_event.specs.Section.{Trace}
 use Rattle.pmf_lint.specs.Locating.{IsLocation}
-use Rattle.pmf_storelog.specs.LogText.{events_in}
 use Rattle.pmf_lint.proofs.NumberFoundLemmas.{read_so, lacks_section, found_section}
 use Rattle.pmf_lint.proofs.locating.locate_event.Goals as goal
 
@@ -15,12 +13,15 @@ returns-in-None-clause-answer c =
 pub returns-then-not-has_event-clause-answer : goal.returns-then-not-has_event-clause-answer
 returns-then-not-has_event-clause-answer c =
     let so = read_so c.args.run c.args.log.now c.in-Ok.read c.in-Ok.ensures in
-    let has = found_section c.args.run c.args.log.now _ c.args.section (c.sections.ensures ∙ so.1) c.in-Some.found.now.value c.in-Some.ensures.0 c.in-Some.ensures.1 in
-    (so.0, has.0, λ event.
-    let long : c.args.event ≤ length c.deref.result.now.events = omega (arith, event.1, ap (λ (t : Trace). length t.events) c.deref.ensures, ap length has.1) in
-    let yes = c.has_event.ensures.1 (event.0, long) in
-    let no_event = c.if-not-has_event.true in
-    absurd (false≢true (sym no_event ∙ yes)))
+    let has = found_section c.args.run c.args.log.now _ c.args.section (c.sections.ensures ∙ so.1) c.in-Some.found.now.value c.in-Some.ensures.0 c.in-Some.ensures.1 in (
+      so.0,
+      has.0,
+      λ event.
+          let long : c.args.event ≤ length c.deref.result.now.events = omega (arith, event.1, ap (λ (t : Trace). length t.events) c.deref.ensures, ap length has.1) in
+          let yes = c.has_event.ensures.1 (event.0, long) in
+          let no_event = c.if-not-has_event.true in
+          absurd (false≢true (sym no_event ∙ yes)),
+    )
 
 pub unreachable-requires : goal.unreachable-requires
 unreachable-requires c =

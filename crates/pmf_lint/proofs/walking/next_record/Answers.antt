@@ -1,8 +1,6 @@
-use Rattle.std.proofs.Common.{◌≡◌, ◌+◌, ◌-◌, ◌<◌, ◌≤◌, length, take, drop, ℕ, List, sym, ap, subst, ◌∙◌, arith}
+use Rattle.std.proofs.Common.{◌≡◌, ◌<◌, length, ℕ, List, sym, ap, ◌∙◌, arith}
 use Rattle.std.proofs.lemmas.Grind.{common_steps}
-use Rattle.std.specs.List.{prefix_len}
-use Rattle.pmf_storelog.specs.Separators.{is_blank, trimmed}
-use Rattle.pmf_lint.specs.Walking.{IsNext}
+use Rattle.pmf_storelog.specs.Separators.{trimmed}
 use Rattle.pmf_lint.proofs.CursorLemmas.{few_blanks, next_blank, next_here, part_taken}
 use Rattle.pmf_lint.proofs.walking.next_record.Goals as goal
 

@@ -1,7 +1,4 @@
-use Rattle.std.proofs.Common.{◌≡◌, ◌+◌, ◌-◌, ◌<◌, length, drop, ◌∙◌, ap, sym, arith}
-use Rattle.std.proofs.lemmas.List.{length-drop, take_rest}
-use Rattle.pmf_storelog.specs.Separators.{parts_of}
-use Rattle.pmf_lint.proofs.CursorLemmas.{part_cut, part_last, part_of_rest, part_of_all}
+use Rattle.pmf_lint.proofs.CursorLemmas.{part_of_rest, part_of_all}
 use Rattle.pmf_lint.proofs.walking.part_from.Goals as goal
 
 pub returns-in-Some : goal.returns-in-Some
