@@ -19,6 +19,9 @@ use Rattle.pmf_stream.specs.declared.explaining.ExplainFault.{ExplainFault}
 use Rattle.pmf_stream.specs.declared.explaining.ExplainFault.TheVariants as explaining
 use Rattle.pmf_lint.specs.declared.locating.LocateFault.{LocateFault}
 use Rattle.pmf_lint.specs.declared.locating.LocateFault.TheVariants as locating
+use Rattle.pmf_lint.specs.declared.linting.LintFault.{LintFault}
+use Rattle.pmf_lint.specs.declared.linting.LintFault.TheVariants as linting
+use Rattle.pmf_stream.specs.declared.holding.Linted.{Linted}
 use Rattle.pmf_stream.specs.declared.seeking.SeekFault.{SeekFault}
 use Rattle.pmf_stream.specs.declared.failing.LogRefusal.{LogRefusal}
 use Rattle.pmf_stream.specs.declared.failing.LogRefusal.TheVariants as failing
@@ -111,6 +114,15 @@ status_of_seek_fault refusal = status_of_locate_fault refusal.fault
 abbrev pub status_of_log_refusal : LogRefusal → Status
 status_of_log_refusal (failing.Log fault) = status_of_log_fault fault
 status_of_log_refusal failing.OutOfMemory = NoMemory
+
+-- how the program ends where a log was looked through
+abbrev pub status_of_linted : Linted → Status
+status_of_linted told = if told.is_suspicious then SomeFail else NoFail
+
+-- how the program ends where a log is not looked through
+abbrev pub status_of_lint_fault : LintFault → Status
+status_of_lint_fault (linting.Log fault) = status_of_log_fault fault
+status_of_lint_fault linting.OutOfMemory = NoMemory
 
 -- how the program ends where ledgers are joined
 abbrev pub status_of_joined : Joined → Status

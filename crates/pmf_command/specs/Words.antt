@@ -85,6 +85,9 @@ file_words = record (new_rule (codes "file")) {
   required = true;
 }
 
+abbrev pub lint_words : App
+lint_words = new_app (codes "lint")
+
 abbrev pub join_words : App
 join_words = with_rule (with_rule (new_app (codes "join")) (flag (codes "ledger"))) file_words
 
@@ -93,7 +96,7 @@ sim_words =
     with_rule (with_rule (with_rule (new_app (codes "sim"))
     (asked (codes "log"))) (asked_number (codes "workers") small_number)) (asked_number (codes "ledgers") small_number)
 
--- the program with its five commands, and whether an explanation of all is asked for
+-- the program with its six commands, and whether an explanation of all is asked for
 abbrev pub program_words : App
 program_words = record (new_app (codes "pmfarm")) {
   top = record (new_shape (codes "pmfarm")) { has_version = true; subcommand_required = true };
@@ -101,8 +104,8 @@ program_words = record (new_app (codes "pmfarm")) {
 
 abbrev pub pmfarm_words : Bool → ValueParser → ValueParser → App
 pmfarm_words all p q =
-    with_subcommand (with_subcommand (with_subcommand (with_subcommand (with_subcommand program_words (check_words p).top)
-    (explain_words all q).top) locate_words.top) join_words.top) sim_words.top
+    with_subcommand (with_subcommand (with_subcommand (with_subcommand (with_subcommand (with_subcommand program_words (check_words p).top)
+    (explain_words all q).top) locate_words.top) lint_words.top) join_words.top) sim_words.top
 
 -- the command has these words, and no option that its subcommands share
 pub record HasWords (words : App) (c : Command) : Type 0 where
@@ -175,6 +178,10 @@ abbrev pub IsLocateBy : List Row → Request → Type 0
 IsLocateBy rows (request.Locate sought) = IsLocateOf rows sought
 IsLocateBy rows _ = ⊥
 
+abbrev pub IsLintBy : Request → Type 0
+IsLintBy request.Lint = Unit {0}
+IsLintBy _ = ⊥
+
 abbrev pub IsJoinBy : List Row → Request → Type 0
 IsJoinBy rows (request.Join files) = IsJoinOf rows files
 IsJoinBy rows _ = ⊥
@@ -188,6 +195,7 @@ pub record IsRequestBy (all : Bool) (command : Text) (rows : List Row) (asked : 
   pub check : command ≡ codes "check" → IsCheckBy rows asked
   pub explain : command ≡ codes "explain" → IsExplainBy all rows asked
   pub locate : command ≡ codes "locate" → IsLocateBy rows asked
+  pub lint : command ≡ codes "lint" → IsLintBy asked
   pub join : command ≡ codes "join" → IsJoinBy rows asked
   pub sim : command ≡ codes "sim" → IsSimBy rows asked
 

@@ -9,6 +9,7 @@ ghost use Rattle.pmf_stream.specs.Asking.{IsExplanationOf, IsRefusalOf};
 ghost use Rattle.pmf_stream.specs.Checking.{IsCheckFaultOf, IsReportOf};
 ghost use Rattle.pmf_stream.specs.Failing.{ExplainsAllOf, IsRefusalOfAllRead};
 ghost use Rattle.pmf_stream.specs.Failures.{CanCountOneMore};
+ghost use Rattle.pmf_stream.specs.Holding.{IsLintOf, IsLintRefusalOf};
 ghost use Rattle.pmf_stream.specs.Joining.{IsJoinedText, IsRefusalOfTexts};
 ghost use Rattle.pmf_stream.specs.Seeking.{IsLocationOf, IsSeekRefusalOf};
 ghost use Rattle.pmf_stream.specs.declared.asking.AskFault.{AskFault};
@@ -16,10 +17,12 @@ ghost use Rattle.pmf_stream.specs.declared.checking.CheckLogFault.{CheckLogFault
 ghost use Rattle.pmf_stream.specs.declared.checking.Done.{Done};
 ghost use Rattle.pmf_stream.specs.declared.failing.LogRefusal.{LogRefusal};
 ghost use Rattle.pmf_stream.specs.declared.fault.StreamFault.{StreamFault};
+ghost use Rattle.pmf_lint.specs.declared.linting.LintFault.{LintFault};
+ghost use Rattle.pmf_stream.specs.declared.holding.Linted.{Linted};
 ghost use Rattle.pmf_stream.specs.declared.joining.Joined.{Joined};
 ghost use Rattle.pmf_stream.specs.declared.joining.JoinTextFault.{JoinTextFault};
 ghost use Rattle.pmf_stream.specs.declared.seeking.SeekFault.{SeekFault};
-ghost use Rattle.pmf_command.specs.Statuses.{IsAnswerTo, status_of, status_of_asked, status_of_check_fault, status_of_done, status_of_joined, status_of_log_refusal, status_of_refusal, status_of_seek_fault, status_of_sim_fault, status_of_text_fault};
+ghost use Rattle.pmf_command.specs.Statuses.{IsAnswerTo, status_of, status_of_asked, status_of_check_fault, status_of_done, status_of_joined, status_of_lint_fault, status_of_linted, status_of_log_refusal, status_of_refusal, status_of_seek_fault, status_of_sim_fault, status_of_text_fault};
 
 use crate::diagnostics::{fail, fail_file, out_of_memory, refuse_words, print_skipped};
 use crate::ending::Ending;
@@ -31,8 +34,8 @@ use pmf_sim::{SCHEDULE_LIMIT, SimFault, sim_to};
 use pmf_storelog::LOG_LIMIT;
 use pmf_stream::{
     JoinTextFault, Joined, Question, Settings, Sink, Sought, Source, StdSink, StdSource,
-    StreamFault, Whole, check_stream, explain_all_stream, explain_stream, join_to, locate_stream,
-    read_all, write_text,
+    StreamFault, Whole, check_stream, explain_all_stream, explain_stream, join_to, lint_stream,
+    locate_stream, read_all, write_text,
 };
 use std::alloc::Global;
 use std::fmt::Display;
@@ -55,6 +58,7 @@ pub fn execute<T: Threads + Wait + Sync>(rt: &HostRuntime, threads: &T) -> Statu
         Ok(Request::Explain(question)) => explain_input(rt, question),
         Ok(Request::ExplainAll(whole)) => explain_all_input(rt, whole),
         Ok(Request::Locate(sought)) => locate_input(rt, sought),
+        Ok(Request::Lint) => lint_input(rt),
         Ok(Request::Join(files)) => join_files(rt, &files),
         Ok(Request::Sim(simulation)) => simulate(rt, &simulation),
         Err(error) => report_words(rt, alloc, &error),
@@ -203,6 +207,34 @@ fn locate_to<R: Eprint, S: Source, W: Sink>(
         (W.failed_calls sink.old) (W.failed_calls sink.new) sink.old sink.new answer }
 {
     let answer = locate_stream(alloc, source, sink, sought);
+    report_ending(rt, answer)
+}
+
+/// Reads the log on standard input and writes what it holds to standard output.
+fn lint_input(rt: &HostRuntime) -> Status {
+    let mut source = StdSource::new(rt.reader());
+    let mut sink = StdSink::new(io::writer(rt));
+    lint_to(rt, rt.alloc(), &mut source, &mut sink)
+}
+
+/// Reads the log of the source and writes what it holds to the sink.
+fn lint_to<R: Eprint, S: Source, W: Sink>(
+    rt: &R,
+    alloc: Global,
+    source: &mut S,
+    sink: &mut W,
+) -> Status
+    requires read { CanCountOneMore (S.failed_calls source.old) }
+    requires write { CanCountOneMore (W.failed_calls sink.old) }
+    ensures { (answer : Result Linted (StreamFault LintFault))
+        × (result ≡ status_of status_of_linted status_of_lint_fault answer)
+        × Answers (IsLintOf (S.left source.old) (S.left source.new))
+        (IsLintRefusalOf (S.left source.old) (S.left source.new))
+        (W.held sink.old) (W.held sink.new) answer
+        × TellsFaults (S.failed_calls source.old) (S.failed_calls source.new)
+        (W.failed_calls sink.old) (W.failed_calls sink.new) sink.old sink.new answer }
+{
+    let answer = lint_stream(alloc, source, sink);
     report_ending(rt, answer)
 }
 

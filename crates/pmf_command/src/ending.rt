@@ -1,17 +1,17 @@
 //! The status of each answer of a command.
 
 ghost use Rattle.std.specs.Prelude.{◌≡◌};
-ghost use Rattle.pmf_command.specs.Statuses.{status_of_asked, status_of_check_fault, status_of_done, status_of_explain_fault, status_of_farm_fault, status_of_fails, status_of_fault, status_of_join_fault, status_of_joined, status_of_ledger_fault, status_of_log_fault, status_of_log_refusal, status_of_new_fault, status_of_refusal, status_of_seek_fault, status_of_sim_fault, status_of_text_fault};
+ghost use Rattle.pmf_command.specs.Statuses.{status_of_asked, status_of_check_fault, status_of_done, status_of_explain_fault, status_of_farm_fault, status_of_fails, status_of_fault, status_of_join_fault, status_of_joined, status_of_ledger_fault, status_of_lint_fault, status_of_linted, status_of_log_fault, status_of_log_refusal, status_of_new_fault, status_of_refusal, status_of_seek_fault, status_of_sim_fault, status_of_text_fault};
 ghost use Rattle.pmf_command.specs.declared.status.Status.{Status};
 
 use crate::status::Status;
 use pmf_farm::FarmFault;
 use pmf_ledger::{JoinFault, LedgerFault};
-use pmf_lint::LocateFault;
+use pmf_lint::{LintFault, LocateFault};
 use pmf_sim::SimFault;
 use pmf_storelog::{Cause, LogFault};
 use pmf_stream::{
-    AskFault, CheckLogFault, Done, ExplainFault, JoinTextFault, Joined, LogRefusal, SeekFault,
+    AskFault, CheckLogFault, Done, ExplainFault, JoinTextFault, Joined, Linted, LogRefusal, SeekFault,
     StreamFault,
 };
 use pmf_world::WorldNewFault;
@@ -136,6 +136,31 @@ impl Ending for LogRefusal {
         match self {
             LogRefusal::Log(fault) => fault.status(),
             LogRefusal::OutOfMemory => Status::NoMemory,
+        }
+    }
+}
+
+/// The log was looked through.
+impl Ending for Linted {
+    ghost ends_as = { status_of_linted };
+
+    fn status(&self) -> Status {
+        if self.is_suspicious {
+            Status::SomeFail
+        } else {
+            Status::NoFail
+        }
+    }
+}
+
+/// The log is not looked through.
+impl Ending for LintFault {
+    ghost ends_as = { status_of_lint_fault };
+
+    fn status(&self) -> Status {
+        match self {
+            LintFault::Log(fault) => fault.status(),
+            LintFault::OutOfMemory => Status::NoMemory,
         }
     }
 }

@@ -7,7 +7,7 @@ ghost use Rattle.std.specs.String.{string_bytes};
 ghost use Rattle.clap.specs.Words.{Row, Text, found_of, rows_of, rule_of, subcommand_rows_of};
 ghost use Rattle.clap.specs.declared.builder.value_parser.ValueParser.{ValueParser};
 ghost use Rattle.pmf_event.specs.declared.profile.Profile.{Profile};
-ghost use Rattle.pmf_command.specs.Words.{IsCheckOf, IsExplainAllOf, IsExplainBy, IsExplainOf, IsJoinOf, IsLocateOf, IsRequestBy, IsRequestOf, IsSimOf, HasWords, asked, asked_number, check_words, explain_words, file_words, flag, join_words, large_number, locate_words, pmfarm_words, profile_option, program_words, run_option, sim_words, small_number};
+ghost use Rattle.pmf_command.specs.Words.{IsCheckOf, IsExplainAllOf, IsExplainBy, IsExplainOf, IsJoinOf, IsLocateOf, IsRequestBy, IsRequestOf, IsSimOf, HasWords, asked, asked_number, check_words, explain_words, file_words, flag, join_words, large_number, lint_words, locate_words, pmfarm_words, profile_option, program_words, run_option, sim_words, small_number};
 
 use clap::{Arg, ArgAction, ArgMatches, Command, Error, value_parser};
 use pmf_event::Profile;
@@ -27,6 +27,7 @@ Examples:
   pmfarm explain --all < store.log  the same of each row that counts as fail
   pmfarm locate --section 0 --event 6 < store.log
                                     the record that gave event 6
+  pmfarm lint < store.log           what the log holds, and what is strange in it
   pmfarm check --ledger --run 7 < store.log > 7.ledger
                                     the checked sections themselves, to be joined
   pmfarm join 7.ledger 8.ledger     the report of both, each section once
@@ -34,9 +35,10 @@ Examples:
                                     what each step of the schedule comes to
 
 Exit status:
-  0  no row of the report counts as fail, or the rows were explained, or the
-     event was located, or the schedule was played
-  1  some row counts as fail
+  0  no row of the report counts as fail (which is not the same as: checked), or
+     the rows were explained, the event was located, `lint` has no warning, or
+     the schedule was played
+  1  some row counts as fail, or `lint` warns
   2  the input or the command line was refused
   3  memory ran out
   4  a read or a write failed";
@@ -97,6 +99,8 @@ pub enum Request<'a> {
     ExplainAll(Whole),
     /// Read the log on standard input, and write where one event stands in it to standard output.
     Locate(Sought),
+    /// Read the log on standard input, and write what it holds to standard output.
+    Lint,
     /// Join the ledgers of the files, and write the report of all, or their ledger text, to standard output.
     Join(Files<'a>),
     /// Play the schedule on standard input, and write what each step comes to, and each ledger's report, to standard
@@ -135,12 +139,15 @@ fn request_by<'a>(
     ensures { IfOk result (λ request. (command : Text) (rows : List Row)
         → subcommand_rows_of matches.now ≡ Some (command, rows) → IsRequestBy all command rows request) }
 {
-    // There are five commands, and the parser lets nothing pass without one.
+    // There are six commands, and the parser lets nothing pass without one.
     if let Some(explain) = matches.subcommand_matches("explain") {
         return Ok(explain_by(explain, all));
     }
     if let Some(locate) = matches.subcommand_matches("locate") {
         return Ok(Request::Locate(sought_of(locate)));
+    }
+    if matches.subcommand_matches("lint").is_some() {
+        return Ok(Request::Lint);
     }
     if let Some(join) = matches.subcommand_matches("join") {
         let files = files_of(alloc, join)?;
@@ -250,6 +257,7 @@ fn program<'a>(alloc: Global, all: bool) -> Result<Command<'a>, Error>
         .subcommand(check(alloc)?)?
         .subcommand(explain(alloc, all)?)?
         .subcommand(locate(alloc)?)?
+        .subcommand(lint(alloc))?
         .subcommand(join(alloc)?)?
         .subcommand(sim(alloc)?)?;
     Ok(program)
@@ -436,6 +444,14 @@ fn locate<'a>(alloc: Global) -> Result<Command<'a>, Error>
         .arg(event(alloc))?
         .arg(run(alloc))?;
     Ok(locate)
+}
+
+fn lint<'a>(alloc: Global) -> Command<'a>
+    ensures { HasWords lint_words result }
+{
+    Command::new(alloc, "lint")
+        .about("Writes what the log holds, and whether it may not be what it seems to be")
+        .after_help(AFTER_HELP)
 }
 
 fn join<'a>(alloc: Global) -> Result<Command<'a>, Error>

@@ -3,6 +3,7 @@ pub use Rattle.pmf_image.specs.Certificate
 pub use Rattle.pmf_storelog.specs.LogValue
 pub use Rattle.pmf_storelog.specs.LogText
 pub use Rattle.pmf_lint.specs.Locating
+pub use Rattle.pmf_lint.specs.Linting
 pub use Rattle.pmf_ledger.specs.Report
 pub use Rattle.pmf_ledger.specs.LedgerText
 pub use Rattle.pmf_ledger.specs.Gathered
@@ -21,4 +22,5 @@ pub mod Explanation
 pub mod Asking
 pub mod Seeking
 pub mod Failing
+pub mod Holding
 pub mod Joining

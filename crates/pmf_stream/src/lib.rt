@@ -2,7 +2,8 @@
 //!
 //! What is read comes from a [`Source`], what is written goes to a [`Sink`] by [`write_text`]; both count
 //! their failed calls. The clauses cite std's `KnownBytes` for the bytes and `specs/Failures` for the
-//! failed calls. What a command answers is one definition of its own (`specs/Checking`, `specs/Asking`, `specs/Seeking`, `specs/Failing`)
+//! failed calls. What a command answers is one definition of its own (`specs/Checking`, `specs/Asking`, `specs/Seeking`, `specs/Failing`,
+//! `specs/Holding`)
 //! in the words of one skeleton (`specs/Answering`): at Ok its whole text was written, at WriteFault
 //! exactly so many bytes of it, and ReadFault and WriteFault are told exactly where a read or a write
 //! failed.
@@ -17,6 +18,7 @@ mod explaining;
 mod failed;
 mod failing;
 mod fault;
+mod holding;
 mod joining;
 mod memory;
 mod reading;
@@ -35,6 +37,7 @@ pub use explaining::{ExplainFault, explain_text};
 pub use failed::Failed;
 pub use failing::{LogRefusal, explain_all_stream, explain_all_text};
 pub use fault::StreamFault;
+pub use holding::{Linted, lint_stream};
 pub use joining::{JoinTextFault, Joined, join_texts, join_to};
 pub use memory::ByteSink;
 pub use reading::read_all;

@@ -18,9 +18,10 @@ pub use pmf_farm::{FarmFault, Gate, OpenGate, Turn};
 pub use pmf_sim::{SCHEDULE_LIMIT, SimFault, sim_text, sim_to};
 pub use pmf_stream::{
     AskFault, CheckLogFault, Counted, Cut, Device, Done, ExplainFault, Failed, JoinTextFault,
-    Joined, LogRefusal, Question, SeekFault, Settings, Sink, Sought, Source, StdSink, StdSource,
-    StreamFault, Whole, check_stream, explain_all_stream, explain_all_text, explain_stream,
-    explain_text, join_texts, join_to, locate_stream, read_all, write_text,
+    Joined, Linted, LogRefusal, Question, SeekFault, Settings, Sink, Sought, Source, StdSink,
+    StdSource, StreamFault, Whole, check_stream, explain_all_stream, explain_all_text,
+    explain_stream, explain_text, join_texts, join_to, lint_stream, locate_stream, read_all,
+    write_text,
 };
 pub use pmf_world::{MOST_LEDGERS, World, WorldAnswer, WorldFault, WorldNewFault, WorldStep};
 use std::process::ExitCode;
