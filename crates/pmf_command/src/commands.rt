@@ -24,7 +24,7 @@ ghost use Rattle.pmf_stream.specs.declared.joining.JoinTextFault.{JoinTextFault}
 ghost use Rattle.pmf_stream.specs.declared.seeking.SeekFault.{SeekFault};
 ghost use Rattle.pmf_command.specs.Statuses.{IsAnswerTo, status_of, status_of_asked, status_of_check_fault, status_of_done, status_of_joined, status_of_lint_fault, status_of_linted, status_of_log_refusal, status_of_refusal, status_of_seek_fault, status_of_sim_fault, status_of_text_fault};
 
-use crate::diagnostics::{fail, fail_file, out_of_memory, refuse_words, print_skipped};
+use crate::diagnostics::{fail, fail_file, out_of_memory, print_skipped, refuse_words};
 use crate::ending::Ending;
 use crate::request::{Files, Request, Simulation, request_of};
 use crate::status::Status;

@@ -11,8 +11,8 @@ use pmf_lint::{LintFault, LocateFault};
 use pmf_sim::SimFault;
 use pmf_storelog::{Cause, LogFault};
 use pmf_stream::{
-    AskFault, CheckLogFault, Done, ExplainFault, JoinTextFault, Joined, Linted, LogRefusal, SeekFault,
-    StreamFault,
+    AskFault, CheckLogFault, Done, ExplainFault, JoinTextFault, Joined, Linted, LogRefusal,
+    SeekFault, StreamFault,
 };
 use pmf_world::WorldNewFault;
 

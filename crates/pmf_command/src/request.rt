@@ -131,11 +131,7 @@ fn names_all(words: &[String]) -> bool
 }
 
 // What the command that was found and its words ask for.
-fn request_by<'a>(
-    alloc: Global,
-    matches: &ArgMatches<'a>,
-    all: bool,
-) -> Result<Request<'a>, Error>
+fn request_by<'a>(alloc: Global, matches: &ArgMatches<'a>, all: bool) -> Result<Request<'a>, Error>
     ensures { IfOk result (λ request. (command : Text) (rows : List Row)
         → subcommand_rows_of matches.now ≡ Some (command, rows) → IsRequestBy all command rows request) }
 {

@@ -165,12 +165,7 @@ fn push_if_failed(
 
 // A failing row: its section, its text line, and its image.
 #[tactic(auto, unfolding(crate::specs::Failing::text_of_failed))]
-fn push_failed(
-    text: &mut String,
-    name: Name,
-    events: &[Event],
-    row: &Row,
-) -> Result<(), AllocError>
+fn push_failed(text: &mut String, name: Name, events: &[Event], row: &Row) -> Result<(), AllocError>
     requires fits { (c : Certificate) → certificate_of row.now.place row.now.finding ≡ Some c
         → Fits events.now c × (row.now.place ≤ length events.now) }
     ensures { OnOk result (string_bytes text.new

@@ -1,5 +1,6 @@
 //! The tests of streams: worked logs by their reports, and devices that fail.
 
+mod all_rows;
 mod checks;
 mod explaining;
 mod failing;
@@ -8,6 +9,7 @@ mod joining;
 mod limits;
 mod orders;
 mod rows;
+mod seeking;
 mod streams;
 mod transactions;
 mod workers;

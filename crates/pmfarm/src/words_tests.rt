@@ -1,6 +1,6 @@
 //! What the words of the command line ask for, and the status where they are refused.
 
-use crate::{Files, Question, Request, Settings, Simulation, Status, request_of};
+use crate::{Files, Question, Request, Settings, Simulation, Sought, Status, Whole, request_of};
 use pmf_event::Profile;
 use std::alloc::{AllocError, Global};
 use std::process::Abort;
@@ -144,6 +144,44 @@ fn explain_takes_a_section_and_an_event(rt: HostRuntime) -> Result<(), Fail> {
 }
 
 #[test]
+fn explain_takes_all_in_place_of_an_event(rt: HostRuntime) -> Result<(), Fail> {
+    let cases = [
+        (&["pmfarm", "explain", "--all"][..], 0, Profile::One),
+        (
+            &["pmfarm", "explain", "--run=5", "--all", "--profile", "2"][..],
+            5,
+            Profile::Two,
+        ),
+    ];
+    for (words, run, profile) in cases {
+        let whole = Whole { run, profile };
+        asks(&rt, rt.alloc(), words, Request::ExplainAll(whole))?;
+    }
+    Ok(())
+}
+
+#[test]
+fn locate_takes_a_section_and_an_event(rt: HostRuntime) -> Result<(), Fail> {
+    let words = [
+        "pmfarm",
+        "locate",
+        "--event",
+        "3",
+        "--run",
+        "2",
+        "--section",
+        "7",
+    ];
+    let sought = Sought {
+        run: 2,
+        section: 7,
+        event: 3,
+    };
+    asks(&rt, rt.alloc(), &words, Request::Locate(sought))?;
+    asks(&rt, rt.alloc(), &["pmfarm", "lint"], Request::Lint)
+}
+
+#[test]
 fn check_takes_the_flag_for_the_ledger_text(rt: HostRuntime) -> Result<(), Fail> {
     asks(
         &rt,
@@ -230,6 +268,14 @@ fn words_that_are_no_request_are_refused(rt: HostRuntime) -> Result<(), Fail> {
             "1",
         ][..],
         &["pmfarm", "explain"][..],
+        &["pmfarm", "explain", "--all", "--all"][..],
+        &["pmfarm", "explain", "--all", "--section", "0"][..],
+        &["pmfarm", "explain", "--all", "--event", "1"][..],
+        &["pmfarm", "check", "--all"][..],
+        &["pmfarm", "lint", "store.log"][..],
+        &["pmfarm", "locate"][..],
+        &["pmfarm", "locate", "--section", "0"][..],
+        &["pmfarm", "locate", "--event", "1"][..],
         &["pmfarm", "explain", "--section", "0"][..],
         &["pmfarm", "explain", "--event", "1"][..],
         &["pmfarm", "explain", "--section", "x", "--event", "1"][..],
@@ -284,6 +330,9 @@ fn help_and_the_version_are_no_fault(rt: HostRuntime) -> Result<(), Fail> {
         &["pmfarm", "help"][..],
         &["pmfarm", "check", "--help"][..],
         &["pmfarm", "explain", "--help"][..],
+        &["pmfarm", "explain", "--all", "--help"][..],
+        &["pmfarm", "locate", "--help"][..],
+        &["pmfarm", "lint", "--help"][..],
         &["pmfarm", "join", "--help"][..],
         &["pmfarm", "--version"][..],
     ];

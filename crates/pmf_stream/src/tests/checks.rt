@@ -3,10 +3,10 @@
 ghost use Rattle.std.specs.Prelude.{◌≡◌};
 
 use super::fakes::PieceSource;
-use crate::memory::ByteSink;
 use crate::checking::{CheckLogFault, Done, check_stream};
 use crate::device::Device;
 use crate::fault::StreamFault;
+use crate::memory::ByteSink;
 use crate::settings::Settings;
 use pmf_event::Profile;
 use pmf_farm::OpenGate;

@@ -4,11 +4,11 @@ ghost use Rattle.std.specs.Prelude.{◌≡◌};
 
 use super::checks::failed_calls;
 use super::fakes::PieceSource;
-use crate::memory::ByteSink;
 use crate::asking::{AskFault, explain_stream};
 use crate::device::Device;
 use crate::explaining::{ExplainFault, explain_text};
 use crate::fault::StreamFault;
+use crate::memory::ByteSink;
 use crate::settings::Question;
 use pmf_event::{Profile, SpanFault};
 use pmf_storelog::{Cause, LogFault};

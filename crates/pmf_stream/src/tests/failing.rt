@@ -2,11 +2,11 @@
 
 use super::checks::{RUN, checks, done, refused};
 use super::fakes::{InterruptedOnce, PieceSource};
-use crate::memory::ByteSink;
 use crate::checking::check_stream;
 use crate::device::Device;
 use crate::failed::Failed;
 use crate::fault::StreamFault;
+use crate::memory::ByteSink;
 use crate::sink::{Sink, StdSink};
 use crate::source::{Source, StdSource};
 use pmf_farm::OpenGate;

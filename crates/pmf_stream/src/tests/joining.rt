@@ -2,10 +2,10 @@
 
 ghost use Rattle.std.specs.Prelude.{◌≡◌};
 
-use crate::memory::ByteSink;
 use crate::device::Device;
 use crate::fault::StreamFault;
 use crate::joining::{JoinTextFault, Joined, join_texts, join_to};
+use crate::memory::ByteSink;
 use pmf_event::{Name, Profile};
 use pmf_fixtures::LEDGER;
 use pmf_ledger::{JoinFault, LedgerFault};

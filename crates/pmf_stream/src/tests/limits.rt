@@ -2,9 +2,9 @@
 
 use super::checks::{RUN, checks, done, refused};
 use super::fakes::PieceSource;
-use crate::memory::ByteSink;
 use crate::checking::{CheckLogFault, Done};
 use crate::fault::StreamFault;
+use crate::memory::ByteSink;
 use pmf_storelog::Cause;
 use std::alloc::Global;
 use std::process::Abort;

@@ -2,8 +2,8 @@
 
 use super::checks::{RUN, checks_log, done, refused};
 use super::fakes::PieceSource;
-use crate::memory::ByteSink;
 use crate::checking::check_stream;
+use crate::memory::ByteSink;
 use crate::settings::Settings;
 use pmf_event::{Profile, SpanFault};
 use pmf_farm::OpenGate;

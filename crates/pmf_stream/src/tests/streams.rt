@@ -4,9 +4,9 @@ ghost use Rattle.std.specs.Prelude.{◌≡◌, ◌<◌};
 ghost use Rattle.pmf_stream.specs.Failures.{CanCountOneMore};
 
 use super::fakes::PieceSource;
-use crate::memory::ByteSink;
 use crate::device::Device;
 use crate::failed::Failed;
+use crate::memory::ByteSink;
 use crate::sink::{Sink, StdSink};
 use crate::source::{Source, StdSource, read_piece};
 use crate::writing::{Cut, write_text};

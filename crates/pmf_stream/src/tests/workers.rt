@@ -2,9 +2,9 @@
 
 use super::checks::{RUN, done, refused};
 use super::fakes::PieceSource;
-use crate::memory::ByteSink;
 use crate::checking::{CheckLogFault, Done, check_stream};
 use crate::fault::StreamFault;
+use crate::memory::ByteSink;
 use crate::settings::Settings;
 use pmf_farm::{FarmFault, Gate, Turn};
 use pmf_storelog::Cause;
