@@ -3,7 +3,7 @@ _pmfarm() {
     local word=${COMP_WORDS[COMP_CWORD]} before=${COMP_WORDS[COMP_CWORD - 1]} command=${COMP_WORDS[1]}
     COMPREPLY=()
     if [ "$COMP_CWORD" -eq 1 ]; then
-        mapfile -t COMPREPLY < <(compgen -W 'check explain locate join sim help --help -h --version -V' -- "$word")
+        mapfile -t COMPREPLY < <(compgen -W 'check explain locate lint join sim help --help -h --version -V' -- "$word")
     elif [ "$command" = check ] && [ "$before" = --profile ]; then
         mapfile -t COMPREPLY < <(compgen -W '1 2' -- "$word")
     elif [ "$command" = check ] && [[ "$before" != --@(run|workers) ]]; then
@@ -11,9 +11,11 @@ _pmfarm() {
     elif [ "$command" = explain ] && [ "$before" = --profile ]; then
         mapfile -t COMPREPLY < <(compgen -W '1 2' -- "$word")
     elif [ "$command" = explain ] && [[ "$before" != --@(run|section|event) ]]; then
-        mapfile -t COMPREPLY < <(compgen -W '--section --event --run --profile --help -h' -- "$word")
+        mapfile -t COMPREPLY < <(compgen -W '--section --event --all --run --profile --help -h' -- "$word")
     elif [ "$command" = locate ] && [[ "$before" != --@(run|section|event) ]]; then
         mapfile -t COMPREPLY < <(compgen -W '--section --event --run --help -h' -- "$word")
+    elif [ "$command" = lint ]; then
+        mapfile -t COMPREPLY < <(compgen -W '--help -h' -- "$word")
     elif [ "$command" = join ] && [[ "$word" != -* ]]; then
         mapfile -t COMPREPLY < <(compgen -f -- "$word")
     elif [ "$command" = join ]; then
@@ -23,7 +25,7 @@ _pmfarm() {
     elif [ "$command" = sim ] && [[ "$before" != --@(workers|ledgers) ]]; then
         mapfile -t COMPREPLY < <(compgen -W '--log --workers --ledgers --help -h' -- "$word")
     elif [ "$command" = help ]; then
-        mapfile -t COMPREPLY < <(compgen -W 'check explain locate join sim' -- "$word")
+        mapfile -t COMPREPLY < <(compgen -W 'check explain locate lint join sim' -- "$word")
     fi
 }
 complete -F _pmfarm pmfarm

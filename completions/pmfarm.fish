@@ -1,8 +1,9 @@
 # fish completion for pmfarm
 complete -c pmfarm -f
 complete -c pmfarm -n __fish_use_subcommand -a check -d 'check the log on standard input'
-complete -c pmfarm -n __fish_use_subcommand -a explain -d 'explain one event of the log on standard input'
+complete -c pmfarm -n __fish_use_subcommand -a explain -d 'explain one event, or each failing row, of the log on standard input'
 complete -c pmfarm -n __fish_use_subcommand -a locate -d 'tell which record of the log gave one event'
+complete -c pmfarm -n __fish_use_subcommand -a lint -d 'tell what the log holds'
 complete -c pmfarm -n __fish_use_subcommand -a join -d 'join ledgers'
 complete -c pmfarm -n __fish_use_subcommand -a sim -d 'play the schedule on standard input'
 complete -c pmfarm -n __fish_use_subcommand -a help -d 'print help'
@@ -10,6 +11,7 @@ complete -c pmfarm -n __fish_use_subcommand -s V -l version -d 'print the versio
 complete -c pmfarm -s h -l help -d 'print help'
 complete -c pmfarm -n '__fish_seen_subcommand_from explain locate' -l section -x -d 'the number of the section'
 complete -c pmfarm -n '__fish_seen_subcommand_from explain locate' -l event -x -d 'the place of the event in its section'
+complete -c pmfarm -n '__fish_seen_subcommand_from explain' -l all -d 'each row that counts as fail, in place of one event'
 complete -c pmfarm -n '__fish_seen_subcommand_from check' -l workers -x -d 'how many threads check the sections'
 complete -c pmfarm -n '__fish_seen_subcommand_from check explain locate' -l run -x -d 'the run in the name of each section'
 complete -c pmfarm -n '__fish_seen_subcommand_from check explain' -l profile -x -a '1 2' -d 'the rule for two bytes of one cache line'
@@ -18,4 +20,4 @@ complete -c pmfarm -n '__fish_seen_subcommand_from join' -F
 complete -c pmfarm -n '__fish_seen_subcommand_from sim' -l log -x -a '(__fish_complete_path)' -d 'the log whose sections are played with'
 complete -c pmfarm -n '__fish_seen_subcommand_from sim' -l workers -x -d 'how many workers there are'
 complete -c pmfarm -n '__fish_seen_subcommand_from sim' -l ledgers -x -d 'how many ledgers there are'
-complete -c pmfarm -n '__fish_seen_subcommand_from help' -a 'check explain locate join sim'
+complete -c pmfarm -n '__fish_seen_subcommand_from help' -a 'check explain locate lint join sim'
