@@ -14,6 +14,10 @@ use pmf_event::Profile;
 use pmf_stream::{Question, Settings, Sought, Whole};
 use std::alloc::{AllocError, Global};
 
+// The version, and room behind it: `tools/stamp` writes the commit and the kit into the built program here.
+const VERSION: &str =
+    "0.1.0 (commit and kit unknown)                                                                  ";
+
 const AFTER_HELP: &str = "\
 Examples:
   pmfarm check < store.log          the report of the log
@@ -266,7 +270,7 @@ fn no_command<'a>(alloc: Global) -> Result<Command<'a>, Error>
     let named = Command::new(alloc, "pmfarm").bin_name("pmfarm")?;
     Ok(
         named
-            .version("0.1.0")
+            .version(VERSION)
             .about("Checks the store log of a program that uses persistent memory")
             .after_help(AFTER_HELP)
             .subcommand_required(true),
