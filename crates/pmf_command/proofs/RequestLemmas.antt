@@ -1,5 +1,5 @@
 -- What the matches of a command say of its options, and what the parts of a command have to do with its words.
-use Rattle.std.proofs.Common.{◌≡◌, ℕ, ◌<◌, ◌^◌, Bool, List, [], ◌∷◌, ◌||◌, refl, sym, ◌∙◌, ap, Option, Some, None, Result, Ok, Err, option_map, map, codes, true, false, Bor}
+use Rattle.std.proofs.Common.{◌≡◌, ℕ, ◌<◌, ◌^◌, Bool, List, [], ◌∷◌, ◌||◌, refl, ◌∙◌, ap, Option, Some, None, Result, Ok, Err, option_map, map, codes, true, false, Bor}
 use Rattle.std.specs.Prelude.{unwrap_or}
 use Rattle.std.specs.declared.num.ParseIntError.{ParseIntError}
 use Rattle.std.specs.List.{list_any}
@@ -8,12 +8,12 @@ use Rattle.std.specs.Str.Parse.{ParsesUnsigned, ExplainsUnsignedError, HasUnsign
 use Rattle.std.proofs.lemmas.Fmt.{parse-decimal}
 use Rattle.clap.specs.Matches.{ReadsOne}
 use Rattle.clap.specs.declared.parser.matches.Found.{Found}
-use Rattle.clap.specs.Words.{Text, first_value, one_text, rows_of, rule_of, with_rule, with_subcommand, app_of, AddsArg, AddsSubcommand, App, Rule, is_simple}
+use Rattle.clap.specs.Words.{Text, one_text, rows_of, rule_of, with_rule, with_subcommand, app_of, AddsArg, AddsSubcommand, App, Rule, is_simple}
 use Rattle.clap.specs.declared.builder.arg.Arg.{Arg}
 use Rattle.clap.specs.declared.builder.command.Command.{Command}
 use Rattle.clap.specs.declared.builder.value_parser.ValueParser.{ValueParser}
 use Rattle.clap.proofs.OnLiterals.{clap_on_literals}
-use Rattle.clap.proofs.WalkLemmas.{one_text-rows, first_value-rows}
+use Rattle.clap.proofs.WalkLemmas.{one_text-rows}
 use Rattle.pmf_command.specs.Words.{HasWords, IsNumberOf, IsFlagOf, pmfarm_words}
 
 ok-same : {E : Type 0} (r : Result ℕ E) (v k : ℕ) → r ≡ Ok v → r ≡ Ok k → v ≡ k

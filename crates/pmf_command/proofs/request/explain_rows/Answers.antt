@@ -1,4 +1,4 @@
-use Rattle.std.proofs.Common.{◌≡◌, rules, codes}
+use Rattle.std.proofs.Common.{rules, codes}
 use Rattle.clap.specs.Words.{new_app}
 use Rattle.pmf_command.specs.Words.{HasWords}
 use Rattle.pmf_command.proofs.RequestLemmas.{words-arg}

@@ -1,4 +1,4 @@
-use Rattle.std.proofs.Common.{refl, sym, ◌∙◌, ap, arith, codes}
+use Rattle.std.proofs.Common.{◌∙◌, arith, codes}
 use Rattle.clap.specs.Words.{found_of}
 use Rattle.clap.proofs.WalkLemmas.{first_value-rows}
 use Rattle.pmf_command.proofs.RequestLemmas.{number-named}

@@ -1,4 +1,4 @@
-use Rattle.std.proofs.Common.{refl, sym, ◌∙◌, ap, arith, codes}
+use Rattle.std.proofs.Common.{arith, codes}
 use Rattle.clap.specs.Words.{found_of}
 use Rattle.pmf_command.proofs.RequestLemmas.{number-named}
 use Rattle.pmf_command.proofs.request.sought_of.Goals as goal
