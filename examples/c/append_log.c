@@ -2,9 +2,11 @@
  *
  *     append_log POOL > LOG
  *
- * appends three records to a new pool, the file POOL, and writes what it did as a log for `pmfarm check`. A record has to be durable before
- * the tail that counts it is stored: a crash between may else show a tail with nothing below it. With -DMISSING_FENCE the fence
- * that sees to it is left out. */
+ * appends three records to a new pool, the file POOL, and writes what it did as a log for `pmfarm check`. A record has to be
+ * durable before the tail that counts it is stored: a crash between may else show a tail with nothing below it. With
+ * -DMISSING_FENCE the fence that sees to it is left out. It writes back by CLFLUSH, which every x86-64 processor has; on real
+ * hardware CLFLUSH itself is ordered with stores, so the missing fence matters where CLWB or CLFLUSHOPT takes its place, whose
+ * rules pmfarm checks. */
 #define _POSIX_C_SOURCE 200809L
 #include <fcntl.h>
 #include <immintrin.h>
