@@ -4,7 +4,10 @@ pub mod NumberFoundLemmas
 pub mod LocationLemmas
 pub mod GivingLemmas
 pub mod SolidLemmas
+pub mod FirstNamesLemmas
 pub mod NamingLemmas
+pub mod NearnessLemmas
+pub mod LintTextLemmas
 pub mod InsideLemmas
 pub mod CoverLemmas
 pub mod TallySumLemmas

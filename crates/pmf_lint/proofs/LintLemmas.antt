@@ -10,7 +10,7 @@ use Rattle.pmf_lint.specs.Summing.{sums_of}
 use Rattle.pmf_lint.specs.declared.summing.Sums.{Sums}
 use Rattle.pmf_lint.specs.Walking.{IsNext}
 use Rattle.pmf_lint.specs.declared.rolling.Roll.{Roll}
-use Rattle.pmf_lint.specs.Naming.{Tallies}
+use Rattle.pmf_lint.specs.Rolling.{Tallies}
 use Rattle.pmf_lint.proofs.NumberFoundLemmas.{by_fault}
 
 pub skipped_so : (run : ℕ) (bytes : List ℕ) (log : LogValue) → log_of run bytes ≡ Ok log → log.skipped ≡ skipped_of (records_of bytes)
@@ -26,17 +26,18 @@ tallied_next bytes start offset text next roll found tallies = subst (Tallies ro
 
 pub told_so : (bytes : List ℕ) (roll : Roll) (skipped sections : ℕ) (sums : Sums) → IsFaultless bytes → Tallies roll (records_of bytes) → skipped ≡ skipped_of (records_of bytes) →
     sections ≡ length (numbers_of (records_of bytes)) → sums ≡ sums_of (sections_of 0 (records_of bytes)) →
-    IsLint bytes (record { records = roll.records; known = roll.known; skipped = skipped; listed = roll.listing.listed; others = roll.listing.others; sections = sections; sums = sums })
+    IsLint bytes (record { records = roll.records; known = roll.known; skipped = skipped; listed = roll.listing.listed; others = roll.listing.others; has_near = roll.listing.has_near; has_strange = roll.listing.has_strange; sections = sections; sums = sums })
 told_so bytes roll skipped sections sums faultless tallies skipped_is sections_are sums_are = record {
   faultless = faultless;
   records = tallies.count;
   names = tallies.names;
   known = tallies.known;
   skipped = skipped_is;
+  first = tallies.skipped.first;
   listed = tallies.skipped.listed;
-  some = tallies.skipped.some;
   others = tallies.skipped.others;
-  room = tallies.skipped.room;
+  near = tallies.skipped.near;
+  strange = tallies.skipped.strange;
   sections = sections_are;
   sums = sums_are;
 }

@@ -1,6 +1,6 @@
 -- Counts of names, with one more name.
 use Rattle.std.proofs.Common.{◌≡◌, ℕ, zero, suc, ◌+◌, ◌-◌, ◌^◌, ◌<◌, ◌≤◌, Bool, true, false, cond, List, [], ◌∷◌, ◌++◌, Some, None, length, take, get_or, map, All, refl, sym, ap, subst, ◌∙◌, arith, length-append}
-use Rattle.std.specs.Prelude.{not, ◌||◌, filter}
+use Rattle.std.specs.Prelude.{not, ◌||◌, filter, is_some}
 use Rattle.std.proofs.lemmas.Slice.Eq.{bytes_eq-Decides}
 use Rattle.std.specs.List.{list_any}
 use Rattle.std.specs.Str.{bytes_eq}
@@ -17,7 +17,10 @@ use Rattle.pmf_lint.specs.declared.naming.Named.{Named}
 use Rattle.pmf_lint.specs.declared.naming.TheConstants.{LISTED}
 use Rattle.pmf_lint.specs.declared.listing.Listing.{Listing}
 use Rattle.pmf_lint.specs.declared.rolling.Roll.{Roll}
-use Rattle.pmf_lint.specs.Naming.{Count, Lists, Tallies, known_names, count_named, count_others, counting, first_field, is_among, name_of, names_in, names_of, skipped_names}
+use Rattle.pmf_lint.proofs.FirstNamesLemmas.{all_first, among_others, first_again, first_full, first_new, is_other}
+use Rattle.pmf_lint.specs.Nearness.{has_near, has_strange, is_text, near_of}
+use Rattle.pmf_lint.specs.Rolling.{Lists, Tallies}
+use Rattle.pmf_lint.specs.Naming.{Count, first_names, known_names, count_named, count_others, counting, first_field, is_among, name_of, names_in, names_of, skipped_names}
 
 count_named-push : (n name : List ℕ) (names : List (List ℕ)) → count_named n (names ++ name ∷ []) ≡ count_named n names + cond (bytes_eq n name) 1 0
 unfolding count_named
@@ -52,12 +55,6 @@ Count-push (c ∷ counts) names name count =
 pub names-counting : (counts : List Named) (name : List ℕ) → names_in (map (counting name) counts) ≡ names_in counts
 names-counting [] name = refl
 names-counting (c ∷ counts) name = ap (λ rest. c.name.now ∷ rest) (names-counting counts name)
-
-pub some-counting : (counts : List Named) (name : List ℕ) → All (λ (c : Named). 0 < c.records) counts → All (λ (c : Named). 0 < c.records) (map (counting name) counts)
-some-counting [] name some = λ k d within. absurd (omega arith)
-some-counting (c ∷ counts) name some =
-    All-cons (λ (x : Named). 0 < x.records) (counting name c) (map (counting name) counts) (omega (arith, some 0 c (omega arith)))
-    (some-counting counts name (λ k d within. some (suc k) d (omega arith)))
 
 pub others-listed : (listed names : List (List ℕ)) (name : List ℕ) → is_among listed name ≡ true → count_others listed (names ++ name ∷ []) ≡ count_others listed names
 others-listed listed names name among =
@@ -120,6 +117,27 @@ one_no : (b : Bool) (rest : ℕ) → cond (not b) 1 0 + rest ≡ 0 → (b ≡ tr
 one_no true rest none = (refl, omega arith)
 one_no false rest none = absurd (omega arith)
 
+-- where no name is another one than these, none is another one than more of them
+still : (fewer more : List (List ℕ)) → ((other : List ℕ) → is_among fewer other ≡ true → is_among more other ≡ true) → (names : List (List ℕ)) → count_others fewer names ≡ 0 → count_others more names ≡ 0
+still fewer more so [] none = others_nil more
+still fewer more so (other ∷ names) none =
+    let here = one_no (is_among fewer other) (count_others fewer names) (sym (others_cons fewer other names) ∙ none) in
+    others_cons more other names ∙ ap (λ b. cond (not b) 1 0 + count_others more names) (so other here.0) ∙ (let rest = still fewer more so names here.1 in omega (arith, rest))
+
+among_cons : (name other : List ℕ) (left firsts : List (List ℕ)) (same : Bool) → bytes_eq name other ≡ same → (same ≡ false → is_among left other ≡ is_among firsts other) → is_among firsts other ≡ true → is_among (name ∷ left) other ≡ true
+unfolding is_among
+among_cons name other left firsts true is so among = ap (λ b. b || list_any (λ n. bytes_eq n other) left) is
+among_cons name other left firsts false is so among = ap (λ b. bytes_eq name other || b) (so refl ∙ among) ∙ or_true (bytes_eq name other)
+
+-- each name is among the different ones
+none_other : (names : List (List ℕ)) → count_others (first_names names) names ≡ 0
+unfolding first_names is_among
+none_other [] = others_nil []
+none_other (name ∷ names) =
+    let left = filter (is_other name) (first_names names) in
+    let rest = still (first_names names) (name ∷ left) (λ other. among_cons name other left (first_names names) (bytes_eq name other) refl (λ apart. among_others name other apart (first_names names))) names (none_other names) in
+    others_cons (name ∷ left) name names ∙ ap (λ b. cond (not (b || list_any (λ n. bytes_eq n name) left)) 1 0 + count_others (name ∷ left) names) (bytes_eq-itself name) ∙ (let e : 0 + count_others (name ∷ left) names ≡ 0 = omega (arith, rest) in e)
+
 -- a name that is not listed, where all names are listed
 module _ (listed : List (List ℕ)) (name : List ℕ) (apart : is_among listed name ≡ false) where
   pub unseen : (names : List (List ℕ)) → count_others listed names ≡ 0 → count_named name names ≡ 0
@@ -129,18 +147,10 @@ module _ (listed : List (List ℕ)) (name : List ℕ) (apart : is_among listed n
       named_cons name other names ∙ ap (λ b. cond b 1 0 + count_named name names) (names_apart name other (bytes_eq name other) refl listed apart here.0)
       ∙ (let rest = unseen names here.1 in omega (arith, rest))
 
-  still : (names : List (List ℕ)) → count_others listed names ≡ 0 → count_others (listed ++ name ∷ []) names ≡ 0
-  still [] none = others_nil (listed ++ name ∷ [])
-  still (other ∷ names) none =
-      let here = one_no (is_among listed other) (count_others listed names) (sym (others_cons listed other names) ∙ none) in
-      let among : is_among (listed ++ name ∷ []) other ≡ true = among_push listed name other ∙ ap (λ b. b || bytes_eq name other) here.0 in
-      others_cons (listed ++ name ∷ []) other names ∙ ap (λ b. cond (not b) 1 0 + count_others (listed ++ name ∷ []) names) among
-      ∙ (let rest = still names here.1 in omega (arith, rest))
-
   pub still_none : (names : List (List ℕ)) → count_others listed names ≡ 0 → count_others (listed ++ name ∷ []) (names ++ name ∷ []) ≡ 0
   still_none names none =
       let itself : is_among (listed ++ name ∷ []) name ≡ true = among_push listed name name ∙ ap (λ b. is_among listed name || b) (bytes_eq-itself name) ∙ or_true (is_among listed name) in
-      others-listed (listed ++ name ∷ []) names name itself ∙ still names none
+      others-listed (listed ++ name ∷ []) names name itself ∙ still listed (listed ++ name ∷ []) (λ other among. among_push listed name other ∙ ap (λ b. b || bytes_eq name other) among) names none
 
   pub counted_once : (names : List (List ℕ)) → count_others listed names ≡ 0 → count_named name (names ++ name ∷ []) ≡ 1
   counted_once names none =
@@ -162,51 +172,70 @@ module _ (listed : List (List ℕ)) (name : List ℕ) (apart : is_among listed n
 
 -- ---- what a listing and a roll hold
 
-pub lists_none : (listing : Listing) → listing.listed.items ≡ [] → listing.others ≡ 0 → Lists listing []
-lists_none listing empty none = record {
+has_near-push : (names : List (List ℕ)) (name : List ℕ) → has_near (names ++ name ∷ []) ≡ (has_near names || is_some (near_of name))
+unfolding has_near
+has_near-push names name = list_any-append (λ n. is_some (near_of n)) names (name ∷ []) ∙ ap (λ b. list_any (λ n. is_some (near_of n)) names || b) (or_last (is_some (near_of name)))
+
+has_strange-push : (names : List (List ℕ)) (name : List ℕ) → has_strange (names ++ name ∷ []) ≡ (has_strange names || not (is_text name))
+unfolding has_strange
+has_strange-push names name = list_any-append (λ n. not (is_text n)) names (name ∷ []) ∙ ap (λ b. list_any (λ n. not (is_text n)) names || b) (or_last (not (is_text name)))
+
+pub lists_none : (listing : Listing) → listing.listed.items ≡ [] → listing.others ≡ 0 → listing.has_near ≡ false → listing.has_strange ≡ false → Lists listing []
+unfolding first_names has_near has_strange
+lists_none listing empty none near strange = record {
+  first = ap (λ (cs : List Named). names_in cs) empty;
   listed = subst (λ (cs : List Named). Count cs []) (sym empty) (λ k d within. absurd (omega arith));
-  some = subst (λ (cs : List Named). All (λ (c : Named). 0 < c.records) cs) (sym empty) (λ k d within. absurd (omega arith));
   others = none ∙ sym (others_nil (names_in listing.listed.items));
-  room = λ less. none;
+  near = near;
+  strange = strange;
 }
 
-module _ (old : Listing) (names : List (List ℕ)) (lists : Lists old names) (name : List ℕ) where
+module _ (old new : Listing) (names : List (List ℕ)) (lists : Lists old names) (name : List ℕ)
+    (nearer : new.has_near ≡ (old.has_near || is_some (near_of name))) (stranger : new.has_strange ≡ (old.has_strange || not (is_text name))) where
+  near_more : new.has_near ≡ has_near (names ++ name ∷ [])
+  near_more = nearer ∙ ap (λ b. b || is_some (near_of name)) lists.near ∙ sym (has_near-push names name)
+
+  strange_more : new.has_strange ≡ has_strange (names ++ name ∷ [])
+  strange_more = stranger ∙ ap (λ b. b || not (is_text name)) lists.strange ∙ sym (has_strange-push names name)
+
   -- one more of a listed name
-  pub lists_again : (new : Listing) → is_among (names_in old.listed.items) name ≡ true → new.listed.items ≡ map (counting name) old.listed.items → new.others ≡ old.others → Lists new (names ++ name ∷ [])
-  lists_again new among counted kept =
-      let same : names_in new.listed.items ≡ names_in old.listed.items = ap (λ (cs : List Named). names_in cs) counted ∙ names-counting old.listed.items name in
-      let long : length new.listed.items ≡ length old.listed.items = ap length counted ∙ length-map old.listed.items (counting name) in record {
+  pub lists_again : is_among (names_in old.listed.items) name ≡ true → new.listed.items ≡ map (counting name) old.listed.items → new.others ≡ old.others → Lists new (names ++ name ∷ [])
+  lists_again among counted kept =
+      let same : names_in new.listed.items ≡ names_in old.listed.items = ap (λ (cs : List Named). names_in cs) counted ∙ names-counting old.listed.items name in record {
+        first = same ∙ first_again (names_in old.listed.items) names name lists.first among;
         listed = subst (λ (cs : List Named). Count cs (names ++ name ∷ [])) (sym counted) (Count-push old.listed.items names name lists.listed);
-        some = subst (λ (cs : List Named). All (λ (c : Named). 0 < c.records) cs) (sym counted) (some-counting old.listed.items name lists.some);
         others = kept ∙ lists.others ∙ sym (ap (λ (ls : List (List ℕ)). count_others ls (names ++ name ∷ [])) same ∙ others-listed (names_in old.listed.items) names name among);
-        room = λ less. kept ∙ lists.room (omega (arith, long));
+        near = near_more;
+        strange = strange_more;
       }
 
   -- a name that is listed now
-  pub lists_new : (new : Listing) (c : Named) → is_among (names_in old.listed.items) name ≡ false → length old.listed.items < LISTED → new.listed.items ≡ old.listed.items ++ c ∷ [] → new.others ≡ old.others →
+  pub lists_new : (c : Named) → is_among (names_in old.listed.items) name ≡ false → length old.listed.items < LISTED → new.listed.items ≡ old.listed.items ++ c ∷ [] → new.others ≡ old.others →
       c.name.now ≡ name → c.records ≡ 1 → Lists new (names ++ name ∷ [])
-  lists_new new c apart room pushed kept named once =
-      let none : count_others (names_in old.listed.items) names ≡ 0 = sym lists.others ∙ lists.room room in
+  lists_new c apart room pushed kept named once =
+      let few : length (names_in old.listed.items) < LISTED = omega (arith, length-map old.listed.items (λ (c : Named). c.name.now)) in
+      let none : count_others (names_in old.listed.items) names ≡ 0 = ap (λ (ls : List (List ℕ)). count_others ls names) (all_first (names_in old.listed.items) names lists.first few) ∙ none_other names in
       let all : names_in new.listed.items ≡ names_in old.listed.items ++ name ∷ [] =
       ap (λ (cs : List Named). names_in cs) pushed ∙ map-append (λ (c : Named). c.name.now) old.listed.items (c ∷ []) ∙ ap (λ (n : List ℕ). names_in old.listed.items ++ n ∷ []) named in record {
+        first = all ∙ first_new (names_in old.listed.items) names name lists.first apart few;
         listed = subst (λ (cs : List Named). Count cs (names ++ name ∷ [])) (sym pushed)
             (Count-new (names_in old.listed.items) name apart old.listed.items names c refl none named once lists.listed);
-        some = subst (λ (cs : List Named). All (λ (c : Named). 0 < c.records) cs) (sym pushed)
-            (All-append (λ (c : Named). 0 < c.records) old.listed.items (c ∷ []) lists.some (All-cons (λ (c : Named). 0 < c.records) c [] (omega (arith, once)) (λ k d within. absurd (omega arith))));
-        others = kept ∙ lists.room room ∙ sym (ap (λ (ls : List (List ℕ)). count_others ls (names ++ name ∷ [])) all ∙ still_none (names_in old.listed.items) name apart names none);
-        room = λ less. kept ∙ lists.room room;
+        others = kept ∙ lists.others ∙ none ∙ sym (ap (λ (ls : List (List ℕ)). count_others ls (names ++ name ∷ [])) all ∙ still_none (names_in old.listed.items) name apart names none);
+        near = near_more;
+        strange = strange_more;
       }
 
   -- a name that is not
-  pub lists_other : (new : Listing) → is_among (names_in old.listed.items) name ≡ false → LISTED ≤ length old.listed.items → new.listed.items ≡ old.listed.items → new.others ≡ old.others + 1 → Lists new (names ++ name ∷ [])
-  lists_other new apart full same more = record {
+  pub lists_other : is_among (names_in old.listed.items) name ≡ false → LISTED ≤ length old.listed.items → new.listed.items ≡ old.listed.items → new.others ≡ old.others + 1 → Lists new (names ++ name ∷ [])
+  lists_other apart full same more = record {
+    first = ap (λ (cs : List Named). names_in cs) same ∙ first_full (names_in old.listed.items) names name lists.first (omega (arith, length-map old.listed.items (λ (c : Named). c.name.now)));
     listed = subst (λ (cs : List Named). Count cs (names ++ name ∷ [])) (sym same) (λ k d within.
         lists.listed k d within ∙ sym (count_named-push (get_or old.listed.items k d).name.now name names
         ∙ ap (λ b. count_named (get_or old.listed.items k d).name.now names + cond b 1 0) (apart_from old.listed.items name apart k d within)
         ∙ (let e : count_named (get_or old.listed.items k d).name.now names + 0 ≡ count_named (get_or old.listed.items k d).name.now names = omega arith in e)));
-    some = subst (λ (cs : List Named). All (λ (c : Named). 0 < c.records) cs) (sym same) lists.some;
     others = more ∙ ap (λ n. n + 1) lists.others ∙ sym (ap (λ (cs : List Named). count_others (names_in cs) (names ++ name ∷ [])) same ∙ others-more (names_in old.listed.items) names name apart);
-    room = λ less. absurd (omega (arith, ap (λ (cs : List Named). length cs) same));
+    near = near_more;
+    strange = strange_more;
   }
 
 names_of-push : (records : List (List ℕ)) (text : List ℕ) → names_of (records ++ text ∷ []) ≡ names_of records ++ name_of text ∷ []

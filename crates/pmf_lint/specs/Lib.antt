@@ -6,6 +6,9 @@ pub mod Passing
 pub mod Locating
 pub mod Laws
 pub mod Naming
+pub mod Nearness
+pub mod Rolling
 pub mod Covering
 pub mod Summing
 pub mod Linting
+pub mod LintText

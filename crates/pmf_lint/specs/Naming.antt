@@ -1,13 +1,10 @@
 -- The names of a log's records: how many records have each. Defined here.
-use Rattle.std.specs.Prelude.{◌≡◌, ℕ, ◌+◌, ◌<◌, Bool, not, List, [], ◌∷◌, length, map, filter, codes, count_by, if◌then◌else◌}
+use Rattle.std.specs.Prelude.{◌≡◌, ℕ, ◌+◌, Bool, not, List, [], ◌∷◌, map, filter, codes, count_by, if◌then◌else◌}
 use Rattle.std.specs.List.{All, list_any}
 use Rattle.std.specs.Str.{bytes_eq}
 use Rattle.pmf_storelog.specs.Records.{fields_of}
 use Rattle.pmf_storelog.specs.LogText.{is_skipped}
 use Rattle.pmf_lint.specs.declared.naming.Named.{Named}
-use Rattle.pmf_lint.specs.declared.naming.TheConstants.{LISTED}
-use Rattle.pmf_lint.specs.declared.listing.Listing.{Listing}
-use Rattle.pmf_lint.specs.declared.rolling.Roll.{Roll}
 
 -- the first of these fields
 abbrev pub first_field : List (List ℕ) → List ℕ
@@ -32,6 +29,11 @@ names_of records = map (λ text. name_of text) records
 unfoldable pub skipped_names : List (List ℕ) → List (List ℕ)
 skipped_names records = map (λ text. name_of text) (filter is_skipped records)
 
+-- each of these names once, in the order in which they first stand
+unfoldable pub first_names : List (List ℕ) → List (List ℕ)
+first_names [] = []
+first_names (name ∷ names) = name ∷ filter (λ other. not (bytes_eq name other)) (first_names names)
+
 -- how many of these names are this one
 unfoldable pub count_named : List ℕ → List (List ℕ) → ℕ
 count_named name names = count_by (λ other. bytes_eq name other) names
@@ -55,18 +57,3 @@ Count counts names = All (λ (c : Named). c.records ≡ count_named c.name.now n
 -- the count with one more name
 abbrev pub counting : List ℕ → Named → Named
 counting name c = record { name = c.name; records = c.records + (if bytes_eq c.name.now name then 1 else 0) }
-
--- what is listed is that of these names: the count of each listed one, and how many there are of all others, which are
--- counted only where the list is full
-pub record Lists (listing : Listing) (names : List (List ℕ)) : Type 0 where
-  pub listed : Count listing.listed.items names
-  pub some : All (λ (c : Named). 0 < c.records) listing.listed.items
-  pub others : listing.others ≡ count_others (names_in listing.listed.items) names
-  pub room : length listing.listed.items < LISTED → listing.others ≡ 0
-
--- what is counted is that of these records: of each known name, and of the names of those that are skipped
-pub record Tallies (roll : Roll) (records : List (List ℕ)) : Type 0 where
-  pub count : roll.records ≡ length records
-  pub names : names_in roll.known.items ≡ known_names
-  pub known : Count roll.known.items (names_of records)
-  pub skipped : Lists roll.listing (skipped_names records)

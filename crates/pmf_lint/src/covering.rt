@@ -97,7 +97,7 @@ pub(crate) fn one_if(holds: bool) -> u64
     if holds { 1 } else { 0 }
 }
 
-fn either(one: bool, other: bool) -> bool
+pub(crate) fn either(one: bool, other: bool) -> bool
     ensures { result ≡ (one || other) }
 {
     one || other

@@ -2,7 +2,7 @@
 
 ghost use Rattle.std.specs.Prelude.{◌≡◌, MatchResult, IfOk};
 ghost use Rattle.pmf_storelog.specs.Separators.{records_of};
-ghost use Rattle.pmf_lint.specs.Naming.{Tallies};
+ghost use Rattle.pmf_lint.specs.Rolling.{Tallies};
 ghost use Rattle.pmf_lint.specs.Linting.{IsLint, IsLintRefusal};
 
 use crate::listing::Listing;
@@ -48,6 +48,11 @@ pub struct Lint<'a> {
     pub listed: Vec<Named<'a>>,
     /// How many skipped ones have none of these.
     pub others: u64,
+    /// Whether the name of a skipped one, listed or not, is near to a known name, as a misspelt one is ([`crate::near`]).
+    pub has_near: bool,
+    /// Whether the name of a skipped one, listed or not, is not text ([`crate::is_text`]), as in a packed log, in UTF-16, or behind
+    /// a byte order mark.
+    pub has_strange: bool,
     /// The sections.
     pub sections: u64,
     /// What these hold.
@@ -84,6 +89,8 @@ fn told<'a>(roll: Roll<'a>, skipped: u64, sections: u64, sums: Sums) -> Lint<'a>
       skipped = skipped;
       listed = roll.entry.listing.listed;
       others = roll.entry.listing.others;
+      has_near = roll.entry.listing.has_near;
+      has_strange = roll.entry.listing.has_strange;
       sections = sections;
       sums = sums;
     } }
@@ -93,13 +100,20 @@ fn told<'a>(roll: Roll<'a>, skipped: u64, sections: u64, sums: Sums) -> Lint<'a>
         known,
         listing,
     } = roll;
-    let Listing { listed, others } = listing;
+    let Listing {
+        listed,
+        others,
+        has_near,
+        has_strange,
+    } = listing;
     Lint {
         records,
         known,
         skipped,
         listed,
         others,
+        has_near,
+        has_strange,
         sections,
         sums,
     }

@@ -18,7 +18,7 @@ pub(crate) struct Roll<'a> {
 }
 
 impl<'a> Roll<'a> {
-    ghost use Rattle.pmf_lint.specs.Naming.{Tallies};
+    ghost use Rattle.pmf_lint.specs.Rolling.{Tallies};
 
     /// Of no record.
     pub(crate) fn new(alloc: Global) -> Result<Roll<'a>, AllocError>

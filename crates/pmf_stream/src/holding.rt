@@ -1,8 +1,9 @@
 //! From a stream of bytes to what a log holds.
 
+ghost use Rattle.std.specs.Prelude.{IfOk};
 ghost use Rattle.pmf_stream.specs.Answering.{Answers, TellsFaults};
 ghost use Rattle.pmf_stream.specs.Failures.{CanCountOneMore};
-ghost use Rattle.pmf_stream.specs.Holding.{IsLintOf, IsLintRefusalOf};
+ghost use Rattle.pmf_stream.specs.Holding.{IsLintOf, IsLintRefusalOf, Tells};
 ghost use Rattle.pmf_stream.specs.Reading.{ReadsWithin};
 ghost use Rattle.pmf_storelog.specs.declared.fault.TheConstants.{LOG_LIMIT};
 
@@ -11,7 +12,7 @@ use crate::reading::read_all;
 use crate::sink::Sink;
 use crate::source::Source;
 use crate::writing::write_answer;
-use pmf_lint::{LintFault, lint_log, lint_text};
+use pmf_lint::{Lint, LintFault, lint_log, lint_text};
 use pmf_storelog::LOG_LIMIT;
 use std::alloc::{AllocError, Global};
 
@@ -24,7 +25,7 @@ pub struct Linted {
 
 /// Reads a log and writes what it holds: the records of each name, the assertions, and the stores that none covers.
 /// Reads in pieces to the end of the stream, or to one byte past what a log may have, and writes nothing before the
-/// whole text is there. Its counts are proved (`pmf_lint`); its text and its hints are tested.
+/// whole text is there.
 ///
 /// Refusals: [`StreamFault::ReadFault`] and [`StreamFault::OutOfMemory`] as the reading goes, then
 /// [`StreamFault::Refused`], then want of memory for the text, then [`StreamFault::WriteFault`]. Takes memory for the
@@ -53,12 +54,20 @@ pub fn lint_stream<R: Source, W: Sink>(
         Ok(lint) => lint,
         Err(fault) => return Err(StreamFault::Refused(fault)),
     };
-    let linted = Linted {
-        is_suspicious: lint.is_suspicious(),
-    };
-    let text = match lint_text(alloc, &lint) {
-        Ok(text) => text,
+    let (linted, text) = match tell(alloc, &lint) {
+        Ok(told) => told,
         Err(AllocError) => return Err(StreamFault::OutOfMemory),
     };
     write_answer(writer, &text, linted)
+}
+
+// What is told of a log that was looked through, and its text.
+fn tell(alloc: Global, lint: &Lint<'_>) -> Result<(Linted, Vec<u8>), AllocError>
+    ensures { IfOk result (λ told. Tells lint.now told.0 told.1.items) }
+{
+    let linted = Linted {
+        is_suspicious: lint.is_suspicious(),
+    };
+    let text = lint_text(alloc, lint)?;
+    Ok((linted, text))
 }

@@ -34,13 +34,14 @@ fn stores_of(alloc: Global, log: &[u8]) -> Result<(u128, u128), LintFault> {
     Ok((lint.sums.stores, lint.sums.unasserted))
 }
 
-// What is suspicious: nothing is asserted, a name is near, a name is no text.
-fn warnings_of(alloc: Global, log: &[u8]) -> Result<(bool, bool, bool), LintFault> {
+// What is suspicious: nothing is asserted, each assertion is empty, a name is near, a name is no text.
+fn warnings_of(alloc: Global, log: &[u8]) -> Result<(bool, bool, bool, bool), LintFault> {
     let lint = lint_log(alloc, log)?;
     Ok((
-        lint.asserts_nothing(),
-        lint.has_near_name(),
-        lint.has_strange_name(),
+        lint.sums.asserts_nothing(),
+        lint.sums.checks_nothing(),
+        lint.has_near,
+        lint.has_strange,
     ))
 }
 
@@ -56,7 +57,7 @@ fn the_text_tells_names_sums_and_warnings(rt: HostRuntime) -> Result<(), Fail> {
     assert!(rt; empty.as_slice() == want.as_bytes());
     let strange = text_of(rt.alloc(), b"\xef\xbb\xbfSTORE;0x10;0;8|a\\b|PMT.CHECKEND")?;
     let want =
-        "records=3 events=1 sections=1 skipped=2\nPMT.CHECKEND records=1\nskipped \\xef\\xbb\\xbfSTORE records=1\nskipped a\\\\b records=1\nassertions=1 empty=0\nstores=0 unasserted=0\nwarning: a skipped name is not text\n";
+        "records=3 events=1 sections=1 skipped=2\nPMT.CHECKEND records=1\nskipped \\xef\\xbb\\xbfSTORE records=1 near=STORE\nskipped a\\\\b records=1\nassertions=1 empty=0\nstores=0 unasserted=0\nwarning: a skipped name is near a known one\nwarning: a skipped name is not text\n";
     assert!(rt; strange.as_slice() == want.as_bytes());
     Ok(())
 }
@@ -68,8 +69,14 @@ fn a_long_name_is_cut_and_the_33rd_name_is_another(rt: HostRuntime) -> Result<()
         log.extend_from_slice(&[b'a', b'A' + letter, b'|'])?;
     }
     log.extend_from_slice(b"aA|")?;
+    assert_eq!(rt;
+        warnings_of(rt.alloc(), &log),
+        Ok((true, false, false, false))
+    );
+    log.extend_from_slice(b"STOER|a\x7f|")?;
     let lint = lint_log(rt.alloc(), &log)?;
-    assert_eq!(rt; (lint.skipped, lint.listed.len(), lint.others), (35, 32, 2));
+    assert_eq!(rt; (lint.skipped, lint.listed.len(), lint.others), (37, 32, 4));
+    assert!(rt; lint.has_near && lint.has_strange);
     assert_eq!(rt; lint.listed[0].records, 2);
     assert_eq!(rt; lint.listed[31].name, b"a`".as_slice());
     let mut long = Vec::new(rt.alloc());
@@ -120,20 +127,34 @@ fn a_store_is_covered_by_what_comes_later(rt: HostRuntime) {
 
 #[test]
 fn what_is_no_log_is_suspicious(rt: HostRuntime) {
-    let cases: [(&[u8], (bool, bool, bool)); 7] = [
-        (b"STORE;1;0;1|PMT.PERSIST;1;1|START", (false, false, false)),
-        (b"STORE;1;0;1|FENCE", (true, false, false)),
-        (b"store;1;0;1|PMT.PERSIST;1;1", (false, true, false)),
+    let cases: [(&[u8], (bool, bool, bool, bool)); 9] = [
+        (
+            b"STORE;1;0;1|PMT.PERSIST;1;1|START",
+            (false, false, false, false),
+        ),
+        (b"STORE;1;0;1|FENCE", (true, false, false, false)),
+        (
+            b"STORE;1000;0;1|PMT.PERSIST;0x1000;1|PMT.ORDERED;1000;1;1;1",
+            (false, true, false, false),
+        ),
+        (
+            b"PMT.PERSIST;0x1000;1|PMT.CHECKEND",
+            (false, false, false, false),
+        ),
+        (b"store;1;0;1|PMT.PERSIST;1;1", (false, true, true, false)),
         (
             b"==7== STORE;1;0;1|==7== PMT.PERSIST;1;1",
-            (true, true, false),
+            (true, false, true, false),
         ),
-        (b"PMT_PERSIST;1;1|PMT.CHECKEND", (false, true, false)),
+        (b"PMT_PERSIST;1;1|PMT.CHECKEND", (false, false, true, false)),
         (
             b"\xef\xbb\xbfSTORE;1;0;1|PMT.PERSIST;1;1",
-            (false, false, true),
+            (false, true, true, true),
         ),
-        (b"\xff\xfeS\0T\0O\0R\0E\0;\x001\0", (true, false, true)),
+        (
+            b"\xff\xfeS\0T\0O\0R\0E\0;\x001\0",
+            (true, false, false, true),
+        ),
     ];
     for (log, want) in cases {
         assert_eq!(rt; warnings_of(rt.alloc(), log), Ok(want), "at {}", log.len());
@@ -155,6 +176,14 @@ fn a_name_is_near_where_one_letter_is_off(rt: HostRuntime) {
         ("PMTPERSIST", "PMT.PERSIST"),
         ("==123== STORE", "STORE"),
         ("x\tPMT.TXEND", "PMT.TXEND"),
+        ("==7==STORE", "STORE"),
+        ("STORE,0x1000,7,8", "STORE"),
+        ("Store 0x1000 7 8", "STORE"),
+        ("pmt_persist", "PMT.PERSIST"),
+        ("PMT.TXADD:", "PMT.TXADD"),
+        ("tsore", "STORE"),
+        ("DO_FLUSH", ""),
+        ("FENCE.END", ""),
         ("START", ""),
         ("STRO", ""),
         ("xSTORES", ""),

@@ -1,6 +1,6 @@
 use Rattle.std.proofs.Common.{[], length-append, take, sym, subst, arith, ◌∷◌}
 use Rattle.pmf_storelog.specs.Separators.{records_of}
-use Rattle.pmf_lint.specs.Naming.{Tallies}
+use Rattle.pmf_lint.specs.Rolling.{Tallies}
 use Rattle.pmf_lint.proofs.CursorLemmas.{anew_first, records_of-nil}
 use Rattle.pmf_lint.proofs.LintLemmas.{tallied_next}
 use Rattle.pmf_lint.proofs.linting.call_roll.Goals as goal

@@ -1,7 +1,7 @@
 use Rattle.std.proofs.Common.{length, ◌-◌, ◌≤◌, take}
 use Rattle.pmf_storelog.specs.Separators.{records_of}
 use Rattle.pmf_lint.specs.Walking.{BeginsAnew}
-use Rattle.pmf_lint.specs.Naming.{Tallies}
+use Rattle.pmf_lint.specs.Rolling.{Tallies}
 use Rattle.pmf_lint.proofs.linting.call_roll.Given as goal
 
 abbrev pub invariant-loop-found : goal.invariant-loop-found

@@ -6,6 +6,6 @@ pub returns-clause-answer : goal.returns-clause-answer
 returns-clause-answer g c =
     let left = g.R.Source.left c.args.reader.now in
     let rest = g.R.Source.left c.read_all.new.reader in
-    Answers-written (IsLintOf left rest) (IsLintRefusalOf left rest) _ _ _ c.in-Ok-lint_text.text.items c.write_answer.result
-    (c.in-Ok.log.items, c.in-Ok.ensures.ok, c.in-Ok-lint_log.lint, rw c.deref.ensures.value at c.in-Ok-lint_log.ensures)
+    Answers-written (IsLintOf left rest) (IsLintRefusalOf left rest) _ _ _ c.in-Ok-tell.told.1.items c.write_answer.result
+    (c.in-Ok.log.items, c.in-Ok.ensures.ok, c.in-Ok-lint_log.lint, rw c.deref.ensures.value at c.in-Ok-lint_log.ensures, c.in-Ok-tell.ensures)
     (rw c.deref-2.ensures.value at c.write_answer.ensures.written)

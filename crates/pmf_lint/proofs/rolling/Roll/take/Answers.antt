@@ -1,5 +1,6 @@
 use Rattle.std.proofs.Common.{sym, ap, subst, ◌∙◌, refl, arith, List, [], ◌∷◌, ◌++◌, map, ℕ}
-use Rattle.pmf_lint.specs.Naming.{Lists, counting, names_of, skipped_names}
+use Rattle.pmf_lint.specs.Rolling.{Lists}
+use Rattle.pmf_lint.specs.Naming.{counting, names_of, skipped_names}
 use Rattle.pmf_lint.proofs.NamingLemmas.{names_long, skipped_few, small_counts, tallies_known, tallies_skipped}
 use Rattle.pmf_lint.proofs.rolling.Roll.take.Goals as goal
 
