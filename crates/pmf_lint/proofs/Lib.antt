@@ -8,6 +8,7 @@ pub mod FirstNamesLemmas
 pub mod NamingLemmas
 pub mod NearnessLemmas
 pub mod LintTextLemmas
+pub mod WorkedNames
 pub mod InsideLemmas
 pub mod CoverLemmas
 pub mod TallySumLemmas

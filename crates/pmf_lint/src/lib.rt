@@ -3,12 +3,12 @@
 //! [`locate_event`] names the record that gave an event of a section, and the offset at which it begins
 //! (`Locating`). Which record that is, and at which offset, is settled by the definition alone ([`laws`]).
 //!
-//! [`lint_log`] counts the records of each name (`Naming`), and over the sections the assertions, the rows
-//! of those that had nothing to check, the stores, and the stores that no later assertion covers
-//! (`Covering`, `Summing`); what it answers is `Linting.IsLint`.
+//! [`lint_log`] counts the records of each name (`Naming`), looks whether one of a skipped record is near to
+//! a known one, or no text (`Nearness`), and counts over the sections the assertions, the rows of those that
+//! had nothing to check, the stores, and the stores that no later assertion covers (`Covering`, `Summing`);
+//! what it answers is `Linting.IsLint`. [`lint_text`] writes all of that, with its warnings (`LintText`).
 //!
-//! Not promised here: that memory suffices, that a log is what the program did, that the listed names are
-//! the first of the log, which known name one is near to, and the text of [`lint_text`].
+//! Not promised here: that memory suffices, and that a log is what the program did.
 #![tactic(auto)]
 
 mod covering;
