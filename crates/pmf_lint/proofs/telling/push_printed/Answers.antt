@@ -1,4 +1,4 @@
-use Rattle.std.proofs.Common.{◌∙◌, ◌++◌, ap, List, ℕ, arith}
+use Rattle.std.proofs.Common.{◌∙◌, ◌++◌, ap, List, ℕ}
 use Rattle.std.specs.String.{string_bytes}
 use Rattle.pmf_lint.proofs.LintTextLemmas.{printed_alone}
 use Rattle.pmf_lint.proofs.telling.push_printed.Goals as goal

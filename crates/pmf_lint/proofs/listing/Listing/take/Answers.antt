@@ -1,8 +1,6 @@
-use Rattle.std.proofs.Common.{◌≡◌, sym, ap, ◌∙◌, refl, arith, List, Bool, not, ◌||◌}
-use Rattle.std.specs.Prelude.{is_some}
+use Rattle.std.proofs.Common.{sym, ap, ◌∙◌, refl, arith, List, Bool, not, ◌||◌}
 use Rattle.pmf_lint.specs.declared.naming.Named.{Named}
 use Rattle.pmf_lint.specs.Naming.{is_among, names_in}
-use Rattle.pmf_lint.specs.Nearness.{is_text, near_of}
 use Rattle.pmf_lint.proofs.NamingLemmas.{lists_again, lists_new, lists_other, others_few, small_counts}
 use Rattle.pmf_lint.proofs.listing.Listing.take.Goals as goal
 
