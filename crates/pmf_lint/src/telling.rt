@@ -64,7 +64,8 @@ pub fn lint_text(alloc: Global, lint: &Lint<'_>) -> Result<Vec<u8>, AllocError>
 
 #[tactic(auto, unfolding(crate::specs::LintText::line_of_counts))]
 fn push_counts(text: &mut String, lint: &Lint<'_>) -> Result<(), AllocError>
-    ensures { OnOk result (string_bytes text.new ≡ string_bytes text.old ++ line_of_counts lint.now) }
+    ensures { OnOk result (string_bytes text.new
+        ≡ string_bytes text.old ++ line_of_counts lint.now) }
 {
     let (records, events) = (lint.records, lint.sums.events);
     let (sections, skipped) = (lint.sections, lint.skipped);
@@ -96,7 +97,8 @@ fn push_all_skipped(text: &mut String, counts: &[Named<'_>]) -> Result<(), Alloc
 
 #[tactic(auto, unfolding(crate::specs::LintText::line_of_known))]
 fn push_known(text: &mut String, named: &Named<'_>) -> Result<(), AllocError>
-    ensures { OnOk result (string_bytes text.new ≡ string_bytes text.old ++ line_of_known named.now) }
+    ensures { OnOk result (string_bytes text.new
+        ≡ string_bytes text.old ++ line_of_known named.now) }
 {
     let records = named.records;
     if records == 0 {
@@ -108,7 +110,8 @@ fn push_known(text: &mut String, named: &Named<'_>) -> Result<(), AllocError>
 
 #[tactic(auto, unfolding(crate::specs::LintText::line_of_skipped))]
 fn push_skipped(text: &mut String, named: &Named<'_>) -> Result<(), AllocError>
-    ensures { OnOk result (string_bytes text.new ≡ string_bytes text.old ++ line_of_skipped named.now) }
+    ensures { OnOk result (string_bytes text.new
+        ≡ string_bytes text.old ++ line_of_skipped named.now) }
 {
     let records = named.records;
     text.push_str("skipped ")?;
@@ -120,7 +123,8 @@ fn push_skipped(text: &mut String, named: &Named<'_>) -> Result<(), AllocError>
 
 #[tactic(auto, unfolding(crate::specs::LintText::hint_of))]
 fn push_hint(text: &mut String, name: &[u8]) -> Result<(), AllocError>
-    ensures { OnOk result (string_bytes text.new ≡ string_bytes text.old ++ hint_of (near_of name.now)) }
+    ensures { OnOk result (string_bytes text.new
+        ≡ string_bytes text.old ++ hint_of (near_of name.now)) }
 {
     if let Some(known) = near(name) {
         text.push_str(" near=")?;
@@ -141,7 +145,8 @@ fn push_others(text: &mut String, others: u64) -> Result<(), AllocError>
 
 #[tactic(auto, unfolding(crate::specs::LintText::line_of_assertions))]
 fn push_assertions(text: &mut String, sums: Sums) -> Result<(), AllocError>
-    ensures { OnOk result (string_bytes text.new ≡ string_bytes text.old ++ line_of_assertions sums) }
+    ensures { OnOk result (string_bytes text.new
+        ≡ string_bytes text.old ++ line_of_assertions sums) }
 {
     let Sums {
         assertions,
@@ -167,7 +172,8 @@ fn push_stores(text: &mut String, sums: Sums) -> Result<(), AllocError>
 
 #[tactic(auto, unfolding(crate::specs::LintText::lines_of_warnings))]
 fn push_warnings(text: &mut String, lint: &Lint<'_>) -> Result<(), AllocError>
-    ensures { OnOk result (string_bytes text.new ≡ string_bytes text.old ++ lines_of_warnings lint.now) }
+    ensures { OnOk result (string_bytes text.new
+        ≡ string_bytes text.old ++ lines_of_warnings lint.now) }
 {
     let sums = lint.sums;
     push_warning(
@@ -193,7 +199,8 @@ fn push_warnings(text: &mut String, lint: &Lint<'_>) -> Result<(), AllocError>
 }
 
 fn push_warning(text: &mut String, due: bool, warning: &str) -> Result<(), AllocError>
-    ensures { OnOk result (string_bytes text.new ≡ string_bytes text.old ++ warned due warning.now) }
+    ensures { OnOk result (string_bytes text.new
+        ≡ string_bytes text.old ++ warned due warning.now) }
 {
     if !due {
         return Ok(());
