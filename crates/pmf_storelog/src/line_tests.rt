@@ -70,17 +70,6 @@ fn a_line_without_an_event_is_told_from_a_refused_one(rt: HostRuntime) {
 }
 
 #[test]
-fn a_line_may_have_as_many_bytes_as_a_log(rt: HostRuntime) -> Result<(), Fail> {
-    let mut line = Vec::new(rt.alloc());
-    line.resize(LOG_LIMIT - 5, b' ')?;
-    line.extend_from_slice(b"FENCE")?;
-    assert_eq!(rt; read_event(&line), Ok(Event::Fence));
-    line.push(b' ')?;
-    assert_eq!(rt; read_event(&line), Err(LineFault::NoEvent));
-    Ok(())
-}
-
-#[test]
 fn a_number_in_front_has_1_to_20_digits_and_is_below_2_to_the_64(rt: HostRuntime) {
     for (text, want) in [
         ("0", Some((0, ""))),

@@ -6,7 +6,6 @@ mod explaining;
 mod failing;
 mod fakes;
 mod joining;
-mod limits;
 mod orders;
 mod rows;
 mod seeking;

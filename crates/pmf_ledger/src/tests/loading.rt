@@ -271,21 +271,6 @@ fn numbers_in_a_head_are_not_believed(rt: HostRuntime) {
 }
 
 #[test]
-fn one_event_too_many_is_refused_at_its_line(rt: HostRuntime) -> Result<(), Fail> {
-    let alloc = rt.alloc();
-    let mut text = String::new(alloc);
-    text.push_str("PMFARM-LEDGER 1\nsection 0.0 events=1048577 rows=0\n")?;
-    for _ in 0..1_048_576 {
-        text.push_str("FENCE\n")?;
-    }
-    assert_refused(&rt, alloc, text.as_bytes(), not_a_ledger(1_048_579));
-    text.push_str("FENCE\n")?;
-    let many = refused(1_048_579, Cause::TooManyEvents);
-    assert_refused(&rt, alloc, text.as_bytes(), many);
-    Ok(())
-}
-
-#[test]
 fn a_fault_has_its_text(rt: HostRuntime) -> Result<(), Fail> {
     for (fault, want) in [
         (not_a_ledger(10), "line 10: not a ledger"),

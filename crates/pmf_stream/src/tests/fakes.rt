@@ -10,14 +10,13 @@ use std::io;
 use std::io::{Error, ErrorKind, Read, Write};
 
 // Gives the pieces in turn, one a read, and then the end. A piece that does not fit into the
-// buffer, or has more than `most` bytes, is given in several reads. The first piece is given
-// `again` times more before the second. No piece but the last is empty, and `most` is not 0.
+// buffer, or has more than `most` bytes, is given in several reads. No piece but the last is empty, and
+// `most` is not 0.
 #[derive(Drop)]
 pub struct PieceSource<'a> {
     pieces: &'a [&'a [u8]],
     rest: &'a [u8],
     next: usize,
-    again: usize,
     most: usize,
     fails_after: bool,
     failures: u64,
@@ -31,7 +30,6 @@ impl<'a> PieceSource<'a> {
             pieces,
             rest: b"",
             next: 0,
-            again: 0,
             most: usize::MAX,
             fails_after: false,
             failures: 0,
@@ -45,14 +43,6 @@ impl<'a> PieceSource<'a> {
         let mut source = PieceSource::new(pieces);
         source.fails_after = true;
         source
-    }
-
-    // The first piece, so many times more.
-    pub fn again(mut self, times: usize) -> PieceSource<'a>
-        ensures { result.failures ≡ self.entry.failures }
-    {
-        self.again = times;
-        self
     }
 
     // At most this many bytes a read.
@@ -78,11 +68,7 @@ impl<'a> Source for PieceSource<'a> {
     fn read(&mut self, buffer: &mut [u8]) -> Result<usize, Failed> {
         if self.rest.is_empty() && self.next < self.pieces.len() {
             self.rest = self.pieces[self.next];
-            if self.again > 0 {
-                self.again -= 1;
-            } else {
-                self.next += 1;
-            }
+            self.next += 1;
         }
         if self.rest.is_empty() && self.fails_after {
             self.failures += 1;

@@ -23,7 +23,7 @@ const LINES: [u64; 2] = [0, 64];
 /// Their bytes at the border, in which all spans lie.
 const BYTES: [u64; 8] = [60, 61, 62, 63, 64, 65, 66, 67];
 
-const SECTIONS: u64 = 4000;
+const SECTIONS: u64 = 1000;
 
 /// How many events each section has.
 const EVENTS: u32 = 8;
