@@ -5,4 +5,3 @@ pub use Rattle.pmf_stream.specs.Checking
 pub use Rattle.pmf_stream.specs.Asking
 pub use Rattle.pmf_stream.specs.Joining
 pub mod Statuses
-pub mod Words

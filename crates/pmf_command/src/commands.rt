@@ -26,17 +26,17 @@ ghost use Rattle.pmf_command.specs.Statuses.{IsAnswerTo, status_of, status_of_as
 
 use crate::diagnostics::{fail, fail_file, out_of_memory, print_skipped, refuse_words};
 use crate::ending::Ending;
-use crate::request::{Files, Request, Simulation, request_of};
 use crate::status::Status;
 use pmf_farm::OpenGate;
 use pmf_ledger::LEDGER_LIMIT;
+use pmf_request::{Files, Question, Request, Settings, Simulation, Sought, Whole};
 use pmf_sim::{SCHEDULE_LIMIT, SimFault, sim_to};
 use pmf_storelog::LOG_LIMIT;
 use pmf_stream::{
-    JoinTextFault, Joined, Question, Settings, Sink, Sought, Source, StdSink, StdSource,
-    StreamFault, Whole, check_stream, explain_all_stream, explain_stream, join_to, lint_stream,
-    locate_stream, read_all, write_text,
+    JoinTextFault, Joined, Sink, Source, StdSink, StdSource, StreamFault, check_stream,
+    explain_all_stream, explain_stream, join_to, lint_stream, locate_stream, read_all, write_text,
 };
+use pmf_words::request_of;
 use std::alloc::Global;
 use std::fmt::Display;
 use std::io::{Eprint, ErrorKind, Input, Print};

@@ -6,7 +6,7 @@ use Rattle.pmf_storelog.specs.declared.fault.TheConstants.{LOG_LIMIT}
 use Rattle.pmf_stream.specs.declared.asking.AskFault.{AskFault}
 use Rattle.pmf_stream.specs.declared.explaining.ExplainFault.{ExplainFault}
 use Rattle.pmf_stream.specs.declared.explaining.ExplainFault.TheVariants as fault
-use Rattle.pmf_stream.specs.declared.settings.Question.{Question}
+use Rattle.pmf_request.specs.declared.settings.Question.{Question}
 use Rattle.pmf_stream.specs.Explanation.{IsExplanation, IsRefusal}
 use Rattle.pmf_stream.specs.Reading.{HasReadAll}
 

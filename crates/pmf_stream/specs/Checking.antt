@@ -17,7 +17,7 @@ use Rattle.pmf_stream.specs.declared.checking.CheckLogFault.{CheckLogFault}
 use Rattle.pmf_stream.specs.declared.checking.CheckLogFault.TheVariants as checking
 use Rattle.pmf_stream.specs.declared.checking.Done.{Done}
 use Rattle.pmf_stream.specs.declared.reading.TheConstants.{PIECE}
-use Rattle.pmf_stream.specs.declared.settings.Settings.{Settings}
+use Rattle.pmf_request.specs.declared.settings.Settings.{Settings}
 use Rattle.pmf_stream.specs.Reading.{HasReadBytes}
 
 -- the stream was read to its end, and what was read is this log of the run, without a fault

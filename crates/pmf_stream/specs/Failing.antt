@@ -19,7 +19,7 @@ use Rattle.pmf_verdict.specs.Rows.{rows_of}
 use Rattle.pmf_verdict.specs.Text.{text_of_row}
 use Rattle.pmf_stream.specs.Explanation.{text_of_bytes, text_of_image}
 use Rattle.pmf_stream.specs.Reading.{HasReadAll}
-use Rattle.pmf_stream.specs.declared.settings.Whole.{Whole}
+use Rattle.pmf_request.specs.declared.settings.Whole.{Whole}
 use Rattle.pmf_stream.specs.declared.failing.LogRefusal.{LogRefusal}
 use Rattle.pmf_stream.specs.declared.failing.LogRefusal.TheVariants as refusal
 

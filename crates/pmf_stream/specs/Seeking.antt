@@ -8,7 +8,7 @@ use Rattle.pmf_storelog.specs.declared.fault.TheConstants.{LOG_LIMIT}
 use Rattle.pmf_stream.specs.Asking.{no_section, no_event}
 use Rattle.pmf_stream.specs.Reading.{HasReadAll}
 use Rattle.pmf_stream.specs.declared.seeking.SeekFault.{SeekFault}
-use Rattle.pmf_stream.specs.declared.settings.Sought.{Sought}
+use Rattle.pmf_request.specs.declared.settings.Sought.{Sought}
 
 -- what was read has the event, and this text tells where
 abbrev pub IsLocationOf : Sought → Option (List ℕ) → Option (List ℕ) → Unit {0} → List ℕ → Type 0

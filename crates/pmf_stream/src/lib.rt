@@ -23,7 +23,6 @@ mod joining;
 mod memory;
 mod reading;
 mod seeking;
-mod settings;
 mod sink;
 mod source;
 #[cfg(test)]
@@ -40,9 +39,9 @@ pub use fault::StreamFault;
 pub use holding::{Linted, lint_stream};
 pub use joining::{JoinTextFault, Joined, join_texts, join_to};
 pub use memory::ByteSink;
+pub use pmf_request::{Question, Settings, Sought, Whole};
 pub use reading::read_all;
 pub use seeking::{SeekFault, locate_stream};
-pub use settings::{Question, Settings, Sought, Whole};
 pub use sink::{Sink, StdSink};
 pub use source::{Source, StdSource};
 pub use writing::{Cut, write_answer, write_text};

@@ -8,11 +8,11 @@ ghost use Rattle.pmf_storelog.specs.declared.fault.TheConstants.{LOG_LIMIT};
 
 use crate::fault::StreamFault;
 use crate::reading::read_all;
-use crate::settings::Sought;
 use crate::sink::Sink;
 use crate::source::Source;
 use crate::writing::write_answer;
 use pmf_lint::{LocateFault, locate_text};
+use pmf_request::Sought;
 use pmf_storelog::LOG_LIMIT;
 use std::alloc::Global;
 use std::error::Error;

@@ -1,8 +1,8 @@
 //! Order assertions, flush warnings and large spans: the rows of whole logs under both profiles.
 
 use super::checks::{checks_log, done};
-use crate::settings::Settings;
 use pmf_event::Profile;
+use pmf_request::Settings;
 use std::alloc::Global;
 use std::process::Abort;
 use std::sync::Wait;

@@ -1,8 +1,0 @@
-use Rattle.std.proofs.Common.{◌≡◌, false, take, codes}
-use Rattle.std.specs.List.{list_any}
-use Rattle.std.specs.Str.{bytes_eq}
-use Rattle.std.specs.String.{string_bytes}
-use Rattle.pmf_command.proofs.request.names_all.Given as goal
-
-abbrev pub invariant-loop-word : goal.invariant-loop-word
-invariant-loop-word l = list_any (λ word. bytes_eq (string_bytes word) (codes "--all")) (take l.word-index l.words) ≡ false

@@ -1,0 +1,43 @@
+//! What the words of a command line ask for.
+
+use crate::settings::{Question, Settings, Sought, Whole};
+
+/// Which ledgers are to be joined.
+#[derive(Debug, PartialEq, Drop)]
+pub struct Files<'a> {
+    /// The files of the ledgers, in the order of the words.
+    pub names: Vec<&'a str>,
+    /// Whether the ledger text is written in the place of the report.
+    pub ledger: bool,
+}
+
+/// In which world a schedule is to be played.
+#[derive(Debug, PartialEq, Drop)]
+pub struct Simulation<'a> {
+    /// The file of the log whose sections the world is of.
+    pub log: &'a str,
+    /// How many workers there are.
+    pub workers: u32,
+    /// How many ledgers there are.
+    pub ledgers: u32,
+}
+
+/// What the words of a command line ask for.
+#[derive(Debug, PartialEq, Drop)]
+pub enum Request<'a> {
+    /// Check the log on standard input, and write its report, or its ledger text, to standard output.
+    Check(Settings),
+    /// Read the log on standard input, and write the explanation of one event to standard output.
+    Explain(Question),
+    /// Read the log on standard input, and write the explanation of each row that counts as fail to standard output.
+    ExplainAll(Whole),
+    /// Read the log on standard input, and write where one event stands in it to standard output.
+    Locate(Sought),
+    /// Read the log on standard input, and write what it holds to standard output.
+    Lint,
+    /// Join the ledgers of the files, and write the report of all, or their ledger text, to standard output.
+    Join(Files<'a>),
+    /// Play the schedule on standard input, and write what each step comes to, and each ledger's report, to standard
+    /// output.
+    Sim(Simulation<'a>),
+}

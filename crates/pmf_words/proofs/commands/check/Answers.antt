@@ -1,0 +1,9 @@
+use Rattle.pmf_words.proofs.commands.check.Goals as goal
+
+pub returns : goal.returns
+returns c =
+    let shared = c.with_run_and_profile-check.ensures in (
+      shared.0,
+      c.with_option.ensures _ _ (shared.1 _ (c.with_option-check.ensures _ _ c.head.ensures c.workers.ensures.rule c.workers.ensures.local))
+          c.ledger.ensures.rule c.ledger.ensures.local,
+    )

@@ -1,0 +1,210 @@
+-- The words of the command line: the commands and options of the program, and what they ask for. Defined here,
+-- in the words of `clap`.
+use Rattle.std.specs.Prelude.{◌≡◌, ℕ, ◌<◌, ◌^◌, pos, Bool, true, false, List, [], ◌∷◌, map, Some, codes}
+use Rattle.std.specs.List.{list_any}
+use Rattle.std.specs.Str.{bytes_eq}
+use Rattle.std.specs.Fmt.{decimal}
+use Rattle.clap.specs.Words.{App, Row, Rule, Text, all_of, first_of, one_of, app_of, new_app, new_rule, subcommand_of, with_rule, with_subcommand}
+use Rattle.clap.specs.Simple.{new_shape}
+use Rattle.clap.specs.declared.builder.action.ArgAction.TheVariants.{Append, SetTrue}
+use Rattle.clap.specs.declared.builder.command.Command.{Command, out-Command}
+use Rattle.clap.specs.declared.builder.value_parser.ValueParser.{ValueParser}
+use Rattle.clap.specs.declared.builder.value_parser.ValueParser.TheVariants as vp
+use Rattle.pmf_event.specs.declared.profile.Profile.{Profile}
+use Rattle.pmf_event.specs.declared.profile.Profile.TheVariants as profile
+use Rattle.pmf_request.specs.declared.settings.Question.{Question}
+use Rattle.pmf_request.specs.declared.settings.Settings.{Settings}
+use Rattle.pmf_request.specs.declared.settings.Sought.{Sought}
+use Rattle.pmf_request.specs.declared.settings.Whole.{Whole}
+use Rattle.pmf_request.specs.declared.request.Files.{Files}
+use Rattle.pmf_request.specs.declared.request.Simulation.{Simulation}
+use Rattle.pmf_request.specs.declared.request.Request.{Request}
+use Rattle.pmf_request.specs.declared.request.Request.TheVariants as request
+
+-- ---- the options
+
+-- numbers below 2^32, and below 2^64
+abbrev pub small_number : ValueParser
+small_number = vp.Signed (pos 0) (pos 4294967295)
+
+abbrev pub large_number : ValueParser
+large_number = vp.Unsigned 0 18446744073709551615
+
+-- an option with one value
+abbrev pub option : Text → Rule
+option name = record (new_rule name) { long = Some name; value_names = 1 }
+
+-- an option that has to be given
+abbrev pub asked : Text → Rule
+asked name = record (option name) { required = true }
+
+-- the same with a number
+abbrev pub asked_number : Text → ValueParser → Rule
+asked_number name parser = record (asked name) { parser = Some parser }
+
+-- an option with a number, and with the one that it has where it isn't given
+abbrev pub number : Text → ValueParser → Text → Rule
+number name parser default = record (option name) { parser = Some parser; defaults = default ∷ [] }
+
+-- `--run R`, `--profile P`, which takes one of two words, and a flag
+abbrev pub run_option : Rule
+run_option = number (codes "run") large_number (codes "0")
+
+abbrev pub profile_option : ValueParser → Rule
+profile_option words = number (codes "profile") words (codes "1")
+
+abbrev pub flag : Text → Rule
+flag name = record (new_rule name) { long = Some name; action = Some SetTrue }
+
+-- ---- the commands
+
+abbrev pub check_words : ValueParser → App
+check_words words =
+    with_rule (with_rule (with_rule (with_rule (new_app (codes "check"))
+    (number (codes "workers") small_number (codes "1"))) run_option) (profile_option words)) (flag (codes "ledger"))
+
+-- with the flag `--all` no event is asked for
+abbrev pub explain_words : Bool → ValueParser → App
+explain_words true words =
+    with_rule (with_rule (with_rule (new_app (codes "explain")) (flag (codes "all"))) run_option) (profile_option words)
+explain_words false words =
+    with_rule (with_rule (with_rule (with_rule (with_rule (new_app (codes "explain"))
+    (asked_number (codes "section") large_number)) (asked_number (codes "event") small_number)) (flag (codes "all"))) run_option) (profile_option words)
+
+abbrev pub locate_words : App
+locate_words =
+    with_rule (with_rule (with_rule (new_app (codes "locate"))
+    (asked_number (codes "section") large_number)) (asked_number (codes "event") small_number)) run_option
+
+-- the ledgers that are to be joined, one or more
+abbrev pub file_words : Rule
+file_words = record (new_rule (codes "file")) {
+  value_names = 1;
+  action = Some Append;
+  range = Some (record { start_inclusive = 1; end_inclusive = 18446744073709551615 });
+  required = true;
+}
+
+abbrev pub lint_words : App
+lint_words = new_app (codes "lint")
+
+abbrev pub join_words : App
+join_words = with_rule (with_rule (new_app (codes "join")) (flag (codes "ledger"))) file_words
+
+abbrev pub sim_words : App
+sim_words =
+    with_rule (with_rule (with_rule (new_app (codes "sim"))
+    (asked (codes "log"))) (asked_number (codes "workers") small_number)) (asked_number (codes "ledgers") small_number)
+
+-- the program with its six commands, and whether an explanation of all is asked for
+abbrev pub program_words : App
+program_words = record (new_app (codes "pmfarm")) {
+  top = record (new_shape (codes "pmfarm")) { has_version = true; subcommand_required = true };
+}
+
+abbrev pub pmfarm_words : Bool → ValueParser → ValueParser → App
+pmfarm_words all p q =
+    with_subcommand (with_subcommand (with_subcommand (with_subcommand (with_subcommand (with_subcommand program_words (check_words p).top)
+    (explain_words all q).top) locate_words.top) lint_words.top) join_words.top) sim_words.top
+
+-- the command has these words, and no option that its subcommands share
+pub record HasWords (words : App) (c : Command) : Type 0 where
+  pub app : app_of c ≡ words
+  pub local : (out-Command c).has_globals ≡ false
+
+-- ---- what they ask for
+
+-- n is the number that the option names, where its word is that number's decimal text
+abbrev pub IsNumberOf : List Row → Text → ℕ → ℕ → Type 0
+IsNumberOf rows name bits n = (k : ℕ) → k < 2 ^ bits → one_of name rows ≡ Some (decimal k) → n ≡ k
+
+-- the profile is the one that the option names
+pub record IsProfileOf (rows : List Row) (p : Profile) : Type 0 where
+  pub one : first_of (codes "profile") rows ≡ Some (codes "1") → p ≡ profile.One
+  pub two : first_of (codes "profile") rows ≡ Some (codes "2") → p ≡ profile.Two
+
+-- the flag is as it is given
+pub record IsFlagOf (rows : List Row) (name : Text) (flag : Bool) : Type 0 where
+  pub given : one_of name rows ≡ Some (codes "true") → flag ≡ true
+  pub left_out : one_of name rows ≡ Some (codes "false") → flag ≡ false
+
+-- the settings are those that the words of `check` name
+pub record IsCheckOf (rows : List Row) (s : Settings) : Type 0 where
+  pub workers : IsNumberOf rows (codes "workers") 32 s.workers
+  pub run : IsNumberOf rows (codes "run") 64 s.run
+  pub profile_is : IsProfileOf rows s.profile
+  pub ledger : IsFlagOf rows (codes "ledger") s.ledger
+
+-- the question is the one that the words of `explain` name
+pub record IsExplainOf (rows : List Row) (q : Question) : Type 0 where
+  pub run : IsNumberOf rows (codes "run") 64 q.run
+  pub profile_is : IsProfileOf rows q.profile
+  pub section : IsNumberOf rows (codes "section") 64 q.section
+  pub event : IsNumberOf rows (codes "event") 32 q.event
+
+-- the run and the profile are those that the words of `explain --all` name
+pub record IsExplainAllOf (rows : List Row) (w : Whole) : Type 0 where
+  pub run : IsNumberOf rows (codes "run") 64 w.run
+  pub profile_is : IsProfileOf rows w.profile
+
+-- the event is the one that the words of `locate` name
+pub record IsLocateOf (rows : List Row) (s : Sought) : Type 0 where
+  pub run : IsNumberOf rows (codes "run") 64 s.run
+  pub section : IsNumberOf rows (codes "section") 64 s.section
+  pub event : IsNumberOf rows (codes "event") 32 s.event
+
+-- the files are those that the words of `join` name, in their order
+pub record IsJoinOf (rows : List Row) (f : Files) : Type 0 where
+  pub names : (names : List Text) → all_of (codes "file") rows ≡ Some names → map (λ s. s.now) f.names.items ≡ names
+  pub ledger : IsFlagOf rows (codes "ledger") f.ledger
+
+-- the world is the one that the words of `sim` name
+pub record IsSimOf (rows : List Row) (s : Simulation) : Type 0 where
+  pub log : (log : Text) → first_of (codes "log") rows ≡ Some log → s.log.now ≡ log
+  pub workers : IsNumberOf rows (codes "workers") 32 s.workers
+  pub ledgers : IsNumberOf rows (codes "ledgers") 32 s.ledgers
+
+-- the request is one of this command, and what its words name
+abbrev pub IsCheckBy : List Row → Request → Type 0
+IsCheckBy rows (request.Check settings) = IsCheckOf rows settings
+IsCheckBy rows _ = ⊥
+
+abbrev pub IsExplainBy : Bool → List Row → Request → Type 0
+IsExplainBy false rows (request.Explain question) = IsExplainOf rows question
+IsExplainBy true rows (request.ExplainAll whole) = IsExplainAllOf rows whole
+IsExplainBy all rows _ = ⊥
+
+abbrev pub IsLocateBy : List Row → Request → Type 0
+IsLocateBy rows (request.Locate sought) = IsLocateOf rows sought
+IsLocateBy rows _ = ⊥
+
+abbrev pub IsLintBy : Request → Type 0
+IsLintBy request.Lint = Unit {0}
+IsLintBy _ = ⊥
+
+abbrev pub IsJoinBy : List Row → Request → Type 0
+IsJoinBy rows (request.Join files) = IsJoinOf rows files
+IsJoinBy rows _ = ⊥
+
+abbrev pub IsSimBy : List Row → Request → Type 0
+IsSimBy rows (request.Sim simulation) = IsSimOf rows simulation
+IsSimBy rows _ = ⊥
+
+-- the request is what a command and its words ask for
+pub record IsRequestBy (all : Bool) (command : Text) (rows : List Row) (asked : Request) : Type 0 where
+  pub check : command ≡ codes "check" → IsCheckBy rows asked
+  pub explain : command ≡ codes "explain" → IsExplainBy all rows asked
+  pub locate : command ≡ codes "locate" → IsLocateBy rows asked
+  pub lint : command ≡ codes "lint" → IsLintBy asked
+  pub join : command ≡ codes "join" → IsJoinBy rows asked
+  pub sim : command ≡ codes "sim" → IsSimBy rows asked
+
+-- whether one of the words is `--all`
+abbrev pub names_all : List Text → Bool
+names_all words = list_any (λ word. bytes_eq word (codes "--all")) words
+
+-- the request is what these words ask for, the first of which names the program
+abbrev pub IsRequestOf : List Text → Request → Type 0
+IsRequestOf words asked =
+    (p q : ValueParser) × ((command : Text) (rows : List Row) → subcommand_of (pmfarm_words (names_all words) p q) words ≡ Some (command, rows) →
+    IsRequestBy (names_all words) command rows asked)

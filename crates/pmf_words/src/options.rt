@@ -1,0 +1,148 @@
+//! The options of the commands.
+
+ghost use Rattle.std.specs.Prelude.{◌≡◌, false, Some, codes};
+ghost use Rattle.clap.specs.Words.{rule_of};
+ghost use Rattle.clap.specs.declared.builder.value_parser.ValueParser.{ValueParser};
+ghost use Rattle.pmf_words.specs.Words.{asked, asked_number, file_words, flag, large_number, number, option, profile_option, run_option, small_number};
+
+use clap::builder::ValueParser;
+use clap::{Arg, ArgAction, value_parser};
+use std::alloc::Global;
+
+// An option with one value.
+fn option<'a>(alloc: Global, name: &'a str, value: &'a str, help: &'a str) -> Arg<'a>
+    ensures rule { rule_of result ≡ option name.entry.now }
+    ensures local { result.global ≡ false }
+{
+    Arg::new(alloc, name)
+        .long(name)
+        .value_name(value)
+        .help(help)
+}
+
+// The same, whose value this parser reads.
+fn parsed<'a>(
+    alloc: Global,
+    name: &'a str,
+    value: &'a str,
+    help: &'a str,
+    parser: ValueParser<'a>,
+) -> Arg<'a>
+    ensures rule { rule_of result ≡ record (option name.entry.now) { parser = Some parser.entry } }
+    ensures local { result.global ≡ false }
+{
+    option(alloc, name, value, help).value_parser(parser)
+}
+
+// The same, with a number below 2^32, which has to be given.
+pub(crate) fn asked_number<'a>(
+    alloc: Global,
+    name: &'a str,
+    value: &'a str,
+    help: &'a str,
+) -> Arg<'a>
+    ensures rule { rule_of result ≡ asked_number name.entry.now small_number }
+    ensures local { result.global ≡ false }
+{
+    parsed(alloc, name, value, help, value_parser!(u32)).required(true)
+}
+
+pub(crate) fn workers<'a>(alloc: Global) -> Arg<'a>
+    ensures rule { rule_of result ≡ number (codes "workers") small_number (codes "1") }
+    ensures local { result.global ≡ false }
+{
+    let help = "How many threads check the sections, 1 to 64";
+    parsed(alloc, "workers", "N", help, value_parser!(u32)).default_value("1")
+}
+
+// The run and the profile, which `check` and `explain` take.
+pub(crate) fn run<'a>(alloc: Global) -> Arg<'a>
+    ensures rule { rule_of result ≡ run_option }
+    ensures local { result.global ≡ false }
+{
+    let help = "The run in the name of each section";
+    parsed(alloc, "run", "R", help, value_parser!(u64)).default_value("0")
+}
+
+pub(crate) fn profile<'a>(alloc: Global) -> Arg<'a>
+    ensures rule { (q : ValueParser) × (rule_of result ≡ profile_option q) }
+    ensures local { result.global ≡ false }
+{
+    option(
+        alloc,
+        "profile",
+        "P",
+        "The rule for two bytes of one cache line",
+    )
+    .value_parser(["1", "2"].as_slice())
+    .default_value("1")
+}
+
+pub(crate) fn section<'a>(alloc: Global) -> Arg<'a>
+    ensures rule { rule_of result ≡ asked_number (codes "section") large_number }
+    ensures local { result.global ≡ false }
+{
+    let help = "The number of the section";
+    parsed(alloc, "section", "N", help, value_parser!(u64)).required(true)
+}
+
+// The place of an event, which has to be given.
+pub(crate) fn event<'a>(alloc: Global) -> Arg<'a>
+    ensures rule { rule_of result ≡ asked_number (codes "event") small_number }
+    ensures local { result.global ≡ false }
+{
+    let help = "The place of the event in its section, counted from 1";
+    asked_number(alloc, "event", "K", help)
+}
+
+pub(crate) fn log<'a>(alloc: Global) -> Arg<'a>
+    ensures rule { rule_of result ≡ asked (codes "log") }
+    ensures local { result.global ≡ false }
+{
+    let help = "The log with whose sections the schedule is played";
+    option(alloc, "log", "FILE", help).required(true)
+}
+
+// A word that is there, or not.
+fn flag<'a>(alloc: Global, name: &'a str, help: &'a str) -> Arg<'a>
+    ensures rule { rule_of result ≡ flag name.entry.now }
+    ensures local { result.global ≡ false }
+{
+    Arg::new(alloc, name)
+        .long(name)
+        .action(ArgAction::SetTrue)
+        .help(help)
+}
+
+// The flag that `check` and `join` take.
+pub(crate) fn ledger<'a>(alloc: Global) -> Arg<'a>
+    ensures rule { rule_of result ≡ flag (codes "ledger") }
+    ensures local { result.global ≡ false }
+{
+    flag(
+        alloc,
+        "ledger",
+        "Write the ledger text instead of the report",
+    )
+}
+
+// The flag of `explain`.
+pub(crate) fn all<'a>(alloc: Global) -> Arg<'a>
+    ensures rule { rule_of result ≡ flag (codes "all") }
+    ensures local { result.global ≡ false }
+{
+    let help = "Each row of the log that counts as fail, in place of one event";
+    flag(alloc, "all", help)
+}
+
+pub(crate) fn file<'a>(alloc: Global) -> Arg<'a>
+    ensures rule { rule_of result ≡ file_words }
+    ensures local { result.global ≡ false }
+{
+    Arg::new(alloc, "file")
+        .value_name("FILE")
+        .action(ArgAction::Append)
+        .num_args(1..)
+        .required(true)
+        .help("A ledger, as `check --ledger` writes it")
+}
