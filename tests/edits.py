@@ -4,6 +4,10 @@ A check goes on after an error, and judges each function against the contracts o
 refused. So one check tries many edits, one in each of many functions' bodies. An edit of a batch counts as refused only by its own
 function's line or an error in its own function's proof. What a batch leaves open is tried alone, and so is an edit of a
 definition, of a proof or of a contract: there any refusal counts, as for `rt must-fail`.
+
+A check of some functions alone (`--only`) takes less, and what it refuses, a check of the crate does. So a batch is tried on the
+functions that it edits, and an edit alone first on the function that its file is named for. What is not refused there is
+tried on the whole crate.
 """
 
 import dataclasses
@@ -37,6 +41,12 @@ class Edit:
 
     name: str
     pairs: tuple
+
+    def function(self, lines):
+        """The one function, of those that a check prints, that the edit's file is named for, or None."""
+        end = "::" + self.name.partition(".")[0]
+        found = [it for it in lines if it.endswith(end)]
+        return found[0] if len(found) == 1 else None
 
     def texts(self, folder):
         """The edited files of the crate in this folder, each pair applied to what the earlier ones made."""
@@ -137,14 +147,22 @@ def changes_of(edit, folder):
 
 
 class Batch:
-    """Edits that one check tries: in the bodies of functions that differ, or one alone."""
+    """Edits that one check tries: in the bodies of functions that differ, or one alone. `whole` is a check of the whole crate."""
 
-    def __init__(self, edits, places=()):
-        self.edits, self.places = list(edits), list(places)
+    def __init__(self, edits, places=(), whole=False):
+        self.edits, self.places, self.whole = list(edits), list(places), whole
 
     @property
     def is_alone(self):
         return not self.places
+
+    def functions(self, crate, lines):
+        """The functions that a check of this batch asks for, of those that a check prints; none where it is to be of the crate."""
+        if self.is_alone:
+            found = [] if self.whole else [self.edits[0].function(lines)]
+        else:
+            found = [name_of(place, crate, lines) for _, place in self.places]
+        return found if all(found) else []
 
     def texts(self, folder):
         """The edited files. Changes are cut by their places in the texts as they are: a new text can hold another's old one."""
@@ -165,7 +183,7 @@ class Batch:
     def halves(self):
         """Two smaller batches, or the edit alone."""
         if len(self.edits) == 1:
-            return [Batch(self.edits)]
+            return [Batch(self.edits, whole=True)]
         middle = len(self.edits) // 2
         return [Batch(self.edits[:middle], self.places[:middle]), Batch(self.edits[middle:], self.places[middle:])]
 
@@ -204,25 +222,37 @@ def logic_of(said):
     return found[-1] if found else ""
 
 
+def outcome_of(status, said):
+    """Whether a check proved what it was asked for, the crate or some functions: True, False, or None where it does not say."""
+    of_some = re.findall(r"(?m)^only=(\d+) proved=(\d+)$", said)
+    wanted, proved = of_some[-1] if of_some else (1, 1)
+    is_proved = wanted == proved if of_some else logic_of(said).startswith("proved")
+    is_refused = wanted != proved if of_some else logic_of(said).startswith("not-proved")
+    return True if status == 0 and is_proved else False if status == 1 and is_refused else None
+
+
 def judged(batch, crate, status, said):
     return judged_alone(batch, status, said) if batch.is_alone else judged_together(batch, crate, status, said)
 
 
 def judged_alone(batch, status, said):
-    """One edit: any refusal of the crate counts, if the edited text was read."""
-    edit = batch.edits[0]
+    """One edit: any refusal counts, if the edited text was read. Only a check of the whole crate says that there is none."""
+    edit, outcome = batch.edits[0], outcome_of(status, said)
     bad = next((it for it in UNREAD.finditer(said) if is_unread(it, edit)), None)
-    logic = logic_of(said)
     if bad:
-        return Verdict({}, {edit: f"the check cannot read the edited text: {bad[0][:160]}"}, [])
-    if STALE.search(said):
-        return Verdict({}, {edit: "the kept work of a library could not be used"}, [])
-    if status == 1 and logic.startswith("not-proved"):
+        why = f"the check cannot read the edited text: {bad[0][:160]}"
+    elif STALE.search(said):
+        why = "the kept work of a library could not be used"
+    elif outcome is False:
         first = next((it for it in said.split("\n") if re.match(r"(note: )?\S+:\d+:\d+: ", it)), "")
         return Verdict({edit: first[:160]}, {}, [])
-    if status == 0 and logic.startswith("proved"):
-        return Verdict({}, {edit: "the crate is still proved with this edit"}, [])
-    return Verdict({}, {edit: f"the check gave no verdict (status {status}): {said[-300:].strip()}"}, [])
+    elif not batch.whole:
+        return Verdict({}, {}, [Batch([edit], whole=True)])
+    elif outcome:
+        why = "the crate is still proved with this edit"
+    else:
+        why = f"the check gave no verdict (status {status}): {said[-300:].strip()}"
+    return Verdict({}, {edit: why}, [])
 
 
 def is_unread(found, edit):
@@ -234,10 +264,10 @@ def is_unread(found, edit):
 
 def judged_together(batch, crate, status, said):
     """Several edits: each by the line of its own function, and by the errors in its own function's proof."""
-    lines = dict(LINE_OF_FUNCTION.findall(said))
-    if status != 1 or not logic_of(said).startswith("not-proved") or not lines:
-        if status == 0 and logic_of(said).startswith("proved"):
-            return Verdict({}, {}, [Batch([it]) for it in batch.edits])
+    lines, outcome = functions_of(said), outcome_of(status, said)
+    if outcome:
+        return Verdict({}, {}, [Batch([it], whole=True) for it in batch.edits])
+    if outcome is None or not lines:
         return Verdict({}, {}, batch.halves())
     names = [name_of(place, crate, lines) for _, place in batch.places]
     errors = errors_of(said)
@@ -250,8 +280,13 @@ def judged_together(batch, crate, status, said):
         if name and is_refused(name, crate, lines, errors):
             refused[edit] = f"{name}: {lines[name]}"[:160]
         else:
-            again.append(Batch([edit]))
+            again.append(Batch([edit], whole=True))
     return Verdict(refused, {}, again, any(lines[it] == "proved" for it in others))
+
+
+def functions_of(said):
+    """What a check says of each function, by its name."""
+    return dict(LINE_OF_FUNCTION.findall(said))
 
 
 def name_of(place, crate, lines):

@@ -1,14 +1,17 @@
-"""The crates of the repository, the rooms in which the toolchain works on one of them, and such work side by side.
+"""The crates of the repository, how the toolchain proves one of them, and such work side by side.
 
-tools/build and tests/gate stand on this file. `rt` keeps others out of the crates below the one that it works on, so each task
-has a room: a small repository of copies of the sources, and of links to what is built below. `tools/weights` tells what each crate
-takes; it orders the work and tells how long is left, and nothing else rests on it.
+tools/build and tests/gate stand on this file. A library is proved from nothing, over the statements alone of those below it: to load
+their proofs takes longer. So the compiler is called by its own words; `rt lib` knows whole libraries only. Each call has a room, a
+copy of the crate's sources as they are when it begins. `tools/weights` tells what each crate takes; it orders the work and tells how
+long is left, and nothing else rests on it.
 """
 
 import contextlib
+import hashlib
 import os
 import pathlib
 import re
+import shlex
 import shutil
 import signal
 import subprocess
@@ -16,7 +19,9 @@ import tempfile
 import time
 
 PARTS = ("src", "specs", "proofs")
-KEPT = ("incremental", "rlib")
+# (as tools/sources passes over them)
+TESTS = re.compile(r"(^|/)(tests(/|\.rt$)|\w*_tests\.rt$)")
+TARGET = "x86_64-unknown-linux-gnu"
 GIGABYTE = 1_000_000_000
 # How much faster a proof is on so many processors.
 SPEED = (1.0, 1.0, 1.5, 1.8, 2.0)
@@ -33,10 +38,10 @@ class Crates:
         self.top = pathlib.Path(top)
         lines = (self.top / "crates.txt").read_text().splitlines()
         self.lines = {it.split(":")[0].split()[0]: it for it in lines if it.partition("#")[0].partition(":")[0].strip()}
-        self.uses = {
-            name: [it for it in line.partition("#")[0].partition(":")[2].split() if it in self.lines]
-            for name, line in self.lines.items()
-        }
+        named = {name: line.partition("#")[0].partition(":")[2].split() for name, line in self.lines.items()}
+        self.uses = {name: [it for it in found if it in self.lines] for name, found in named.items()}
+        # those of the kit
+        self.takes = {name: sorted({"std", *found} - set(self.lines)) for name, found in named.items()}
 
     def folder(self, name):
         return self.top / "crates" / name
@@ -50,6 +55,84 @@ class Crates:
 
     def is_program(self, name):
         return (self.folder(name) / "src" / "main.rt").is_file()
+
+    def made(self, name):
+        """What the proof of a crate makes: the statements of a library, or the program."""
+        out = self.folder(name) / "out"
+        return out / name if self.is_program(name) else out / "statements" / f"{name}.rlib"
+
+
+def command(*words, folder=None):
+    """What a command says, or nothing where it fails."""
+    ran = subprocess.run(words, cwd=folder, stdin=subprocess.DEVNULL, capture_output=True, text=True, check=False)
+    return ran.stdout if ran.returncode == 0 else ""
+
+
+def digest(*texts):
+    found = hashlib.sha256()
+    for it in texts:
+        data = it if isinstance(it, bytes) else it.encode()
+        found.update(b"%d:" % len(data) + data)
+    return found.hexdigest()
+
+
+class Sums:
+    """For each crate a sum of all that its proof rests on: the kit, its files, and all below."""
+
+    def __init__(self, crates, kit):
+        self.crates, self.kit, self.known = crates, kit, {}
+
+    def __call__(self, name):
+        if name not in self.known:
+            self.known[name] = self.of(name, self.crates.folder(name), self)
+        return self.known[name]
+
+    def of(self, name, folder, below):
+        """The sum of a crate with the files of this folder, over these sums."""
+        return digest(self.kit, self.crates.lines[name], *files(folder, *PARTS), *map(below, self.crates.uses[name]))
+
+
+def files(folder, *parts):
+    """The names and the bytes of the files in some parts of a folder, but for tests."""
+    found = [it for part in parts for it in sorted((folder / part).rglob("*")) if it.is_file()]
+    named = [(str(it.relative_to(folder)), it) for it in found]
+    return [text for name, it in named if not TESTS.search(name) for text in (name, it.read_bytes())]
+
+
+class Kit:
+    """The toolchain's kit: where it lies, by the page that `rt doc` names, and how its compiler is called."""
+
+    def __init__(self, rt):
+        self.folder = pathlib.Path(command(rt, "doc").strip()).parent
+        self.name = command(rt, "version").strip()
+
+    def words(self, crates, name, verb, jobs, *more):
+        """A call of the compiler on a crate, over what is made of those below."""
+        root = "src/main.rt" if crates.is_program(name) else "src/lib.rt"
+        words = [self.folder / "bin" / "rattle", verb, "--crate-name", name, root]
+        for it in crates.takes[name]:
+            words += ["--extern", f"{it}={self.folder}/rlibs/{it}.rlib"]
+        for it in crates.uses[name]:
+            words += ["--extern", f"{it}={crates.made(it)}"]
+        for it in (self.folder / "rlibs", *(crates.made(it).parent for it in crates.below(name))):
+            words += ["-L", f"dependency={it}"]
+        words += ["--antt-project", self.folder / "rattle" / "logic" / "antt-project.json"]
+        words += ["--logic-built", self.folder / "logic_built", "--links", f"{name}=", "--jobs", jobs, *more]
+        return [str(it) for it in words]
+
+    def program(self, crates, name, jobs, *more, after):
+        """The crate, or its tests, built into the program out/NAME of a room, and then this command."""
+        chain, made = self.folder / "toolchain", f"out/{name}"
+        build = self.words(crates, name, "build", jobs, *more, "--toolchain", chain, "--backend", "llvm", "-o", f"{made}.o")
+        link = [self.folder / "bin" / "rattle-link", "--target", TARGET, "--toolchain", chain, "-o", made, f"{made}.o"]
+        link += [self.folder / "c" / "libos_c.a", self.folder / "c" / "liblibc_c.a"]
+        return ["sh", "-c", " && ".join(shlex.join(map(str, it)) for it in (build, link, after))]
+
+    def proof(self, crates, name, jobs):
+        """The crate proved from nothing, and what is made of it in out/ of a room."""
+        if crates.is_program(name):
+            return self.program(crates, name, jobs, after=[f"out/{name}", "--version"])
+        return self.words(crates, name, "build", jobs, "--statements", "-o", f"out/{name}.rlib")
 
 
 class Weights:
@@ -72,58 +155,43 @@ class Weights:
         return self.of.get(name, usual)[what]
 
 
-def link_or_copy(source, target):
-    try:
-        os.link(source, target)
-    except OSError:
-        shutil.copy2(source, target)
+def link(source, target):
+    """Copies a folder, its files by links where these can be made: the compiler replaces such a file, and changes none."""
+
+    def copy(one, other):
+        try:
+            os.link(one, other)
+        except OSError:
+            shutil.copy2(one, other)
+
+    shutil.copytree(source, target, copy_function=copy)
 
 
 class Room:
-    """A small repository of one crate and those below it, in a folder of its own."""
+    """A copy of a crate's sources, in a folder of its own."""
 
-    def __init__(self, crates, name, folder, texts=None, built=True):
-        """Copies the sources, with these texts in place of some of the crate's own, and links what is built below."""
-        self.crates, self.name = crates, name
-        self.top = pathlib.Path(tempfile.mkdtemp(dir=folder))
-        names = [*crates.below(name), name]
-        (self.top / "crates.txt").write_text("".join(f"{crates.lines[it]}\n" for it in names))
-        for it in names:
-            for part in PARTS:
-                if (crates.folder(it) / part).is_dir():
-                    shutil.copytree(crates.folder(it) / part, self.top / "crates" / it / part)
-            if it != name and built:
-                self.bring(it, "rlib", link)
+    def __init__(self, crates, name, rooms, texts=None):
+        """Copies the sources, with these texts in place of some."""
+        self.folder = pathlib.Path(tempfile.mkdtemp(dir=rooms))
+        for part in PARTS:
+            if (crates.folder(name) / part).is_dir():
+                shutil.copytree(crates.folder(name) / part, self.folder / part)
         for path, text in (texts or {}).items():
             (self.folder / path).write_text(text)
-
-    @property
-    def folder(self):
-        return self.top / "crates" / self.name
-
-    def bring(self, name, part, how):
-        """Takes what is built of a crate into the room, if it is there."""
-        source, target = self.crates.folder(name) / "out" / part, self.top / "crates" / name / "out" / part
-        if source.is_dir():
-            target.parent.mkdir(parents=True, exist_ok=True)
-            how(source, target)
-
-    def give(self, *parts):
-        """Gives what is built of the crate to the repository, in the place of what is there."""
-        for part in parts:
-            source, target = self.folder / "out" / part, self.crates.folder(self.name) / "out" / part
-            if source.exists():
-                target.parent.mkdir(exist_ok=True)
-                if target.is_dir():
-                    shutil.rmtree(target)
-                shutil.move(source, target)
+        (self.folder / "out").mkdir()
 
     def remove(self):
-        shutil.rmtree(self.top, ignore_errors=True)
+        shutil.rmtree(self.folder, ignore_errors=True)
 
 
-def link(source, target):
-    shutil.copytree(source, target, copy_function=link_or_copy)
+def put(source, target):
+    """Moves a file or a folder to where another may be."""
+    target.parent.mkdir(parents=True, exist_ok=True)
+    if target.is_dir():
+        shutil.rmtree(target)
+    new = target.with_name(f"{target.name}.new")
+    shutil.move(source, new)
+    new.replace(target)
 
 
 def folder_of_rooms(top):
@@ -166,10 +234,6 @@ class Task:
     def __init__(self, name, after=(), seconds=1.0, memory=2.0):
         self.name, self.after, self.seconds, self.memory = name, tuple(after), seconds, memory
 
-    def may_begin(self):
-        """Whether nothing else is in its way now."""
-        return True
-
     def begin(self, jobs):
         raise NotImplementedError
 
@@ -187,9 +251,9 @@ class Running:
     def __init__(self, task, jobs, log):
         self.task, self.jobs, self.begun, self.log = task, jobs, time.monotonic(), log
         words, folder = task.begin(jobs)
-        nice = [] if task.spreads and jobs > 1 else ["nice", "-n", str(task.nice)]
+        nice = ["nice", "-n", str(task.nice)] if task.nice else []
         with open(log, "wb") as out:
-            how = {"cwd": folder, "stdin": subprocess.DEVNULL, "stdout": out, "stderr": out}
+            how = {"cwd": folder, "stdin": subprocess.DEVNULL, "stdout": out, "stderr": out, "start_new_session": True}
             self.process = subprocess.Popen([*nice, *words], **how)
 
     def seconds(self):
@@ -197,7 +261,7 @@ class Running:
 
     def stop(self):
         with contextlib.suppress(OSError):
-            self.process.terminate()
+            os.killpg(self.process.pid, signal.SIGTERM)
         with contextlib.suppress(ChildProcessError):
             os.waitpid(self.process.pid, 0)
         self.process.returncode = -signal.SIGTERM
@@ -207,7 +271,7 @@ class Running:
 class Work:
     """Tasks side by side: as many as there are processors and memory for, first those with the longest chain behind them.
 
-    The task that leads, one at a time, may take every processor, and the others are told to stand back.
+    The task that leads, one at a time, may take every processor. Those on which none waits stand back.
     """
 
     def __init__(self, tasks, logs, guard=contextlib.nullcontext):
@@ -238,7 +302,7 @@ class Work:
             if any(self.ended.get(it) is False for it in task.after):
                 self.left.remove(task)
                 self.ended[task.name] = False
-            elif all(self.ended.get(it) for it in task.after) and self.has_room(task) and task.may_begin():
+            elif all(self.ended.get(it) for it in task.after) and self.has_room(task):
                 with self.guard():
                     self.left.remove(task)
                     running = Running(task, self.jobs_of(task, chains), self.logs / f"{task.name}.log")
@@ -250,12 +314,13 @@ class Work:
 
     def jobs_of(self, task, chains):
         """How many processors a task may use: as many as its chain needs so that it ends no later than the rest, if their memory is
-        there. A proof on several takes more of their time, so one task at a time has more than one."""
-        if not task.spreads or any(it.jobs > 1 for it in self.running.values()):
+        there. A proof on several takes more of their time, so one task at a time may have all, and another one two that are idle."""
+        spread = sum(it.jobs > 1 for it in self.running.values())
+        if not task.spreads or spread > 1 or spread and len(self.running) + 2 > self.processors:
             return 1
         whole = sum(it.seconds for it in [task, *self.left, *(it.task for it in self.running.values())])
         room = self.memory - sum(it.task.memory for it in self.running.values())
-        most = min(self.processors, len(SPEED) - 1)
+        most = 2 if spread else min(self.processors, len(SPEED) - 1)
         enough = [it for it in range(1, most) if chains[task.name] / SPEED[it] <= whole / self.processors]
         jobs = min(enough, default=most)
         while jobs > 1 and task.memory * (1 + SHARE * (jobs - 1)) > room:
@@ -265,15 +330,10 @@ class Work:
     def ends(self):
         """Does all of it. Yields each task once it has ended and what may start has: the processor seconds, and whether it is well."""
         self.start()
-        while self.running or self.left:
-            if self.running:
-                ended = self.wait()
-                self.start()
-                yield ended
-            else:
-                # (something else is in the way of what is left)
-                time.sleep(0.2)
-                self.start()
+        while self.running:
+            ended = self.wait()
+            self.start()
+            yield ended
 
     def wait(self):
         """Waits until a task has ended, and takes what it gave."""
@@ -309,25 +369,23 @@ class Work:
 
 
 class Proof(Task):
-    """The proof of a crate, and what is built of it: a library, or the program."""
+    """The proof of a crate from nothing, and what is made of it: the statements of a library, or the program."""
 
-    spreads, nice = True, 5
+    spreads, nice = True, 0
 
-    def __init__(self, rt, crates, name, rooms, weights):
+    def __init__(self, kit, crates, name, rooms, weights):
         super().__init__(name, crates.uses[name], weights(name, "proof"), weights(name, "memory"))
-        self.rt, self.crates, self.rooms, self.room = rt, crates, rooms, None
+        self.kit, self.crates, self.rooms, self.room = kit, crates, rooms, None
 
     def begin(self, jobs):
         self.room = Room(self.crates, self.name, self.rooms)
-        for part in KEPT:
-            self.room.bring(self.name, part, shutil.move)
-        more = ["--jobs", str(jobs)]
-        words = ["run", *more, "--", "--version"] if self.crates.is_program(self.name) else ["lib", *more]
-        return [self.rt, *words], self.room.folder
+        return self.kit.proof(self.crates, self.name, jobs), self.room.folder
 
     def end(self, status, said, seconds):
+        made = self.crates.made(self.name)
+        if status == 0:
+            put(self.room.folder / "out" / made.name, made)
         return status == 0, []
 
     def leave(self):
-        self.room.give(*KEPT, *([self.name] if self.crates.is_program(self.name) else []))
         self.room.remove()
