@@ -6,8 +6,8 @@ function's line or an error in its own function's proof. What a batch leaves ope
 definition, of a proof or of a contract: there any refusal counts, as for `rt must-fail`.
 
 A check of some functions alone (`--only`) takes less, and what it refuses, a check of the crate does. So a batch is tried on the
-functions that it edits, and an edit alone first on the function that its file is named for. What is not refused there is
-tried on the whole crate.
+functions that it edits, and an edit alone first on its own function or that which its file is named for. What is not refused there
+is tried on the whole crate.
 """
 
 import dataclasses
@@ -147,10 +147,11 @@ def changes_of(edit, folder):
 
 
 class Batch:
-    """Edits that one check tries: in the bodies of functions that differ, or one alone. `whole` is a check of the whole crate."""
+    """Edits that one check tries: in the bodies of functions that differ, or one alone. `own` is the function that a check of it alone
+    asks for, if not that of its name, and `whole` is a check of the whole crate."""
 
-    def __init__(self, edits, places=(), whole=False):
-        self.edits, self.places, self.whole = list(edits), list(places), whole
+    def __init__(self, edits, places=(), own=None, whole=False):
+        self.edits, self.places, self.own, self.whole = list(edits), list(places), own, whole
 
     @property
     def is_alone(self):
@@ -159,7 +160,7 @@ class Batch:
     def functions(self, crate, lines):
         """The functions that a check of this batch asks for, of those that a check prints; none where it is to be of the crate."""
         if self.is_alone:
-            found = [] if self.whole else [self.edits[0].function(lines)]
+            found = [] if self.whole else [self.own or self.edits[0].function(lines)]
         else:
             found = [name_of(place, crate, lines) for _, place in self.places]
         return found if all(found) else []
@@ -280,7 +281,7 @@ def judged_together(batch, crate, status, said):
         if name and is_refused(name, crate, lines, errors):
             refused[edit] = f"{name}: {lines[name]}"[:160]
         else:
-            again.append(Batch([edit], whole=True))
+            again.append(Batch([edit], own=name))
     return Verdict(refused, {}, again, any(lines[it] == "proved" for it in others))
 
 

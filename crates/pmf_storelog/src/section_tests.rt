@@ -2,7 +2,6 @@
 
 use super::*;
 use pmf_event::{Event, Name, Section, Span};
-use std::alloc::Global;
 use std::process::Abort;
 use std::test::Fail;
 
@@ -93,34 +92,4 @@ fn a_marker_needs_a_number(rt: HostRuntime) {
         let answer = read_log(rt.alloc(), text.as_bytes(), 5).map(|log| log.skipped());
         assert_eq!(rt; answer, Err(LogFault { at: 1, cause }), "at {text}");
     }
-}
-
-// Feeds the markers of as many sections as a log may have.
-fn feed_all_sections(alloc: Global, reader: &mut LogReader) -> Result<(), Fail> {
-    for number in 0..65_536 {
-        let record = format!(in alloc; "PMT.SECTION;{}|", number)?;
-        reader.feed(record.as_bytes())?;
-    }
-    Ok(())
-}
-
-#[test]
-fn a_log_may_have_as_many_sections_as_the_limit_says(rt: HostRuntime) -> Result<(), Fail> {
-    let mut reader = LogReader::new(rt.alloc(), 5);
-    feed_all_sections(rt.alloc(), &mut reader)?;
-    assert_eq!(rt; reader.feed(b"PMT.SECTION;0|"), Ok(()));
-    assert_eq!(rt; reader.finish()?.sections().len(), 65_536);
-    Ok(())
-}
-
-#[test]
-fn one_section_too_many_is_refused(rt: HostRuntime) -> Result<(), Fail> {
-    let mut reader = LogReader::new(rt.alloc(), 5);
-    feed_all_sections(rt.alloc(), &mut reader)?;
-    let many = LogFault {
-        at: 65_537,
-        cause: Cause::TooManySections,
-    };
-    assert_eq!(rt; reader.feed(b"PMT.SECTION;65536|"), Err(many));
-    Ok(())
 }
