@@ -131,7 +131,7 @@ class Kit:
     def proof(self, crates, name, jobs):
         """The crate proved from nothing, and what is made of it in out/ of a room."""
         if crates.is_program(name):
-            return self.program(crates, name, jobs, after=[f"out/{name}", "--version"])
+            return self.program(crates, name, jobs, after=["test", "-x", f"out/{name}"])
         return self.words(crates, name, "build", jobs, "--statements", "-o", f"out/{name}.rlib")
 
 
