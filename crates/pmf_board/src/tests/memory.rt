@@ -1,5 +1,5 @@
 //! Requests for memory that are refused. With ample memory this test only follows a board; under
-//! `tools/refuse-memory` each request for one is refused in turn.
+//! `tests/refuse-memory` each request for one is refused in turn.
 
 ghost use Rattle.std.specs.Prelude.{◌≡◌};
 

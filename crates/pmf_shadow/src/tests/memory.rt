@@ -1,5 +1,5 @@
 //! Changes for which room is refused. With ample memory these tests only follow their events; under
-//! `tools/refuse-memory` each change fails in turn, and `shadow_of` then asks all that was asked before.
+//! `tests/refuse-memory` each change fails in turn, and `shadow_of` then asks all that was asked before.
 
 use super::plain::BASE;
 use super::shadow_of;

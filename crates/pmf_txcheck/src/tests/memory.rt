@@ -1,5 +1,5 @@
 //! Changes for which room is refused. With ample memory these tests only follow their events; under
-//! `tools/refuse-memory` each change fails in turn, and `found_of` then asks all that was kept before.
+//! `tests/refuse-memory` each change fails in turn, and `found_of` then asks all that was kept before.
 
 use super::found_of;
 use super::plain::BASE;

@@ -1,5 +1,5 @@
 //! Requests for memory that are refused. With ample memory this test only follows a world; under
-//! `tools/refuse-memory` each request is refused in turn.
+//! `tests/refuse-memory` each request is refused in turn.
 
 ghost use Rattle.std.specs.Prelude.{◌≡◌, length};
 

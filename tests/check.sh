@@ -1,0 +1,95 @@
+# What `check` writes, refuses and survives.
+
+status_of_example() {
+    cat "examples/$1.status" 2>/dev/null || echo 0
+}
+
+# An example by both profiles and several numbers of workers: the reports of the profiles are alike where there is none
+# of its own for the second, those of the workers always.
+example() {
+    local wanted report profile workers
+    wanted=$(status_of_example "$1")
+    for profile in 1 2; do
+        report=examples/$1.profile-$profile.report
+        [ -f "$report" ] || report=examples/$1.report
+        for workers in 1 2 4 64; do
+            "$program" check --profile "$profile" --workers "$workers" <"examples/$1.log" \
+                >"$scratch/report" 2>"$scratch/diagnostics"
+            ended "$wanted" $? && same "$report" "$scratch/report" || return
+        done
+    done
+}
+
+# Two sections whose events alternate, the first of which passes.
+interleaved='PMT.SECTION;1|STORE;0x1000;0x1;0x8|PMT.SECTION;2|STORE;0x1000;0x2;0x8|PMT.SECTION;1|FLUSH;0x1000;0x40|FENCE|PMT.PERSIST;0x1000;0x8|PMT.SECTION;2|PMT.PERSIST;0x1000;0x8'
+interleaved_report='section 0.1 events=4 pass=1 fail=0 warn=0 empty=0
+4 PERSIST PASS
+section 0.2 events=2 pass=0 fail=1 warn=0 empty=0
+2 PERSIST FAIL byte=0x1000 crash=2
+total sections=2 pass=1 fail=1 warn=0 empty=0'
+
+# Each request for memory refused in turn, of a log of two sections with two workers.
+sweep_workers() {
+    printf '%s' "$interleaved" >"$scratch/interleaved.log"
+    sweep "$scratch/interleaved.log" check --workers 2
+}
+
+# Threads that the system refuses, one or all, leave the report as it is.
+threads_refused() {
+    printf '%s' "$interleaved" >"$scratch/interleaved.log"
+    printf '%s\n' "$interleaved_report" >"$scratch/wanted"
+    tests/refuse-threads "$program" "$scratch/interleaved.log" "$scratch/wanted" 1
+}
+
+# A report of 3,000 sections, longer than a pipe is wide, ends after 1, 100 and 140 times 1,024 bytes.
+cut_off_report() {
+    local i blocks
+    for ((i = 0; i < 3000; i++)); do
+        printf 'PMT.SECTION;%d\n' "$i"
+    done >"$scratch/long.log"
+    for ((i = 0; i < 3000; i++)); do
+        printf 'section 0.%d events=0 pass=0 fail=0 warn=0 empty=0\n' "$i"
+    done >"$scratch/long.report"
+    for blocks in 1 100 140; do
+        cut_off $((blocks * 1024)) "$scratch/long.log" "$scratch/long.report" check || return
+    done
+}
+
+closed_output() {
+    "$program" check <examples/first.log 2>"$scratch/diagnostics" >&-
+    ended 4 $? && said 'pmfarm: write failed after 0 bytes' "$scratch/diagnostics"
+}
+
+one_fence='section 7.0 events=1 pass=0 fail=0 warn=0 empty=0
+total sections=1 pass=0 fail=0 warn=0 empty=0'
+
+try_check() {
+    local log name
+    for log in examples/*.log; do
+        name=$(basename "$log" .log)
+        check "example $name" example "$name"
+    done
+    check 'a run that is no number is refused' refused check --run x
+    check 'a profile that is neither 1 nor 2 is refused' refused check --profile 3
+    check 'no workers are refused' told 2 FENCE '' 'pmfarm: workers must be 1 to 64' check --workers 0
+    check '65 workers are refused' told 2 FENCE '' 'pmfarm: workers must be 1 to 64' check --workers 65
+    check 'a faulty log is refused before its workers' told 2 'FENCE|PMT.X' '' 'pmfarm: record 2: unknown marker' check --workers 65
+    check 'a number of workers that is no number is refused' refused check --workers x
+    check 'two workers check two sections' told 1 "$interleaved" "$interleaved_report" '' check --workers 2
+    check 'each request for memory of check --workers 2 refused in turn' sweep_workers
+    check 'threads that are refused, one or all, change nothing' threads_refused
+    check 'a run is the name of its sections' told 0 FENCE "$one_fence" '' check --run 7
+    check 'a skipped record is told' told 0 'START|FENCE' "${one_fence/7/0}" 'pmfarm: skipped 1 records' check
+    check 'two skipped records are told as two' told 0 'START|FENCE|REGISTER_FILE;a;0' "${one_fence/7/0}" 'pmfarm: skipped 2 records' check
+    check 'no skipped record is not told' told 0 'FENCE||' "${one_fence/7/0}" '' check
+    check 'eleven skipped records are told of a ledger too' told 0 'a|b|c|d|e|f|g|h|i|j|k' $'PMFARM-LEDGER 1\nend verdicts=0' \
+        'pmfarm: skipped 11 records' check --ledger
+    check 'an unknown marker is refused' told 2 'FENCE|PMT.X' '' 'pmfarm: record 2: unknown marker' check
+    check 'a full device as standard output' full_output examples/first.log check
+    check 'a write that fails in a long report tells how many bytes went out' cut_off_report
+    check 'a closed standard output' closed_output
+    check 'a directory as standard input' unreadable check
+    check 'each request for memory of check refused in turn' sweep examples/order_and_warnings.log check
+    check 'each request for memory of check on a transaction refused in turn' sweep examples/a_range_without_backup.log check
+    check 'each request for memory of check --ledger refused in turn' sweep examples/shared_a.log check --ledger
+}

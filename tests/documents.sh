@@ -1,0 +1,85 @@
+# What documents say: their sessions and recipes, what they list, and what they claim.
+
+# farm NAME WHAT [ENGINE]: a check of docs/FARM.md.
+farm() {
+    check_by "${3-bash}" "$1" tests/try-farm "$program" "$2"
+}
+
+# The version at the head of the changelog: of its first title, `## VERSION` or `## VERSION, ..`.
+version_of_changelog() {
+    local title word
+    title=$(grep -m 1 '^## ' CHANGELOG.md)
+    title=${title#'## '}
+    printf 'pmfarm %s\n' "${title%%,*}" >"$scratch/wanted"
+    for word in -V --version; do
+        "$program" "$word" >"$scratch/whole" 2>"$scratch/diagnostics"
+        ended 0 $? && same /dev/null "$scratch/diagnostics" || return
+        sed 's/ (commit .*) *$//' "$scratch/whole" >"$scratch/report"
+        same "$scratch/wanted" "$scratch/report" || return
+    done
+}
+
+# refused_by_promises FILE COMMAND TEXT: docs/PROMISES.md is not written where sed makes FILE so; in a copy.
+refused_by_promises() {
+    local repo=$scratch/promises
+    mkdir -p "$repo/docs" && cp -r tools "$repo" && cp docs/TRUST.md docs/DEFINITIONS.md "$repo/docs" &&
+        cp crates.txt README.md "$repo" && ln -sfn "$top/crates" "$repo/crates" && sed -i "$2" "$repo/$1" || return
+    "$repo/tools/promises" >"$scratch/report" 2>"$scratch/diagnostics"
+    ended 1 $? && said "promises: $1: $3" "$scratch/diagnostics" && [ ! -e "$repo/docs/PROMISES.md" ]
+}
+
+# Each entry has a number one above that of the entry before, and its status below its title.
+decisions_have_a_status() {
+    awk '/^## / { entry = $0; if ($2 != ++number ".") { print "not entry " number ": " entry } next }
+        entry && NF { if (!/^\*(Stands|Superseded by [0-9])/) { print "no status: " entry } entry = "" }
+        END { if (!number) { print "no entry" } }' docs/DECISIONS.md | said '' -
+}
+
+# What a claim names has to be in the sources, and each file of definitions in the list.
+claims_are_of_the_sources() {
+    local claim='A section takes each event up to the 2^20th, and is unchanged by a refusal'
+    refused_by_promises tools/claims.md 's/`Section::push`/`Section::pull`/' "$claim: no function Section::pull
+promises: tools/claims.md: $claim: no clause ok
+promises: tools/claims.md: $claim: no clause too_many
+promises: tools/claims.md: $claim: no clause unchanged" &&
+        refused_by_promises tools/claims.md 's/`too_many`/`too_few`/' "$claim: no clause too_few" &&
+        refused_by_promises tools/claims.md 's/`push.drops_the_event`/`push.drops_nothing`/' "$claim: no mutant push.drops_nothing" &&
+        refused_by_promises README.md 's/`gathers`/`gather`/' '`Ledger::join`: no clause gather' &&
+        refused_by_promises docs/TRUST.md 's/^- `pmf_words`: `Words`$//' 'pmf_words.specs.Words is missing' &&
+        refused_by_promises docs/TRUST.md 's/`Span`, `Line`, `Address`/`Line`, `Span`, `Address`/' \
+            'pmf_event.specs.Line stands before pmf_event.specs.Span'
+}
+
+# The recipes of docs/FARM.md, and what it says of failures.
+try_farms() {
+    farm 'two hundred logs by xargs: the report of their sections in one log' by_xargs xargs
+    farm 'two hundred logs of one run: the bytes of their sections in one log' of_one_run xargs
+    farm 'a tree of joins by make: the bytes of one join' by_make make
+    farm 'logs by GNU parallel' by_parallel 'GNU parallel'
+    farm 'the hosts of GNU parallel, played' by_hosts
+    farm 'the array job of Slurm, played' by_slurm
+    farm 'the pods of Kubernetes, played' by_kubernetes
+    farm 'the manifest of Kubernetes is an indexed job' manifest 'a YAML parser for Python'
+    farm 'the scripts of the farm are well-formed' parse
+    farm 'docs/FARM.md quotes the files of the farm' quoted
+    farm 'a lost job of the farm is told' a_lost_job xargs
+    farm 'a killed job of the farm leaves no ledger' a_killed_job
+    farm 'a refused log of the farm leaves no ledger' a_refused_log
+    farm 'a job of the farm that lacks memory, room or its log leaves no ledger' a_job_that_lacked_something
+    farm 'a job of the farm that ran twice changes nothing' a_job_that_ran_twice
+    farm 'another log under a run, in one folder' other_logs_in_one_folder
+    farm 'another log under a run, in two folders' other_logs_in_two_folders
+    farm 'jobs of two profiles' two_profiles
+    farm 'a forged ledger of the farm' a_forged_ledger
+    farm 'a ledger of the farm that was cut anywhere' a_cut_ledger
+}
+
+try_documents() {
+    check 'the sessions of README.md and docs/GUIDE.md' tests/try-sessions "$program" README.md docs/GUIDE.md
+    check 'each entry of docs/DECISIONS.md has a status' decisions_have_a_status
+    check 'docs/PROMISES.md is fresh' tools/promises --check
+    check 'a claim names what is in the sources, and docs/TRUST.md each file of definitions' claims_are_of_the_sources
+    check 'the man page and the completions have the options of help, and the program does what they tell' tests/flags
+    check 'the version is that at the head of CHANGELOG.md' version_of_changelog
+    try_farms
+}

@@ -1,0 +1,321 @@
+# The tools beside the program: rows, installing, stamping, the markers in C, the launcher.
+
+# Each row that a report may have, behind what it counts as, by the table of docs/FORMATS.md.
+each_row='fail 1 CHECKEND UNOPENED
+pass 2 PERSIST PASS
+fail 3 PERSIST FAIL byte=0x1000 crash=3
+empty 4 PERSIST EMPTY
+pass 5 ORDERED PASS
+fail 6 ORDERED FAIL byte=0x1000 after=0x2000 crash=2
+fail 7 ORDERED SAMELINE byte=0x1000 after=0x1008
+empty 8 ORDERED EMPTY
+warn 9 FLUSH DOUBLED line=0x1000 lines=1
+warn 9 FLUSH NEEDLESS line=0x1040 lines=2
+fail 10 TXEND UNMATCHED
+fail 11 TXADD OUTSIDE
+fail 13 CHECKSTART NESTED
+fail 15 STORE NOBACKUP byte=0x3000
+warn 17 TXADD DUPLOG byte=0x3008
+fail 18 CHECKEND TXOPEN depth=1
+pass 21 CHECKEND PASS
+fail 24 CHECKEND FAIL byte=0x3000 crash=24
+fail 31 SECTION UNCLOSED start=30'
+
+# The report that has them in section 2.3, and one row in section 7.3.
+report_of_each_row() {
+    printf 'section 2.3 events=30 pass=3 fail=11 warn=3 empty=2\n'
+    printf '%s\n' "$each_row" | cut -d ' ' -f 2-
+    printf 'section 7.3 events=4 pass=1 fail=0 warn=0 empty=0\n4 PERSIST PASS\n'
+    printf 'total sections=2 pass=4 fail=11 warn=3 empty=2\n'
+}
+
+# selects TEXT WORD..: the rows of that report which tools/rows selects by these words.
+selects() {
+    local text=$1
+    shift
+    report_of_each_row | tools/rows "$@" >"$scratch/rows" 2>"$scratch/diagnostics"
+    ended 0 $? && said "$text" "$scratch/rows" && same /dev/null "$scratch/diagnostics"
+}
+
+# rows_of_kinds KIND..: the lines that are wanted of the rows of these kinds.
+rows_of_kinds() {
+    local kinds=$*
+    { printf '%s\n' "$each_row" | sed 's/ / 2.3 /' && printf 'pass 7.3 4 PERSIST PASS\n'; } |
+        grep -E "^(${kinds// /|}) " | cut -d ' ' -f 2-
+}
+
+rows_by_kind() {
+    local kind
+    for kind in pass fail warn empty; do
+        selects "$(rows_of_kinds "$kind")" "--$kind" || return
+    done
+    selects "$(rows_of_kinds fail warn)" --warn --fail && selects "$(rows_of_kinds pass fail warn empty)" &&
+        selects "$(rows_of_kinds pass fail warn empty)" --section 3 && selects '7.3 4 PERSIST PASS' --section 7.3 --pass &&
+        selects "$(rows_of_kinds fail)" --section 2.3 --section 7.3 --fail || return
+    report_of_each_row | tools/rows --section 4 --section 3.3 >"$scratch/rows" 2>"$scratch/diagnostics"
+    ended 0 $? && same /dev/null "$scratch/rows" && said $'rows: no section 3.3\nrows: no section 4' "$scratch/diagnostics"
+}
+
+rows_as_json() {
+    report_of_each_row | tools/rows --json --fail --section 2.3 >"$scratch/rows" && sed -n 3,4p "$scratch/rows" >"$scratch/two" || return
+    said '{"run": 2, "section": 3, "place": 6, "event": "ORDERED", "result": "FAIL", "counts_as": "fail", "byte": "0x1000", "after": "0x2000", "crash": 2}
+{"run": 2, "section": 3, "place": 7, "event": "ORDERED", "result": "SAMELINE", "counts_as": "fail", "byte": "0x1000", "after": "0x1008"}' \
+        "$scratch/two" || return
+    report_of_each_row | tools/rows --json | python3 -c '
+import json, sys
+each = [json.loads(line) for line in sys.stdin]
+assert len(each) == 20 and all(list(it)[:6] == ["run", "section", "place", "event", "result", "counts_as"] for it in each)
+assert each[9] == {"run": 2, "section": 3, "place": 9, "event": "FLUSH", "result": "NEEDLESS", "counts_as": "warn", "line": "0x1040", "lines": 2}
+assert each[18] == {"run": 2, "section": 3, "place": 31, "event": "SECTION", "result": "UNCLOSED", "counts_as": "fail", "start": 30}'
+}
+
+# no_report EDIT FAULT: that report, edited by sed, is refused with this line.
+no_report() {
+    report_of_each_row | sed "$1" | tools/rows --pass >"$scratch/rows" 2>"$scratch/diagnostics"
+    ended 2 $? && same /dev/null "$scratch/rows" && said "rows: standard input: line $2" "$scratch/diagnostics"
+}
+
+rows_refused() {
+    local long
+    long=$(printf '1%.0s' {1..5000})
+    no_report "3s/^2/$long/" '3: no row of a report' &&
+        no_report "4s/crash=3/crash=$long/" '4: no row of a report' &&
+        no_report "1s/events=30/events=$long/" '1: no line of a report' &&
+        no_report "23s/sections=2/sections=$long/" '23: no row of a report' &&
+        no_report "3s/^2/${long:0:21}/" '3: no row of a report' &&
+        no_report "3s/^2/${long:0:20}/" '3: the section has no such row here' || return
+    tools/rows --section "$long" examples/first.report >"$scratch/rows" 2>"$scratch/diagnostics"
+    ended 2 $? && same /dev/null "$scratch/rows" || return
+    no_report '$d' '23: the report is cut off: no line of totals' &&
+        no_report '1,$d' '1: the report is cut off: no line of totals' &&
+        no_report 1d '1: no line of a report' &&
+        no_report 3d '20: the section before it has other rows than it counts' &&
+        no_report '3s/PASS/PASSED/' '3: no row of a report' &&
+        no_report '4s/0x1/0X1/' '4: no row of a report' &&
+        no_report '4s/ crash=3//' '4: no row of a report' &&
+        no_report '3s/^2/32/' '3: the section has no such row here' &&
+        no_report '20s/^31/30/' '20: the section has no such row here' &&
+        no_report '21s/7.3/2.3/' '21: the section is not behind the one before it' &&
+        no_report '23s/warn=3/warn=4/' '23: the sums are others than those of the sections' &&
+        no_report '23s/sections=2/sections=1/' '23: the sums are others than those of the sections' &&
+        no_report '$aFENCE' '24: a line behind the last one of a report' || return
+    report_of_each_row | head -c -1 | tools/rows >"$scratch/rows" 2>"$scratch/diagnostics"
+    ended 2 $? && said 'rows: standard input: line 23: the line is cut off' "$scratch/diagnostics" || return
+    tools/rows examples/first.report examples/first.log >"$scratch/rows" 2>"$scratch/diagnostics"
+    ended 2 $? && said 'rows: examples/first.log: line 1: no line of a report' "$scratch/diagnostics" || return
+    tools/rows no.report 2>"$scratch/diagnostics"
+    ended 2 $? && said 'rows: no.report: No such file or directory' "$scratch/diagnostics"
+}
+
+# The rows of each example, which are those of its report; and a reader that is gone.
+rows_of_examples() {
+    local log
+    for log in examples/*.log; do
+        "$program" check <"$log" 2>/dev/null | tee "$scratch/report" | tools/rows >"$scratch/rows" || return
+        awk '$1 == "section" { name = $2; next } $1 != "total" { print name, $0 }' "$scratch/report" | same - "$scratch/rows" || return
+    done
+    awk 'BEGIN { print "section 0.0 events=90000 pass=90000 fail=0 warn=0 empty=0"; for (i = 1; i <= 90000; i++) print i, "PERSIST PASS"
+        print "total sections=1 pass=90000 fail=0 warn=0 empty=0" }' >"$scratch/report"
+    tools/rows "$scratch/report" 2>"$scratch/diagnostics" | head -n 1 >"$scratch/rows"
+    ended '0 0' "${PIPESTATUS[*]}" && said '0.0 1 PERSIST PASS' "$scratch/rows" && same /dev/null "$scratch/diagnostics"
+}
+
+# compiled NAME WORD..: the example in C, compiled with these words and without a warning, writes the log of this name, and the program
+# what stands beside that log.
+compiled() {
+    local name=examples/c/$1 wanted
+    shift
+    "$@" -Wall -Wextra -Werror -DPMFARM_VALGRIND=0 -o "$scratch/append_log" examples/c/append_log.c &&
+        "$scratch/append_log" "$scratch/pool" >"$scratch/log" && same "$name.log" "$scratch/log" || return
+    wanted=$(cat "$name.status" 2>/dev/null || echo 0)
+    "$program" check <"$scratch/log" >"$scratch/report" 2>"$scratch/diagnostics"
+    ended "$wanted" $? && same "$name.report" "$scratch/report" && same /dev/null "$scratch/diagnostics"
+}
+
+# example_by COMPILER..: the example by each of these, which are given with their words.
+example_by() {
+    local compiler
+    for compiler in "$@"; do
+        # (the words are parted at blanks)
+        compiled append_log $compiler && compiled append_log.missing_fence $compiler -DMISSING_FENCE || return
+    done
+}
+
+# compiles STATUS LOG COMPILER..: the markers with a section told beside them; compiled, the program writes this log.
+compiles() {
+    local status=$1 log=$2
+    shift 2
+    printf '#include "%s/examples/c/pmfarm_markers.h"\nint main(void) { PMFARM_SECTION(3); PMFARM_FENCE(); return 0; }\n' "$top" |
+        "$@" -Wall -Wextra -Werror -o "$scratch/markers" - 2>"$scratch/diagnostics"
+    ended "$status" $? || return
+    if [ "$status" = 0 ]; then
+        "$scratch/markers" | said "$log" -
+    else
+        grep -q 'PMFARM_SECTION_is_not_for_PMFARM_OF_THREAD' "$scratch/diagnostics"
+    fi
+}
+
+# sections_by COMPILER..: a section that is told is written, and refused where threads tell theirs, unless pmemcheck takes the
+# records.
+sections_by() {
+    printf '#define VALGRIND_PMC_EMIT_LOG(text) puts(text)\n' >"$scratch/pmemcheck.h"
+    mkdir -p "$scratch/played/valgrind" && mv "$scratch/pmemcheck.h" "$scratch/played/valgrind" || return
+    compiles 0 $'PMT.SECTION;3\nFENCE' "$@" -DPMFARM_VALGRIND=0 && compiles 1 '' "$@" -DPMFARM_VALGRIND=0 -DPMFARM_OF_THREAD=7 &&
+        compiles 0 PMT.SECTION\;3 "$@" -I "$scratch/played" -DPMFARM_VALGRIND=1 -DPMFARM_OF_THREAD=7
+}
+
+# Where threads share a file, each record is told with its section.
+sections_of_threads() {
+    cc -std=c11 -Wall -Wextra -Werror -DPMFARM_VALGRIND=0 -DPMFARM_OF_THREAD=7 -o "$scratch/append_log" examples/c/append_log.c &&
+        "$scratch/append_log" "$scratch/pool" >"$scratch/log" && sed 's/^/PMT.SECTION;7|/' examples/c/append_log.log | same - "$scratch/log"
+}
+
+# The requests of pmemcheck, played: of the program's own records the markers alone are written, by their names, sizes and order.
+markers_by_valgrind() {
+    mkdir -p "$scratch/include/valgrind" && cat >"$scratch/include/valgrind/pmemcheck.h" <<'C' || return
+#define VALGRIND_PMC_EMIT_LOG(text) printf("|%s", text)
+#define VALGRIND_PMC_REGISTER_PMEM_MAPPING(p, size) (printf("|REGISTER_FILE;pool;%p;%zu;0", (void *)(p), (size_t)(size)))
+C
+    cc -std=c11 -Wall -Wextra -Werror -I "$scratch/include" -o "$scratch/append_log" examples/c/append_log.c &&
+        "$scratch/append_log" "$scratch/pool" | tr '|' '\n' | awk -F ';' 'NF { print $1, $3, $5 }' >"$scratch/log" || return
+    sed -n 's/.*\(REGISTER_FILE\) .*/\1/p' "$scratch/log" | said REGISTER_FILE - || return
+    awk -F ';' '/^PMT/ { print $1, $3, $5 }' examples/c/append_log.log >"$scratch/wanted" && sed 1d "$scratch/log" | same "$scratch/wanted" -
+}
+
+# version_as_stamped LIST: what a program tells that is stamped by this list of sources, as an expression. Without a repository of
+# git, or the toolchain of the list, the program may tell any commit or kit, or none.
+version_as_stamped() {
+    local commit='([0-9a-f]{40}[+]?|unknown)' kit='[^)]+' rt changed
+    if [ "$(git rev-parse --show-toplevel 2>/dev/null)" = "$top" ]; then
+        changed=$(git status --porcelain -- crates crates.txt HANDLES)
+        commit=$(git rev-parse HEAD)${changed:+[+]}
+    fi
+    if rt=$(type -P rt) && is_built_by "$rt" "$1"; then
+        kit=$("$rt" version </dev/null | cut -d ' ' -f 1)
+    fi
+    printf '^pmfarm [0-9.]+ [(]commit %s, %s[)] *$' "$commit" "$kit"
+}
+
+# tells_version PROGRAM EXPRESSION
+tells_version() {
+    "$1" --version >"$scratch/version"
+    ended 0 $? && grep -Eq "$2" "$scratch/version" || {
+        printf '%s\nin place of %s\n' "$(cat "$scratch/version")" "$2"
+        return 1
+    }
+}
+
+# A stamped copy tells the commit and the kit, and differs from the program in the 96 bytes of the version alone. By the list of
+# other sources nothing is stamped.
+stamped() {
+    local first last rt
+    rt=$(type -P rt) && sources "$rt" >"$scratch/list" || { echo 'no toolchain' && sources; } >"$scratch/list"
+    cp "$program" "$scratch/stamped" && tools/stamp "$scratch/stamped" "$scratch/list" || return
+    tells_version "$scratch/stamped" "$(version_as_stamped "$scratch/list")" &&
+        ended "$(wc -c <"$program")" "$(wc -c <"$scratch/stamped")" || return
+    cmp -l "$program" "$scratch/stamped" >"$scratch/bytes"
+    first=$(head -n 1 "$scratch/bytes" | awk '{print $1}')
+    last=$(tail -n 1 "$scratch/bytes" | awk '{print $1}')
+    [ -z "$first" ] || [ $((last - first)) -lt 96 ] || {
+        printf 'bytes %s to %s differ\n' "$first" "$last"
+        return 1
+    }
+    sed '$d' "$scratch/list" >"$scratch/others" && cp "$program" "$scratch/stamped" || return
+    tools/stamp "$scratch/stamped" "$scratch/others" 2>"$scratch/diagnostics"
+    ended 1 $? && cmp "$program" "$scratch/stamped" && said "stamp: $not_from_sources" "$scratch/diagnostics" || return
+    tools/stamp /bin/true "$scratch/list" 2>"$scratch/diagnostics"
+    ended 1 $? && said "stamp: the program has no room for its version$it_told" "$scratch/diagnostics" || return
+    printf x >>"$scratch/stamped"
+    tools/stamp "$scratch/stamped" "$scratch/list" 2>"$scratch/diagnostics"
+    ended 1 $? && said "stamp: the program is not the one that is built here$it_told" "$scratch/diagnostics"
+}
+
+it_told='; --version tells what it told'
+not_from_sources="the program is not built from the sources as they are$it_told"
+
+# What tools/build and `gate` leave is stamped: with some commit that has these sources, where there is one.
+built_with_its_commit() {
+    local commit='([0-9a-f]{40}[+]?|unknown)'
+    [ "$(git rev-parse --show-toplevel 2>/dev/null)" != "$top" ] || commit='[0-9a-f]{40}[+]?'
+    ! is_built_from_sources || tells_version "$program" "^pmfarm [0-9.]+ [(]commit $commit, [^)]+[)] *\$"
+}
+
+# The files that tools/install makes, below a prefix.
+installed='bin/pmfarm
+share/bash-completion/completions/pmfarm
+share/fish/vendor_completions.d/pmfarm.fish
+share/man/man1/pmfarm.1
+share/zsh/site-functions/_pmfarm'
+
+# files FOLDER: its files.
+files() {
+    (cd "$1" && find . -type f | sed 's|^\./||' | LC_ALL=C sort)
+}
+
+# Installed, it tells its commit and runs with nothing around it; uninstalled, none of its files is left, and another one is.
+installs() {
+    local root=$scratch/root
+    mkdir -p "$root/usr/bin" && echo other >"$root/usr/bin/other" || return
+    DESTDIR=$root tools/install --no-build /usr/ >"$scratch/report" 2>"$scratch/diagnostics"
+    ended 0 $? || return
+    if is_built_from_sources; then
+        same /dev/null "$scratch/diagnostics" &&
+            tells_version "$root/usr/bin/pmfarm" "$(version_as_stamped out/pmfarm.built)" || return
+    else
+        said "install: the program is not stamped: $not_from_sources" "$scratch/diagnostics" || return
+    fi
+    files "$root/usr" | grep -v '^bin/other$' | said "$installed" - &&
+        sed "s|^installed $root/usr/||" "$scratch/report" | LC_ALL=C sort | said "$installed" - &&
+        cmp "$program" "$root/usr/bin/pmfarm" && cmp man/pmfarm.1 "$root/usr/share/man/man1/pmfarm.1" &&
+        [ "$(stat -c %a "$root/usr/bin/pmfarm" "$root/usr/share/man/man1/pmfarm.1" | paste -s)" = $'755\t644' ] || return
+    (cd / && env -i "$root/usr/bin/pmfarm" check) <examples/first.log >"$scratch/report" 2>"$scratch/diagnostics"
+    ended 0 $? && same examples/first.report "$scratch/report" && same /dev/null "$scratch/diagnostics" || return
+    DESTDIR=$root tools/install --uninstall /usr >"$scratch/report" && files "$root" | said usr/bin/other - &&
+        sed "s|^removed $root/usr/||" "$scratch/report" | LC_ALL=C sort | said "$installed" - || return
+    DESTDIR=$root tools/install --uninstall /usr >"$scratch/report" && same /dev/null "$scratch/report"
+}
+
+# The program is built by ./pmfarm, here a script that plays it; words that are wrong are refused, and so is a build that fails.
+installs_what_it_builds() {
+    local repo=$scratch/repo words
+    mkdir -p "$repo/tools" && cp tools/install "$repo/tools" && cp -r man completions "$repo" && cat >"$repo/pmfarm" <<'SH' || return
+#!/bin/sh
+top=${0%/*} && mkdir -p "$top/crates/pmfarm/out" && echo built >"$top/crates/pmfarm/out/pmfarm" && chmod +x "$top/crates/pmfarm/out/pmfarm"
+SH
+    chmod +x "$repo/pmfarm" && "$repo/tools/install" --no-build "$scratch/prefix" >"$scratch/report" 2>"$scratch/diagnostics"
+    ended 1 $? && said 'install: there is no built program: ./pmfarm builds it' "$scratch/diagnostics" && [ ! -e "$scratch/prefix" ] || return
+    (cd "$scratch" && repo/tools/install prefix) >"$scratch/report" && said built "$scratch/prefix/bin/pmfarm" &&
+        files "$scratch/prefix" | said "$installed" - && printf '#!/bin/sh\nexit 2\n' >"$repo/pmfarm" || return
+    "$repo/tools/install" "$scratch/prefix" >"$scratch/report" 2>"$scratch/diagnostics"
+    ended 1 $? && said 'install: the program is not built' "$scratch/diagnostics" || return
+    for words in '' '--uninstal /usr' '/usr /usr' --help; do
+        # (the words are parted at blanks)
+        tools/install $words >"$scratch/report" 2>"$scratch/diagnostics"
+        ended 2 $? && same /dev/null "$scratch/report" || return
+    done
+}
+
+try_tools() {
+    check 'tools/rows selects the rows of each kind and section' rows_by_kind
+    check 'tools/rows writes rows as JSON' rows_as_json
+    check 'tools/rows refuses what is no report, or not a whole one' rows_refused
+    check 'tools/rows gives each row of the examples, and ends with its reader' rows_of_examples
+    check 'the example in C writes its logs, with the fence and without' example_by 'cc -std=c11' 'cc -std=c99 -O2'
+    check 'the markers in C tell the sections of threads' sections_of_threads
+    check 'the markers in C refuse a section beside those of threads' sections_by cc -std=c99 -x c
+    check_by c++ 'the example as C++ writes its logs' example_by 'c++ -std=c++11 -x c++' 'c++ -std=c++17 -x c++ -O2'
+    check_by c++ 'the markers in C++ refuse a section beside those of threads' sections_by c++ -std=c++11 -x c++
+    check 'the requests of pmemcheck, played' markers_by_valgrind
+    check 'the program that is built here tells its commit' built_with_its_commit
+    check 'a stamped program tells its commit and its kit, and is the same but for that' stamped
+    check 'tools/install installs what is there, and removes it' installs
+    check 'tools/install builds the program first' installs_what_it_builds
+    check 'a cut log has the rows of the whole one' tests/try-cut "$program" some_examples random_logs
+    check 'what tools/cut-log puts in, says and refuses' tests/try-cut "$program" worked_examples numbers_that_meet \
+        faulty_logs streams_that_fail
+    check 'a section of more than 2^20 events is checked once it is cut' tests/try-cut "$program" a_long_section
+    check 'large logs within their limits of time and memory' tests/try-speed "$program"
+    check 'inputs at the limits, and one past them' tests/limits "$program"
+    check 'the gate: edits in batches, stamps, what runs beside what, and whole runs that are played' tests/try-gate
+    check 'the launcher builds where it has to, and only there' tests/try-launcher
+}

@@ -1,0 +1,78 @@
+# The words of a command line, what help says, and what holds of each command's text.
+
+help_text() {
+    "$program" --help >"$scratch/report" 2>"$scratch/diagnostics"
+    ended 0 $? && same /dev/null "$scratch/diagnostics" &&
+        grep -q '^Exit status:' "$scratch/report" && grep -q '^Examples:' "$scratch/report"
+}
+
+# The help of explain has its own examples, and the words of an explanation as docs/FORMATS.md spells them.
+help_of_explain() {
+    local words
+    "$program" explain --help >"$scratch/report" 2>"$scratch/diagnostics"
+    ended 0 $? && same /dev/null "$scratch/diagnostics" || return
+    for words in '^Examples:' '^  pmfarm explain --section [0-9]+ --event [0-9]+ < ' '^  pmfarm explain --all < ' \
+        '--run 7 --profile 2 < ' '^What is written of a row that fails:' '^  image crash=[0-9]+ full=none ' \
+        '^  byte=0x[0-9a-f]+ cut=[0-9]+ shows=[0-9]+ last=[0-9]+ ' '^  cut  ' '^  shows  ' '^  last  ' '^  no image  ' \
+        '^Exit status:'; do
+        grep -Eq -e "$words" "$scratch/report" || {
+            printf 'the help of explain lacks %s\n' "$words"
+            return 1
+        }
+    done
+    for words in image byte 'no image'; do
+        grep -q "^| \`$words" docs/FORMATS.md && grep -q "^\.B $words" man/pmfarm.1 || {
+            printf 'docs/FORMATS.md or the man page lacks %s\n' "$words"
+            return 1
+        }
+    done
+}
+
+refused_without_diagnostics() {
+    "$program" chek 2>/dev/full
+    ended 2 $?
+}
+
+# Each text with room for its first byte, for some of it, and for all but its last byte.
+cut_off_texts() {
+    local room log input whole words
+    for log in written_back_at_one_fence shared_a; do
+        printf '%s\n' "examples/$log.log examples/$log.report check"
+    done >"$scratch/texts"
+    printf '%s\n' "$one_image" >"$scratch/image"
+    printf 'section 0.0\n%s\n' "$one_image" >"$scratch/images"
+    printf '%s\n' "$one_place" >"$scratch/place"
+    printf '%s\n' "$what_it_holds" >"$scratch/holds"
+    "$program" --help >"$scratch/help" || return
+    printf '%s\n' 'examples/shared_a.log examples/shared_a.ledger check --ledger' \
+        '/dev/null examples/shared.report join examples/shared_a.ledger examples/shared_b.ledger' \
+        '/dev/null examples/shared.ledger join --ledger examples/shared.ledger' \
+        "examples/written_back_at_one_fence.log $scratch/image explain --section 0 --event 6" \
+        "examples/written_back_at_one_fence.log $scratch/images explain --all" \
+        "examples/written_back_at_one_fence.log $scratch/place locate --section 0 --event 6" \
+        "examples/order_and_warnings.log $scratch/holds lint" \
+        'examples/a_lost_worker.schedule examples/a_lost_worker.answers sim --log examples/two_sections.log --workers 2 --ledgers 1' \
+        "/dev/null $scratch/help --help" >>"$scratch/texts"
+    while read -r input whole words; do
+        for room in 1 47 $(($(wc -c <"$whole") - 1)); do
+            # (the words are parted at blanks)
+            cut_off "$room" "$input" "$whole" $words || {
+                printf 'with room for %s bytes: %s\n' "$room" "$words"
+                return 1
+            }
+        done
+    done <"$scratch/texts"
+}
+
+try_words() {
+    check 'help goes to standard output' help_text
+    check 'the help of explain has its examples and the words of its text' help_of_explain
+    check 'no word is refused' refused
+    check 'an unknown word is refused' refused chek
+    check 'a word that is not UTF-8 is refused' refused $'\xff'
+    check 'a failed write of a fault line keeps the status' refused_without_diagnostics
+    check 'a full device as standard output of help' full_output /dev/null --help
+    check 'a write that fails after some bytes tells how many went out' cut_off_texts
+    check 'each request for memory of help refused in turn' sweep examples/first.log --help
+    check 'each request for memory of a refused word refused in turn' sweep examples/first.log chek
+}
