@@ -2,12 +2,12 @@
 use Rattle.pmf_verdict.specs.Checked.{Checked, rows_in}
 use Rattle.pmf_verdict.specs.Exact.{IsExact, SameLinesAreOneStore}
 use Rattle.pmf_verdict.specs.Explained.{FailuresAreReal}
-use Rattle.pmf_verdict.specs.Sound.{PassesHold, OrdersHold, ScopesHold}
+use Rattle.pmf_verdict.specs.Sound.{PersistsHold, OrdersHold, ScopesHold}
 
 -- what they show as passed holds in every allowed image, what they show as failed has one that contradicts it, and
 -- so they say exactly which assertions hold; by profile Two what they show as SAMELINE one store wrote
 pub record HasTrueRows (checked : Checked) : Type 0 where
-  pub passes : PassesHold checked.section.events (rows_in checked)
+  pub passes : PersistsHold checked.section.events (rows_in checked)
   pub orders : OrdersHold checked.section.events (rows_in checked)
   pub scopes : ScopesHold checked.section.events (rows_in checked)
   pub failures : FailuresAreReal checked.section.events (rows_in checked)

@@ -5,6 +5,7 @@ ghost use Rattle.pmf_event.specs.declared.section.TheConstants.{EVENT_LIMIT};
 
 use crate::shadow::Shadow;
 use pmf_event::{EVENT_LIMIT, Event, Interval, Lines, Profile, Span};
+use pmf_fixtures::plain::{Byte, Line, byte_at, least, lines_of};
 use pmf_fixtures::{FENCE, FLUSH, OTHER, STORE, Step, events_of};
 use std::alloc::{AllocError, Global};
 use std::process::Abort;
@@ -12,10 +13,12 @@ use std::test::Fail;
 
 mod memory;
 mod places;
-mod plain;
 mod random;
 
-use plain::{BASE, BYTES, Plain};
+/// The bytes of four lines, from this one on.
+const BASE: u64 = 0x1000;
+
+const BYTES: u64 = 256;
 
 fn shadow_after(rt: &impl Abort, alloc: Global, steps: &[Step]) -> Result<Shadow, Fail> {
     let events = events_of(alloc, steps)?;
@@ -29,7 +32,7 @@ fn shadow_of(rt: &impl Abort, alloc: Global, events: &[Event]) -> Result<Shadow,
     }
     let (shadow, count) = follow_all(alloc, events);
     if count < events.len() {
-        assert_answers(rt, &shadow, &Plain::of(&events[..count]));
+        assert_answers(rt, &shadow, &events[..count]);
         return Err(AllocError);
     }
     Ok(shadow)
@@ -50,45 +53,29 @@ fn follow_all(alloc: Global, events: &[Event]) -> (Shadow, usize)
 }
 
 /// Each question about each byte is answered as the definitions say.
-fn assert_answers(rt: &impl Abort, shadow: &Shadow, plain: &Plain) {
+fn assert_answers(rt: &impl Abort, shadow: &Shadow, past: &[Event]) {
     for byte in BASE - 1..BASE + BYTES + 1 {
-        assert_eq!(rt;
-            shadow.interval_at(byte),
-            plain.interval_at(byte),
-            "at {byte}"
-        );
+        let interval = byte_at(past, byte).interval;
+        assert_eq!(rt; shadow.interval_at(byte), interval, "at {byte}");
         if let Ok(span) = Span::make(byte, 1) {
-            assert_of_span(rt, shadow, plain, span);
+            assert_of_span(rt, shadow, past, span);
         }
     }
 }
 
 /// Each question about the span is answered as the definitions say.
-fn assert_of_span(rt: &impl Abort, shadow: &Shadow, plain: &Plain, span: Span) {
+fn assert_of_span(rt: &impl Abort, shadow: &Shadow, past: &[Event], span: Span) {
     let what = (span.first(), span.size());
-    assert_eq!(rt;
-        shadow.written_included(span),
-        plain.written_included(span),
-        "{what:?}"
-    );
-    assert_eq!(rt; shadow.least_open(span), plain.least_open(span), "{what:?}");
-    assert_eq!(rt;
-        shadow.least_included(span),
-        plain.least_included(span),
-        "{what:?}"
-    );
-    if span.first() >= BASE && span.first() < BASE + BYTES {
-        assert_eq!(rt;
-            shadow.pending_lines(span),
-            plain.pending_lines(span),
-            "{what:?}"
-        );
-        assert_eq!(rt;
-            shadow.clean_lines(span),
-            plain.clean_lines(span),
-            "{what:?}"
-        );
-    }
+    let written = least(past, span, Byte::is_checked).is_some();
+    assert_eq!(rt; shadow.written_included(span), written, "{what:?}");
+    let open = least(past, span, |byte| byte.is_checked() && byte.is_open());
+    assert_eq!(rt; shadow.least_open(span), open, "{what:?}");
+    let included = least(past, span, |byte| !byte.is_excluded);
+    assert_eq!(rt; shadow.least_included(span), included, "{what:?}");
+    let pending = lines_of(past, span, Line::Pending);
+    assert_eq!(rt; shadow.pending_lines(span), pending, "{what:?}");
+    let clean = lines_of(past, span, Line::Clean);
+    assert_eq!(rt; shadow.clean_lines(span), clean, "{what:?}");
 }
 
 #[test]

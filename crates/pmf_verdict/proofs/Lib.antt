@@ -1,10 +1,8 @@
-pub mod LookBackLemmas
 pub mod RowsLemmas
 pub mod KindLemmas
 pub mod SoundLemmas
 pub mod WalkLemmas
 pub mod ExplainLemmas
 pub mod HoldingLemmas
-pub mod ListingLemmas
 pub mod TextLemmas
 pub mod FitLemmas

@@ -23,7 +23,7 @@ use Rattle.pmf_image.specs.Holds.{ScopeHolds}
 use Rattle.pmf_image.proofs.ImageLemmas.{holds-where_closed}
 use Rattle.pmf_image.proofs.OrderedLemmas.{holds-where_ordered}
 use Rattle.pmf_verdict.specs.Rows.{rows_of}
-use Rattle.pmf_verdict.specs.Sound.{PassesHold, OrdersHold, ScopesHold}
+use Rattle.pmf_verdict.specs.Sound.{PersistsHold, OrdersHold, ScopesHold}
 use Rattle.pmf_verdict.proofs.KindLemmas.{persist-from_rows, ordered-from_rows, check-from_rows}
 
 -- ---- persist assertions
@@ -46,7 +46,7 @@ pass-closed es p s passed b covered checked =
     let none = none-exposed (is_none (first_from (is_checked es p) s.first s.size)) (first_from (is_exposed es p) s.first s.size) passed in
     closed-from_exposed es p b (none-passes (is_exposed es p) s.first s.size none b bounds.0 bounds.1) checked
 
-pub passes_hold : (profile : Profile) (es : List Event) → PassesHold es (rows_of profile es)
+pub passes_hold : (profile : Profile) (es : List Event) → PersistsHold es (rows_of profile es)
 passes_hold profile es p found =
     let own = persist-from_rows profile es p PersistPass found refl in
     (own.0, own.1, holds-where_closed es p own.0 (pass-closed es p own.0 (sym own.2)))

@@ -14,7 +14,6 @@ pub mod Checked
 pub mod Walks
 pub mod Sound
 pub mod Exact
-pub mod Listing
 pub mod Explained
 pub mod Text
 pub mod Outcome

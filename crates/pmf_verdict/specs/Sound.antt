@@ -11,8 +11,8 @@ use Rattle.pmf_verdict.specs.Rows.{row_at}
 
 -- each PERSIST PASS among the rows stands at the place of a persist assertion, and that assertion
 -- holds there
-abbrev pub PassesHold : List Event → List Row → Type 0
-PassesHold es rows = (p : ℕ) → Contains rows (row_at p PersistPass) →
+abbrev pub PersistsHold : List Event → List Row → Type 0
+PersistsHold es rows = (p : ℕ) → Contains rows (row_at p PersistPass) →
     (s : Extent) × (event_at es p ≡ Some (Persist s)) × PersistHolds es p s
 
 -- each ORDERED PASS among the rows stands at the place of an order assertion, and that assertion holds

@@ -4,11 +4,7 @@ ghost use Rattle.std.specs.Prelude.{◌≡◌, ℕ, suc, ◌≤◌, ◌<◌, [],
 ghost use Rattle.pmf_event.specs.declared.event.Event.{Event};
 ghost use Rattle.pmf_event.specs.FlushWarnings.{if_any};
 ghost use Rattle.pmf_verdict.specs.Walks.{Walks, Follows};
-ghost use Rattle.pmf_verdict.specs.Checked.{rows_in};
 ghost use Rattle.pmf_verdict.specs.Rows.{row_at, rows_of};
-ghost use Rattle.pmf_verdict.specs.Explained.{FailuresAreReal};
-ghost use Rattle.pmf_verdict.specs.Sound.{PassesHold, OrdersHold, ScopesHold};
-ghost use Rattle.pmf_verdict.specs.Exact.{IsExact, SameLinesAreOneStore};
 
 use crate::verdict::Verdict;
 use pmf_asserts::{check_flush, check_ordered, check_persist};
@@ -154,8 +150,8 @@ fn rows_for(alloc: Global, events: &[Event], profile: Profile) -> Result<Rows, A
     Ok(rows)
 }
 
-/// Checks the section by the profile. The only refusal is [`CheckFault::OutOfMemory`], and the section
-/// comes back with it. Takes memory for a run of each distinct state of neighbouring bytes and lines,
+/// Checks the section by the profile. What the rows of the verdict say is told by [`Verdict::rows`]. The only refusal is
+/// [`CheckFault::OutOfMemory`], and the section comes back with it. Takes memory for a run of each distinct state of neighbouring bytes and lines,
 /// for the runs of bytes that a transaction and a scope keep, and for the rows.
 pub fn check(
     alloc: Global,
@@ -164,22 +160,6 @@ pub fn check(
 ) -> Result<Verdict, (CheckFault, Arc<Section>)>
     ensures checked { IfOk result
         (λ verdict. verdict ≡ record { section = section.value; profile = profile }) }
-    // What these rows show as passed holds in every crash image that the rules allow; `rows` shows
-    // them.
-    ensures sound { IfOk result
-        (λ verdict. PassesHold verdict.section.events (rows_in verdict)) }
-    ensures sound_orders { IfOk result
-        (λ verdict. OrdersHold verdict.section.events (rows_in verdict)) }
-    ensures sound_scopes { IfOk result
-        (λ verdict. ScopesHold verdict.section.events (rows_in verdict)) }
-    // What they show as failed has an allowed image that contradicts it, which `explain` names.
-    ensures real { IfOk result
-        (λ verdict. FailuresAreReal verdict.section.events (rows_in verdict)) }
-    // So they say which assertions hold.
-    ensures exact { IfOk result
-        (λ verdict. IsExact verdict.profile verdict.section.events (rows_in verdict)) }
-    ensures same_lines { IfOk result
-        (λ verdict. SameLinesAreOneStore verdict.profile verdict.section.events (rows_in verdict)) }
     ensures returned { IfErr result (λ refused. refused.1.value ≡ section.value) }
 {
     match rows_for(alloc, section.events(), profile) {

@@ -8,7 +8,6 @@ use std::test::Fail;
 
 mod explaining;
 mod images;
-mod plain;
 mod random;
 
 const NAME: Name = Name { run: 7, number: 3 };

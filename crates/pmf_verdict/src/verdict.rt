@@ -4,7 +4,7 @@ ghost use Rattle.std.specs.Prelude.{◌≡◌, ◌↔◌, IsTrue, IfOk};
 ghost use Rattle.pmf_verdict.specs.Checked.{Checked, rows_in};
 ghost use Rattle.pmf_verdict.specs.Rows.{rows_of};
 ghost use Rattle.pmf_verdict.specs.Explained.{FailuresAreReal};
-ghost use Rattle.pmf_verdict.specs.Sound.{PassesHold, OrdersHold, ScopesHold};
+ghost use Rattle.pmf_verdict.specs.Sound.{PersistsHold, OrdersHold, ScopesHold};
 ghost use Rattle.pmf_verdict.specs.Exact.{IsExact, SameLinesAreOneStore};
 
 use pmf_event::{Name, Profile, Row, Rows, Section};
@@ -82,7 +82,7 @@ impl Verdict {
     pub fn rows(&self) -> &[Row]
         ensures value { result.now ≡ rows_in self.now }
         // What is shown as passed holds in every crash image that the rules allow.
-        ensures sound { PassesHold self.now.section.events result.now }
+        ensures sound { PersistsHold self.now.section.events result.now }
         ensures sound_orders { OrdersHold self.now.section.events result.now }
         ensures sound_scopes { ScopesHold self.now.section.events result.now }
         // What is shown as failed has an allowed image that contradicts it.

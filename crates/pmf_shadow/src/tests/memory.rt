@@ -1,8 +1,7 @@
 //! Changes for which room is refused. With ample memory these tests only follow their events; under
 //! `tests/refuse-memory` each change fails in turn, and `shadow_of` then asks all that was asked before.
 
-use super::plain::BASE;
-use super::shadow_of;
+use super::{BASE, shadow_of};
 use pmf_event::{Event, Span};
 use std::test::Fail;
 

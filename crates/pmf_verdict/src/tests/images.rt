@@ -1,27 +1,16 @@
 //! Random short sections, whose assertions are compared with every crash image that is allowed.
 
-ghost use Rattle.std.specs.Prelude.{◌<◌};
 ghost use Rattle.pmf_image.specs.Certificate.{Fits};
 
-use super::plain::bytes::{IsChecked, NumberTest, is_included, last_store};
-use super::plain::images::{Picture, all_images};
-use super::plain::pairs::{IsUnordered, PairTest};
-use super::plain::places::event_at;
-use super::plain::transactions::{in_scope, in_transaction, is_scoped};
-use super::random::Numbers;
 use super::verdict_of;
 use crate::{Verdict, explain};
 use pmf_event::{Event, Finding, Profile, Row, Span, SpanFault};
+use pmf_fixtures::plain::{byte_at, depth, first, is_scoped, is_unordered, scope};
+use pmf_fixtures::{BYTES, Image, Numbers, images_after};
 use pmf_image::{Certificate, contradicts, shows};
 use std::alloc::{AllocError, Global};
 use std::process::Abort;
 use std::test::Fail;
-
-/// The two cache lines of these sections.
-const LINES: [u64; 2] = [0, 64];
-
-/// Their bytes at the border, in which all spans lie.
-const BYTES: [u64; 8] = [60, 61, 62, 63, 64, 65, 66, 67];
 
 const SECTIONS: u64 = 1000;
 
@@ -85,104 +74,92 @@ fn section(alloc: Global, numbers: &mut Numbers) -> Result<Vec<Event>, Fail> {
     Ok(events)
 }
 
-fn checked_of(
-    alloc: Global,
-    events: &[Event],
-    place: u32,
-    span: Span,
-) -> Result<Vec<Asked>, AllocError> {
+fn checked_of(alloc: Global, past: &[Event], span: Span) -> Result<Vec<Asked>, AllocError> {
     let mut asked = Vec::new(alloc);
     for byte in BYTES {
-        if span.covers(byte) && (IsChecked { p: place }).holds(events, byte) {
-            let last = last_store(events, place, byte);
+        let at = byte_at(past, byte);
+        if span.covers(byte) && at.is_checked() {
+            let last = at.last;
             asked.push(Asked { byte, last })?;
         }
     }
     Ok(asked)
 }
 
-fn scoped_of(alloc: Global, events: &[Event], place: u32) -> Result<Vec<Asked>, AllocError> {
+fn scoped_of(alloc: Global, past: &[Event]) -> Result<Vec<Asked>, AllocError> {
     let mut asked = Vec::new(alloc);
     for byte in BYTES {
-        if is_scoped(events, place.saturating_sub(1), byte) && is_included(events, place, byte) {
-            let last = last_store(events, place, byte);
+        let at = byte_at(past, byte);
+        if is_scoped(past, byte) && !at.is_excluded {
+            let last = at.last;
             asked.push(Asked { byte, last })?;
         }
     }
     Ok(asked)
 }
 
-/// What the event at the place promises, if it is an assertion; a CHECKEND is one where it closes a scope
+/// What the event behind those of the past promises, if it is an assertion; a CHECKEND is one where it closes a scope
 /// outside of transactions.
-fn promise_of(
-    alloc: Global,
-    events: &[Event],
-    place: u32,
-    event: Event,
-) -> Result<Option<Promise>, AllocError> {
-    let before = place.saturating_sub(1);
+fn promise_of(alloc: Global, past: &[Event], event: Event) -> Result<Option<Promise>, AllocError> {
     Ok(match event {
-        Event::Persist(span) => Some(Promise::Durable(checked_of(alloc, events, place, span)?)),
+        Event::Persist(span) => Some(Promise::Durable(checked_of(alloc, past, span)?)),
         Event::Ordered(a, b) => Some(Promise::InOrder(
-            checked_of(alloc, events, place, a)?,
-            checked_of(alloc, events, place, b)?,
+            checked_of(alloc, past, a)?,
+            checked_of(alloc, past, b)?,
         )),
-        Event::CheckEnd if in_scope(events, before) && !in_transaction(events, before) => {
-            Some(Promise::Durable(scoped_of(alloc, events, place)?))
+        Event::CheckEnd if scope(past) > 0 && depth(past) == 0 => {
+            Some(Promise::Durable(scoped_of(alloc, past)?))
         }
         _ => None,
     })
 }
 
-/// Whether the image after the crash breaks the promise.
-fn breaks(events: &[Event], crash: u32, image: &Picture, promise: &Promise) -> bool {
+/// Whether the image after a crash behind these events breaks the promise.
+fn breaks(past: &[Event], image: &Image, promise: &Promise) -> bool {
     match promise {
-        Promise::Durable(asked) => asked
-            .iter()
-            .any(|a| image.shows(events, crash, a.byte) < a.last),
+        Promise::Durable(asked) => asked.iter().any(|a| image.shows(past, a.byte) < a.last),
         Promise::InOrder(firsts, seconds) => {
-            seconds
-                .iter()
-                .any(|y| image.shows(events, crash, y.byte) == y.last)
-                && firsts
-                    .iter()
-                    .any(|x| image.shows(events, crash, x.byte) != x.last)
+            seconds.iter().any(|y| image.shows(past, y.byte) == y.last)
+                && firsts.iter().any(|x| image.shows(past, x.byte) != x.last)
         }
     }
+}
+
+/// The images after a crash behind the first events, for each number of them.
+type Images = Vec<Vec<Image>>;
+
+fn images_of(alloc: Global, events: &[Event]) -> Result<Images, AllocError> {
+    let mut all = Vec::new(alloc);
+    for crash in 0..=EVENTS {
+        all.push(images_after(alloc, first(events, crash))?)?;
+    }
+    Ok(all)
 }
 
 /// Whether no allowed image breaks the promise of the assertion at the place, at any crash that it speaks of.
-fn holds(
-    alloc: Global,
-    events: &[Event],
-    place: u32,
-    promise: &Promise,
-) -> Result<bool, AllocError> {
-    let (first, last) = match promise {
+fn holds(events: &[Event], images: &Images, place: u32, promise: &Promise) -> bool {
+    let (from, to) = match promise {
         Promise::Durable(_) => (place, EVENTS),
         Promise::InOrder(_, _) => (0, place),
     };
-    for crash in first..=last {
-        let images = all_images(alloc, events, crash, &LINES, &BYTES)?;
-        if images
-            .iter()
-            .any(|image| breaks(events, crash, image, promise))
-        {
-            return Ok(false);
+    for crash in from..=to {
+        let past = first(events, crash);
+        if let Some(all) = images.get(crash as usize) {
+            if all.iter().any(|image| breaks(past, image, promise)) {
+                return false;
+            }
         }
     }
-    Ok(true)
+    true
 }
 
 /// Whether each pair that profile Two leaves unordered is one byte with itself.
-fn pairs_are_one_byte(events: &[Event], place: u32, a: Span, b: Span) -> bool {
-    let test = IsUnordered {
-        profile: Profile::Two,
-        p: place,
-    };
+fn pairs_are_one_byte(past: &[Event], a: Span, b: Span) -> bool {
     for x in BYTES {
         for y in BYTES {
-            if x != y && a.covers(x) && b.covers(y) && test.holds(events, x, y) {
+            let (at_x, at_y) = (byte_at(past, x), byte_at(past, y));
+            let is_pair = x != y && a.covers(x) && b.covers(y);
+            if is_pair && is_unordered(Profile::Two, x, y, at_x, at_y) {
                 return false;
             }
         }
@@ -211,12 +188,13 @@ fn is_true(finding: Finding, holds: bool) -> bool {
     }
 }
 
-/// Whether the image shows what the certificate's does, and nothing in it is torn.
-fn is_image_of(events: &[Event], image: &Picture, certificate: Certificate) -> bool
+/// Whether the image after a crash behind these events shows what the certificate's does, and nothing in it is torn.
+fn is_image_of(events: &[Event], image: &Image, certificate: Certificate) -> bool
     requires { Fits events.now certificate }
 {
+    let past = first(events, certificate.crash);
     for byte in BYTES {
-        let shown = image.shows(events, certificate.crash, byte);
+        let shown = image.shows(past, byte);
         if image.is_torn(byte) || shown != shows(events, certificate, byte) {
             return false;
         }
@@ -225,21 +203,22 @@ fn is_image_of(events: &[Event], image: &Picture, certificate: Certificate) -> b
 }
 
 /// Whether the failure at the place has a certificate that contradicts it, whose image is one of those listed.
-fn is_explained(alloc: Global, verdict: &Verdict, place: u32) -> Result<bool, AllocError> {
+fn is_explained(verdict: &Verdict, images: &Images, place: u32) -> bool {
     let events = verdict.section().events();
     let Some(certificate) = explain(verdict, place) else {
-        return Ok(false);
+        return false;
     };
     if place == 0 || place as usize > events.len() || !contradicts(events, place, certificate) {
-        return Ok(false);
+        return false;
     }
-    let images = all_images(alloc, events, certificate.crash, &LINES, &BYTES)?;
-    for image in &images {
-        if is_image_of(events, image, certificate) {
-            return Ok(true);
+    if let Some(all) = images.get(certificate.crash as usize) {
+        for image in all {
+            if is_image_of(events, image, certificate) {
+                return true;
+            }
         }
     }
-    Ok(false)
+    false
 }
 
 /// Which outcomes the test has met.
@@ -303,15 +282,15 @@ impl Met {
 
 #[test]
 fn an_assertion_is_shown_as_it_holds_in_every_image(rt: HostRuntime) -> Result<(), Fail> {
-    let mut numbers = Numbers(6);
+    let mut numbers = Numbers::of(6);
     let mut met = NONE;
     for _section in 0..SECTIONS {
         let events = section(rt.alloc(), &mut numbers)?;
+        let images = images_of(rt.alloc(), events.as_slice())?;
         for profile in [Profile::One, Profile::Two] {
             let verdict = verdict_of(rt.alloc(), events.as_slice(), profile)?;
             for index in 0..EVENTS {
-                let place = index + 1;
-                compare(&rt, rt.alloc(), &verdict, place, &mut met)?;
+                compare(&rt, rt.alloc(), &verdict, &images, index, &mut met)?;
             }
         }
     }
@@ -319,22 +298,25 @@ fn an_assertion_is_shown_as_it_holds_in_every_image(rt: HostRuntime) -> Result<(
     Ok(())
 }
 
-/// Compares the row of the assertion at the place, if there is one, with the images.
+/// Compares the row of the event behind so many, if it is an assertion, with the images.
 fn compare(
     rt: &impl Abort,
     alloc: Global,
     verdict: &Verdict,
-    place: u32,
+    images: &Images,
+    index: u32,
     met: &mut Met,
 ) -> Result<(), Fail> {
     let events = verdict.section().events();
-    let Some(event) = event_at(events, place) else {
+    let past = first(events, index);
+    let place = index.saturating_add(1);
+    let Some(event) = events.get(index as usize) else {
         return Ok(());
     };
-    let Some(promise) = promise_of(alloc, events, place, event)? else {
+    let Some(promise) = promise_of(alloc, past, *event)? else {
         return Ok(());
     };
-    let holds = holds(alloc, events, place, &promise)?;
+    let holds = holds(events, images, place, &promise);
     let Some(finding) = finding_at(verdict.rows(), place) else {
         panic!(rt; "no row at {place} of {events:?}");
     };
@@ -342,19 +324,16 @@ fn compare(
         is_true(finding, holds),
         "{finding:?} at {place} of {events:?}"
     );
-    if let Event::Ordered(a, b) = event {
-        let exact = pairs_are_one_byte(events, place, a, b);
+    if let Event::Ordered(a, b) = *event {
+        let exact = pairs_are_one_byte(past, a, b);
         assert_eq!(rt; holds, exact, "at {place} of {events:?}");
     }
     let fails = matches!(
         finding,
         Finding::PersistFail { .. } | Finding::OrderedFail { .. } | Finding::CheckFail { .. }
     );
-    assert_eq!(rt;
-        is_explained(alloc, verdict, place)?,
-        fails,
-        "at {place} of {events:?}"
-    );
+    let explained = is_explained(verdict, images, place);
+    assert_eq!(rt; explained, fails, "at {place} of {events:?}");
     met.meet(finding, holds);
     Ok(())
 }

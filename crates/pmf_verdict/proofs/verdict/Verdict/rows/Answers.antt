@@ -1,7 +1,7 @@
 use Rattle.std.proofs.Common.{sym, ◌∙◌, ap, subst}
 use Rattle.pmf_verdict.specs.Checked.{Checked, rows_in}
 use Rattle.pmf_verdict.specs.Explained.{FailuresAreReal}
-use Rattle.pmf_verdict.specs.Sound.{PassesHold, OrdersHold, ScopesHold}
+use Rattle.pmf_verdict.specs.Sound.{PersistsHold, OrdersHold, ScopesHold}
 use Rattle.pmf_verdict.specs.Exact.{IsExact, SameLinesAreOneStore}
 use Rattle.pmf_verdict.proofs.HoldingLemmas.{rows_exact, same_lines}
 use Rattle.pmf_verdict.proofs.FitLemmas.{failures_real}
@@ -10,7 +10,7 @@ use Rattle.pmf_verdict.proofs.verdict.Verdict.rows.Goals as goal
 
 pub returns-clause-sound : goal.returns-clause-sound
 returns-clause-sound c =
-    subst (λ rows. PassesHold c.args.self.now.section.events rows)
+    subst (λ rows. PersistsHold c.args.self.now.section.events rows)
     (sym (c.as_slice.ensures ∙ c.self.invariant ∙ ap (λ (v : Checked). rows_in v) c.self.view_is))
     (passes_hold c.args.self.now.profile c.args.self.now.section.events)
 
