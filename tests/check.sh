@@ -69,6 +69,7 @@ try_check() {
         name=$(basename "$log" .log)
         check "example $name" example "$name"
     done
+    check 'worked logs have the answers of tests/logs' tests/try-logs "$program"
     check 'a run that is no number is refused' refused check --run x
     check 'a profile that is neither 1 nor 2 is refused' refused check --profile 3
     check 'no workers are refused' told 2 FENCE '' 'pmfarm: workers must be 1 to 64' check --workers 0

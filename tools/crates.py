@@ -7,6 +7,7 @@ long is left, and nothing else rests on it.
 """
 
 import contextlib
+import functools
 import hashlib
 import os
 import pathlib
@@ -48,10 +49,22 @@ class Crates:
 
     def below(self, name):
         """The crates below one, each after those that it stands on."""
+        return self.all_of(self.uses, name)
+
+    def all_of(self, uses, name):
         found = []
-        for it in self.uses[name]:
-            found += [low for low in [*self.below(it), it] if low not in found]
+        for it in uses[name]:
+            found += [low for low in [*self.all_of(uses, it), it] if low not in found]
         return found
+
+    @functools.cached_property
+    def rests(self):
+        """What each crate's proof stands on: its crates, but for those that its tests alone name."""
+        return {name: [it for it in found if not self.is_of_tests(name, it)] for name, found in self.uses.items()}
+
+    def is_of_tests(self, name, other):
+        found = [it for part in PARTS for it in (self.folder(name) / part).rglob("*") if it.is_file() and other.encode() in it.read_bytes()]
+        return bool(found) and all(TESTS.search(str(it.relative_to(self.folder(name)))) for it in found)
 
     def is_program(self, name):
         return (self.folder(name) / "src" / "main.rt").is_file()
@@ -106,13 +119,13 @@ class Kit:
         self.folder = pathlib.Path(command(rt, "doc").strip()).parent
         self.name = command(rt, "version").strip()
 
-    def words(self, crates, name, verb, jobs, *more):
-        """A call of the compiler on a crate, over what is made of those below."""
+    def words(self, crates, name, verb, jobs, *more, over=None):
+        """A call of the compiler on a crate, over what is made of those below, or of these alone."""
         root = "src/main.rt" if crates.is_program(name) else "src/lib.rt"
         words = [self.folder / "bin" / "rattle", verb, "--crate-name", name, root]
         for it in crates.takes[name]:
             words += ["--extern", f"{it}={self.folder}/rlibs/{it}.rlib"]
-        for it in crates.uses[name]:
+        for it in crates.uses[name] if over is None else over:
             words += ["--extern", f"{it}={crates.made(it)}"]
         for it in (self.folder / "rlibs", *(crates.made(it).parent for it in crates.below(name))):
             words += ["-L", f"dependency={it}"]
@@ -120,19 +133,21 @@ class Kit:
         words += ["--logic-built", self.folder / "logic_built", "--links", f"{name}=", "--jobs", jobs, *more]
         return [str(it) for it in words]
 
-    def program(self, crates, name, jobs, *more, after):
+    def program(self, crates, name, jobs, *more, after, over=None):
         """The crate, or its tests, built into the program out/NAME of a room, and then this command."""
         chain, made = self.folder / "toolchain", f"out/{name}"
-        build = self.words(crates, name, "build", jobs, *more, "--toolchain", chain, "--backend", "llvm", "-o", f"{made}.o")
+        made_by = ("--toolchain", chain, "--backend", "llvm", "-o", f"{made}.o")
+        build = self.words(crates, name, "build", jobs, *more, *made_by, over=over)
         link = [self.folder / "bin" / "rattle-link", "--target", TARGET, "--toolchain", chain, "-o", made, f"{made}.o"]
         link += [self.folder / "c" / "libos_c.a", self.folder / "c" / "liblibc_c.a"]
         return ["sh", "-c", " && ".join(shlex.join(map(str, it)) for it in (build, link, after))]
 
     def proof(self, crates, name, jobs):
         """The crate proved from nothing, and what is made of it in out/ of a room."""
+        over = crates.rests[name]
         if crates.is_program(name):
-            return self.program(crates, name, jobs, after=["test", "-x", f"out/{name}"])
-        return self.words(crates, name, "build", jobs, "--statements", "-o", f"out/{name}.rlib")
+            return self.program(crates, name, jobs, after=["test", "-x", f"out/{name}"], over=over)
+        return self.words(crates, name, "build", jobs, "--statements", "-o", f"out/{name}.rlib", over=over)
 
 
 class Weights:
@@ -374,7 +389,7 @@ class Proof(Task):
     spreads, nice = True, 0
 
     def __init__(self, kit, crates, name, rooms, weights):
-        super().__init__(name, crates.uses[name], weights(name, "proof"), weights(name, "memory"))
+        super().__init__(name, crates.rests[name], weights(name, "proof"), weights(name, "memory"))
         self.kit, self.crates, self.rooms, self.room = kit, crates, rooms, None
 
     def begin(self, jobs):

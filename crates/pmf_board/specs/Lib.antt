@@ -5,3 +5,4 @@ pub mod Steps
 pub mod Calls
 pub mod Passes
 pub mod Laws
+pub mod Workers

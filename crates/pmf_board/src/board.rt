@@ -16,6 +16,9 @@ use std::marker::Model;
 /// The most sections that a board can have.
 pub const MOST_SECTIONS: u32 = 65_536;
 
+/// The most workers that a board is for: each has a pass, and who made the board one more.
+pub const MOST_WORKERS: u32 = 64;
+
 /// Which sections were handed out, how often, and which are done. Threads share it by reference, each with a pass of
 /// its own. Contracts see it as which board it is; its words are its sections.
 #[derive(Drop)]

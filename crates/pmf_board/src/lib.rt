@@ -34,7 +34,7 @@ mod task;
 mod tests;
 mod view;
 
-pub use board::{Board, MOST_SECTIONS};
+pub use board::{Board, MOST_SECTIONS, MOST_WORKERS};
 pub use entry::Entry;
 pub use fault::BoardFault;
 pub use laws::words_follow_the_machine;

@@ -14,17 +14,12 @@ use Rattle.pmf_farm.specs.declared.fault.FarmFault.TheVariants as farm
 use Rattle.pmf_stream.specs.declared.checking.CheckLogFault.{CheckLogFault}
 use Rattle.pmf_stream.specs.declared.checking.CheckLogFault.TheVariants as checking
 use Rattle.pmf_stream.specs.declared.checking.Done.{Done}
-use Rattle.pmf_stream.specs.declared.asking.AskFault.{AskFault}
-use Rattle.pmf_stream.specs.declared.explaining.ExplainFault.{ExplainFault}
-use Rattle.pmf_stream.specs.declared.explaining.ExplainFault.TheVariants as explaining
-use Rattle.pmf_lint.specs.declared.locating.LocateFault.{LocateFault}
-use Rattle.pmf_lint.specs.declared.locating.LocateFault.TheVariants as locating
-use Rattle.pmf_lint.specs.declared.linting.LintFault.{LintFault}
-use Rattle.pmf_lint.specs.declared.linting.LintFault.TheVariants as linting
-use Rattle.pmf_stream.specs.declared.holding.Linted.{Linted}
-use Rattle.pmf_stream.specs.declared.seeking.SeekFault.{SeekFault}
-use Rattle.pmf_stream.specs.declared.failing.LogRefusal.{LogRefusal}
-use Rattle.pmf_stream.specs.declared.failing.LogRefusal.TheVariants as failing
+use Rattle.pmf_query.specs.declared.lint.Linted.{Linted}
+use Rattle.pmf_query.specs.declared.refusal.EventFault.{EventFault}
+use Rattle.pmf_query.specs.declared.refusal.EventFault.TheVariants as event
+use Rattle.pmf_query.specs.declared.refusal.EventRefusal.{EventRefusal}
+use Rattle.pmf_query.specs.declared.refusal.LogRefusal.{LogRefusal}
+use Rattle.pmf_query.specs.declared.refusal.LogRefusal.TheVariants as whole
 use Rattle.pmf_stream.specs.declared.joining.Joined.{Joined}
 use Rattle.pmf_stream.specs.declared.joining.JoinTextFault.{JoinTextFault}
 use Rattle.pmf_stream.specs.declared.joining.JoinTextFault.TheVariants as texts
@@ -32,8 +27,8 @@ use Rattle.pmf_stream.specs.declared.fault.StreamFault.{StreamFault}
 use Rattle.pmf_stream.specs.declared.fault.StreamFault.TheVariants as stream
 use Rattle.pmf_world.specs.declared.fault.WorldNewFault.{WorldNewFault}
 use Rattle.pmf_world.specs.declared.fault.WorldNewFault.TheVariants as new
-use Rattle.pmf_sim.specs.declared.simulating.SimFault.{SimFault}
-use Rattle.pmf_sim.specs.declared.simulating.SimFault.TheVariants as sim
+use Rattle.pmf_world.specs.declared.simulating.SimFault.{SimFault}
+use Rattle.pmf_world.specs.declared.simulating.SimFault.TheVariants as sim
 use Rattle.pmf_command.specs.declared.status.Status.{Status}
 use Rattle.pmf_command.specs.declared.status.Status.TheVariants.{NoFail, SomeFail, Refused, NoMemory, DeviceFault}
 
@@ -88,41 +83,24 @@ status_of_check_fault (checking.Farm fault) = status_of_farm_fault fault
 abbrev pub status_of_asked : Unit {0} → Status
 status_of_asked done = NoFail
 
--- how the program ends where an event is not explained
-abbrev pub status_of_explain_fault : ExplainFault → Status
-status_of_explain_fault (explaining.Log fault) = status_of_log_fault fault
-status_of_explain_fault explaining.NoSection = Refused
-status_of_explain_fault explaining.NoEvent = Refused
-status_of_explain_fault explaining.OutOfMemory = NoMemory
+-- how the program ends where an event is not told of
+abbrev pub status_of_event_fault : EventFault → Status
+status_of_event_fault (event.Log fault) = status_of_log_fault fault
+status_of_event_fault event.NoSection = Refused
+status_of_event_fault event.NoEvent = Refused
+status_of_event_fault event.OutOfMemory = NoMemory
 
--- how the program ends where what is asked for is refused
-abbrev pub status_of_refusal : AskFault → Status
-status_of_refusal refusal = status_of_explain_fault refusal.fault
+abbrev pub status_of_event_refusal : EventRefusal → Status
+status_of_event_refusal refusal = status_of_event_fault refusal.fault
 
--- how the program ends where an event is not located
-abbrev pub status_of_locate_fault : LocateFault → Status
-status_of_locate_fault (locating.Log fault) = status_of_log_fault fault
-status_of_locate_fault locating.NoSection = Refused
-status_of_locate_fault locating.NoEvent = Refused
-status_of_locate_fault locating.OutOfMemory = NoMemory
-
--- how the program ends where what is sought is not found
-abbrev pub status_of_seek_fault : SeekFault → Status
-status_of_seek_fault refusal = status_of_locate_fault refusal.fault
-
--- how the program ends where the rows of a log are not explained
+-- how the program ends where a log is not told of
 abbrev pub status_of_log_refusal : LogRefusal → Status
-status_of_log_refusal (failing.Log fault) = status_of_log_fault fault
-status_of_log_refusal failing.OutOfMemory = NoMemory
+status_of_log_refusal (whole.Log fault) = status_of_log_fault fault
+status_of_log_refusal whole.OutOfMemory = NoMemory
 
 -- how the program ends where a log was looked through
 abbrev pub status_of_linted : Linted → Status
 status_of_linted told = if told.is_suspicious then SomeFail else NoFail
-
--- how the program ends where a log is not looked through
-abbrev pub status_of_lint_fault : LintFault → Status
-status_of_lint_fault (linting.Log fault) = status_of_log_fault fault
-status_of_lint_fault linting.OutOfMemory = NoMemory
 
 -- how the program ends where ledgers are joined
 abbrev pub status_of_joined : Joined → Status

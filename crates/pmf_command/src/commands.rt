@@ -3,40 +3,33 @@
 ghost use Rattle.std.specs.Prelude.{◌≡◌, ◌⊎◌, ◌↔◌, ◌<◌, ◌+◌, ◌^◌, map, Result};
 ghost use Rattle.std.specs.Io.KnownBytes.{Appends};
 ghost use Rattle.clap.specs.Words.{kind_of};
-ghost use Rattle.pmf_sim.specs.Simulation.{IsSimRefusalOf, IsSimulationOf};
+ghost use Rattle.pmf_stream.specs.Simulated.{IsSimRefusalOf, IsSimulationOf};
 ghost use Rattle.pmf_stream.specs.Answering.{Answers, TellsFaults};
-ghost use Rattle.pmf_stream.specs.Asking.{IsExplanationOf, IsRefusalOf};
+ghost use Rattle.pmf_stream.specs.Asked.{IsAnswerOf, IsRefusalOf};
 ghost use Rattle.pmf_stream.specs.Checking.{IsCheckFaultOf, IsReportOf};
-ghost use Rattle.pmf_stream.specs.Failing.{ExplainsAllOf, IsRefusalOfAllRead};
 ghost use Rattle.pmf_stream.specs.Failures.{CanCountOneMore};
-ghost use Rattle.pmf_stream.specs.Holding.{IsLintOf, IsLintRefusalOf};
 ghost use Rattle.pmf_stream.specs.Joining.{IsJoinedText, IsRefusalOfTexts};
-ghost use Rattle.pmf_stream.specs.Seeking.{IsLocationOf, IsSeekRefusalOf};
-ghost use Rattle.pmf_stream.specs.declared.asking.AskFault.{AskFault};
 ghost use Rattle.pmf_stream.specs.declared.checking.CheckLogFault.{CheckLogFault};
 ghost use Rattle.pmf_stream.specs.declared.checking.Done.{Done};
-ghost use Rattle.pmf_stream.specs.declared.failing.LogRefusal.{LogRefusal};
 ghost use Rattle.pmf_stream.specs.declared.fault.StreamFault.{StreamFault};
-ghost use Rattle.pmf_lint.specs.declared.linting.LintFault.{LintFault};
-ghost use Rattle.pmf_stream.specs.declared.holding.Linted.{Linted};
 ghost use Rattle.pmf_stream.specs.declared.joining.Joined.{Joined};
 ghost use Rattle.pmf_stream.specs.declared.joining.JoinTextFault.{JoinTextFault};
-ghost use Rattle.pmf_stream.specs.declared.seeking.SeekFault.{SeekFault};
-ghost use Rattle.pmf_command.specs.Statuses.{IsAnswerTo, status_of, status_of_asked, status_of_check_fault, status_of_done, status_of_joined, status_of_lint_fault, status_of_linted, status_of_log_refusal, status_of_refusal, status_of_seek_fault, status_of_sim_fault, status_of_text_fault};
+ghost use Rattle.pmf_command.specs.Statuses.{IsAnswerTo, status_of, status_of_asked, status_of_check_fault, status_of_done, status_of_joined, status_of_sim_fault, status_of_text_fault};
 
 use crate::diagnostics::{fail, fail_file, out_of_memory, print_skipped, refuse_words};
 use crate::ending::Ending;
 use crate::status::Status;
 use pmf_farm::OpenGate;
 use pmf_ledger::LEDGER_LIMIT;
-use pmf_request::{Files, Question, Request, Settings, Simulation, Sought, Whole};
-use pmf_sim::{SCHEDULE_LIMIT, SimFault, sim_to};
+use pmf_query::Query;
+use pmf_request::{Files, Overview, Request, Settings, Simulation};
 use pmf_storelog::LOG_LIMIT;
 use pmf_stream::{
-    JoinTextFault, Joined, Sink, Source, StdSink, StdSource, StreamFault, check_stream,
-    explain_all_stream, explain_stream, join_to, lint_stream, locate_stream, read_all, write_text,
+    JoinTextFault, Joined, Sink, Source, StdSink, StdSource, StreamFault, answer_stream,
+    check_stream, join_to, read_all, sim_to, write_text,
 };
 use pmf_words::request_of;
+use pmf_world::{SCHEDULE_LIMIT, SimFault};
 use std::alloc::Global;
 use std::fmt::Display;
 use std::io::{Eprint, ErrorKind, Input, Print};
@@ -55,10 +48,10 @@ pub fn execute<T: Threads + Wait + Sync>(rt: &HostRuntime, threads: &T) -> Statu
     };
     match request_of(alloc, words.as_slice()) {
         Ok(Request::Check(settings)) => check_input(rt, threads, settings),
-        Ok(Request::Explain(question)) => explain_input(rt, question),
-        Ok(Request::ExplainAll(whole)) => explain_all_input(rt, whole),
-        Ok(Request::Locate(sought)) => locate_input(rt, sought),
-        Ok(Request::Lint) => lint_input(rt),
+        Ok(Request::Explain(question)) => answer_input(rt, &question),
+        Ok(Request::ExplainAll(whole)) => answer_input(rt, &whole),
+        Ok(Request::Locate(sought)) => answer_input(rt, &sought),
+        Ok(Request::Lint) => answer_input(rt, &Overview),
         Ok(Request::Join(files)) => join_files(rt, &files),
         Ok(Request::Sim(simulation)) => simulate(rt, &simulation),
         Err(error) => report_words(rt, alloc, &error),
@@ -123,118 +116,36 @@ fn report_ending<R: Eprint, T: Ending + Drop, E: Ending + Display + Drop>(
     }
 }
 
-/// Reads the log on standard input and writes the explanation of one event to standard output.
-fn explain_input(rt: &HostRuntime, question: Question) -> Status {
+/// Reads the log on standard input and writes the answer of what is asked of it to standard output.
+fn answer_input<T: Ending + Drop, E: Ending + Display + Drop, Q: Query<Told = T, Refusal = E>>(
+    rt: &HostRuntime,
+    query: &Q,
+) -> Status {
     let mut source = StdSource::new(rt.reader());
     let mut sink = StdSink::new(io::writer(rt));
-    explain_to(rt, rt.alloc(), &mut source, &mut sink, question)
+    answer_to(rt, rt.alloc(), &mut source, &mut sink, query)
 }
 
-/// Reads the log of the source and writes the explanation of one event to the sink.
-fn explain_to<R: Eprint, S: Source, W: Sink>(
-    rt: &R,
-    alloc: Global,
-    source: &mut S,
-    sink: &mut W,
-    question: Question,
-) -> Status
+/// Reads the log of the source and writes the answer of what is asked of it to the sink.
+fn answer_to<
+    R: Eprint,
+    S: Source,
+    W: Sink,
+    T: Ending + Drop,
+    E: Ending + Display + Drop,
+    Q: Query<Told = T, Refusal = E>,
+>(rt: &R, alloc: Global, source: &mut S, sink: &mut W, query: &Q) -> Status
     requires read { CanCountOneMore (S.failed_calls source.old) }
     requires write { CanCountOneMore (W.failed_calls sink.old) }
-    ensures { (answer : Result (Unit {0}) (StreamFault AskFault))
-        × (result ≡ status_of status_of_asked status_of_refusal answer)
-        × Answers (IsExplanationOf question (S.left source.old) (S.left source.new))
-        (IsRefusalOf question (S.left source.old) (S.left source.new))
+    ensures { (answer : Result T (StreamFault E))
+        × (result ≡ status_of T.ends_as E.ends_as answer)
+        × Answers (IsAnswerOf (Q.IsAnswer query.now) (S.left source.old) (S.left source.new))
+        (IsRefusalOf (Q.IsRefusal query.now) (S.left source.old) (S.left source.new))
         (W.held sink.old) (W.held sink.new) answer
         × TellsFaults (S.failed_calls source.old) (S.failed_calls source.new)
         (W.failed_calls sink.old) (W.failed_calls sink.new) sink.old sink.new answer }
 {
-    let answer = explain_stream(alloc, source, sink, question);
-    report_ending(rt, answer)
-}
-
-/// Reads the log on standard input and writes the explanation of each row that counts as fail to standard output.
-fn explain_all_input(rt: &HostRuntime, whole: Whole) -> Status {
-    let mut source = StdSource::new(rt.reader());
-    let mut sink = StdSink::new(io::writer(rt));
-    explain_all_to(rt, rt.alloc(), &mut source, &mut sink, whole)
-}
-
-/// Reads the log of the source and writes the explanation of each row that counts as fail to the sink.
-fn explain_all_to<R: Eprint, S: Source, W: Sink>(
-    rt: &R,
-    alloc: Global,
-    source: &mut S,
-    sink: &mut W,
-    whole: Whole,
-) -> Status
-    requires read { CanCountOneMore (S.failed_calls source.old) }
-    requires write { CanCountOneMore (W.failed_calls sink.old) }
-    ensures { (answer : Result (Unit {0}) (StreamFault LogRefusal))
-        × (result ≡ status_of status_of_asked status_of_log_refusal answer)
-        × Answers (ExplainsAllOf whole (S.left source.old) (S.left source.new))
-        (IsRefusalOfAllRead whole (S.left source.old) (S.left source.new))
-        (W.held sink.old) (W.held sink.new) answer
-        × TellsFaults (S.failed_calls source.old) (S.failed_calls source.new)
-        (W.failed_calls sink.old) (W.failed_calls sink.new) sink.old sink.new answer }
-{
-    let answer = explain_all_stream(alloc, source, sink, whole);
-    report_ending(rt, answer)
-}
-
-/// Reads the log on standard input and writes where one event stands in it to standard output.
-fn locate_input(rt: &HostRuntime, sought: Sought) -> Status {
-    let mut source = StdSource::new(rt.reader());
-    let mut sink = StdSink::new(io::writer(rt));
-    locate_to(rt, rt.alloc(), &mut source, &mut sink, sought)
-}
-
-/// Reads the log of the source and writes where one event stands in it to the sink.
-fn locate_to<R: Eprint, S: Source, W: Sink>(
-    rt: &R,
-    alloc: Global,
-    source: &mut S,
-    sink: &mut W,
-    sought: Sought,
-) -> Status
-    requires read { CanCountOneMore (S.failed_calls source.old) }
-    requires write { CanCountOneMore (W.failed_calls sink.old) }
-    ensures { (answer : Result (Unit {0}) (StreamFault SeekFault))
-        × (result ≡ status_of status_of_asked status_of_seek_fault answer)
-        × Answers (IsLocationOf sought (S.left source.old) (S.left source.new))
-        (IsSeekRefusalOf sought (S.left source.old) (S.left source.new))
-        (W.held sink.old) (W.held sink.new) answer
-        × TellsFaults (S.failed_calls source.old) (S.failed_calls source.new)
-        (W.failed_calls sink.old) (W.failed_calls sink.new) sink.old sink.new answer }
-{
-    let answer = locate_stream(alloc, source, sink, sought);
-    report_ending(rt, answer)
-}
-
-/// Reads the log on standard input and writes what it holds to standard output.
-fn lint_input(rt: &HostRuntime) -> Status {
-    let mut source = StdSource::new(rt.reader());
-    let mut sink = StdSink::new(io::writer(rt));
-    lint_to(rt, rt.alloc(), &mut source, &mut sink)
-}
-
-/// Reads the log of the source and writes what it holds to the sink.
-fn lint_to<R: Eprint, S: Source, W: Sink>(
-    rt: &R,
-    alloc: Global,
-    source: &mut S,
-    sink: &mut W,
-) -> Status
-    requires read { CanCountOneMore (S.failed_calls source.old) }
-    requires write { CanCountOneMore (W.failed_calls sink.old) }
-    ensures { (answer : Result Linted (StreamFault LintFault))
-        × (result ≡ status_of status_of_linted status_of_lint_fault answer)
-        × Answers (IsLintOf (S.left source.old) (S.left source.new))
-        (IsLintRefusalOf (S.left source.old) (S.left source.new))
-        (W.held sink.old) (W.held sink.new) answer
-        × TellsFaults (S.failed_calls source.old) (S.failed_calls source.new)
-        (W.failed_calls sink.old) (W.failed_calls sink.new) sink.old sink.new answer }
-{
-    let answer = lint_stream(alloc, source, sink);
+    let answer = answer_stream(alloc, source, sink, query);
     report_ending(rt, answer)
 }
 

@@ -1,20 +1,16 @@
 //! The status of each answer of a command.
 
 ghost use Rattle.std.specs.Prelude.{◌≡◌};
-ghost use Rattle.pmf_command.specs.Statuses.{status_of_asked, status_of_check_fault, status_of_done, status_of_explain_fault, status_of_farm_fault, status_of_fails, status_of_fault, status_of_join_fault, status_of_joined, status_of_ledger_fault, status_of_lint_fault, status_of_linted, status_of_log_fault, status_of_log_refusal, status_of_new_fault, status_of_refusal, status_of_seek_fault, status_of_sim_fault, status_of_text_fault};
+ghost use Rattle.pmf_command.specs.Statuses.{status_of_asked, status_of_check_fault, status_of_done, status_of_event_refusal, status_of_farm_fault, status_of_fails, status_of_fault, status_of_join_fault, status_of_joined, status_of_ledger_fault, status_of_linted, status_of_log_fault, status_of_log_refusal, status_of_new_fault, status_of_sim_fault, status_of_text_fault};
 ghost use Rattle.pmf_command.specs.declared.status.Status.{Status};
 
 use crate::status::Status;
 use pmf_farm::FarmFault;
 use pmf_ledger::{JoinFault, LedgerFault};
-use pmf_lint::{LintFault, LocateFault};
-use pmf_sim::SimFault;
+use pmf_query::{EventFault, EventRefusal, Linted, LogRefusal};
 use pmf_storelog::{Cause, LogFault};
-use pmf_stream::{
-    AskFault, CheckLogFault, Done, ExplainFault, JoinTextFault, Joined, Linted, LogRefusal,
-    SeekFault, StreamFault,
-};
-use pmf_world::WorldNewFault;
+use pmf_stream::{CheckLogFault, Done, JoinTextFault, Joined, StreamFault};
+use pmf_world::{SimFault, WorldNewFault};
 
 /// What a command did, or why it refused: the program ends as this says.
 pub trait Ending {
@@ -93,42 +89,20 @@ impl Ending for CheckLogFault {
     }
 }
 
-/// What is asked for is refused.
-impl Ending for AskFault {
-    ghost ends_as = { status_of_refusal };
-
-    fn status(&self) -> Status {
-        self.fault.status()
-    }
-}
-
-/// The event is not explained.
-impl Ending for ExplainFault {
-    ghost ends_as = { status_of_explain_fault };
-
-    fn status(&self) -> Status {
-        match self {
-            ExplainFault::NoSection | ExplainFault::NoEvent => Status::Refused,
-            ExplainFault::OutOfMemory => Status::NoMemory,
-            ExplainFault::Log(fault) => fault.status(),
-        }
-    }
-}
-
-/// What is sought is not found.
-impl Ending for SeekFault {
-    ghost ends_as = { status_of_seek_fault };
+/// An event is not told of.
+impl Ending for EventRefusal {
+    ghost ends_as = { status_of_event_refusal };
 
     fn status(&self) -> Status {
         match self.fault {
-            LocateFault::NoSection | LocateFault::NoEvent => Status::Refused,
-            LocateFault::OutOfMemory => Status::NoMemory,
-            LocateFault::Log(fault) => fault.status(),
+            EventFault::NoSection | EventFault::NoEvent => Status::Refused,
+            EventFault::OutOfMemory => Status::NoMemory,
+            EventFault::Log(fault) => fault.status(),
         }
     }
 }
 
-/// The rows are not explained.
+/// A log is not told of.
 impl Ending for LogRefusal {
     ghost ends_as = { status_of_log_refusal };
 
@@ -149,18 +123,6 @@ impl Ending for Linted {
             Status::SomeFail
         } else {
             Status::NoFail
-        }
-    }
-}
-
-/// The log is not looked through.
-impl Ending for LintFault {
-    ghost ends_as = { status_of_lint_fault };
-
-    fn status(&self) -> Status {
-        match self {
-            LintFault::Log(fault) => fault.status(),
-            LintFault::OutOfMemory => Status::NoMemory,
         }
     }
 }

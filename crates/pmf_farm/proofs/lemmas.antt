@@ -1,3 +1,2 @@
 pub mod WorkingLemmas
 pub mod GatherLemmas
-pub mod RepeatLemmas

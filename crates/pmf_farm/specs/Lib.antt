@@ -2,9 +2,10 @@ pub use Rattle.pmf_event.specs.Section
 pub use Rattle.pmf_verdict.specs.Checked
 pub use Rattle.pmf_ledger.specs.Gathered
 pub use Rattle.pmf_ledger.specs.Names
+pub use Rattle.pmf_ledger.specs.Repeats
 pub use Rattle.pmf_board.specs.Calls
 pub use Rattle.pmf_board.specs.Views
+pub use Rattle.pmf_board.specs.Workers
 pub mod Working
-pub mod Repeats
 pub mod Rolls
 pub mod Running

@@ -1,15 +1,11 @@
 -- What a farm takes, and what it refuses. Defined here.
 use Rattle.std.specs.Prelude.{◌≡◌, ℕ, ◌<◌, ◌≤◌, List, length}
 use Rattle.pmf_event.specs.Section.{Trace}
-use Rattle.pmf_board.specs.declared.board.TheConstants.{MOST_SECTIONS}
+use Rattle.pmf_board.specs.declared.board.TheConstants.{MOST_SECTIONS, MOST_WORKERS}
+use Rattle.pmf_board.specs.Workers.{AreWorkers}
+use Rattle.pmf_ledger.specs.Repeats.{HaveOwnNames, IsLeastTwice}
 use Rattle.pmf_farm.specs.declared.fault.FarmFault.{FarmFault}
 use Rattle.pmf_farm.specs.declared.fault.FarmFault.TheVariants as fault
-use Rattle.pmf_farm.specs.declared.fault.TheConstants.{MOST_WORKERS}
-use Rattle.pmf_farm.specs.Repeats.{HaveOwnNames, IsLeastTwice}
-
--- 1 to 64 workers
-abbrev pub AreWorkers : ℕ → Type 0
-AreWorkers workers = (0 < workers) × (workers ≤ MOST_WORKERS)
 
 -- a farm takes so many workers, and these sections
 pub record IsTaken (workers : ℕ) (sections : List Trace) : Type 0 where

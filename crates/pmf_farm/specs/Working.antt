@@ -3,19 +3,12 @@ use Rattle.std.specs.Prelude.{◌≡◌, ℕ, ◌≤◌, List, [], ◌∷◌, �
 use Rattle.pmf_event.specs.declared.profile.Profile.{Profile}
 use Rattle.pmf_event.specs.Section.{Trace}
 use Rattle.pmf_verdict.specs.Checked.{Checked, checked_by}
+use Rattle.pmf_ledger.specs.Repeats.{section_at}
 use Rattle.pmf_board.specs.Calls.{Marks}
 use Rattle.pmf_board.specs.declared.task.Task.{Task}
 use Rattle.pmf_board.specs.declared.view.View.{View}
 use Rattle.pmf_farm.specs.declared.working.Ended.{Ended}
 use Rattle.pmf_farm.specs.declared.working.Ended.TheVariants as ended
-
--- no section: it stands for a place that the list hasn't
-abbrev pub no_section : Trace
-no_section = record { name = record { run = 0; number = 0 }; events = [] }
-
--- the section at this place, counted from 0
-abbrev pub section_at : List Trace → ℕ → Trace
-section_at sections k = get_or sections k no_section
 
 -- the section of the task, checked by the profile
 abbrev pub checked_of : List Trace → Profile → Task → Checked

@@ -4,9 +4,6 @@ use pmf_event::Name;
 use std::alloc::AllocError;
 use thiserror::Error;
 
-/// The most workers that a farm can have.
-pub const MOST_WORKERS: u32 = 64;
-
 /// Why a farm did not run: the first that applies, in this order.
 #[derive(Clone, Copy, Debug, PartialEq, Eq, Error)]
 pub enum FarmFault {

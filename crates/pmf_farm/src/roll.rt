@@ -1,13 +1,14 @@
 //! The sections that were handed in, in the order of their names.
 
-ghost use Rattle.std.specs.Prelude.{◌≡◌, ◌≤◌, ◌↔◌, map, length, vec_len, IfOk, IfErr, MatchOption, IsPermutation, IsTrue};
+ghost use Rattle.std.specs.Prelude.{◌≡◌, ◌≤◌, map, length, vec_len, IfOk, IfErr, IsPermutation};
 ghost use Rattle.pmf_verdict.specs.Checked.{checked_by};
-ghost use Rattle.pmf_farm.specs.Repeats.{HaveOwnNames, IsLeastTwice};
-ghost use Rattle.pmf_farm.specs.Rolls.{DoesNotFall, IsRepeatOf, sections_of};
+ghost use Rattle.pmf_ledger.specs.Repeats.{HaveOwnNames};
+ghost use Rattle.pmf_farm.specs.Rolls.{IsRepeatOf};
 
 use crate::fault::FarmFault;
 use crate::slot::Slot;
 use pmf_event::{Name, Profile, Section};
+use pmf_ledger::least_repeat;
 use pmf_verdict::Verdict;
 use std::alloc::{AllocError, Global};
 use std::sync::Arc;
@@ -29,35 +30,6 @@ fn slots_of(
     Ok(roll)
 }
 
-fn sorted(mut roll: Vec<Slot>) -> Vec<Slot>
-    ensures same { IsPermutation roll.items result.items }
-    ensures len { vec_len result ≡ vec_len roll }
-    ensures sorted { DoesNotFall result.items }
-{
-    roll.sort_unstable_by_key(|slot| slot.name());
-    roll
-}
-
-fn is_same(a: Name, b: Name) -> bool
-    ensures { IsTrue result ↔ (a ≡ b) }
-{
-    a == b
-}
-
-// The first name that stands twice in the order of names.
-fn repeated(roll: &[Slot]) -> Option<Name>
-    requires sorted { DoesNotFall roll.now }
-    ensures { MatchOption result (HaveOwnNames (sections_of roll.now)) (IsLeastTwice (sections_of roll.now)) }
-{
-    for next in 1..roll.len() {
-        let name = roll[next].name();
-        if is_same(roll[next - 1].name(), name) {
-            return Some(name);
-        }
-    }
-    None
-}
-
 /// A slot for each section, in the order of their names, unless a name stands twice. Takes a slot of memory for each
 /// section.
 pub(crate) fn call(
@@ -72,27 +44,12 @@ pub(crate) fn call(
     ensures own { IfOk result (λ roll. HaveOwnNames (map (λ s. s.value) sections.now)) }
     ensures refused { IfErr result (IsRepeatOf (map (λ s. s.value) sections.now)) }
 {
-    let roll = sorted(slots_of(alloc, sections, profile)?);
-    match repeated(roll.as_slice()) {
-        Some(name) => Err(FarmFault::TwiceNamed { name }),
-        None => Ok(roll),
+    if let Some(name) = least_repeat(alloc, sections)? {
+        return Err(FarmFault::TwiceNamed { name });
     }
-}
-
-/// The least name that stands twice among at most 65,536 sections, if one does. Takes memory as long as it looks, and the
-/// time of a sort.
-pub fn least_repeat(alloc: Global, sections: &[Arc<Section>]) -> Result<Option<Name>, AllocError>
-    requires few { length sections.now ≤ 65536 }
-    ensures { IfOk result (λ found. MatchOption found
-        (HaveOwnNames (map (λ s. s.value) sections.now))
-        (IsLeastTwice (map (λ s. s.value) sections.now))) }
-{
-    // The profile says nothing of names.
-    match call(alloc, sections, Profile::One) {
-        Ok(_) => Ok(None),
-        Err(FarmFault::TwiceNamed { name }) => Ok(Some(name)),
-        Err(_) => Err(AllocError),
-    }
+    let mut roll = slots_of(alloc, sections, profile)?;
+    roll.sort_unstable_by_key(|slot| slot.name());
+    Ok(roll)
 }
 
 // Where the section of this name stands, or where it would.

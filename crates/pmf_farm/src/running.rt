@@ -3,11 +3,11 @@
 ghost use Rattle.std.specs.Prelude.{◌≡◌, ◌≤◌, map, length, vec_len, IfOk, IfErr};
 ghost use Rattle.std.specs.List.{All};
 ghost use Rattle.pmf_ledger.specs.Gathered.{IsLedgerOf};
-ghost use Rattle.pmf_farm.specs.Repeats.{HaveOwnNames};
+ghost use Rattle.pmf_ledger.specs.Repeats.{HaveOwnNames};
 ghost use Rattle.pmf_farm.specs.Rolls.{IsRepeatOf, sections_of};
 ghost use Rattle.pmf_farm.specs.Running.{IsRefused, IsTaken};
 
-use crate::fault::{FarmFault, MOST_WORKERS};
+use crate::fault::FarmFault;
 use crate::gate::Gate;
 use crate::outbox::ChannelOutbox;
 use crate::queue::{Queue, QueueGate};
@@ -15,7 +15,7 @@ use crate::roll::{call, keep};
 use crate::slot::Slot;
 use crate::working::work;
 use crossbeam_channel::{Receiver, Sender, unbounded};
-use pmf_board::{Board, MOST_SECTIONS, Pass};
+use pmf_board::{Board, MOST_SECTIONS, MOST_WORKERS, Pass};
 use pmf_event::{Profile, Section};
 use pmf_ledger::Ledger;
 use pmf_verdict::Verdict;

@@ -4,7 +4,8 @@ ghost use Rattle.std.specs.Prelude.{◌≡◌, ◌≢◌, ◌<◌, length, map, 
 ghost use Rattle.pmf_board.specs.Calls.{PassesOverAll, Stays};
 ghost use Rattle.pmf_board.specs.Views.{HasTaken};
 ghost use Rattle.pmf_verdict.specs.Checked.{checked_by};
-ghost use Rattle.pmf_farm.specs.Working.{HasWorked, Serves, most_left, section_at};
+ghost use Rattle.pmf_ledger.specs.Repeats.{section_at};
+ghost use Rattle.pmf_farm.specs.Working.{HasWorked, Serves, most_left};
 
 use crate::gate::{Gate, Turn};
 use crate::outbox::Outbox;

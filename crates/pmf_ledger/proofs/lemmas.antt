@@ -1,4 +1,6 @@
 pub mod NameLemmas
+pub mod RepeatLemmas
+pub mod OwnNamesLemmas
 pub mod PlaceLemmas
 pub mod AddingLemmas
 pub mod StandingLemmas

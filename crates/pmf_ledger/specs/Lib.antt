@@ -9,6 +9,7 @@ pub use Rattle.pmf_storelog.specs.Canonical
 pub use Rattle.pmf_storelog.specs.Numbers
 pub use Rattle.pmf_storelog.specs.Lines
 pub mod Names
+pub mod Repeats
 pub mod LedgerValue
 pub mod TrueRows
 pub mod Places

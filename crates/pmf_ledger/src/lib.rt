@@ -19,6 +19,7 @@ mod joining;
 mod laws;
 mod ledger;
 mod loading;
+mod repeats;
 mod reporting;
 mod taking;
 #[cfg(test)]
@@ -35,5 +36,6 @@ pub use laws::{
 };
 pub use ledger::Ledger;
 pub use loading::{LEDGER_LIMIT, LedgerFault, load_ledger};
+pub use repeats::least_repeat;
 pub use taking::{TakeFault, Taken};
 pub use totals::Totals;

@@ -1,6 +1,6 @@
 //! What a ledger takes, refuses and tells.
 
-use super::{Ledger, TakeFault, Taken};
+use super::{Ledger, TakeFault, Taken, least_repeat};
 use pmf_event::{Event, Name, Profile, Section};
 use pmf_verdict::{Verdict, check};
 use std::alloc::Global;
@@ -143,6 +143,24 @@ fn a_refusal_has_its_text(rt: HostRuntime) -> Result<(), Fail> {
     ] {
         let text = format!(in rt.alloc(); "{fault}")?;
         assert_eq!(rt; text.as_str(), want);
+    }
+    Ok(())
+}
+
+#[test]
+fn the_least_name_that_stands_twice_is_found(rt: HostRuntime) -> Result<(), Fail> {
+    let alloc = rt.alloc();
+    for (numbers, least) in [
+        ([3, 1, 1, 3].as_slice(), Some(name(0, 1))),
+        ([4, 3, 2, 4].as_slice(), Some(name(0, 4))),
+        ([4, 3, 2, 1].as_slice(), None),
+        ([].as_slice(), None),
+    ] {
+        let mut sections = Vec::new(alloc);
+        for number in numbers {
+            sections.push(Arc::new(alloc, Section::new(alloc, name(0, *number)))?)?;
+        }
+        assert_eq!(rt; least_repeat(alloc, sections.as_slice())?, least);
     }
     Ok(())
 }

@@ -1,13 +1,13 @@
 //! What a command can be asked for.
 //!
 //! Types alone, with no function: [`Request`] is what the words of a command line come to, and [`Settings`], [`Question`],
-//! [`Sought`] and [`Whole`] are what the calls over streams are told. Each field is public, and any value of its type is one.
+//! [`Whole`], [`Sought`] and [`Overview`] are what the commands are told. Each field is public, and any value of its type is one.
 //!
-//! Not promised here: which words ask for which request (`pmf_words`), or what is done for it (`pmf_stream`, `pmf_sim`).
+//! Not promised here: which words ask for which request (`pmf_words`), or what is done for it (`pmf_stream`).
 #![tactic(auto)]
 
 mod request;
 mod settings;
 
 pub use request::{Files, Request, Simulation};
-pub use settings::{Question, Settings, Sought, Whole};
+pub use settings::{Overview, Question, Settings, Sought, Whole};

@@ -47,3 +47,7 @@ pub struct Whole {
     /// By which rule order assertions judge two bytes of one line.
     pub profile: Profile,
 }
+
+/// What `lint` is told by its words: nothing.
+#[derive(Clone, Copy, Debug, PartialEq, Eq)]
+pub struct Overview;

@@ -22,6 +22,6 @@ mod state;
 mod tests;
 mod walk;
 
-pub use members::Members;
+pub use members::{IsIn, IsOut, Members, PutIn};
 pub use runs::RunMap;
 pub use state::{Change, Effect, Key, State, Test};

@@ -3,6 +3,4 @@ pub mod TextJoiningLemmas
 pub mod ReadAllLemmas
 pub mod StreamLemmas
 pub mod AnsweringLemmas
-pub mod FoundSectionLemmas
 pub mod TakenLemmas
-pub mod FailingLemmas

@@ -11,8 +11,9 @@ use Rattle.pmf_ledger.specs.LedgerValue.{LedgerValue}
 use Rattle.pmf_ledger.specs.Report.{report_of, totals_of}
 use Rattle.pmf_farm.specs.declared.fault.FarmFault.{FarmFault}
 use Rattle.pmf_farm.specs.declared.fault.FarmFault.TheVariants as farm
-use Rattle.pmf_farm.specs.declared.fault.TheConstants.{MOST_WORKERS}
-use Rattle.pmf_farm.specs.Running.{AreWorkers, IsTaken}
+use Rattle.pmf_board.specs.declared.board.TheConstants.{MOST_WORKERS}
+use Rattle.pmf_farm.specs.Running.{IsTaken}
+use Rattle.pmf_board.specs.Workers.{AreWorkers}
 use Rattle.pmf_stream.specs.declared.checking.CheckLogFault.{CheckLogFault}
 use Rattle.pmf_stream.specs.declared.checking.CheckLogFault.TheVariants as checking
 use Rattle.pmf_stream.specs.declared.checking.Done.{Done}

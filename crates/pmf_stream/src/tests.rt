@@ -1,14 +1,10 @@
-//! The tests of streams: worked logs by their reports, and devices that fail.
+//! The tests of streams: what goes through them, and devices that fail.
 
-mod all_rows;
+mod asked;
 mod checks;
-mod explaining;
-mod failing;
+mod devices;
 mod fakes;
 mod joining;
-mod orders;
-mod rows;
-mod seeking;
+mod simulating;
 mod streams;
-mod transactions;
 mod workers;

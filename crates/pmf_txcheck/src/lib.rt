@@ -10,7 +10,6 @@
 #![tactic(auto)]
 
 pub mod laws;
-mod sets;
 mod state;
 #[cfg(test)]
 mod tests;

@@ -10,9 +10,8 @@ ghost use Rattle.pmf_shadow.specs.Told.{finding_as_told};
 ghost use Rattle.pmf_txcheck.specs.Findings.{FindsOfCheckEnd, FindsOfStore, is_left_open_by, lacks_backup_by};
 ghost use Rattle.pmf_txcheck.specs.Tracking.{Follows, FollowsAt, ForEachList, Keeps, Tracks, depth_of};
 
-use crate::sets::{IsIn, IsOut, PutIn};
 use pmf_event::{ADDRESS_LIMIT, Event, Finding, Span};
-use pmf_runs::RunMap;
+use pmf_runs::{IsIn, IsOut, PutIn, RunMap};
 use pmf_shadow::Shadow;
 use std::alloc::{AllocError, Global};
 

@@ -5,3 +5,9 @@ pub mod TaskLemmas
 pub mod SentLemmas
 pub mod WorldLedgerLemmas
 pub mod TurningLemmas
+pub mod NumberWordLemmas
+pub mod ScheduleLineLemmas
+pub mod ScheduleLemmas
+pub mod PlayingLemmas
+pub mod LedgersLemmas
+pub mod SimulatingLemmas

@@ -5,7 +5,7 @@ use Rattle.pmf_event.specs.declared.profile.Profile.{Profile}
 use Rattle.pmf_event.specs.Section.{Trace}
 use Rattle.pmf_verdict.specs.Checked.{Checked, checked_by}
 use Rattle.pmf_board.specs.declared.entry.Entry.{Entry}
-use Rattle.pmf_farm.specs.Working.{section_at}
+use Rattle.pmf_ledger.specs.Repeats.{section_at}
 use Rattle.pmf_world.specs.declared.doing.Doing.{Doing}
 use Rattle.pmf_world.specs.declared.doing.Doing.TheVariants as doing
 use Rattle.pmf_world.specs.declared.floor.Message.{Message}

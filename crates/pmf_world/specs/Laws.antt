@@ -4,7 +4,7 @@ use Rattle.std.specs.List.{AllPairs}
 use Rattle.pmf_event.specs.Section.{Trace}
 use Rattle.pmf_ledger.specs.Gathered.{Holds}
 use Rattle.pmf_board.specs.Machine.{entry_at}
-use Rattle.pmf_farm.specs.Working.{section_at}
+use Rattle.pmf_ledger.specs.Repeats.{section_at}
 use Rattle.pmf_world.specs.declared.step.WorldStep.{WorldStep}
 use Rattle.pmf_world.specs.declared.step.WorldStep.TheVariants as step
 use Rattle.pmf_world.specs.declared.step.WorldAnswer.TheVariants as answer

@@ -1,12 +1,15 @@
 pub use Rattle.pmf_event.specs.Section
+pub use Rattle.pmf_storelog.specs.LogText
+pub use Rattle.pmf_storelog.specs.LogValue
+pub use Rattle.pmf_storelog.specs.Numbers
 pub use Rattle.pmf_verdict.specs.Checked
 pub use Rattle.pmf_ledger.specs.Gathered
 pub use Rattle.pmf_ledger.specs.LedgerValue
 pub use Rattle.pmf_ledger.specs.Names
+pub use Rattle.pmf_ledger.specs.Report
+pub use Rattle.pmf_ledger.specs.Repeats
 pub use Rattle.pmf_board.specs.Machine
-pub use Rattle.pmf_farm.specs.Repeats
-pub use Rattle.pmf_farm.specs.Running
-pub use Rattle.pmf_farm.specs.Working
+pub use Rattle.pmf_board.specs.Workers
 pub mod Turns
 pub mod Floors
 pub mod Steps
@@ -14,3 +17,8 @@ pub mod Worlds
 pub mod Gatherings
 pub mod Opening
 pub mod Laws
+pub mod Schedule
+pub mod Scheduling
+pub mod Lines
+pub mod Playing
+pub mod Simulation

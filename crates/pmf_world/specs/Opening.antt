@@ -2,10 +2,9 @@
 use Rattle.std.specs.Prelude.{◌≡◌, ℕ, ◌<◌, ◌≤◌, List, length}
 use Rattle.pmf_event.specs.declared.profile.Profile.{Profile}
 use Rattle.pmf_event.specs.Section.{Trace}
-use Rattle.pmf_board.specs.declared.board.TheConstants.{MOST_SECTIONS}
-use Rattle.pmf_farm.specs.Repeats.{HaveOwnNames, IsLeastTwice}
-use Rattle.pmf_farm.specs.Running.{AreWorkers}
-use Rattle.pmf_farm.specs.declared.fault.TheConstants.{MOST_WORKERS}
+use Rattle.pmf_board.specs.declared.board.TheConstants.{MOST_SECTIONS, MOST_WORKERS}
+use Rattle.pmf_ledger.specs.Repeats.{HaveOwnNames, IsLeastTwice}
+use Rattle.pmf_board.specs.Workers.{AreWorkers}
 use Rattle.pmf_world.specs.declared.fault.TheConstants.{MOST_LEDGERS}
 use Rattle.pmf_world.specs.declared.fault.WorldNewFault.{WorldNewFault}
 use Rattle.pmf_world.specs.declared.fault.WorldNewFault.TheVariants as fault

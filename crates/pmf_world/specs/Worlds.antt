@@ -5,7 +5,7 @@ use Rattle.pmf_event.specs.declared.profile.Profile.{Profile}
 use Rattle.pmf_event.specs.Section.{Trace}
 use Rattle.pmf_ledger.specs.Gathered.{Holds, IsLedgerOf}
 use Rattle.pmf_ledger.specs.LedgerValue.{LedgerValue}
-use Rattle.pmf_farm.specs.Working.{section_at}
+use Rattle.pmf_ledger.specs.Repeats.{section_at}
 use Rattle.pmf_world.specs.declared.step.WorldStep.{WorldStep}
 use Rattle.pmf_world.specs.declared.step.WorldStep.TheVariants as step
 use Rattle.pmf_world.specs.declared.step.WorldAnswer.{WorldAnswer}

@@ -13,6 +13,7 @@ mod limits;
 mod memory;
 mod orders;
 mod refusals;
+mod simulating;
 mod steps;
 
 // What a step tells.

@@ -15,15 +15,19 @@ mod words_tests;
 
 pub use pmf_command::{Files, Request, Simulation, Status, request_of};
 pub use pmf_farm::{FarmFault, Gate, OpenGate, Turn};
-pub use pmf_sim::{SCHEDULE_LIMIT, SimFault, sim_text, sim_to};
-pub use pmf_stream::{
-    AskFault, CheckLogFault, Counted, Cut, Device, Done, ExplainFault, Failed, JoinTextFault,
-    Joined, Linted, LogRefusal, Question, SeekFault, Settings, Sink, Sought, Source, StdSink,
-    StdSource, StreamFault, Whole, check_stream, explain_all_stream, explain_all_text,
-    explain_stream, explain_text, join_texts, join_to, lint_stream, locate_stream, read_all,
-    write_text,
+pub use pmf_query::{
+    Answer, EventFault, EventRefusal, Linted, LogRefusal, Overview, Query, Question, Sought, Whole,
+    explain_all_text, explain_text,
 };
-pub use pmf_world::{MOST_LEDGERS, World, WorldAnswer, WorldFault, WorldNewFault, WorldStep};
+pub use pmf_stream::{
+    CheckLogFault, Counted, Cut, Device, Done, Failed, JoinTextFault, Joined, Settings, Sink,
+    Source, StdSink, StdSource, StreamFault, answer_stream, check_stream, join_texts, join_to,
+    read_all, sim_to, write_text,
+};
+pub use pmf_world::{
+    MOST_LEDGERS, SCHEDULE_LIMIT, SimFault, World, WorldAnswer, WorldFault, WorldNewFault,
+    WorldStep, sim_text,
+};
 use std::process::ExitCode;
 
 fn main(rt: HostRuntime) -> ExitCode {

@@ -57,3 +57,8 @@ IsLedgerOf-permuted profile sections roll ledger moved is =
       rises = is.rises;
       same = λ s. (λ held. Contains-permutation (sections_of roll) sections s back ((is.same s).0 held), λ found. (is.same s).1 (Contains-permutation sections (sections_of roll) s there found));
     }
+
+-- the values of shared sections, checked, are those sections checked
+pub checked-values : {S : Type 0} (value : S → Trace) (profile : Profile) (ss : List S) → map (λ s. checked_by profile (value s)) ss ≡ map (checked_by profile) (map value ss)
+checked-values value profile [] = refl
+checked-values value profile (s ∷ ss) = ap (λ rest. checked_by profile (value s) ∷ rest) (checked-values value profile ss)

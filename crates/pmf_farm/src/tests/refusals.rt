@@ -1,7 +1,7 @@
 //! What a farm refuses, and the order of its refusals.
 
 use super::{fences, name, persisted, sections_named};
-use crate::{FarmFault, MOST_WORKERS, OpenGate, least_repeat, run};
+use crate::{FarmFault, MOST_WORKERS, OpenGate, run};
 use pmf_event::{Name, Profile, Section};
 use std::alloc::Global;
 use std::process::Abort;
@@ -87,26 +87,6 @@ fn the_least_name_that_stands_twice_is_told(rt: HostRuntime) -> Result<(), Fail>
     let names = [name(2, 0), name(1, 9), name(2, 0), name(1, 9)];
     let sections = sections_named(alloc, &names)?;
     assert_refused(&rt, alloc, sections.as_slice(), 2, twice(name(1, 9)));
-    Ok(())
-}
-
-#[test]
-fn the_least_repeat_is_found_without_a_farm(rt: HostRuntime) -> Result<(), Fail> {
-    let alloc = rt.alloc();
-    for (numbers, least) in [
-        ([3, 1, 1, 3], Some(name(0, 1))),
-        ([4, 3, 2, 4], Some(name(0, 4))),
-        ([4, 3, 2, 1], None),
-    ] {
-        let [a, b, c, d] = numbers;
-        let sections = [
-            fences(alloc, name(0, a), 1)?,
-            fences(alloc, name(0, b), 1)?,
-            fences(alloc, name(0, c), 2)?,
-            fences(alloc, name(0, d), 1)?,
-        ];
-        assert_eq!(rt; least_repeat(alloc, &sections)?, least);
-    }
     Ok(())
 }
 

@@ -62,26 +62,3 @@ pub fn checks<D: Display + Drop>(
     let failed = (source.failures(), sink.failures());
     assert_eq!(rt; failed, failed_calls(&want), "at {case}");
 }
-
-/// The check of the log by the settings answers so, and exactly this text is written.
-pub fn checks_log(
-    rt: &(impl Abort + Threads + Wait + Sync),
-    alloc: Global,
-    log: &str,
-    settings: Settings,
-    want: Result<Done, StreamFault<CheckLogFault>>,
-    text: &[u8],
-) {
-    let pieces = [log.as_bytes()];
-    let source = PieceSource::new(&pieces);
-    checks(
-        rt,
-        alloc,
-        log,
-        source,
-        ByteSink::new(alloc),
-        settings,
-        want,
-        text,
-    );
-}

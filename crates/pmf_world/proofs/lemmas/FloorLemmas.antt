@@ -11,7 +11,7 @@ use Rattle.pmf_event.specs.Section.{Trace}
 use Rattle.pmf_verdict.specs.Checked.{Checked}
 use Rattle.pmf_board.specs.declared.entry.Entry.{Entry}
 use Rattle.pmf_board.specs.Machine.{entry_at, finished, opening, untouched}
-use Rattle.pmf_farm.specs.Working.{no_section, section_at}
+use Rattle.pmf_ledger.specs.Repeats.{no_section, section_at}
 use Rattle.pmf_world.specs.declared.doing.Doing.{Doing}
 use Rattle.pmf_world.specs.declared.doing.Doing.TheVariants as doing
 use Rattle.pmf_world.specs.declared.floor.Message.{Message}

@@ -8,7 +8,7 @@ use Rattle.pmf_event.specs.Section.{Trace}
 use Rattle.pmf_verdict.specs.Checked.{checked_by}
 use Rattle.pmf_ledger.specs.LedgerValue.{LedgerValue}
 use Rattle.pmf_ledger.proofs.lemmas.MergingLemmas.{none_of_empty}
-use Rattle.pmf_farm.specs.Repeats.{HaveOwnNames}
+use Rattle.pmf_ledger.specs.Repeats.{HaveOwnNames}
 use Rattle.pmf_world.specs.declared.step.WorldAnswer.{WorldAnswer}
 use Rattle.pmf_world.specs.declared.step.WorldFault.{WorldFault}
 use Rattle.pmf_world.specs.declared.step.WorldFault.TheVariants as fault

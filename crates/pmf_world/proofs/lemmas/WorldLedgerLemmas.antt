@@ -18,8 +18,7 @@ use Rattle.pmf_ledger.specs.declared.taking.Taken.TheVariants as taken
 use Rattle.pmf_ledger.proofs.lemmas.AddingLemmas.{Contains-cons_cases}
 use Rattle.pmf_ledger.proofs.lemmas.MergingLemmas.{none_of_empty}
 use Rattle.pmf_verdict.specs.Checked.{Checked}
-use Rattle.pmf_farm.specs.Repeats.{HaveOwnNames, has_name}
-use Rattle.pmf_farm.specs.Working.{no_section, section_at}
+use Rattle.pmf_ledger.specs.Repeats.{HaveOwnNames, is_name, names_of, no_section, section_at}
 use Rattle.pmf_world.specs.declared.step.WorldAnswer.TheVariants as answer
 use Rattle.pmf_world.specs.declared.step.WorldStep.TheVariants as step
 use Rattle.pmf_world.specs.Floors.{IsSent}
@@ -29,12 +28,12 @@ use Rattle.pmf_world.specs.Gatherings.{JoinsAt, TakesAt, answer_of, with_ledger}
 use Rattle.pmf_world.proofs.lemmas.GatheredLemmas.{from_map, to_map}
 use Rattle.pmf_world.proofs.lemmas.WorldStandsLemmas.{StandsFor-set}
 
-has_its_name : (s : Trace) (name : Name) → s.name ≡ name → has_name name s ≡ true
-has_its_name s name is = subst (λ n. has_name n s ≡ true) is (rw (eq-eqb s.name.run s.name.run refl, eq-eqb s.name.number s.name.number refl) refl)
+has_its_name : (name : Name) → is_name name name ≡ true
+has_its_name name = rw (eq-eqb name.run name.run refl, eq-eqb name.number name.number refl) refl
 
 module _ (x : Trace) (xs : List Trace) where
-  counted : (name : Name) → count_by (has_name name) (x ∷ xs) ≡ cond (has_name name x) 1 0 + count_by (has_name name) xs
-  counted name = sum_by-cons (λ (r : Trace). cond (has_name name r) 1 0) x xs
+  counted : (name : Name) → count_by (is_name name) (names_of (x ∷ xs)) ≡ cond (is_name name x.name) 1 0 + count_by (is_name name) (names_of xs)
+  counted name = sum_by-cons (λ n. cond (is_name name n) 1 0) x.name (names_of xs)
 
   own_behind : HaveOwnNames (x ∷ xs) → HaveOwnNames xs
   own_behind own name more = own name (let all = counted name in omega (arith, all, more))
@@ -42,10 +41,10 @@ module _ (x : Trace) (xs : List Trace) where
   -- the first one's name doesn't stand behind it
   not_behind : HaveOwnNames (x ∷ xs) → (r : Trace) → Contains xs r → x.name ≡ r.name → ⊥
   not_behind own r there named =
-      let one : ◌≡◌ {A = ℕ} (cond (has_name x.name x) 1 0) 1 = ap (λ b. cond b 1 0) (has_its_name x x.name refl) in
-      let other : ◌≡◌ {A = ℕ} (cond (has_name x.name r) 1 0) 1 = ap (λ b. cond b 1 0) (has_its_name r x.name (sym named)) in
-      let at = subst (λ (q : Trace). cond (has_name x.name q) 1 0 ≤ count_by (has_name x.name) xs) there.2 (get_or-le-sum_by (λ (q : Trace). cond (has_name x.name q) 1 0) xs there.0 r there.1) in
-      own x.name (let all = counted x.name in omega (arith, all, one, other, at))
+      let one : ◌≡◌ {A = ℕ} (cond (is_name x.name x.name) 1 0) 1 = ap (λ b. cond b 1 0) (has_its_name x.name) in
+      let found = subst (Contains (names_of xs)) (sym named) (to_map (λ (q : Trace). q.name) xs r there) in
+      let at = subst (λ n. cond (is_name x.name n) 1 0 ≤ count_by (is_name x.name) (names_of xs)) found.2 (get_or-le-sum_by (λ n. cond (is_name x.name n) 1 0) (names_of xs) found.0 x.name found.1) in
+      own x.name (let all = counted x.name in omega (arith, all, one, at))
 
 -- of sections with names of their own two with one name are one
 pub same_section : (ss : List Trace) → HaveOwnNames ss → (s t : Trace) → Contains ss s → Contains ss t → s.name ≡ t.name → s ≡ t

@@ -1,5 +1,5 @@
 use Rattle.std.proofs.Common.{rules, ◌<◌, length, subst}
-use Rattle.pmf_farm.specs.Repeats.{HaveOwnNames}
+use Rattle.pmf_ledger.specs.Repeats.{HaveOwnNames}
 use Rattle.pmf_ledger.specs.declared.taking.Taken.TheVariants as taken
 use Rattle.pmf_world.specs.Floors.{IsSent}
 use Rattle.pmf_world.specs.Gatherings.{TakesAt}

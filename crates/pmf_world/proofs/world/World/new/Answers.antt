@@ -1,7 +1,7 @@
 use Rattle.std.proofs.Common.{rules, ◌≡◌, map, [], subst, sym}
 use Rattle.std.specs.Prelude.{replicate}
 use Rattle.std.specs.List.{All}
-use Rattle.pmf_farm.specs.Repeats.{HaveOwnNames}
+use Rattle.pmf_ledger.specs.Repeats.{HaveOwnNames}
 use Rattle.pmf_world.specs.Worlds.{IsOfWorld}
 use Rattle.pmf_world.proofs.lemmas.TurningLemmas.{empties-ours}
 use Rattle.pmf_world.proofs.world.World.new.Goals as goal

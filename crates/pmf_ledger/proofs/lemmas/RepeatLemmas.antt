@@ -1,0 +1,200 @@
+-- Names that stand twice in a list, which a sort has put in their order.
+use Rattle.std.proofs.Common.{◌≡◌, ℕ, zero, suc, ◌+◌, ◌-◌, ◌<◌, ◌≤◌, Bool, true, false, List, [], ◌∷◌, length, map, refl, sym, ◌∙◌, ap, subst, arith, inl, inr, get_or, eqb-true, eq-eqb}
+use Rattle.std.specs.Prelude.{◌⊎◌, ◌&&◌, eqb, count_by, cond, IsPermutation, MatchOption, Option, Some, None}
+use Rattle.std.proofs.Common.{is_lt, Less, Equal}
+use Rattle.std.specs.Ordering.{nat_cmp, ordering_then}
+use Rattle.std.specs.Cmp.{nat_cmp_is}
+use Rattle.std.proofs.lemmas.Bool.{cases_order, cases_lt, cases_Bool, true≢false}
+use Rattle.std.proofs.lemmas.List.{get_or_default}
+use Rattle.std.proofs.lemmas.List.Sums.{sum_by-cons}
+use Rattle.std.proofs.lemmas.List.Sorted.{sum_by-IsPermutation}
+use Rattle.pmf_event.specs.declared.name.Name.{Name}
+use Rattle.pmf_event.specs.Section.{Trace}
+use Rattle.pmf_ledger.specs.Names.{IsBefore}
+use Rattle.pmf_ledger.specs.Repeats.{AreOwn, DoNotFall, IsLeastTwiceIn, StandsTwiceIn, is_name, names_of}
+use Rattle.pmf_ledger.proofs.lemmas.NameLemmas.{before-trans, before-itself}
+
+-- the order of names is that by which a sort compares them
+pub before-compares : (a b : Name) → IsBefore a b → is_lt (ordering_then (nat_cmp a.run b.run) (nat_cmp a.number b.number)) ≡ false → ⊥
+before-compares a b before is = elim before [
+  | inl low ↦ true≢false (sym (ap (λ o. is_lt (ordering_then o (nat_cmp a.number b.number))) (sym (nat_cmp_is a.run b.run Less low))) ∙ is)
+  | inr even ↦
+      true≢false
+      (sym (ap (λ o. is_lt (ordering_then o (nat_cmp a.number b.number))) (sym (nat_cmp_is a.run b.run Equal even.0)) ∙ ap is_lt (sym (nat_cmp_is a.number b.number Less even.1))) ∙ is)
+]
+
+-- the name comes before the other, or is the same
+abbrev pub IsAtMost : Name → Name → Type 0
+IsAtMost a b = IsBefore a b ⊎ (a ≡ b)
+
+at_most-unless_before : (a b : Name) → (IsBefore b a → ⊥) → IsAtMost a b
+at_most-unless_before a b never = elim (cases_order a.run b.run) [
+  | inl same ↦ elim (cases_order a.number b.number) [
+    | inl equal ↦ inr (ap (λ r. record { run = r; number = a.number }) same ∙ ap (λ n. record { run = b.run; number = n }) equal)
+    | inr other ↦ elim other [ inl less ↦ inl (inr (same, less)) | inr more ↦ absurd (never (inr (sym same, more))) ]
+  ]
+  | inr other ↦ elim other [ inl less ↦ inl (inl less) | inr more ↦ absurd (never (inl more)) ]
+]
+
+at_most-trans : (a b c : Name) → IsAtMost a b → IsAtMost b c → IsAtMost a c
+at_most-trans a b c first then = elim first [
+  | inr same ↦ subst (λ x. IsAtMost x c) (sym same) then
+  | inl less ↦ elim then [ inr same ↦ inl (subst (IsBefore a) same less) | inl more ↦ inl (before-trans a b c less more) ]
+]
+
+-- the first so many names rise
+abbrev pub RisesTo : ℕ → List Name → Type 0
+RisesTo n names = (k : ℕ) (d : Name) → k + 1 < n → IsBefore (get_or names k d) (get_or names (k + 1) d)
+
+module _ (names : List Name) (d : Name) where
+  abbrev pub name_at : ℕ → Name
+  name_at k = get_or names k d
+
+  rises_by : (n i m : ℕ) → RisesTo n names → i + 1 + m < n → IsBefore (name_at i) (name_at (i + 1 + m))
+  rises_by n i zero rises inside = let k : i + 1 ≡ i + 1 + 0 = omega arith in subst (λ x. IsBefore (name_at i) (name_at x)) k (rises i d (omega (arith, inside)))
+  rises_by n i (suc m) rises inside =
+      before-trans (name_at i) (name_at (i + 1 + m)) (name_at (i + 1 + suc m)) (rises_by n i m rises (omega (arith, inside)))
+      (let k : i + 1 + m + 1 ≡ i + 1 + suc m = omega arith in subst (λ x. IsBefore (name_at (i + 1 + m)) (name_at x)) k (rises (i + 1 + m) d (omega (arith, inside))))
+
+  -- of two of the rising ones the first comes before
+  rises_between : (n i j : ℕ) → RisesTo n names → i < j → j < n → IsBefore (name_at i) (name_at j)
+  rises_between n i j rises less inside =
+      let k : i + 1 + (j - i - 1) ≡ j = omega (arith, less) in
+      subst (λ x. IsBefore (name_at i) (name_at x)) k (rises_by n i (j - i - 1) rises (omega (arith, less, inside)))
+
+  at_most_by : (i m : ℕ) → DoNotFall names → i + m < length names → IsAtMost (name_at i) (name_at (i + m))
+  at_most_by i zero sorted inside = inr (let k : i ≡ i + 0 = omega arith in ap name_at k)
+  at_most_by i (suc m) sorted inside =
+      let k : i + m + 1 ≡ i + suc m = omega arith in
+      subst (λ x. IsAtMost (name_at i) (name_at x)) k
+      (at_most-trans (name_at i) (name_at (i + m)) (name_at (i + m + 1)) (at_most_by i m sorted (omega (arith, inside)))
+      (at_most-unless_before (name_at (i + m)) (name_at (i + m + 1)) (sorted (i + m) d (omega (arith, inside)))))
+
+  at_most_between : (i j : ℕ) → DoNotFall names → i ≤ j → j < length names → IsAtMost (name_at i) (name_at j)
+  at_most_between i j sorted less inside =
+      let k : i + (j - i) ≡ j = omega (arith, less) in
+      subst (λ x. IsAtMost (name_at i) (name_at x)) k (at_most_by i (j - i) sorted (omega (arith, less, inside)))
+
+  -- one more name rises where it isn't the one before
+  pub rises-more : (k : ℕ) → DoNotFall names → RisesTo (k + 1) names → k + 1 < length names → (name_at k ≡ name_at (k + 1) → ⊥) → RisesTo (k + 1 + 1) names
+  rises-more k sorted rises inside other i e below = elim (cases_lt (i + 1) (k + 1)) [
+    | inl low ↦ rises i e low
+    | inr high ↦
+        let last : i ≡ k = omega (arith, high, below) in
+        let here : k < length names = omega (arith, inside) in
+        let step : IsBefore (name_at k) (name_at (k + 1)) = elim (at_most-unless_before (name_at k) (name_at (k + 1)) (sorted k d inside)) [ inl less ↦ less | inr same ↦ absurd (other same) ] in
+        subst (λ x. IsBefore (get_or names x e) (get_or names (x + 1) e)) (sym last) (rw (get_or_default names k e d here, get_or_default names (k + 1) e d inside) step)
+  ]
+
+module _ {X : Type 0} (p : X → Bool) where
+  counted-yes : (x : X) (xs : List X) → p x ≡ true → count_by p (x ∷ xs) ≡ count_by p xs + 1
+  counted-yes x xs yes_is = let c = sum_by-cons (λ y. cond (p y) 1 0) x xs in let one : ◌≡◌ {A = ℕ} (cond (p x) 1 0) 1 = ap (λ b. cond b 1 0) yes_is in omega (arith, c, one)
+
+  counted-none : (x : X) (xs : List X) → p x ≡ false → count_by p (x ∷ xs) ≡ count_by p xs
+  counted-none x xs not_is = let c = sum_by-cons (λ y. cond (p y) 1 0) x xs in let none : ◌≡◌ {A = ℕ} (cond (p x) 1 0) 0 = ap (λ b. cond b 1 0) not_is in omega (arith, c, none)
+
+  counted-more : (x : X) (xs : List X) → count_by p xs ≤ count_by p (x ∷ xs)
+  counted-more x xs = let c = sum_by-cons (λ y. cond (p y) 1 0) x xs in omega (arith, c)
+
+  -- where one is counted, it stands somewhere
+  one_of : (xs : List X) (d : X) → 0 < count_by p xs → (j : ℕ) × (j < length xs) × (p (get_or xs j d) ≡ true)
+  one_of [] d some = absurd (omega (arith, some))
+  one_of (x ∷ xs) d some = elim (cases_Bool (p x)) [
+    | inl yes_is ↦ (0, omega arith, yes_is)
+    | inr not_is ↦ let r = one_of xs d (let c = counted-none x xs not_is in omega (arith, c, some)) in (suc r.0, (let b = r.1 in omega (arith, b)), r.2)
+  ]
+
+  -- where two are counted, they stand at two places
+  two_of : (xs : List X) (d : X) → 1 < count_by p xs → (i : ℕ) × (j : ℕ) × (i < j) × (j < length xs) × (p (get_or xs i d) ≡ true) × (p (get_or xs j d) ≡ true)
+  two_of [] d some = absurd (omega (arith, some))
+  two_of (x ∷ xs) d some = elim (cases_Bool (p x)) [
+    | inl yes_is ↦ let r = one_of xs d (let c = counted-yes x xs yes_is in omega (arith, c, some)) in (0, suc r.0, omega arith, (let b = r.1 in omega (arith, b)), yes_is, r.2)
+    | inr not_is ↦
+        let r = two_of xs d (let c = counted-none x xs not_is in omega (arith, c, some)) in
+        (suc r.0, suc r.1, (let b = r.2 in omega (arith, b)), (let b = r.3 in omega (arith, b)), r.4, r.5)
+  ]
+
+  some_one : (xs : List X) (j : ℕ) (d : X) → j < length xs → p (get_or xs j d) ≡ true → 0 < count_by p xs
+  some_one [] j d inside is = omega (arith, inside)
+  some_one (x ∷ xs) zero d inside is = let c = counted-yes x xs is in omega (arith, c)
+  some_one (x ∷ xs) (suc j) d inside is = let r = some_one xs j d (omega (arith, inside)) is in let c = counted-more x xs in omega (arith, r, c)
+
+  -- what stands at two places is counted twice
+  some_two : (xs : List X) (i j : ℕ) (d : X) → i < j → j < length xs → p (get_or xs i d) ≡ true → p (get_or xs j d) ≡ true → 1 < count_by p xs
+  some_two [] i j d less inside first second = omega (arith, inside)
+  some_two (x ∷ xs) i zero d less inside first second = omega (arith, less)
+  some_two (x ∷ xs) zero (suc j) d less inside first second = let r = some_one xs j d (omega (arith, inside)) second in let c = counted-yes x xs first in omega (arith, r, c)
+  some_two (x ∷ xs) (suc i) (suc j) d less inside first second = let r = some_two xs i j d (omega (arith, less)) (omega (arith, inside)) first second in let c = counted-more x xs in omega (arith, r, c)
+
+both_left : (x y : Bool) → (x && y) ≡ true → x ≡ true
+both_left true y is = refl
+both_left false y is = absurd (true≢false (sym is))
+
+both_right : (x y : Bool) → (x && y) ≡ true → y ≡ true
+both_right true y is = is
+both_right false y is = absurd (true≢false (sym is))
+
+is_name-is : (name n : Name) → is_name name n ≡ true → n ≡ name
+is_name-is name n is =
+    let run = eqb-true n.run name.run (both_left (eqb n.run name.run) (eqb n.number name.number) is) in
+    let number = eqb-true n.number name.number (both_right (eqb n.run name.run) (eqb n.number name.number) is) in
+    ap (λ r. record { run = r; number = n.number }) run ∙ ap (λ m. record { run = name.run; number = m }) number
+
+is_name-yes : (name n : Name) → n ≡ name → is_name name n ≡ true
+is_name-yes name n is = subst (λ m. is_name m n ≡ true) is (rw (eq-eqb n.run n.run refl, eq-eqb n.number n.number refl) refl)
+
+module _ (names : List Name) (d : Name) where
+  -- a name that stands twice stands at two places
+  stands_at : (name : Name) → StandsTwiceIn names name → (i : ℕ) × (j : ℕ) × (i < j) × (j < length names) × (name_at names d i ≡ name) × (name_at names d j ≡ name)
+  stands_at name twice =
+      let r = two_of (is_name name) names d twice in
+      (r.0, r.1, r.2, r.3, is_name-is name (get_or names r.0 d) r.4, is_name-is name (get_or names r.1 d) r.5)
+
+  -- where all names rise none stands twice
+  own-names-at : RisesTo (length names) names → AreOwn names
+  own-names-at rises name twice =
+      let r = stands_at name twice in
+      before-itself name (subst (λ n. IsBefore n name) r.4 (subst (λ n. IsBefore (name_at names d r.0) n) r.5 (rises_between names d (length names) r.0 r.1 rises r.2 r.3)))
+
+  -- of names that don't fall, the first that is repeated is the least that is
+  pub least-twice : (k : ℕ) → DoNotFall names → RisesTo (k + 1) names → k + 1 < length names → name_at names d k ≡ name_at names d (k + 1) → IsLeastTwiceIn names (name_at names d (k + 1))
+  least-twice k sorted rises inside same =
+      let name = name_at names d (k + 1) in (
+        some_two (is_name name) names k (k + 1) d (omega arith) inside (is_name-yes name (name_at names d k) same) (is_name-yes name name refl),
+        λ other twice before.
+            let r = stands_at other twice in
+            elim (cases_lt r.1 (k + 1)) [
+              | inl low ↦ before-itself other (subst (λ n. IsBefore n other) r.4 (subst (λ n. IsBefore (name_at names d r.0) n) r.5 (rises_between names d (k + 1) r.0 r.1 rises r.2 low)))
+              | inr high ↦
+                  let most : IsAtMost name other = subst (IsAtMost name) r.5 (at_most_between names d (k + 1) r.1 sorted high r.3) in
+                  elim most [ inl less ↦ before-itself name (before-trans name other name less before) | inr is ↦ before-itself other (subst (IsBefore other) is before) ]
+            ],
+      )
+
+-- where all names rise none stands twice
+pub own-names : (names : List Name) → RisesTo (length names) names → AreOwn names
+own-names [] rises name twice = omega (arith, twice)
+own-names (n ∷ ns) rises name twice = own-names-at (n ∷ ns) n rises name twice
+
+-- in another order the same names stand twice
+module _ (given names : List Name) (moved : IsPermutation given names) where
+  times-permuted : (name : Name) → count_by (is_name name) names ≡ count_by (is_name name) given
+  times-permuted name = sum_by-IsPermutation (λ n. cond (is_name name n) 1 0) given names moved
+
+  own-permuted : AreOwn names → AreOwn given
+  own-permuted own name twice = own name (subst (λ n. 1 < n) (sym (times-permuted name)) twice)
+
+  twice-permuted : (name : Name) → IsLeastTwiceIn names name → IsLeastTwiceIn given name
+  twice-permuted name least = (
+    subst (λ n. 1 < n) (times-permuted name) least.0,
+    λ other twice. least.1 other (subst (λ n. 1 < n) (sym (times-permuted other)) twice),
+  )
+
+  pub repeats-permuted : (found : Option Name) → MatchOption found (AreOwn names) (IsLeastTwiceIn names) → MatchOption found (AreOwn given) (IsLeastTwiceIn given)
+  repeats-permuted None own = own-permuted own
+  repeats-permuted (Some name) least = twice-permuted name least
+
+-- the names of shared sections are those of their values
+pub names-values : {S : Type 0} (value : S → Trace) (ss : List S) → map (λ s. (value s).name) ss ≡ names_of (map value ss)
+names-values value [] = refl
+names-values value (s ∷ ss) = ap (λ rest. (value s).name ∷ rest) (names-values value ss)

@@ -1,7 +1,0 @@
-use Rattle.std.proofs.Common.{◌≡◌, ◌≤◌, take}
-use Rattle.std.specs.Prelude.{count_by}
-use Rattle.pmf_lint.specs.Summing.{asserts}
-use Rattle.pmf_lint.proofs.summing.count_assertions.Given as goal
-
-abbrev pub invariant-loop-event : goal.invariant-loop-event
-invariant-loop-event l = record { few : l.count ≤ l.event-index; counted : l.count ≡ count_by (λ x. asserts x) (take l.event-index l.events) }

@@ -1,4 +1,0 @@
-//! Where events of logs stand.
-
-mod linting;
-mod locating;

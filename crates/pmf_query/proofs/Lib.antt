@@ -1,0 +1,16 @@
+pub mod CursorLemmas
+pub mod PassedLemmas
+pub mod NumberFoundLemmas
+pub mod RowFitsLemmas
+pub mod LocationLemmas
+pub mod GivingLemmas
+pub mod SolidLemmas
+pub mod FirstNamesLemmas
+pub mod NamingLemmas
+pub mod NearnessLemmas
+pub mod LintTextLemmas
+pub mod WorkedNames
+pub mod InsideLemmas
+pub mod CoverLemmas
+pub mod TallySumLemmas
+pub mod LintLemmas

@@ -1,0 +1,43 @@
+-- What is told of a log that was read.
+use Rattle.std.proofs.Common.{◌≡◌, ℕ, List, [], ◌∷◌, ◌++◌, Ok, length, take, sym, ap, subst}
+use Rattle.std.proofs.lemmas.List.{length-map}
+use Rattle.pmf_storelog.specs.Separators.{records_of}
+use Rattle.pmf_storelog.specs.LogValue.{LogValue}
+use Rattle.pmf_storelog.specs.LogText.{fault_of, log_of, numbers_of, sections_of, skipped_of, value_of}
+use Rattle.pmf_query.specs.Linting.{IsLint}
+use Rattle.pmf_query.specs.Locating.{IsFaultless}
+use Rattle.pmf_query.specs.Summing.{sums_of}
+use Rattle.pmf_query.specs.declared.summing.Sums.{Sums}
+use Rattle.pmf_query.specs.Walking.{IsNext}
+use Rattle.pmf_query.specs.declared.rolling.Roll.{Roll}
+use Rattle.pmf_query.specs.Rolling.{Tallies}
+use Rattle.pmf_query.proofs.NumberFoundLemmas.{by_fault}
+
+pub skipped_so : (run : ℕ) (bytes : List ℕ) (log : LogValue) → log_of run bytes ≡ Ok log → log.skipped ≡ skipped_of (records_of bytes)
+unfolding log_of value_of
+skipped_so run bytes log is = ap (λ (l : LogValue). l.skipped) (by_fault (fault_of bytes) (value_of run bytes) log is).1
+
+pub sections_long : (run : ℕ) (records : List (List ℕ)) → length (sections_of run records) ≡ length (numbers_of records)
+unfolding sections_of
+sections_long run records = length-map (numbers_of records) _
+
+pub tallied_next : (bytes : List ℕ) (start offset : ℕ) (text : List ℕ) (next : ℕ) (roll : Roll) → IsNext bytes start offset text next → Tallies roll (records_of (take start bytes) ++ text ∷ []) → Tallies roll (records_of (take next bytes))
+tallied_next bytes start offset text next roll found tallies = subst (Tallies roll) (sym found.adds) tallies
+
+pub told_so : (bytes : List ℕ) (roll : Roll) (skipped sections : ℕ) (sums : Sums) → IsFaultless bytes → Tallies roll (records_of bytes) → skipped ≡ skipped_of (records_of bytes) →
+    sections ≡ length (numbers_of (records_of bytes)) → sums ≡ sums_of (sections_of 0 (records_of bytes)) →
+    IsLint bytes (record { records = roll.records; known = roll.known; skipped = skipped; listed = roll.listing.listed; others = roll.listing.others; has_near = roll.listing.has_near; has_strange = roll.listing.has_strange; sections = sections; sums = sums })
+told_so bytes roll skipped sections sums faultless tallies skipped_is sections_are sums_are = record {
+  faultless = faultless;
+  records = tallies.count;
+  names = tallies.names;
+  known = tallies.known;
+  skipped = skipped_is;
+  first = tallies.skipped.first;
+  listed = tallies.skipped.listed;
+  others = tallies.skipped.others;
+  near = tallies.skipped.near;
+  strange = tallies.skipped.strange;
+  sections = sections_are;
+  sums = sums_are;
+}

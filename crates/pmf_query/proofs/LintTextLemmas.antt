@@ -1,0 +1,24 @@
+-- The bytes of a printed character, and names that are shown whole.
+use Rattle.std.proofs.Common.{◌≡◌, ℕ, ◌≤◌, Bool, true, List, [], ◌∷◌, ◌++◌, cond, length, take, take_all, ap, sym, ◌∙◌, arith}
+use Rattle.std.specs.Prelude.{nat_le, codes}
+use Rattle.std.specs.List.{flat_map}
+use Rattle.std.proofs.lemmas.Bool.{and_parts, le-leb, leb-true}
+use Rattle.std.proofs.lemmas.List.{append-nil}
+use Rattle.std.proofs.lemmas.Str.{encode_ascii}
+use Rattle.std.proofs.Math.Utf8.{encode}
+use Rattle.pmf_query.specs.declared.telling.TheConstants.{SHOWN}
+use Rattle.pmf_query.specs.Nearness.{is_printed}
+use Rattle.pmf_query.specs.LintText.{shown_byte, shown_name}
+
+pub printed_alone : (b c : ℕ) → c ≡ b → is_printed b ≡ true → encode c ≡ b ∷ []
+unfolding is_printed
+printed_alone b c same printed =
+    let low = leb-true b 0x7e (and_parts (nat_le 0x20 b) (nat_le b 0x7e) printed).1 in
+    ap encode same ∙ encode_ascii b (omega (arith, low))
+
+pub short_name : (name : List ℕ) → length name ≤ SHOWN → flat_map (λ b. shown_byte b) name ≡ shown_name name
+unfolding shown_name
+short_name name short =
+    let whole = le-leb (length name) SHOWN short in
+    ap (λ (bs : List ℕ). flat_map (λ b. shown_byte b) bs) (sym (take_all SHOWN name short)) ∙ sym (append-nil (flat_map (λ b. shown_byte b) (take SHOWN name)))
+    ∙ ap (λ (b : Bool). flat_map (λ b. shown_byte b) (take SHOWN name) ++ cond b [] (codes "..")) (sym whole)

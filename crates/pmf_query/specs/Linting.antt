@@ -1,0 +1,33 @@
+-- What is told of a whole log. Defined here.
+use Rattle.std.specs.Prelude.{◌≡◌, ℕ, List, length, take}
+use Rattle.pmf_storelog.specs.Separators.{records_of}
+use Rattle.pmf_storelog.specs.LogText.{numbers_of, sections_of, skipped_of}
+use Rattle.pmf_query.specs.Locating.{IsFaultless}
+use Rattle.pmf_query.specs.Naming.{Count, count_others, first_names, known_names, names_in, names_of, skipped_names}
+use Rattle.pmf_query.specs.Nearness.{has_near, has_strange}
+use Rattle.pmf_query.specs.Summing.{sums_of}
+use Rattle.pmf_query.specs.declared.naming.TheConstants.{LISTED}
+use Rattle.pmf_query.specs.declared.lint.Lint.{Lint}
+use Rattle.pmf_query.specs.declared.lint.Linted.{Linted}
+use Rattle.pmf_query.specs.LintText.{is_suspicious, text_of_lint}
+
+-- the log is faultless, and this is told of it: its records; how many have each known name; how many are skipped; of their
+-- names the first different ones, how many have each of these, how many have none, and whether one is near to a known name, or no
+-- text; its sections, and what they hold
+pub record IsLint (bytes : List ℕ) (lint : Lint) : Type 0 where
+  pub faultless : IsFaultless bytes
+  pub records : lint.records ≡ length (records_of bytes)
+  pub names : names_in lint.known.items ≡ known_names
+  pub known : Count lint.known.items (names_of (records_of bytes))
+  pub skipped : lint.skipped ≡ skipped_of (records_of bytes)
+  pub first : names_in lint.listed.items ≡ take LISTED (first_names (skipped_names (records_of bytes)))
+  pub listed : Count lint.listed.items (skipped_names (records_of bytes))
+  pub others : lint.others ≡ count_others (names_in lint.listed.items) (skipped_names (records_of bytes))
+  pub near : lint.has_near ≡ has_near (skipped_names (records_of bytes))
+  pub strange : lint.has_strange ≡ has_strange (skipped_names (records_of bytes))
+  pub sections : lint.sections ≡ length (numbers_of (records_of bytes))
+  pub sums : lint.sums ≡ sums_of (sections_of 0 (records_of bytes))
+
+-- of the log this is told, and this text written
+abbrev pub Overviews : List ℕ → Linted → List ℕ → Type 0
+Overviews bytes told text = (lint : Lint) × IsLint bytes lint × (told.is_suspicious ≡ is_suspicious lint) × (text ≡ text_of_lint lint)

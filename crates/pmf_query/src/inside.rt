@@ -1,0 +1,85 @@
+//! Which places of a section stand in a transaction and a scope.
+
+ghost use Rattle.std.specs.Prelude.{◌≡◌, ◌+◌, ◌<◌, ◌≤◌, ◌^◌, ℕ, suc, List, Some, length, slice_index_or, IfOk, false};
+ghost use Rattle.pmf_event.specs.declared.event.Event.{Event};
+ghost use Rattle.pmf_event.specs.Store.{event_at};
+ghost use Rattle.pmf_event.specs.Transactions.{begins, closes_scope, depth_at, ends, in_scope, opens_scope};
+ghost use Rattle.pmf_query.specs.Covering.{AreInside};
+
+use crate::covering::both;
+use pmf_event::Event;
+use std::alloc::{AllocError, Global};
+
+/// For each event, whether a transaction runs there, inside a scope. Takes a byte for each.
+pub(crate) fn places_inside(alloc: Global, events: &[Event]) -> Result<Vec<bool>, AllocError>
+    requires { length events.now < 2 ^ 63 }
+    ensures { IfOk result (λ inside. AreInside events.now inside.items) }
+{
+    let mut inside = Vec::new(alloc);
+    let mut depth: u64 = 0;
+    let mut scope = false;
+    for event in events {
+        depth = depth_after(depth, event);
+        scope = scope_after(scope, event);
+        inside.push(both(depth > 0, scope))?;
+    }
+    Ok(inside)
+}
+
+// How many transactions run after the event.
+fn depth_after(depth: u64, event: &Event) -> u64
+    requires { depth + 1 < 2 ^ 64 }
+    ensures follows { (es : List Event) (p : ℕ) → event_at es (suc p) ≡ Some event.now
+        → depth ≡ depth_at es p → result ≡ depth_at es (suc p) }
+    ensures few { result ≤ depth + 1 }
+{
+    if begins(event) {
+        return depth + 1;
+    }
+    if ends(event) {
+        return depth.saturating_sub(1);
+    }
+    depth
+}
+
+// Whether there is a scope after the event.
+fn scope_after(scope: bool, event: &Event) -> bool
+    ensures { (es : List Event) (p : ℕ) → event_at es (suc p) ≡ Some event.now
+        → scope ≡ in_scope es p → result ≡ in_scope es (suc p) }
+{
+    if closes(event) {
+        return false;
+    }
+    if opens(event) {
+        return true;
+    }
+    scope
+}
+
+#[tactic(auto, unfolding(pmf_event::specs::Transactions::begins))]
+fn begins(event: &Event) -> bool
+    ensures { result ≡ begins event.now }
+{
+    matches!(event, Event::TxBegin)
+}
+
+#[tactic(auto, unfolding(pmf_event::specs::Transactions::ends))]
+fn ends(event: &Event) -> bool
+    ensures { result ≡ ends event.now }
+{
+    matches!(event, Event::TxEnd)
+}
+
+#[tactic(auto, unfolding(pmf_event::specs::Transactions::opens_scope))]
+fn opens(event: &Event) -> bool
+    ensures { result ≡ opens_scope event.now }
+{
+    matches!(event, Event::CheckStart)
+}
+
+#[tactic(auto, unfolding(pmf_event::specs::Transactions::closes_scope))]
+pub(crate) fn closes(event: &Event) -> bool
+    ensures { result ≡ closes_scope event.now }
+{
+    matches!(event, Event::CheckEnd)
+}

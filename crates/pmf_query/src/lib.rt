@@ -1,0 +1,47 @@
+//! What a log's user asks beside its check: what shows a failure, where an event stands, and what the log holds.
+//!
+//! Each question is a [`Query`], and its answer one text. [`explain_text`] writes what the crash image of one event's failure
+//! holds (`Explanation`), and [`explain_all_text`] the same of each row that counts as fail (`AllExplained`).
+//! [`locate_event`] names the record that gave an event of a section, and the offset at which it begins
+//! (`Locating`). Which record that is, and at which offset, is settled by the definition alone ([`laws`]).
+//!
+//! [`lint_log`] counts the records of each name (`Naming`), looks whether one of a skipped record is near to
+//! a known one, or no text (`Nearness`), and counts over the sections the assertions, the rows of those that
+//! had nothing to check, the stores, and the stores that no later assertion covers (`Covering`, `Summing`);
+//! what it answers is `Linting.IsLint`. [`lint_text`] writes all of that, with its warnings (`LintText`).
+//!
+//! Not promised here: that memory suffices, and that a log is what the program did.
+#![tactic(auto)]
+
+mod covering;
+mod explain;
+mod explain_all;
+mod inside;
+pub mod laws;
+mod lint;
+mod listing;
+mod locate;
+mod naming;
+mod nearness;
+mod passing;
+mod query;
+mod refusal;
+mod rolling;
+mod section;
+mod summing;
+mod telling;
+#[cfg(test)]
+mod tests;
+mod walking;
+
+pub use explain::explain_text;
+pub use explain_all::explain_all_text;
+pub use lint::{Lint, Linted, lint_log};
+pub use locate::{Located, locate_event, locate_text};
+pub use naming::{LISTED, Named};
+pub use nearness::{is_text, near};
+pub use pmf_request::{Overview, Question, Sought, Whole};
+pub use query::{Answer, Query};
+pub use refusal::{EventFault, EventRefusal, LogRefusal};
+pub use summing::Sums;
+pub use telling::lint_text;

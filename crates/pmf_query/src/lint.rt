@@ -1,0 +1,143 @@
+//! What a log holds, before its rows are believed.
+
+ghost use Rattle.std.specs.Prelude.{◌≡◌, MatchResult, IfOk};
+ghost use Rattle.pmf_storelog.specs.Separators.{records_of};
+ghost use Rattle.pmf_query.specs.Rolling.{Tallies};
+ghost use Rattle.pmf_query.specs.Linting.{IsLint, Overviews};
+ghost use Rattle.pmf_query.specs.Refusals.{IsLogRefusal};
+
+use crate::listing::Listing;
+use crate::naming::Named;
+use crate::query::{Answer, Query};
+use crate::refusal::LogRefusal;
+use crate::rolling::Roll;
+use crate::summing::{Sums, sum};
+use crate::telling::lint_text;
+use crate::walking::next_record;
+use pmf_request::Overview;
+use pmf_storelog::read_log;
+use std::alloc::{AllocError, Global};
+
+/// What was found of a log that was looked through.
+#[derive(Clone, Copy, Debug, PartialEq, Eq)]
+pub struct Linted {
+    /// Whether it may not be what its user believes it is.
+    pub is_suspicious: bool,
+}
+
+/// What a log holds.
+impl Query for Overview {
+    type Told = Linted;
+
+    type Refusal = LogRefusal;
+
+    ghost IsAnswer = { λ _. Overviews };
+
+    ghost IsRefusal = { λ _. IsLogRefusal 0 };
+
+    fn answer(&self, alloc: Global, log: &[u8]) -> Result<Answer<Linted>, LogRefusal> {
+        let lint = lint_log(alloc, log)?;
+        let told = Linted {
+            is_suspicious: lint.is_suspicious(),
+        };
+        let text = lint_text(alloc, &lint)?;
+        Ok(Answer { told, text })
+    }
+}
+
+/// What a log holds. Names are slices of the log.
+#[derive(Debug, Drop)]
+pub struct Lint<'a> {
+    /// All records; empty ones are none.
+    pub records: u64,
+    /// How many of them have each known name, in the order of the format's table.
+    pub known: Vec<Named<'a>>,
+    /// How many of them are skipped.
+    pub skipped: u64,
+    /// How many skipped ones have each of the first different names, in the order of their first records.
+    pub listed: Vec<Named<'a>>,
+    /// How many skipped ones have none of these.
+    pub others: u64,
+    /// Whether the name of a skipped one, listed or not, is near to a known name, as a misspelt one is ([`crate::near`]).
+    pub has_near: bool,
+    /// Whether the name of a skipped one, listed or not, is not text ([`crate::is_text`]), as in a packed log, in UTF-16, or behind
+    /// a byte order mark.
+    pub has_strange: bool,
+    /// The sections.
+    pub sections: u64,
+    /// What these hold.
+    pub sums: Sums,
+}
+
+/// What the log holds. A faulty log is refused with its first fault.
+///
+/// Takes memory for the events of the log, the verdict of one section at a time, and at most 45 names; none for a record.
+pub fn lint_log<'a>(alloc: Global, log: &'a [u8]) -> Result<Lint<'a>, LogRefusal>
+    ensures { MatchResult result (λ lint. IsLint log.now lint) (IsLogRefusal 0 log.now) }
+{
+    let read = match read_log(alloc, log, 0) {
+        Ok(read) => read,
+        Err(fault) => return Err(LogRefusal::Log(fault)),
+    };
+    let sums = match sum(alloc, read.sections()) {
+        Ok(sums) => sums,
+        Err(_) => return Err(LogRefusal::OutOfMemory),
+    };
+    match call_roll(alloc, log) {
+        Ok(roll) => {
+            let sections = read.sections().len() as u64;
+            Ok(told(roll, read.skipped(), sections, sums))
+        }
+        Err(_) => Err(LogRefusal::OutOfMemory),
+    }
+}
+
+fn told<'a>(roll: Roll<'a>, skipped: u64, sections: u64, sums: Sums) -> Lint<'a>
+    ensures { result ≡ record {
+      records = roll.entry.records;
+      known = roll.entry.known;
+      skipped = skipped;
+      listed = roll.entry.listing.listed;
+      others = roll.entry.listing.others;
+      has_near = roll.entry.listing.has_near;
+      has_strange = roll.entry.listing.has_strange;
+      sections = sections;
+      sums = sums;
+    } }
+{
+    let Roll {
+        records,
+        known,
+        listing,
+    } = roll;
+    let Listing {
+        listed,
+        others,
+        has_near,
+        has_strange,
+    } = listing;
+    Lint {
+        records,
+        known,
+        skipped,
+        listed,
+        others,
+        has_near,
+        has_strange,
+        sections,
+        sums,
+    }
+}
+
+// How many records of each name the log has.
+fn call_roll<'a>(alloc: Global, log: &'a [u8]) -> Result<Roll<'a>, AllocError>
+    ensures { IfOk result (λ roll. Tallies roll (records_of log.now)) }
+{
+    let mut roll = Roll::new(alloc)?;
+    let mut start = 0;
+    while let Some(found) = next_record(log, start) {
+        roll.take(found.text)?;
+        start = found.next;
+    }
+    Ok(roll)
+}

@@ -1,0 +1,49 @@
+//! How many records of each name a walk has passed.
+
+ghost use Rattle.std.specs.Prelude.{◌≡◌, ◌+◌, ◌<◌, ◌^◌, ℕ, List, [], ◌∷◌, ◌++◌, length, IfOk, OnOk};
+
+use crate::listing::Listing;
+use crate::naming::{Named, count_name, is_skipped, known_counts, name_of};
+use std::alloc::{AllocError, Global};
+
+/// How many records of each name a walk has passed.
+#[derive(Debug, Drop)]
+pub(crate) struct Roll<'a> {
+    /// All of them.
+    pub(crate) records: u64,
+    /// Those of each known name, in the order of the format's table.
+    pub(crate) known: Vec<Named<'a>>,
+    /// The names of those that are skipped.
+    pub(crate) listing: Listing<'a>,
+}
+
+impl<'a> Roll<'a> {
+    ghost use Rattle.pmf_query.specs.Rolling.{Tallies};
+
+    /// Of no record.
+    pub(crate) fn new(alloc: Global) -> Result<Roll<'a>, AllocError>
+        ensures { IfOk result (λ roll. Tallies roll []) }
+    {
+        let known = known_counts(alloc)?;
+        Ok(Roll {
+            records: 0,
+            known,
+            listing: Listing::new(alloc),
+        })
+    }
+
+    /// Counts one more record.
+    pub(crate) fn take(&mut self, text: &'a [u8]) -> Result<(), AllocError>
+        requires { (records : List (List ℕ)) × Tallies self.old records × (length records + 1 < 2 ^ 64) }
+        ensures { (records : List (List ℕ)) → Tallies self.old records
+            → OnOk result (Tallies self.new (records ++ text.now ∷ [])) }
+    {
+        self.records += 1;
+        let name = name_of(text);
+        count_name(&mut self.known, name);
+        if is_skipped(text) {
+            self.listing.take(name)?;
+        }
+        Ok(())
+    }
+}

@@ -1,0 +1,5 @@
+//! What is told of logs, and where their events stand.
+
+mod explain;
+mod lint;
+mod locate;

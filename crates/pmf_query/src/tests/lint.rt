@@ -1,0 +1,208 @@
+//! What is told of logs, and its text.
+
+use crate::{LogRefusal, is_text, lint_log, lint_text, near};
+use pmf_storelog::{Cause, LogFault};
+use std::alloc::Global;
+use std::test::Fail;
+
+// A misspelt store, an assertion with nothing to check, a store that none covers, and one that one covers.
+const MIXED: &[u8] = b"STORE;0x10;0;8|STOER;0x20;0;8|FLUSH;0x10;8|FENCE|PMT.PERSIST;0x17;1
+START|PMT.PERSIST;0x100;8\r\nSTART|STORE;0x10;0;8|PMT.SECTION;1|FENCE;x";
+
+const MIXED_TEXT: &str = "records=11 events=7 sections=2 skipped=3
+STORE records=2
+FLUSH records=1
+FENCE records=2
+PMT.PERSIST records=2
+PMT.SECTION records=1
+skipped STOER records=1 near=STORE
+skipped START records=2
+assertions=2 empty=1
+stores=2 unasserted=1
+warning: a skipped name is near a known one
+";
+
+fn text_of(alloc: Global, log: &[u8]) -> Result<Vec<u8>, LogRefusal> {
+    let lint = lint_log(alloc, log)?;
+    let text = lint_text(alloc, &lint)?;
+    Ok(text)
+}
+
+// How many stores there are, and how many no later assertion covers.
+fn stores_of(alloc: Global, log: &[u8]) -> Result<(u128, u128), LogRefusal> {
+    let lint = lint_log(alloc, log)?;
+    Ok((lint.sums.stores, lint.sums.unasserted))
+}
+
+// What is suspicious: nothing is asserted, each assertion is empty, a name is near, a name is no text.
+fn warnings_of(alloc: Global, log: &[u8]) -> Result<(bool, bool, bool, bool), LogRefusal> {
+    let lint = lint_log(alloc, log)?;
+    Ok((
+        lint.sums.asserts_nothing(),
+        lint.sums.checks_nothing(),
+        lint.has_near,
+        lint.has_strange,
+    ))
+}
+
+#[test]
+fn the_text_tells_names_sums_and_warnings(rt: HostRuntime) -> Result<(), Fail> {
+    let lint = lint_log(rt.alloc(), MIXED)?;
+    assert!(rt; lint.is_suspicious());
+    let text = lint_text(rt.alloc(), &lint)?;
+    assert!(rt; text.as_slice() == MIXED_TEXT.as_bytes());
+    let empty = text_of(rt.alloc(), b"")?;
+    let want =
+        "records=0 events=0 sections=0 skipped=0\nassertions=0 empty=0\nstores=0 unasserted=0\nwarning: nothing is asserted\n";
+    assert!(rt; empty.as_slice() == want.as_bytes());
+    let strange = text_of(rt.alloc(), b"\xef\xbb\xbfSTORE;0x10;0;8|a\\b|PMT.CHECKEND")?;
+    let want =
+        "records=3 events=1 sections=1 skipped=2\nPMT.CHECKEND records=1\nskipped \\xef\\xbb\\xbfSTORE records=1 near=STORE\nskipped a\\\\b records=1\nassertions=1 empty=0\nstores=0 unasserted=0\nwarning: a skipped name is near a known one\nwarning: a skipped name is not text\n";
+    assert!(rt; strange.as_slice() == want.as_bytes());
+    Ok(())
+}
+
+#[test]
+fn a_long_name_is_cut_and_the_33rd_name_is_another(rt: HostRuntime) -> Result<(), Fail> {
+    let mut log = Vec::new(rt.alloc());
+    for letter in 0..34 {
+        log.extend_from_slice(&[b'a', b'A' + letter, b'|'])?;
+    }
+    log.extend_from_slice(b"aA|")?;
+    assert_eq!(rt;
+        warnings_of(rt.alloc(), &log),
+        Ok((true, false, false, false))
+    );
+    log.extend_from_slice(b"STOER|a\x7f|")?;
+    let lint = lint_log(rt.alloc(), &log)?;
+    assert_eq!(rt; (lint.skipped, lint.listed.len(), lint.others), (37, 32, 4));
+    assert!(rt; lint.has_near && lint.has_strange);
+    assert_eq!(rt; lint.listed[0].records, 2);
+    assert_eq!(rt; lint.listed[31].name, b"a`".as_slice());
+    let mut long = Vec::new(rt.alloc());
+    for _ in 0..65 {
+        long.push(b'x')?;
+    }
+    let text = text_of(rt.alloc(), &long)?;
+    assert!(rt;
+        text.starts_with(
+            b"records=1 events=0 sections=0 skipped=1\nskipped xxxxxxxxxxxxxxxxxxxxxxxxxxxxxxxxxxxxxxxxxxxxxxxxxxxxxxxxxxxxxxxx.. records=1\n"
+        )
+    );
+    Ok(())
+}
+
+#[test]
+fn a_store_is_covered_by_what_comes_later(rt: HostRuntime) {
+    let cases: [(&[u8], (u128, u128)); 12] = [
+        (b"STORE;16;0;8|PMT.PERSIST;23;1", (1, 0)),
+        (b"STORE;16;0;8|PMT.PERSIST;24;1", (1, 1)),
+        (b"STORE;16;0;8|PMT.PERSIST;8;8", (1, 1)),
+        (b"PMT.PERSIST;16;8|STORE;16;0;8", (1, 1)),
+        (b"STORE;16;0;8|PMT.ORDERED;16;1;64;1|STORE;64;0;8", (2, 1)),
+        (b"STORE;16;0;8|STORE;64;0;8|PMT.ORDERED;128;1;64;1", (2, 1)),
+        (b"STORE;16;0;8|PMT.SECTION;1|PMT.PERSIST;16;8", (1, 1)),
+        (
+            b"PMT.CHECKSTART|PMT.TXBEGIN|STORE;16;0;8|PMT.TXEND|STORE;16;0;8|PMT.CHECKEND",
+            (2, 1),
+        ),
+        (
+            b"PMT.TXBEGIN|STORE;16;0;8|PMT.CHECKSTART|PMT.CHECKEND",
+            (1, 1),
+        ),
+        (b"PMT.CHECKSTART|PMT.TXBEGIN|STORE;16;0;8|PMT.TXEND", (1, 1)),
+        (
+            b"PMT.TXEND|PMT.TXBEGIN|PMT.CHECKSTART|STORE;16;0;8|PMT.CHECKEND|STORE;16;0;8|PMT.CHECKEND",
+            (2, 1),
+        ),
+        (
+            b"PMT.TXBEGIN|PMT.TXBEGIN|PMT.TXEND|PMT.CHECKSTART|PMT.CHECKSTART|STORE;1;0;1|PMT.CHECKEND",
+            (1, 0),
+        ),
+    ];
+    for (log, want) in cases {
+        assert_eq!(rt; stores_of(rt.alloc(), log), Ok(want), "at {}", want.0);
+    }
+}
+
+#[test]
+fn what_is_no_log_is_suspicious(rt: HostRuntime) {
+    let cases: [(&[u8], (bool, bool, bool, bool)); 9] = [
+        (
+            b"STORE;1;0;1|PMT.PERSIST;1;1|START",
+            (false, false, false, false),
+        ),
+        (b"STORE;1;0;1|FENCE", (true, false, false, false)),
+        (
+            b"STORE;1000;0;1|PMT.PERSIST;0x1000;1|PMT.ORDERED;1000;1;1;1",
+            (false, true, false, false),
+        ),
+        (
+            b"PMT.PERSIST;0x1000;1|PMT.CHECKEND",
+            (false, false, false, false),
+        ),
+        (b"store;1;0;1|PMT.PERSIST;1;1", (false, true, true, false)),
+        (
+            b"==7== STORE;1;0;1|==7== PMT.PERSIST;1;1",
+            (true, false, true, false),
+        ),
+        (b"PMT_PERSIST;1;1|PMT.CHECKEND", (false, false, true, false)),
+        (
+            b"\xef\xbb\xbfSTORE;1;0;1|PMT.PERSIST;1;1",
+            (false, true, true, true),
+        ),
+        (
+            b"\xff\xfeS\0T\0O\0R\0E\0;\x001\0",
+            (true, false, false, true),
+        ),
+    ];
+    for (log, want) in cases {
+        assert_eq!(rt; warnings_of(rt.alloc(), log), Ok(want), "at {}", log.len());
+    }
+}
+
+#[test]
+fn a_name_is_near_where_one_letter_is_off(rt: HostRuntime) {
+    for (name, want) in [
+        ("STOER", "STORE"),
+        ("store", "STORE"),
+        ("STOR", "STORE"),
+        ("STORES", "STORE"),
+        ("TORE", "STORE"),
+        ("SSTORE", "STORE"),
+        ("FENCF", "FENCE"),
+        ("fLUSh", "FLUSH"),
+        ("PMT_PERSIST", "PMT.PERSIST"),
+        ("PMTPERSIST", "PMT.PERSIST"),
+        ("==123== STORE", "STORE"),
+        ("x\tPMT.TXEND", "PMT.TXEND"),
+        ("==7==STORE", "STORE"),
+        ("STORE,0x1000,7,8", "STORE"),
+        ("Store 0x1000 7 8", "STORE"),
+        ("pmt_persist", "PMT.PERSIST"),
+        ("PMT.TXADD:", "PMT.TXADD"),
+        ("tsore", "STORE"),
+        ("DO_FLUSH", ""),
+        ("FENCE.END", ""),
+        ("START", ""),
+        ("STRO", ""),
+        ("xSTORES", ""),
+        ("xxSTORE", ""),
+        ("STOER STORES", ""),
+        ("", ""),
+    ] {
+        let found = near(name.as_bytes()).unwrap_or(b"");
+        assert!(rt; found == want.as_bytes(), "at {name}");
+    }
+    assert!(rt; is_text(b" ~") && !is_text(b"a\t") && !is_text(b"\x7f"));
+}
+
+#[test]
+fn a_faulty_log_is_refused(rt: HostRuntime) {
+    let fault = LogFault {
+        at: 2,
+        cause: Cause::UnknownMarker,
+    };
+    let want = Some(LogRefusal::Log(fault));
+    assert_eq!(rt; text_of(rt.alloc(), b"FENCE|PMT.X;1").err(), want);
+}

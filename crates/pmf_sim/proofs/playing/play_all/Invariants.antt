@@ -1,7 +1,0 @@
-use Rattle.std.proofs.Common.{take}
-use Rattle.std.specs.String.{string_bytes}
-use Rattle.pmf_sim.specs.Playing.{PlaysAll}
-use Rattle.pmf_sim.proofs.playing.play_all.Given as goal
-
-abbrev pub invariant-loop-index : goal.invariant-loop-index
-invariant-loop-index l = PlaysAll l.fn.world (take l.index l.steps) l.world (string_bytes l.text)

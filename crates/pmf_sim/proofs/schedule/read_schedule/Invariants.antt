@@ -1,8 +1,0 @@
-use Rattle.std.proofs.Common.{length}
-use Rattle.std.specs.List.{slice_split}
-use Rattle.pmf_sim.specs.Schedule.{is_line_end}
-use Rattle.pmf_sim.proofs.ScheduleLemmas.{IsAt}
-use Rattle.pmf_sim.proofs.schedule.read_schedule.Given as goal
-
-abbrev pub invariant-loop-line : goal.invariant-loop-line
-invariant-loop-line l = IsAt (slice_split is_line_end l.text) (length l.yielded) l.number l.steps.items

@@ -1,6 +1,0 @@
-use Rattle.std.proofs.Common.{map, take}
-use Rattle.pmf_stream.proofs.lemmas.FoundSectionLemmas.{LacksNumber}
-use Rattle.pmf_stream.proofs.explaining.find_section.Given as goal
-
-abbrev pub invariant-loop-section : goal.invariant-loop-section
-invariant-loop-section l = LacksNumber (map (λ section. section.value) (take l.section-index l.sections)) l.number

@@ -1,8 +1,0 @@
-use Rattle.std.proofs.Common.{◌≡◌, map, take}
-use Rattle.std.specs.List.{flat_map}
-use Rattle.std.specs.String.{string_bytes}
-use Rattle.pmf_stream.specs.Failing.{text_of_failures}
-use Rattle.pmf_stream.proofs.failing.failures_of.Given as goal
-
-abbrev pub invariant-loop-section : goal.invariant-loop-section
-invariant-loop-section l = string_bytes l.text ≡ flat_map (text_of_failures l.profile) (map (λ s. s.value) (take l.section-index l.section-items))

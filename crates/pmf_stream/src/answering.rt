@@ -1,0 +1,50 @@
+//! From a stream of bytes to the answer of a question about the log in it.
+
+ghost use Rattle.pmf_storelog.specs.declared.fault.TheConstants.{LOG_LIMIT};
+ghost use Rattle.pmf_stream.specs.Answering.{Answers, TellsFaults};
+ghost use Rattle.pmf_stream.specs.Asked.{IsAnswerOf, IsRefusalOf};
+ghost use Rattle.pmf_stream.specs.Failures.{CanCountOneMore};
+ghost use Rattle.pmf_stream.specs.Reading.{ReadsWithin};
+
+use crate::fault::StreamFault;
+use crate::reading::read_all;
+use crate::sink::Sink;
+use crate::source::Source;
+use crate::writing::write_answer;
+use pmf_query::{Answer, Query};
+use pmf_storelog::LOG_LIMIT;
+use std::alloc::Global;
+
+/// Reads a log and writes the text that answers what is asked of it. Reads in pieces to the end of the stream, or to one
+/// byte past what a log may have, and writes nothing before the whole text is there.
+///
+/// Refusals: [`StreamFault::ReadFault`] and [`StreamFault::OutOfMemory`] as the reading goes, then
+/// [`StreamFault::Refused`], then [`StreamFault::WriteFault`]. Takes memory for the bytes of the log, and what the answer
+/// takes.
+pub fn answer_stream<R: Source, W: Sink, T: Drop, E: Drop, Q: Query<Told = T, Refusal = E>>(
+    alloc: Global,
+    reader: &mut R,
+    writer: &mut W,
+    query: &Q,
+) -> Result<T, StreamFault<E>>
+    requires read { CanCountOneMore (R.failed_calls reader.old) }
+    requires write { CanCountOneMore (W.failed_calls writer.old) }
+    // What was read is answered or refused, and exactly the text of the answer was written.
+    ensures answer { Answers (IsAnswerOf (Q.IsAnswer query.now) (R.left reader.old) (R.left reader.new))
+        (IsRefusalOf (Q.IsRefusal query.now) (R.left reader.old) (R.left reader.new))
+        (W.held writer.old) (W.held writer.new) result }
+    ensures faults { TellsFaults (R.failed_calls reader.old) (R.failed_calls reader.new)
+        (W.failed_calls writer.old) (W.failed_calls writer.new) writer.old writer.new result }
+    // Whatever the answer is, at most one byte more than a log may have was read.
+    ensures within { ReadsWithin LOG_LIMIT (R.left reader.old) (R.left reader.new) }
+{
+    let log = match read_all(alloc, reader, LOG_LIMIT) {
+        Ok(log) => log,
+        Err(fault) => return Err(fault),
+    };
+    let Answer { told, text } = match query.answer(alloc, &log) {
+        Ok(answer) => answer,
+        Err(fault) => return Err(StreamFault::Refused(fault)),
+    };
+    write_answer(writer, &text, told)
+}

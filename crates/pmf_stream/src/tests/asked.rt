@@ -1,0 +1,162 @@
+//! Each question of a log over a source and a sink: in pieces, and where a read, the log or a write fails.
+
+ghost use Rattle.std.specs.Prelude.{◌≡◌};
+
+use super::checks::failed_calls;
+use super::fakes::PieceSource;
+use crate::answering::answer_stream;
+use crate::device::Device;
+use crate::fault::StreamFault;
+use crate::memory::ByteSink;
+use pmf_event::Profile;
+use pmf_query::{
+    EventFault, EventRefusal, Linted, LogRefusal, Overview, Query, Question, Sought, Whole,
+};
+use pmf_storelog::{Cause, LogFault};
+use std::alloc::Global;
+use std::fmt::{Debug, Display};
+use std::process::Abort;
+
+// Section 1 has a store that is not durable where it is asserted, and a record is skipped.
+const LOG: &[u8] =
+    b"START|PMT.SECTION;1\r\n STORE;0x1000;0;8;main.c:7 |FENCE|PMT.PERSIST;0x1000;8\n";
+
+const FAULTY: &[u8] = b"FENCE|PMT.X";
+
+const FAULT: LogFault = LogFault {
+    at: 2,
+    cause: Cause::UnknownMarker,
+};
+
+const SOUGHT: Sought = Sought {
+    run: 7,
+    section: 1,
+    event: 3,
+};
+
+const EXPLAINED: &[u8] = b"\
+3 PERSIST FAIL byte=0x1000 crash=3
+image crash=3 full=none
+byte=0x1000 cut=0 shows=0 last=1
+";
+
+const ALL_EXPLAINED: &[u8] = b"\
+section 7.1
+3 PERSIST FAIL byte=0x1000 crash=3
+image crash=3 full=none
+byte=0x1000 cut=0 shows=0 last=1
+";
+
+const LOCATED: &[u8] = b"record=5 offset=55 length=20\nPMT.PERSIST;0x1000;8\n";
+
+const HELD: &[u8] = b"\
+records=5 events=3 sections=1 skipped=1
+STORE records=1
+FENCE records=1
+PMT.PERSIST records=1
+PMT.SECTION records=1
+skipped START records=1
+assertions=1 empty=0
+stores=1 unasserted=0
+";
+
+// The question is answered so, and the sink holds this text.
+fn answers<
+    D: Display + Drop,
+    T: PartialEq + Debug + Drop,
+    E: PartialEq + Debug + Drop,
+    Q: Query<Told = T, Refusal = E>,
+>(
+    rt: &impl Abort,
+    alloc: Global,
+    case: D,
+    mut source: PieceSource,
+    mut sink: ByteSink,
+    query: &Q,
+    want: Result<T, StreamFault<E>>,
+    text: &[u8],
+)
+    requires read { source.failures ≡ 0 }
+    requires write { sink.failures ≡ 0 }
+{
+    let answer = answer_stream(alloc, &mut source, &mut sink, query);
+    assert_eq!(rt; answer, want, "at {case}");
+    assert!(rt; sink.bytes() == text, "at {case}");
+    let failed = (source.failures(), sink.failures());
+    assert_eq!(rt; failed, failed_calls(&want), "at {case}");
+}
+
+// What is told, and the text that is written; a log in pieces has the answer of the whole, a refusal and a failed read write
+// nothing, and a writer that fails after n bytes holds the first n.
+fn goes_through_streams<
+    T: PartialEq + Debug + Copy + Drop,
+    E: PartialEq + Debug + Copy + Drop,
+    Q: Query<Told = T, Refusal = E>,
+>(rt: &impl Abort, alloc: Global, query: &Q, told: T, text: &[u8], refusal: E) {
+    let pieces = [LOG];
+    for most in [1, 7, 64, 65_536] {
+        let source = PieceSource::new(&pieces).giving(most);
+        let sink = ByteSink::new(alloc).taking(most);
+        answers(rt, alloc, most, source, sink, query, Ok(told), text);
+    }
+    for room in 0..text.len() {
+        let source = PieceSource::new(&pieces);
+        let sink = ByteSink::new(alloc).failing_after(room);
+        let cut = Err(StreamFault::WriteFault {
+            written: room as u64,
+        });
+        answers(rt, alloc, room, source, sink, query, cut, &text[..room]);
+    }
+    let faulty = [FAULTY];
+    let source = PieceSource::new(&faulty);
+    let refused = Err(StreamFault::Refused(refusal));
+    let sink = ByteSink::new(alloc);
+    answers(rt, alloc, "a fault", source, sink, query, refused, b"");
+    let source = PieceSource::failing(&faulty);
+    let unread = Err(StreamFault::ReadFault);
+    let sink = ByteSink::new(alloc);
+    answers(rt, alloc, "a read", source, sink, query, unread, b"");
+}
+
+#[test]
+fn an_explanation_goes_through_streams(rt: HostRuntime) {
+    let question = Question {
+        run: SOUGHT.run,
+        profile: Profile::One,
+        section: SOUGHT.section,
+        event: SOUGHT.event,
+    };
+    let refusal = EventRefusal {
+        sought: SOUGHT,
+        fault: EventFault::Log(FAULT),
+    };
+    goes_through_streams(&rt, rt.alloc(), &question, (), EXPLAINED, refusal);
+}
+
+#[test]
+fn an_explanation_of_all_goes_through_streams(rt: HostRuntime) {
+    let whole = Whole {
+        run: 7,
+        profile: Profile::One,
+    };
+    let refusal = LogRefusal::Log(FAULT);
+    goes_through_streams(&rt, rt.alloc(), &whole, (), ALL_EXPLAINED, refusal);
+}
+
+#[test]
+fn a_location_goes_through_streams(rt: HostRuntime) {
+    let refusal = EventRefusal {
+        sought: SOUGHT,
+        fault: EventFault::Log(FAULT),
+    };
+    goes_through_streams(&rt, rt.alloc(), &SOUGHT, (), LOCATED, refusal);
+}
+
+#[test]
+fn an_overview_goes_through_streams(rt: HostRuntime) {
+    let told = Linted {
+        is_suspicious: false,
+    };
+    let refusal = LogRefusal::Log(FAULT);
+    goes_through_streams(&rt, rt.alloc(), &Overview, told, HELD, refusal);
+}

@@ -1,0 +1,10 @@
+-- Why a schedule is not read. Defined here.
+use Rattle.std.specs.Prelude.{◌≡◌, ℕ, List, Err}
+use Rattle.pmf_world.specs.declared.schedule.ScheduleFault.{ScheduleFault}
+use Rattle.pmf_world.specs.declared.schedule.ScheduleFault.TheVariants.{BadLine, OutOfMemory}
+use Rattle.pmf_world.specs.Schedule.{schedule_of}
+
+-- the first text line that is neither empty nor a step has this number; want of memory says nothing
+abbrev pub IsBadSchedule : List ℕ → ScheduleFault → Type 0
+IsBadSchedule text (BadLine line) = schedule_of text ≡ Err line
+IsBadSchedule text OutOfMemory = Unit {0}
