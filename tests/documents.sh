@@ -19,11 +19,16 @@ version_of_changelog() {
     done
 }
 
+# read_by_promises FOLDER: a copy of what tools/promises reads.
+read_by_promises() {
+    mkdir -p "$1/docs" && cp -r tools "$1" && cp docs/TRUST.md docs/DEFINITIONS.md "$1/docs" && cp crates.txt README.md "$1" &&
+        ln -sfn "$top/crates" "$1/crates"
+}
+
 # refused_by_promises FILE COMMAND TEXT: docs/PROMISES.md is not written where sed makes FILE so; in a copy.
 refused_by_promises() {
     local repo=$scratch/promises
-    mkdir -p "$repo/docs" && cp -r tools "$repo" && cp docs/TRUST.md docs/DEFINITIONS.md "$repo/docs" &&
-        cp crates.txt README.md "$repo" && ln -sfn "$top/crates" "$repo/crates" && sed -i "$2" "$repo/$1" || return
+    read_by_promises "$repo" && sed -i "$2" "$repo/$1" || return
     "$repo/tools/promises" >"$scratch/report" 2>"$scratch/diagnostics"
     ended 1 $? && said "promises: $1: $3" "$scratch/diagnostics" && [ ! -e "$repo/docs/PROMISES.md" ]
 }
@@ -48,6 +53,28 @@ promises: tools/claims.md: $claim: no clause unchanged" &&
         refused_by_promises docs/TRUST.md 's/^- `pmf_words`: `Words`$//' 'pmf_words.specs.Words is missing' &&
         refused_by_promises docs/TRUST.md 's/`Span`, `Line`, `Address`/`Line`, `Span`, `Address`/' \
             'pmf_event.specs.Line stands before pmf_event.specs.Span'
+}
+
+# What docs/PERSIST_PASS.md uses it names: each clause, each sign and name of std in a table, each definition that subtracts.
+the_page_is_whole() {
+    local page=tools/persist_pass.md
+    refused_by_promises $page 's/clause sound of/clause sounds of/' 'no clause sounds of Verdict::rows in pmf_verdict' &&
+        refused_by_promises $page 's/`unwrap_or o d`/`or o d`/' 'cut_of: `unwrap_or` is in no table of notation' &&
+        refused_by_promises $page 's/`pair.0`/`pair`/' 'value_of: `.0` is in no table of notation
+promises: tools/persist_pass.md: Ledger::report: `.0` is in no table of notation' &&
+        refused_by_promises $page '/^| `-` in `floor_of`/d' 'floor_of: it is in no row of `-`'
+}
+
+# What tools/promises has written is fresh, and stale once it is another.
+a_stale_file_is_told() {
+    local repo=$scratch/stale file
+    read_by_promises "$repo" && "$repo/tools/promises" && "$repo/tools/promises" --check || return
+    for file in PROMISES PERSIST_PASS; do
+        cp "$repo/docs/$file.md" "$scratch/fresh" && echo >>"$repo/docs/$file.md" || return
+        "$repo/tools/promises" --check 2>"$scratch/diagnostics"
+        ended 1 $? && said "promises: docs/$file.md is stale; run tools/promises" "$scratch/diagnostics" &&
+            cp "$scratch/fresh" "$repo/docs/$file.md" || return
+    done
 }
 
 # The recipes of docs/FARM.md, and what it says of failures.
@@ -77,7 +104,9 @@ try_farms() {
 try_documents() {
     check 'the sessions of README.md and docs/GUIDE.md' tests/try-sessions "$program" README.md docs/GUIDE.md
     check 'each entry of docs/DECISIONS.md has a status' decisions_have_a_status
-    check 'docs/PROMISES.md is fresh' tools/promises --check
+    check 'docs/PROMISES.md and docs/PERSIST_PASS.md are fresh' tools/promises --check
+    check 'tools/promises tells which of them is stale' a_stale_file_is_told
+    check 'docs/PERSIST_PASS.md names all its notation' the_page_is_whole
     check 'a claim names what is in the sources, and docs/TRUST.md each file of definitions' claims_are_of_the_sources
     check 'the man page and the completions have the options of help, and the program does what they tell' tests/flags
     check 'the version is that at the head of CHANGELOG.md' version_of_changelog
