@@ -20,11 +20,11 @@ use Rattle.pmf_event.proofs.LineLemmas.{line-bounds, line-unique, meets_the_line
 use Rattle.pmf_event.proofs.WriteBackLemmas.{last-bound}
 
 -- the last of some stores: it passes, and it is at or behind each place that does
-last-passes : (test : Event → Bool) (es : List Event) (p : ℕ) → 0 < last test es p → at test es (last test es p) ≡ true
+pub last-passes : (test : Event → Bool) (es : List Event) (p : ℕ) → 0 < last test es p → at test es (last test es p) ≡ true
 unfolding last
 last-passes test es p some = greatest-passes (at test es) p some
 
-last-above : (test : Event → Bool) (es : List Event) (p k : ℕ) → 0 < k → k ≤ p → at test es k ≡ true → k ≤ last test es p
+pub last-above : (test : Event → Bool) (es : List Event) (p k : ℕ) → 0 < k → k ≤ p → at test es k ≡ true → k ≤ last test es p
 unfolding last
 last-above test es p k positive within is = greatest-above (at test es) p k positive within is
 
@@ -73,16 +73,16 @@ module _ (es : List Event) (line p : ℕ) where
       })
 
 -- a place without another, as a test: stored to, and nothing after
-lacks-parts : (k f : ℕ) → (nat_lt 0 k && f == 0) ≡ true → (0 < k) × (f ≡ 0)
+pub lacks-parts : (k f : ℕ) → (nat_lt 0 k && f == 0) ≡ true → (0 < k) × (f ≡ 0)
 lacks-parts k f is = let both = and_parts (nat_lt 0 k) (f == 0) is in (ltb-true 0 k both.0, (Decides-eqb f 0).0 both.1)
 
-lacks-from : (k f : ℕ) → 0 < k → f ≡ 0 → (nat_lt 0 k && f == 0) ≡ true
+pub lacks-from : (k f : ℕ) → 0 < k → f ≡ 0 → (nat_lt 0 k && f == 0) ≡ true
 lacks-from k f some none = and_from _ _ (lt-ltb 0 k some) ((Decides-eqb f 0).1 none)
 
-lacks-not : (k f : ℕ) → (0 < k → 0 < f) → (nat_lt 0 k && f == 0) ≡ false
+pub lacks-not : (k f : ℕ) → (0 < k → 0 < f) → (nat_lt 0 k && f == 0) ≡ false
 lacks-not k f has = false_from_ne_true _ (λ is. let lacks = lacks-parts k f is in let some = has lacks.0 in let none = lacks.1 in omega arith)
 
-lacks-has : (k f : ℕ) → (nat_lt 0 k && f == 0) ≡ false → 0 < k → 0 < f
+pub lacks-has : (k f : ℕ) → (nat_lt 0 k && f == 0) ≡ false → 0 < k → 0 < f
 lacks-has k f is some = elim (cases_eq f 0) [
   | inl none ↦ let bad : false ≡ true = sym is ∙ lacks-from k f some none in cc
   | inr has ↦ omega arith

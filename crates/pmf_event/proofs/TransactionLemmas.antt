@@ -167,17 +167,17 @@ inside-kept es p e here no_begin no_end = ap (λ d. nat_lt 0 d) (depth-kept es p
 -- ---- the bytes that are backed up
 
 -- the last place at which no transaction runs, where none runs now
-outside-here : (es : List Event) (p : ℕ) → in_transaction es p ≡ false → greatest (is_outside es) p ≡ p
+pub outside-here : (es : List Event) (p : ℕ) → in_transaction es p ≡ false → greatest (is_outside es) p ≡ p
 unfolding is_outside
 outside-here es zero outside = greatest-zero (is_outside es)
 outside-here es (suc p) outside = greatest-step (is_outside es) p ∙ ap (λ v. if not v then suc p else greatest (is_outside es) p) outside
 
 -- and where one runs
-outside-kept : (es : List Event) (p : ℕ) → in_transaction es (suc p) ≡ true → greatest (is_outside es) (suc p) ≡ greatest (is_outside es) p
+pub outside-kept : (es : List Event) (p : ℕ) → in_transaction es (suc p) ≡ true → greatest (is_outside es) (suc p) ≡ greatest (is_outside es) p
 unfolding is_outside
 outside-kept es p inside = greatest-step (is_outside es) p ∙ ap (λ v. if not v then suc p else greatest (is_outside es) p) inside
 
-outside-below : (es : List Event) (p : ℕ) → in_transaction es p ≡ true → greatest (is_outside es) p < p
+pub outside-below : (es : List Event) (p : ℕ) → in_transaction es p ≡ true → greatest (is_outside es) p < p
 outside-below es zero inside = let some = inside-depth es 0 inside in let none = depth-start es in absurd (omega arith)
 outside-below es (suc p) inside = let same = outside-kept es p inside in let bound = greatest-bound (is_outside es) p in omega arith
 
@@ -235,10 +235,10 @@ pub in_scope-same : (es : List Event) (p q : ℕ) → scope_at es q ≡ scope_at
 unfolding in_scope
 in_scope-same es p q same = ap (λ k. nat_lt 0 k) same
 
-some-or : (n m : ℕ) → 0 < n → (if nat_lt 0 n then n else m) ≡ n
+pub some-or : (n m : ℕ) → 0 < n → (if nat_lt 0 n then n else m) ≡ n
 some-or n m some = ap (λ v. if v then n else m) (lt-ltb 0 n some)
 
-zero-or : (n m : ℕ) → n ≡ 0 → (if nat_lt 0 n then n else m) ≡ m
+pub zero-or : (n m : ℕ) → n ≡ 0 → (if nat_lt 0 n then n else m) ≡ m
 zero-or n m none = ap (λ v. if v then n else m) (le-ltb 0 n (omega arith))
 
 module _ (es : List Event) (p : ℕ) (e : Event) (here : event_at es (suc p) ≡ Some e) where

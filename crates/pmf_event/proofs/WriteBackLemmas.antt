@@ -13,7 +13,7 @@ use Rattle.pmf_event.proofs.PlacesLemmas.{greatest-bound, least-step, least-boun
 use Rattle.pmf_event.proofs.EventLemmas.{at-is, last-other, last-here, epoch_of-next, not_fence_and_flush}
 use Rattle.pmf_event.proofs.IntervalLemmas.{Closing-found, Closing-closes, write_back-from_Closing, Closing-from_write_back}
 
-or-zero : (n : ℕ) → (if nat_lt 0 n then n else 0) ≡ n
+pub or-zero : (n : ℕ) → (if nat_lt 0 n then n else 0) ≡ n
 or-zero n = elim (nat_lt 0 n) as (λ v. nat_lt 0 n ≡ v → (if v then n else 0) ≡ n) [
   | true ↦ λ is. refl
   | false ↦ λ is. let small = ltb-false 0 n is in omega arith
@@ -81,7 +81,7 @@ module _ (stored : Event → Bool) (line : ℕ) (es : List Event) (p : ℕ) wher
         ap (λ v. v && at (flushes line) es (suc p)) (lt-ltb k (suc p) (omega arith)) ∙ at-is (flushes line) es (suc p) (Some e) here
 
     -- the first write-back after one more event that is none of the stores
-    first_write_back-next : stored e ≡ false →
+    pub first_write_back-next : stored e ≡ false →
         first_write_back stored line es (suc p)
         ≡ (if nat_lt 0 (first_write_back stored line es p) then first_write_back stored line es p else (if flushes line e then suc p else 0))
     unfolding first_write_back
