@@ -8,10 +8,10 @@ use Rattle.pmf_event.specs.Span.{Extent}
 abbrev pub line_of_byte : ℕ → ℕ
 line_of_byte b = b - b % LINE_SIZE
 
--- whether the two spans have a byte in common
+-- of two spans that are not empty, whether they have a byte in common
 abbrev pub meets_span : Extent → Extent → Bool
 meets_span s t = nat_lt s.first (t.first + t.size) && nat_lt t.first (s.first + s.size)
 
--- whether the address is a line's, and the span has a byte of that line
+-- of a span that is not empty, whether the address is a line's and the span has a byte of that line
 abbrev pub meets_line : Extent → ℕ → Bool
 meets_line s l = l % LINE_SIZE == 0 && meets_span s (record { first = l; size = LINE_SIZE })

@@ -9,7 +9,7 @@ use Rattle.pmf_event.specs.Store.{last_store}
 use Rattle.pmf_event.specs.Interval.{interval_at, is_open}
 use Rattle.pmf_event.specs.Exclusion.{is_excluded}
 
--- whether byte b is checked at p: it is written, and it is not excluded
+-- whether byte b is checked at p: a store up to p covers it, and it is not excluded
 unfoldable pub is_checked : List Event → ℕ → ℕ → Bool
 is_checked es p b = nat_lt 0 (last_store es p b) && not (is_excluded es p b)
 

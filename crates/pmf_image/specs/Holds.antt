@@ -12,8 +12,8 @@ use Rattle.pmf_event.specs.Exclusion.{is_included}
 use Rattle.pmf_event.specs.Transactions.{is_scoped}
 use Rattle.pmf_image.specs.Image.{Image, IsAllowed, shows}
 
--- a persist assertion over the span holds at p: wherever a crash comes from p on, whatever image is
--- allowed there, each checked byte shows its last store at p or a later one
+-- a persist assertion over the span holds at p: wherever a crash comes from p to the end of the section,
+-- whatever image is allowed there, each checked byte shows its last store at p or a later one
 abbrev pub PersistHolds : List Event → ℕ → Extent → Type 0
 PersistHolds es p s =
     (n : ℕ) → p ≤ n → n ≤ length es → (image : Image) → IsAllowed es n image →

@@ -17,7 +17,7 @@ unfoldable pub is_fenced : List Event → ℕ → ℕ → ℕ → Bool
 is_fenced es n line k = at (flushes line) es k && some_between (at is_fence es) k (n + 1)
 
 -- how many stores of the line stand before its last write-back that a fence, at most n, follows: these
--- are durable
+-- are durable. Without such a write-back `0 - 1` is 0, and so is the floor
 unfoldable pub floor_of : List Event → ℕ → ℕ → ℕ
 floor_of es n line = count_of es (greatest (is_fenced es n line) n - 1) line
 
@@ -47,11 +47,12 @@ pub record IsAllowed (es : List Event) (n : ℕ) (image : Image) : Type 0 where
   pub high : (line : ℕ) → cut_of es n image line ≤ count_of es n line
   pub torn : (b : ℕ) → is_in image.torn b ≡ true → cut_of es n image (line_of_byte b) < count_of es n (line_of_byte b)
 
--- how many stores of its line reach byte b: the cut, and one more where it is torn
+-- how many of its line's stores, from the first on, the image lets in at byte b: the cut, and one more
+-- where it is torn
 unfoldable pub reach_of : List Event → ℕ → Image → ℕ → ℕ
 reach_of es n image b = cut_of es n image (line_of_byte b) + (if is_in image.torn b then 1 else 0)
 
--- whether place k is a store of byte b, and is among the stores of its line that reach b
+-- whether place k is a store of byte b, and is among those of its line that the image lets in there
 unfoldable pub reaches : List Event → ℕ → Image → ℕ → ℕ → Bool
 reaches es n image b k = at (stores b) es k && nat_le (count_of es k (line_of_byte b)) (reach_of es n image b)
 
