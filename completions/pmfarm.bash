@@ -3,7 +3,7 @@ _pmfarm() {
     local word=${COMP_WORDS[COMP_CWORD]} before=${COMP_WORDS[COMP_CWORD - 1]} command=${COMP_WORDS[1]}
     COMPREPLY=()
     if [ "$COMP_CWORD" -eq 1 ]; then
-        mapfile -t COMPREPLY < <(compgen -W 'check explain locate lint join sim help --help -h --version -V' -- "$word")
+        mapfile -t COMPREPLY < <(compgen -W 'check explain locate lint cut join sim help --help -h --version -V' -- "$word")
     elif [ "$command" = check ] && [ "$before" = --profile ]; then
         mapfile -t COMPREPLY < <(compgen -W '1 2' -- "$word")
     elif [ "$command" = check ] && [[ "$before" != --@(run|workers) ]]; then
@@ -16,6 +16,8 @@ _pmfarm() {
         mapfile -t COMPREPLY < <(compgen -W '--section --event --run --help -h' -- "$word")
     elif [ "$command" = lint ]; then
         mapfile -t COMPREPLY < <(compgen -W '--help -h' -- "$word")
+    elif [ "$command" = cut ] && [[ "$before" != --@(events|step) ]]; then
+        mapfile -t COMPREPLY < <(compgen -W '--events --step --help -h' -- "$word")
     elif [ "$command" = join ] && [[ "$word" != -* ]]; then
         mapfile -t COMPREPLY < <(compgen -f -- "$word")
     elif [ "$command" = join ]; then
@@ -25,7 +27,7 @@ _pmfarm() {
     elif [ "$command" = sim ] && [[ "$before" != --@(workers|ledgers) ]]; then
         mapfile -t COMPREPLY < <(compgen -W '--log --workers --ledgers --help -h' -- "$word")
     elif [ "$command" = help ]; then
-        mapfile -t COMPREPLY < <(compgen -W 'check explain locate lint join sim' -- "$word")
+        mapfile -t COMPREPLY < <(compgen -W 'check explain locate lint cut join sim' -- "$word")
     fi
 }
 complete -F _pmfarm pmfarm

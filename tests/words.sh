@@ -51,6 +51,7 @@ cut_off_texts() {
         "examples/written_back_at_one_fence.log $scratch/images explain --all" \
         "examples/written_back_at_one_fence.log $scratch/place locate --section 0 --event 6" \
         "examples/order_and_warnings.log $scratch/holds lint" \
+        'examples/shared_a.log examples/shared_a.log cut' \
         'examples/a_lost_worker.schedule examples/a_lost_worker.answers sim --log examples/two_sections.log --workers 2 --ledgers 1' \
         "/dev/null $scratch/help --help" >>"$scratch/texts"
     while read -r input whole words; do

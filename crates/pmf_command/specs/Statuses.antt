@@ -5,6 +5,8 @@ use Rattle.clap.specs.declared.error.kind.ErrorKind.TheVariants.{DisplayHelp, Di
 use Rattle.pmf_storelog.specs.declared.fault.Cause.{Cause}
 use Rattle.pmf_storelog.specs.declared.fault.Cause.TheVariants as log
 use Rattle.pmf_storelog.specs.declared.fault.LogFault.{LogFault}
+use Rattle.pmf_cut.specs.declared.fault.CutFault.{CutFault}
+use Rattle.pmf_cut.specs.declared.fault.CutFault.TheVariants as cutting
 use Rattle.pmf_ledger.specs.declared.joining.JoinFault.{JoinFault}
 use Rattle.pmf_ledger.specs.declared.joining.JoinFault.TheVariants as joining
 use Rattle.pmf_ledger.specs.declared.loading.LedgerFault.{LedgerFault}
@@ -20,6 +22,7 @@ use Rattle.pmf_query.specs.declared.refusal.EventFault.TheVariants as event
 use Rattle.pmf_query.specs.declared.refusal.EventRefusal.{EventRefusal}
 use Rattle.pmf_query.specs.declared.refusal.LogRefusal.{LogRefusal}
 use Rattle.pmf_query.specs.declared.refusal.LogRefusal.TheVariants as whole
+use Rattle.pmf_stream.specs.declared.cutting.Pieces.{Pieces}
 use Rattle.pmf_stream.specs.declared.joining.Joined.{Joined}
 use Rattle.pmf_stream.specs.declared.joining.JoinTextFault.{JoinTextFault}
 use Rattle.pmf_stream.specs.declared.joining.JoinTextFault.TheVariants as texts
@@ -101,6 +104,16 @@ status_of_log_refusal whole.OutOfMemory = NoMemory
 -- how the program ends where a log was looked through
 abbrev pub status_of_linted : Linted → Status
 status_of_linted told = if told.is_suspicious then SomeFail else NoFail
+
+-- how the program ends where a log was cut: whether anything was said that the cuts may have changed
+abbrev pub status_of_pieces : Pieces → Status
+status_of_pieces pieces = if pieces.told == 0 then NoFail else SomeFail
+
+-- how the program ends where a log is not cut
+abbrev pub status_of_cut_fault : CutFault → Status
+status_of_cut_fault (cutting.Log fault) = status_of_log_fault fault
+status_of_cut_fault cutting.OutOfMemory = NoMemory
+status_of_cut_fault _ = Refused
 
 -- how the program ends where ledgers are joined
 abbrev pub status_of_joined : Joined → Status

@@ -4,29 +4,34 @@ ghost use Rattle.std.specs.Prelude.{◌≡◌, ◌⊎◌, ◌↔◌, ◌<◌, �
 ghost use Rattle.std.specs.Io.KnownBytes.{Appends};
 ghost use Rattle.clap.specs.Words.{kind_of};
 ghost use Rattle.pmf_stream.specs.Simulated.{IsSimRefusalOf, IsSimulationOf};
-ghost use Rattle.pmf_stream.specs.Answering.{Answers, TellsFaults};
+ghost use Rattle.pmf_cut.specs.declared.fault.CutFault.{CutFault};
+ghost use Rattle.pmf_stream.specs.Answering.{Answers, TellsFaults, failed_reads, failed_writes};
 ghost use Rattle.pmf_stream.specs.Asked.{IsAnswerOf, IsRefusalOf};
 ghost use Rattle.pmf_stream.specs.Checking.{IsCheckFaultOf, IsReportOf};
 ghost use Rattle.pmf_stream.specs.Failures.{CanCountOneMore};
 ghost use Rattle.pmf_stream.specs.Joining.{IsJoinedText, IsRefusalOfTexts};
 ghost use Rattle.pmf_stream.specs.declared.checking.CheckLogFault.{CheckLogFault};
 ghost use Rattle.pmf_stream.specs.declared.checking.Done.{Done};
+ghost use Rattle.pmf_stream.specs.declared.cutting.Pieces.{Pieces};
 ghost use Rattle.pmf_stream.specs.declared.fault.StreamFault.{StreamFault};
 ghost use Rattle.pmf_stream.specs.declared.joining.Joined.{Joined};
 ghost use Rattle.pmf_stream.specs.declared.joining.JoinTextFault.{JoinTextFault};
-ghost use Rattle.pmf_command.specs.Statuses.{IsAnswerTo, status_of, status_of_asked, status_of_check_fault, status_of_done, status_of_joined, status_of_sim_fault, status_of_text_fault};
+ghost use Rattle.pmf_command.specs.Statuses.{IsAnswerTo, status_of, status_of_asked, status_of_check_fault, status_of_cut_fault, status_of_done, status_of_joined, status_of_pieces, status_of_sim_fault, status_of_text_fault};
 
-use crate::diagnostics::{fail, fail_file, out_of_memory, print_skipped, refuse_words};
+use crate::diagnostics::{
+    Spoken, fail, fail_file, out_of_memory, print_cuts, print_skipped, refuse_words,
+};
 use crate::ending::Ending;
 use crate::status::Status;
+use pmf_event::EVENT_LIMIT;
 use pmf_farm::OpenGate;
 use pmf_ledger::LEDGER_LIMIT;
 use pmf_query::Query;
-use pmf_request::{Files, Overview, Request, Settings, Simulation};
+use pmf_request::{Files, Lengths, Overview, Request, Settings, Simulation};
 use pmf_storelog::LOG_LIMIT;
 use pmf_stream::{
     JoinTextFault, Joined, Sink, Source, StdSink, StdSource, StreamFault, answer_stream,
-    check_stream, join_to, read_all, sim_to, write_text,
+    check_stream, cut_stream, join_to, read_all, sim_to, write_text,
 };
 use pmf_words::request_of;
 use pmf_world::{SCHEDULE_LIMIT, SimFault};
@@ -52,6 +57,7 @@ pub fn execute<T: Threads + Wait + Sync>(rt: &HostRuntime, threads: &T) -> Statu
         Ok(Request::ExplainAll(whole)) => answer_input(rt, &whole),
         Ok(Request::Locate(sought)) => answer_input(rt, &sought),
         Ok(Request::Lint) => answer_input(rt, &Overview),
+        Ok(Request::Cut(lengths)) => cut_input(rt, lengths),
         Ok(Request::Join(files)) => join_files(rt, &files),
         Ok(Request::Sim(simulation)) => simulate(rt, &simulation),
         Err(error) => report_words(rt, alloc, &error),
@@ -146,6 +152,45 @@ fn answer_to<
         (W.failed_calls sink.old) (W.failed_calls sink.new) sink.old sink.new answer }
 {
     let answer = answer_stream(alloc, source, sink, query);
+    report_ending(rt, answer)
+}
+
+/// Writes the log on standard input to standard output, with its sections cut.
+fn cut_input(rt: &HostRuntime, lengths: Lengths) -> Status {
+    if !has_room(lengths) {
+        let text = "error: a piece has 1 to 1048576 events, and a step is at least 1\n";
+        return refuse_words(rt, text);
+    }
+    let mut source = StdSource::new(rt.reader());
+    let mut sink = StdSink::new(io::writer(rt));
+    cut_to(rt, rt.alloc(), &mut source, &mut sink, lengths)
+}
+
+// Whether a piece may have so many events, and a number of its own.
+fn has_room(lengths: Lengths) -> bool {
+    let events = lengths.events as usize;
+    0 < events && events <= EVENT_LIMIT && 0 < lengths.step
+}
+
+/// Writes the log of the source to the sink with its sections cut, and says on standard error what that may have changed.
+fn cut_to<R: Eprint, S: Source, W: Sink>(
+    rt: &R,
+    alloc: Global,
+    source: &mut S,
+    sink: &mut W,
+    lengths: Lengths,
+) -> Status
+    requires read { CanCountOneMore (S.failed_calls source.old) }
+    requires write { CanCountOneMore (W.failed_calls sink.old) }
+    ensures { (answer : Result Pieces (StreamFault CutFault))
+        × (result ≡ status_of status_of_pieces status_of_cut_fault answer)
+        × (S.failed_calls source.new ≡ S.failed_calls source.old + failed_reads answer)
+        × (W.failed_calls sink.new ≡ W.failed_calls sink.old + failed_writes answer) }
+{
+    let answer = cut_stream(alloc, source, sink, &mut Spoken { rt }, lengths);
+    if let Ok(pieces) = &answer {
+        print_cuts(rt, pieces.cuts);
+    }
     report_ending(rt, answer)
 }
 

@@ -3,6 +3,7 @@
 ghost use Rattle.std.specs.Prelude.{◌≡◌};
 
 use crate::status::Status;
+use pmf_stream::Notes;
 use std::fmt::Display;
 use std::io::Eprint;
 
@@ -48,5 +49,22 @@ pub fn refuse_words<R: Eprint>(rt: &R, text: &str) -> Status
 pub fn print_skipped<R: Eprint>(rt: &R, records: u64) {
     if records > 0 {
         let _ = eprintln!(rt; "pmfarm: skipped {records} records");
+    }
+}
+
+/// Says how many cuts were made in a log.
+pub fn print_cuts<R: Eprint>(rt: &R, cuts: u64) {
+    let _ = eprintln!(rt; "pmfarm: {cuts} cuts");
+}
+
+/// What is said on standard error while a log is cut.
+#[derive(Drop)]
+pub struct Spoken<'a, R: Eprint> {
+    pub(crate) rt: &'a R,
+}
+
+impl<R: Eprint> Notes for Spoken<'_, R> {
+    fn note(&mut self, line: &str) {
+        let _ = eprintln!(self.rt; "pmfarm: {line}");
     }
 }

@@ -1,15 +1,16 @@
 //! The status of each answer of a command.
 
 ghost use Rattle.std.specs.Prelude.{◌≡◌};
-ghost use Rattle.pmf_command.specs.Statuses.{status_of_asked, status_of_check_fault, status_of_done, status_of_event_refusal, status_of_farm_fault, status_of_fails, status_of_fault, status_of_join_fault, status_of_joined, status_of_ledger_fault, status_of_linted, status_of_log_fault, status_of_log_refusal, status_of_new_fault, status_of_sim_fault, status_of_text_fault};
+ghost use Rattle.pmf_command.specs.Statuses.{status_of_asked, status_of_check_fault, status_of_cut_fault, status_of_done, status_of_event_refusal, status_of_farm_fault, status_of_fails, status_of_fault, status_of_join_fault, status_of_joined, status_of_ledger_fault, status_of_linted, status_of_log_fault, status_of_log_refusal, status_of_new_fault, status_of_pieces, status_of_sim_fault, status_of_text_fault};
 ghost use Rattle.pmf_command.specs.declared.status.Status.{Status};
 
 use crate::status::Status;
+use pmf_cut::CutFault;
 use pmf_farm::FarmFault;
 use pmf_ledger::{JoinFault, LedgerFault};
 use pmf_query::{EventFault, EventRefusal, Linted, LogRefusal};
 use pmf_storelog::{Cause, LogFault};
-use pmf_stream::{CheckLogFault, Done, JoinTextFault, Joined, StreamFault};
+use pmf_stream::{CheckLogFault, Done, JoinTextFault, Joined, Pieces, StreamFault};
 use pmf_world::{SimFault, WorldNewFault};
 
 /// What a command did, or why it refused: the program ends as this says.
@@ -123,6 +124,32 @@ impl Ending for Linted {
             Status::SomeFail
         } else {
             Status::NoFail
+        }
+    }
+}
+
+/// The log was cut.
+impl Ending for Pieces {
+    ghost ends_as = { status_of_pieces };
+
+    fn status(&self) -> Status {
+        if self.told == 0 {
+            Status::NoFail
+        } else {
+            Status::SomeFail
+        }
+    }
+}
+
+/// The log is not cut.
+impl Ending for CutFault {
+    ghost ends_as = { status_of_cut_fault };
+
+    fn status(&self) -> Status {
+        match self {
+            CutFault::Log(fault) => fault.status(),
+            CutFault::OutOfMemory => Status::NoMemory,
+            CutFault::NoNumber { .. } | CutFault::Taken { .. } => Status::Refused,
         }
     }
 }

@@ -14,6 +14,6 @@ mod status;
 
 pub use commands::execute;
 pub use ending::Ending;
-pub use pmf_request::{Files, Request, Simulation};
+pub use pmf_request::{Files, Lengths, Request, Simulation};
 pub use pmf_words::request_of;
 pub use status::Status;

@@ -34,8 +34,8 @@ pub enum Event {
 impl Event {
     ghost use Rattle.pmf_event.specs.Section.{IsValidEvent};
 
-    // Each span of it is valid, as every span is. It does nothing.
-    pub(crate) fn has_valid_spans(&self)
+    /// Does nothing. It says that each span of the event is valid, as every span is.
+    pub fn has_valid_spans(&self)
         ensures { IsValidEvent self.now }
     {
         match self {

@@ -1,7 +1,8 @@
 //! What a command can be asked for.
 //!
 //! Types alone, with no function: [`Request`] is what the words of a command line come to, and [`Settings`], [`Question`],
-//! [`Whole`], [`Sought`] and [`Overview`] are what the commands are told. Each field is public, and any value of its type is one.
+//! [`Whole`], [`Sought`], [`Overview`] and [`Lengths`] are what the commands are told. Each field is public, and any value of its
+//! type is one.
 //!
 //! Not promised here: which words ask for which request (`pmf_words`), or what is done for it (`pmf_stream`).
 #![tactic(auto)]
@@ -10,4 +11,4 @@ mod request;
 mod settings;
 
 pub use request::{Files, Request, Simulation};
-pub use settings::{Overview, Question, Settings, Sought, Whole};
+pub use settings::{Lengths, Overview, Question, Settings, Sought, Whole};

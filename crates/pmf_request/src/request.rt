@@ -1,6 +1,6 @@
 //! What the words of a command line ask for.
 
-use crate::settings::{Question, Settings, Sought, Whole};
+use crate::settings::{Lengths, Question, Settings, Sought, Whole};
 
 /// Which ledgers are to be joined.
 #[derive(Debug, PartialEq, Drop)]
@@ -35,6 +35,8 @@ pub enum Request<'a> {
     Locate(Sought),
     /// Read the log on standard input, and write what it holds to standard output.
     Lint,
+    /// Read the log on standard input, and write it with its sections cut to standard output.
+    Cut(Lengths),
     /// Join the ledgers of the files, and write the report of all, or their ledger text, to standard output.
     Join(Files<'a>),
     /// Play the schedule on standard input, and write what each step comes to, and each ledger's report, to standard

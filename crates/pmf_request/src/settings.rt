@@ -51,3 +51,12 @@ pub struct Whole {
 /// What `lint` is told by its words: nothing.
 #[derive(Clone, Copy, Debug, PartialEq, Eq)]
 pub struct Overview;
+
+/// What `cut` is told by its words.
+#[derive(Clone, Copy, Debug, PartialEq, Eq)]
+pub struct Lengths {
+    /// The most events of a part: 1 to 2^20.
+    pub events: u32,
+    /// What a part's number is above that of the one before it.
+    pub step: u64,
+}

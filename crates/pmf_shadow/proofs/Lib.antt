@@ -4,6 +4,7 @@ pub mod SameLemmas
 pub mod StandsLemmas
 pub mod StretchLemmas
 pub mod QuestionLemmas
+pub mod StandingLemmas
 pub mod PairLemmas
 pub mod PieceLemmas
 pub mod UnorderedLemmas

@@ -166,7 +166,7 @@ place-none es w = elim (cases_eq w 0) [
   | inr some ↦ ap (λ (o : Option ℕ). is_none o) (epoch_unless-some es w (omega arith)) ∙ sym (ne_eqb w 0 some)
 ]
 
-undurable-by : (told : ℕ → ℕ) (es : List Event) (p b : ℕ) (o : Option Stored) → stored_at told es p b ≡ o → is_undurable es p b ≡ holds_of (late_for (count (at is_fence es) p)) o
+pub undurable-by : (told : ℕ → ℕ) (es : List Event) (p b : ℕ) (o : Option Stored) → stored_at told es p b ≡ o → is_undurable es p b ≡ holds_of (late_for (count (at is_fence es) p)) o
 unfolding is_undurable
 undurable-by told es p b None is = ap (λ k. nat_lt 0 k && closing_fence (stores b) (line_of_byte b) es p == 0) (unwritten-from_none told es p b is)
 undurable-by told es p b (Some k) is =
@@ -177,7 +177,7 @@ undurable-by told es p b (Some k) is =
     ∙ ap (λ (c : Option ℕ). is_none c) (closes-is (stores b) (line_of_byte b) es p k.written_back (sym own.write_back))
     ∙ fence-none es f)
 
-unwritten-by : (told : ℕ → ℕ) (es : List Event) (p b : ℕ) (o : Option Stored) → stored_at told es p b ≡ o → is_unwritten es p b ≡ holds_of lacks_write_back o
+pub unwritten-by : (told : ℕ → ℕ) (es : List Event) (p b : ℕ) (o : Option Stored) → stored_at told es p b ≡ o → is_unwritten es p b ≡ holds_of lacks_write_back o
 unfolding is_unwritten write_back_epoch
 unwritten-by told es p b None is = ap (λ k. nat_lt 0 k && first_write_back (stores b) (line_of_byte b) es p == 0) (unwritten-from_none told es p b is)
 unwritten-by told es p b (Some k) is =
@@ -228,7 +228,7 @@ module _ (shadow : Shadow) (told : ℕ → ℕ) (es : List Event) (p : ℕ) (sta
   unfolding passing is_included
   included-same s = first_from-same _ _ s.first s.size (λ b low high. ap not (stands.excluded b))
 
-  undurable-same : (b : ℕ) → passing (λ t. holds_of (late_for shadow.fences) (stored_of t)) shadow.bytes b ≡ is_undurable es p b
+  pub undurable-same : (b : ℕ) → passing (λ t. holds_of (late_for shadow.fences) (stored_of t)) shadow.bytes b ≡ is_undurable es p b
   unfolding passing
   undurable-same b =
       ap (holds_of (late_for shadow.fences)) (stands.stored b)

@@ -12,10 +12,13 @@ abbrev pub state_of : ℕ → ℕ → ℕ → Bool → Bool → Bool → ByteSta
 state_of last opens written_back is_stored is_written_back out =
     record { last = last; opens = opens; written_back = written_back; is_stored = is_stored; is_written_back = is_written_back; excluded = out }
 
+-- whether two states agree in each field
+abbrev pub is_like : ByteState → ByteState → Bool
+is_like x y =
+    x.last == y.last && (x.opens == y.opens && (x.written_back == y.written_back && (beq x.is_stored y.is_stored && (beq x.is_written_back y.is_written_back && beq x.excluded y.excluded))))
+
 -- equal fields make equal states
-pub equal_states : (x y : ByteState) →
-    (x.last == y.last && (x.opens == y.opens && (x.written_back == y.written_back && (beq x.is_stored y.is_stored && (beq x.is_written_back y.is_written_back && beq x.excluded y.excluded))))) ≡ true →
-    x ≡ y
+pub equal_states : (x y : ByteState) → is_like x y ≡ true → x ≡ y
 equal_states x y is =
     let last = and_parts _ _ is in
     let opens = and_parts _ _ last.1 in

@@ -38,9 +38,9 @@ pub record StandsFor (shadow : Shadow) (told : ℕ → ℕ) (es : List Event) (p
 abbrev pub ForEachList : Shadow → ((ℕ → ℕ) → List Event → ℕ → Type 0) → Type 0
 ForEachList shadow says = (told : ℕ → ℕ) (es : List Event) (p : ℕ) → StandsFor shadow told es p → says told es p
 
--- the shadow stands for fewer events than a section may have
+-- the shadow has followed fewer fences than a section may have events
 abbrev pub HasRoom : Shadow → Type 0
-HasRoom shadow = (told : ℕ → ℕ) × (es : List Event) × (p : ℕ) × StandsFor shadow told es p × (p < EVENT_LIMIT)
+HasRoom shadow = shadow.fences < EVENT_LIMIT
 
 -- whatever list the old shadow stood for, the new one stands for that list with the event at its end, which
 -- was told at this place

@@ -8,7 +8,7 @@ mod bounds;
 mod changes;
 
 pub(crate) use self::asking::{
-    ComesAfter, Fails, HasOneBy, IsChecked, IsIncluded, IsLate, IsPending, IsUndurable,
+    ComesAfter, Fails, HasOneBy, HasOther, IsChecked, IsIncluded, IsLate, IsPending, IsUndurable,
     IsUnwritten, Opening, OpensIn, Place, StoredBy,
 };
 pub use self::bounds::Bounds;

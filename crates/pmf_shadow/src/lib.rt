@@ -12,10 +12,12 @@ mod byte;
 pub mod laws;
 mod pairs;
 mod shadow;
+mod standing;
 mod stretches;
 
 pub use byte::{Bounds, ByteState, Stored};
 pub use shadow::{FlushLines, Shadow};
+pub use standing::Standing;
 
 #[cfg(test)]
 mod tests;

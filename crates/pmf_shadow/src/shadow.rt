@@ -30,7 +30,7 @@ use std::alloc::{AllocError, Global};
 #[derive(Debug, Drop)]
 pub struct Shadow {
     pub(crate) bytes: RunMap<ByteState>,
-    fences: u32,
+    pub(crate) fences: u32,
 }
 
 /// Of the lines that a span meets, those of which a write-back warns.

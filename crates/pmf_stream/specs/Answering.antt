@@ -14,6 +14,11 @@ abbrev pub failed_writes : {T E : Type 0} → Result T (StreamFault E) → ℕ
 failed_writes (Err (fault.WriteFault written)) = 1
 failed_writes _ = 0
 
+-- the fault is a refusal of what was read
+abbrev pub IsRefused : {E : Type 0} → StreamFault E → Type 0
+IsRefused (fault.Refused found) = Unit {0}
+IsRefused _ = ⊥
+
 -- the fact of each refusal but WriteFault
 abbrev pub OnOtherFault : {T E : Type 0} → Result T (StreamFault E) → Type 0 → Type 0
 OnOtherFault (Ok done) P = Unit {0}

@@ -12,6 +12,7 @@
 
 mod answering;
 mod checking;
+mod cutting;
 mod device;
 mod failed;
 mod fault;
@@ -27,6 +28,7 @@ mod writing;
 
 pub use answering::answer_stream;
 pub use checking::{CheckLogFault, Done, check_stream};
+pub use cutting::{Notes, Pieces, cut_stream};
 pub use device::{Counted, Device};
 pub use failed::Failed;
 pub use fault::StreamFault;

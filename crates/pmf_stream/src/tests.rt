@@ -2,6 +2,7 @@
 
 mod asked;
 mod checks;
+mod cutting;
 mod devices;
 mod fakes;
 mod joining;

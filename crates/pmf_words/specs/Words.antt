@@ -12,6 +12,7 @@ use Rattle.clap.specs.declared.builder.value_parser.ValueParser.{ValueParser}
 use Rattle.clap.specs.declared.builder.value_parser.ValueParser.TheVariants as vp
 use Rattle.pmf_event.specs.declared.profile.Profile.{Profile}
 use Rattle.pmf_event.specs.declared.profile.Profile.TheVariants as profile
+use Rattle.pmf_request.specs.declared.settings.Lengths.{Lengths}
 use Rattle.pmf_request.specs.declared.settings.Question.{Question}
 use Rattle.pmf_request.specs.declared.settings.Settings.{Settings}
 use Rattle.pmf_request.specs.declared.settings.Sought.{Sought}
@@ -88,6 +89,11 @@ file_words = record (new_rule (codes "file")) {
 abbrev pub lint_words : App
 lint_words = new_app (codes "lint")
 
+abbrev pub cut_words : App
+cut_words =
+    with_rule (with_rule (new_app (codes "cut"))
+    (number (codes "events") small_number (codes "1000000"))) (number (codes "step") large_number (codes "1000000000"))
+
 abbrev pub join_words : App
 join_words = with_rule (with_rule (new_app (codes "join")) (flag (codes "ledger"))) file_words
 
@@ -96,7 +102,7 @@ sim_words =
     with_rule (with_rule (with_rule (new_app (codes "sim"))
     (asked (codes "log"))) (asked_number (codes "workers") small_number)) (asked_number (codes "ledgers") small_number)
 
--- the program with its six commands, and whether an explanation of all is asked for
+-- the program with its seven commands, and whether an explanation of all is asked for
 abbrev pub program_words : App
 program_words = record (new_app (codes "pmfarm")) {
   top = record (new_shape (codes "pmfarm")) { has_version = true; subcommand_required = true };
@@ -104,8 +110,8 @@ program_words = record (new_app (codes "pmfarm")) {
 
 abbrev pub pmfarm_words : Bool → ValueParser → ValueParser → App
 pmfarm_words all p q =
-    with_subcommand (with_subcommand (with_subcommand (with_subcommand (with_subcommand (with_subcommand program_words (check_words p).top)
-    (explain_words all q).top) locate_words.top) lint_words.top) join_words.top) sim_words.top
+    with_subcommand (with_subcommand (with_subcommand (with_subcommand (with_subcommand (with_subcommand (with_subcommand program_words (check_words p).top)
+    (explain_words all q).top) locate_words.top) lint_words.top) cut_words.top) join_words.top) sim_words.top
 
 -- the command has these words, and no option that its subcommands share
 pub record HasWords (words : App) (c : Command) : Type 0 where
@@ -153,6 +159,11 @@ pub record IsLocateOf (rows : List Row) (s : Sought) : Type 0 where
   pub section : IsNumberOf rows (codes "section") 64 s.section
   pub event : IsNumberOf rows (codes "event") 32 s.event
 
+-- the lengths are those that the words of `cut` name
+pub record IsCutOf (rows : List Row) (l : Lengths) : Type 0 where
+  pub events : IsNumberOf rows (codes "events") 32 l.events
+  pub step : IsNumberOf rows (codes "step") 64 l.step
+
 -- the files are those that the words of `join` name, in their order
 pub record IsJoinOf (rows : List Row) (f : Files) : Type 0 where
   pub names : (names : List Text) → all_of (codes "file") rows ≡ Some names → map (λ s. s.now) f.names.items ≡ names
@@ -182,6 +193,10 @@ abbrev pub IsLintBy : Request → Type 0
 IsLintBy request.Lint = Unit {0}
 IsLintBy _ = ⊥
 
+abbrev pub IsCutBy : List Row → Request → Type 0
+IsCutBy rows (request.Cut lengths) = IsCutOf rows lengths
+IsCutBy rows _ = ⊥
+
 abbrev pub IsJoinBy : List Row → Request → Type 0
 IsJoinBy rows (request.Join files) = IsJoinOf rows files
 IsJoinBy rows _ = ⊥
@@ -196,6 +211,7 @@ pub record IsRequestBy (all : Bool) (command : Text) (rows : List Row) (asked : 
   pub explain : command ≡ codes "explain" → IsExplainBy all rows asked
   pub locate : command ≡ codes "locate" → IsLocateBy rows asked
   pub lint : command ≡ codes "lint" → IsLintBy asked
+  pub cut : command ≡ codes "cut" → IsCutBy rows asked
   pub join : command ≡ codes "join" → IsJoinBy rows asked
   pub sim : command ≡ codes "sim" → IsSimBy rows asked
 

@@ -3,9 +3,11 @@
 ghost use Rattle.std.specs.Prelude.{◌≡◌, false, true, Ok, IfOk};
 ghost use Rattle.clap.specs.Words.{App, Rule, new_app, rule_of, with_rule, with_subcommand};
 ghost use Rattle.clap.specs.declared.builder.value_parser.ValueParser.{ValueParser};
-ghost use Rattle.pmf_words.specs.Words.{HasWords, check_words, explain_words, join_words, lint_words, locate_words, pmfarm_words, profile_option, program_words, run_option, sim_words};
+ghost use Rattle.pmf_words.specs.Words.{HasWords, check_words, cut_words, explain_words, join_words, lint_words, locate_words, pmfarm_words, profile_option, program_words, run_option, sim_words};
 
-use crate::options::{all, asked_number, event, file, ledger, log, profile, run, section, workers};
+use crate::options::{
+    all, asked_number, event, events, file, ledger, log, profile, run, section, step, workers,
+};
 use clap::{Arg, Command};
 use std::alloc::{AllocError, Global};
 
@@ -27,6 +29,8 @@ Examples:
   pmfarm locate --section 0 --event 6 < store.log
                                     the record that gave event 6
   pmfarm lint < store.log           what the log holds, and what is strange in it
+  pmfarm cut < long.log > parts.log
+                                    its sections in parts that the checker takes
   pmfarm check --ledger --run 7 < store.log > 7.ledger
                                     the checked sections themselves, to be joined
   pmfarm join 7.ledger 8.ledger     the report of both, each section once
@@ -35,9 +39,9 @@ Examples:
 
 Exit status:
   0  no row of the report counts as fail (which is not the same as: checked), or
-     the rows were explained, the event was located, `lint` has no warning, or
-     the schedule was played
-  1  some row counts as fail, or `lint` warns
+     the rows were explained, the event was located, `lint` has no warning, the
+     log was cut and nothing may be lost, or the schedule was played
+  1  some row counts as fail, `lint` warns, or what a cut may change was told
   2  the input or the command line was refused
   3  memory ran out
   4  a read or a write failed";
@@ -67,7 +71,7 @@ Exit status:
   3  memory ran out
   4  a read or a write failed";
 
-/// The program with its six commands. Which words `explain` takes depends on whether it is asked for all rows.
+/// The program with its seven commands. Which words `explain` takes depends on whether it is asked for all rows.
 pub(crate) fn program<'a>(alloc: Global, all: bool) -> Result<Command<'a>, AllocError>
     ensures { (p q : ValueParser) × IfOk result (HasWords (pmfarm_words all p q)) }
 {
@@ -75,6 +79,7 @@ pub(crate) fn program<'a>(alloc: Global, all: bool) -> Result<Command<'a>, Alloc
     let program = with(program, explain(alloc, all));
     let program = with(program, locate(alloc));
     let program = with(program, Ok(lint(alloc)));
+    let program = with(program, cut(alloc));
     with_files(alloc, program)
 }
 
@@ -213,6 +218,15 @@ fn lint<'a>(alloc: Global) -> Command<'a>
 {
     let about = "Writes what the log holds, and whether it may not be what it seems to be";
     head(alloc, "lint", about, AFTER_HELP)
+}
+
+fn cut<'a>(alloc: Global) -> Result<Command<'a>, AllocError>
+    ensures { IfOk result (HasWords cut_words) }
+{
+    let about = "Cuts sections of a log into parts that are no longer than the checker takes";
+    let cut = Ok(head(alloc, "cut", about, AFTER_HELP));
+    let cut = with_option(cut, events(alloc));
+    with_option(cut, step(alloc))
 }
 
 fn join<'a>(alloc: Global) -> Result<Command<'a>, AllocError>

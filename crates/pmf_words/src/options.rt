@@ -95,6 +95,23 @@ pub(crate) fn event<'a>(alloc: Global) -> Arg<'a>
     asked_number(alloc, "event", "K", help)
 }
 
+// The most events of a part and the step of their numbers, which `cut` takes.
+pub(crate) fn events<'a>(alloc: Global) -> Arg<'a>
+    ensures rule { rule_of result ≡ number (codes "events") small_number (codes "1000000") }
+    ensures local { result.global ≡ false }
+{
+    let help = "The most events of a part, 1 to 1048576";
+    parsed(alloc, "events", "N", help, value_parser!(u32)).default_value("1000000")
+}
+
+pub(crate) fn step<'a>(alloc: Global) -> Arg<'a>
+    ensures rule { rule_of result ≡ number (codes "step") large_number (codes "1000000000") }
+    ensures local { result.global ≡ false }
+{
+    let help = "What a part's number is above that of the one before it";
+    parsed(alloc, "step", "STEP", help, value_parser!(u64)).default_value("1000000000")
+}
+
 pub(crate) fn log<'a>(alloc: Global) -> Arg<'a>
     ensures rule { rule_of result ≡ asked (codes "log") }
     ensures local { result.global ≡ false }

@@ -6,12 +6,12 @@ ghost use Rattle.std.specs.Str.{bytes_eq};
 ghost use Rattle.std.specs.String.{string_bytes};
 ghost use Rattle.clap.specs.Words.{Row, Text, found_of, rows_of, subcommand_rows_of};
 ghost use Rattle.pmf_event.specs.declared.profile.Profile.{Profile};
-ghost use Rattle.pmf_words.specs.Words.{IsCheckOf, IsExplainAllOf, IsExplainBy, IsExplainOf, IsJoinOf, IsLocateOf, IsRequestBy, IsRequestOf, IsSimOf};
+ghost use Rattle.pmf_words.specs.Words.{IsCheckOf, IsCutOf, IsExplainAllOf, IsExplainBy, IsExplainOf, IsJoinOf, IsLocateOf, IsRequestBy, IsRequestOf, IsSimOf};
 
 use crate::commands::program;
 use clap::{ArgMatches, Error};
 use pmf_event::Profile;
-use pmf_request::{Files, Question, Request, Settings, Simulation, Sought, Whole};
+use pmf_request::{Files, Lengths, Question, Request, Settings, Simulation, Sought, Whole};
 use std::alloc::{AllocError, Global};
 
 /// Reads the words, the first of which is the program's name. Help and the version come as errors
@@ -46,7 +46,7 @@ fn request_by<'a>(
     ensures { IfOk result (λ request. (command : Text) (rows : List Row)
         → subcommand_rows_of matches.now ≡ Some (command, rows) → IsRequestBy all command rows request) }
 {
-    // There are six commands, and the parser lets nothing pass without one.
+    // There are seven commands, and the parser lets nothing pass without one.
     if let Some(explain) = matches.subcommand_matches("explain") {
         return Ok(explain_by(explain, all));
     }
@@ -55,6 +55,9 @@ fn request_by<'a>(
     }
     if matches.subcommand_matches("lint").is_some() {
         return Ok(Request::Lint);
+    }
+    if let Some(cut) = matches.subcommand_matches("cut") {
+        return Ok(Request::Cut(lengths_of(cut)));
     }
     if let Some(join) = matches.subcommand_matches("join") {
         let files = files_of(alloc, join)?;
@@ -122,6 +125,15 @@ fn question_of(explain: &ArgMatches<'_>) -> Question
         profile: profile_of(explain.get_str("profile")),
         section: explain.get_one::<u64>("section").unwrap_or(0),
         event: explain.get_one::<u32>("event").unwrap_or(0),
+    }
+}
+
+fn lengths_of(cut: &ArgMatches<'_>) -> Lengths
+    ensures { IsCutOf (rows_of (found_of cut.now)) result }
+{
+    Lengths {
+        events: cut.get_one::<u32>("events").unwrap_or(1_000_000),
+        step: cut.get_one::<u64>("step").unwrap_or(1_000_000_000),
     }
 }
 

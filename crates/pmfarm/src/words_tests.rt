@@ -1,6 +1,8 @@
 //! What the words of the command line ask for, and the status where they are refused.
 
-use crate::{Files, Question, Request, Settings, Simulation, Sought, Status, Whole, request_of};
+use crate::{
+    Files, Lengths, Question, Request, Settings, Simulation, Sought, Status, Whole, request_of,
+};
 use pmf_event::Profile;
 use std::alloc::{AllocError, Global};
 use std::process::Abort;
@@ -113,6 +115,25 @@ fn locate_takes_a_section_and_an_event_and_lint_nothing(rt: HostRuntime) -> Resu
 }
 
 #[test]
+fn cut_takes_a_length_and_a_step(rt: HostRuntime) -> Result<(), Fail> {
+    for (line, events, step) in [
+        ("cut", 1_000_000, 1_000_000_000),
+        ("cut --events 5", 5, 1_000_000_000),
+        ("cut --step=7", 1_000_000, 7),
+        (
+            "cut --step 18446744073709551615 --events=4294967295",
+            u32::MAX,
+            u64::MAX,
+        ),
+        ("cut --events 0 --step 0", 0, 0),
+    ] {
+        let lengths = Lengths { events, step };
+        asks(&rt, rt.alloc(), line, Request::Cut(lengths))?;
+    }
+    Ok(())
+}
+
+#[test]
 fn join_takes_files_in_their_order(rt: HostRuntime) -> Result<(), Fail> {
     for (line, files, ledger) in [
         ("join a", ["a"].as_slice(), false),
@@ -179,6 +200,14 @@ const REFUSED: &[&str] = &[
     "check --ledger --ledger",
     "check --ledger=1",
     "check --all",
+    "cut long.log",
+    "cut --events",
+    "cut --events -1",
+    "cut --events 4294967296",
+    "cut --events 1 --events 1",
+    "cut --step x",
+    "cut --step 18446744073709551616",
+    "cut --run 1",
     "join",
     "join --ledger",
     "join --run 1 a",
@@ -215,6 +244,7 @@ const HELP: &[&str] = &[
     "explain --all --help",
     "locate --help",
     "lint --help",
+    "cut --help",
     "join --help",
     "--version",
 ];

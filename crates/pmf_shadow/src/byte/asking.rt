@@ -2,6 +2,7 @@
 
 ghost use Rattle.std.specs.Prelude.{◌≡◌, ◌||◌, not};
 ghost use Rattle.pmf_shadow.specs.Bounds.{may_be_late_for_any};
+ghost use Rattle.pmf_shadow.specs.EqualStates.{is_like};
 ghost use Rattle.pmf_shadow.specs.States.{any_store, checked_store, comes_after, has_one_by, holds_of, is_before, is_from, kept_opening, kept_place, lacks_write_back, late_for, opens_in, stored_by, stored_of, written_back_from};
 
 use crate::byte::bounds::may_be_less;
@@ -131,6 +132,24 @@ impl<T: Test<ByteState>> Test<ByteState> for Fails<T> {
 
     fn passes(&self, state: ByteState) -> bool {
         !self.0.passes(state)
+    }
+
+    fn may_pass(&self, _summary: Bounds) -> bool {
+        true
+    }
+}
+
+/// Whether the byte has another state than this.
+#[derive(Clone, Copy, Debug, Drop)]
+pub(crate) struct HasOther {
+    pub(crate) state: ByteState,
+}
+
+impl Test<ByteState> for HasOther {
+    ghost passes = { λ t s. not (is_like s t.state) };
+
+    fn passes(&self, state: ByteState) -> bool {
+        state != self.state
     }
 
     fn may_pass(&self, _summary: Bounds) -> bool {

@@ -6,6 +6,6 @@ returns c =
     let explain = c.explain.ensures in (
       check.0,
       explain.0,
-      c.with_files.ensures _ (c.with-program-4.ensures _ _ (c.with-program-3.ensures _ _ (c.with-program-2.ensures _ _ (c.with-program.ensures _ _ c.no_command.ensures
-          check.1) explain.1) c.locate.ensures) c.lint.ensures),
+      c.with_files.ensures _ (c.with-program-5.ensures _ _ (c.with-program-4.ensures _ _ (c.with-program-3.ensures _ _ (c.with-program-2.ensures _ _ (c.with-program.ensures _ _ c.no_command.ensures
+          check.1) explain.1) c.locate.ensures) c.lint.ensures) c.cut.ensures),
     )

@@ -4,11 +4,15 @@ use Rattle.pmf_event.specs.declared.event.Event.TheVariants.{Fence, TxBegin, TxE
 use Rattle.pmf_event.specs.FlushWarnings.{if_any}
 use Rattle.pmf_event.proofs.TransactionLemmas.{depth-bound}
 use Rattle.pmf_shadow.specs.Laws.{is_unseen}
+use Rattle.pmf_shadow.proofs.StandsLemmas.{stands-fences}
 use Rattle.pmf_txcheck.specs.Laws.{is_untracked}
 use Rattle.pmf_txcheck.proofs.TrackLemmas.{one-list}
 use Rattle.pmf_verdict.specs.Rows.{findings_of}
 use Rattle.pmf_verdict.proofs.WalkLemmas.{walks-said, walks-silent, stands-next, stands-still, as_told-same, tracks-still, tracks-next, found-end, found-start, found-check}
 use Rattle.pmf_verdict.proofs.checking.Walk.follow.Goals as goal
+
+pub fence-requires : goal.fence-requires
+fence-requires c = let few = stands-fences c.args.self.now.shadow (λ k. k) c.requires.0 c.requires.1 c.requires.2.stands in let below = c.requires.3 in omega arith
 
 pub begin-requires : goal.begin-requires
 begin-requires c =

@@ -1,0 +1,142 @@
+-- What is asked of the past of a part, run by run.
+use Rattle.std.proofs.Common.{◌≡◌, ◌⊎◌, ℕ, ◌+◌, ◌-◌, ◌<◌, ◌≤◌, Bool, true, false, not, ◌&&◌, nat_le, if◌then◌else◌, List, refl, sym, ◌∙◌, ap, arith, inl, inr}
+use Rattle.std.specs.Prelude.{Option, Some, None, is_some, is_none}
+use Rattle.std.proofs.lemmas.Bool.{cases_lt, and_from, le-leb, lt-ltb}
+use Rattle.pmf_event.specs.declared.event.Event.{Event}
+use Rattle.pmf_event.specs.Span.{Extent, covers_byte}
+use Rattle.pmf_event.specs.Ranges.{first_from, first_byte}
+use Rattle.pmf_event.specs.Store.{last_store}
+use Rattle.pmf_event.specs.Exclusion.{is_excluded}
+use Rattle.pmf_event.specs.Persist.{is_checked}
+use Rattle.pmf_event.proofs.LineLemmas.{covers-bounds}
+use Rattle.pmf_event.proofs.RangeLemmas.{none-from, none-passes, first-passes}
+use Rattle.pmf_shadow.specs.declared.shadow.Shadow.{Shadow}
+use Rattle.pmf_shadow.specs.declared.standing.Standing.{Standing}
+use Rattle.pmf_shadow.specs.Shadow.{StandsFor, ForEachList}
+use Rattle.pmf_shadow.specs.Standing.{place_as_told, AllStandSo}
+use Rattle.pmf_runs.specs.Runs.{state_at, passing, is_between, ChangesBetween}
+use Rattle.pmf_cut.specs.declared.lost.Past.{Past}
+use Rattle.pmf_cut.specs.Behind.{SameBytes, SamePairs}
+use Rattle.pmf_cut.specs.Laws.{KnowsPairs}
+use Rattle.pmf_cut.specs.Lost.{HasOld, IsOld, NoneOld, NoneTold, Knows, is_unknown, is_within, is_told_again}
+use Rattle.pmf_cut.proofs.ComparingLemmas.{place-is, place-none}
+use Rattle.pmf_cut.proofs.RowLemmas.{checked-parts, checked-from}
+
+-- the state of a byte as a test of the runs
+member-is : (past : Past) (first n : ℕ) → first_from (passing (λ (v : Bool). v) past.bytes) first n ≡ None → (b : ℕ) → first ≤ b → b < first + n → state_at past.bytes b ≡ false
+unfolding passing
+member-is past first n none b low high = none-passes (λ b. state_at past.bytes b) first n none b low high
+
+pub record Member (past : Past) (first n k : ℕ) : Type 0 where
+  pub from : first ≤ k
+  pub within : k < first + n
+  pub before : (b : ℕ) → first ≤ b → b < k → state_at past.bytes b ≡ false
+
+pub member-first : (past : Past) (first n k : ℕ) → first_from (passing (λ (v : Bool). v) past.bytes) first n ≡ Some k → Member past first n k
+unfolding passing
+member-first past first n k is = let found = first-passes (λ b. state_at past.bytes b) first n k is in record { from = found.from; within = found.within; before = found.before }
+
+-- a member stays one where a range is put in, and the range's bytes are members
+pub put-kept : (old new : Past) (first end : ℕ) → ChangesBetween first end (λ v. true) old.bytes new.bytes → (b : ℕ) → state_at old.bytes b ≡ true → state_at new.bytes b ≡ true
+put-kept old new first end changes b is = changes.states b ∙ elim (is_between first end b) as (λ v. (if v then true else state_at old.bytes b) ≡ true) [ true ↦ refl | false ↦ is ]
+
+pub put-new : (old new : Past) (first end : ℕ) → ChangesBetween first end (λ v. true) old.bytes new.bytes → (b : ℕ) → first ≤ b → b < end → state_at new.bytes b ≡ true
+unfolding is_between
+put-new old new first end changes b low high = changes.states b ∙ ap (λ v. if v then true else state_at old.bytes b) (and_from _ _ (le-leb first b low) (lt-ltb b end high))
+
+-- a byte that stands without a store is known to no list
+pub unknown-run : (shadow : Shadow) (first end : ℕ) (s : Standing) → ForEachList shadow (λ told es p. AllStandSo told es p first end s) → is_some s.last ≡ false →
+    (fs : List Event) (m : ℕ) → StandsFor shadow (λ k. k) fs m → (b : ℕ) → first ≤ b → b < end → last_store fs m b ≡ 0
+unknown-run shadow first end s stands none fs m is b low high =
+    place-none (last_store fs m b) (sym (none-from s.last none) ∙ (stands (λ k. k) fs m is b low high).last)
+
+-- no byte is old from a place on where none is a member
+pub none-old-rest : (past : Past) (shadow : Shadow) (first at end : ℕ) → at ≤ end → first_from (passing (λ (v : Bool). v) past.bytes) at (end - at) ≡ None → NoneOld past shadow first at → NoneOld past shadow first end
+none-old-rest past shadow first at end within none before fs m stands b low high old = elim (cases_lt b at) [
+  | inl early ↦ before fs m stands b low early old
+  | inr late ↦ let bad : false ≡ true = sym (member-is past at (end - at) none b late (omega arith)) ∙ old.member in cc
+]
+
+-- nor where a run of members is known or excluded
+pub none-old-run : (past : Past) (shadow : Shadow) (first at byte until : ℕ) (s : Standing) → ((b : ℕ) → at ≤ b → b < byte → state_at past.bytes b ≡ false) →
+    ForEachList shadow (λ told es p. AllStandSo told es p byte until s) → is_unknown s ≡ false → NoneOld past shadow first at → NoneOld past shadow first until
+none-old-run past shadow first at byte until s between stands not_old before fs m is b low high old = elim (cases_lt b at) [
+  | inl early ↦ before fs m is b low early old
+  | inr late ↦ elim (cases_lt b byte) [
+    | inl outside ↦ let bad : false ≡ true = sym (between b late outside) ∙ old.member in cc
+    | inr inside ↦
+        let so = stands (λ k. k) fs m is b inside high in
+        elim s.excluded as (λ v. s.excluded ≡ v → (is_none s.last && not v) ≡ false → is_excluded fs m b ≡ true) [
+          | true ↦ λ out any. sym so.excluded ∙ out
+          | false ↦ λ kept any. elim s.last as (λ o. s.last ≡ o → (is_none o && true) ≡ false → is_excluded fs m b ≡ true) [
+            | None ↦ λ none bad. let no : true ≡ false = bad in cc
+            | Some k ↦ λ there fine.
+                let bad : Some k ≡ None = sym there ∙ so.last ∙ ap (place_as_told (λ k. k)) old.unknown in cc
+          ] refl any
+        ] refl not_old
+  ]
+]
+
+-- a place that is not one of the first lies behind them
+late-from : (head k : ℕ) (s : Standing) → s.excluded ≡ false → (nat_le k head && not s.excluded) ≡ false → head < k
+late-from head k s kept not_told = elim (cases_lt head k) [
+  | inl late ↦ late
+  | inr early ↦ let bad : true ≡ false = sym (and_from _ _ (le-leb k head early) (ap not kept)) ∙ not_told in cc
+]
+
+-- a run that was stored to behind the head, or that is excluded
+pub none-told-run : (shadow : Shadow) (head first at until : ℕ) (s : Standing) → ForEachList shadow (λ told es p. AllStandSo told es p at until s) →
+    is_told_again head s ≡ false → NoneTold shadow head first at → NoneTold shadow head first until
+none-told-run shadow head first at until s stands not_told before fs m is b low high kept some = elim (cases_lt b at) [
+  | inl early ↦ before fs m is b low early kept some
+  | inr here ↦
+      let so = stands (λ k. k) fs m is b here high in
+      elim s.last as (λ o. s.last ≡ o → head < last_store fs m b) [
+        | None ↦ λ none. let zero_is = place-none (last_store fs m b) (sym none ∙ so.last) in absurd (omega arith)
+        | Some k ↦ λ there. let place = place-is (last_store fs m b) k (sym there ∙ so.last) in let behind = late-from head k s (so.excluded ∙ kept) (ap (λ o. is_within head o && not s.excluded) (sym there) ∙ not_told) in omega arith
+      ] refl
+]
+
+-- ---- the pairs that a part knows
+
+none-checked : (shadow : Shadow) (fs : List Event) (m : ℕ) (s : Extent) → is_some (first_byte (is_checked fs m) s) ≡ false → (b : ℕ) → covers_byte s b ≡ true → is_checked fs m b ≡ false
+none-checked shadow fs m s none b inside =
+    let bounds = covers-bounds s b inside in none-passes (is_checked fs m) s.first s.size (none-from (first_byte (is_checked fs m) s) none) b bounds.0 bounds.1
+
+-- a checked byte of a span without old ones is known
+known-from : (past : Past) (shadow : Shadow) (es : List Event) (n : ℕ) (fs : List Event) (m : ℕ) (s : Extent) → SameBytes es n fs m → HasOld past es n fs m → StandsFor shadow (λ k. k) fs m →
+    NoneOld past shadow s.first (s.first + s.size) → (b : ℕ) → covers_byte s b ≡ true → is_checked es n b ≡ true → 0 < last_store fs m b
+known-from past shadow es n fs m s same has stands none b inside is =
+    let parts = checked-parts es n b is in
+    let bounds = covers-bounds s b inside in
+    elim (cases_lt 0 (last_store fs m b)) [
+      | inl known ↦ known
+      | inr unknown ↦
+          let zero_is : last_store fs m b ≡ 0 = omega arith in
+          let out = none fs m stands b bounds.0 bounds.1 (record { member = has b parts.0 zero_is; unknown = zero_is }) in
+          let bad : false ≡ true = sym (same.excluded b ∙ parts.1) ∙ out in cc
+    ]
+
+-- nothing is checked in a span of which the part checks nothing and none is old
+knows-none : (past : Past) (shadow : Shadow) (es : List Event) (n : ℕ) (fs : List Event) (m : ℕ) (s : Extent) → SameBytes es n fs m → HasOld past es n fs m → StandsFor shadow (λ k. k) fs m →
+    NoneOld past shadow s.first (s.first + s.size) → is_some (first_byte (is_checked fs m) s) ≡ false → (b : ℕ) → covers_byte s b ≡ true → is_checked es n b ≡ true → ⊥
+knows-none past shadow es n fs m s same has stands none unchecked b inside is =
+    let known = known-from past shadow es n fs m s same has stands none b inside is in
+    let bad : false ≡ true = sym (none-checked shadow fs m s unchecked b inside) ∙ checked-from fs m b known (same.excluded b ∙ (checked-parts es n b is).1) in cc
+
+pub knows-unchecked : (past : Past) (shadow : Shadow) (head : ℕ) (before after : Extent) → ForEachList shadow (λ told es p. is_some (first_byte (is_checked es p) before) ≡ false) →
+    NoneOld past shadow before.first (before.first + before.size) → Knows past shadow head before after
+knows-unchecked past shadow head before after unchecked none es p n fs m same pairs has stands x y one other x_is y_is =
+    absurd (knows-none past shadow es n fs m before same has stands none (unchecked (λ k. k) fs m stands) x one x_is)
+
+pub knows-all : (past : Past) (shadow : Shadow) (head : ℕ) (before after : Extent) → NoneOld past shadow before.first (before.first + before.size) →
+    NoneOld past shadow after.first (after.first + after.size) → Knows past shadow head before after
+knows-all past shadow head before after none none_too es p n fs m same pairs has stands x y one other x_is y_is =
+    inl (known-from past shadow es n fs m before same has stands none x one x_is, known-from past shadow es n fs m after same has stands none_too y other y_is)
+
+pub knows-late : (past : Past) (shadow : Shadow) (head : ℕ) (before after : Extent) → NoneOld past shadow after.first (after.first + after.size) →
+    NoneTold shadow head after.first (after.first + after.size) → Knows past shadow head before after
+knows-late past shadow head before after none told es p n fs m same pairs has stands x y one other x_is y_is =
+    let known = known-from past shadow es n fs m after same has stands none y other y_is in
+    let bounds = covers-bounds after y other in
+    inr (pairs.late y (told fs m stands y bounds.0 bounds.1 (same.excluded y ∙ (checked-parts es n y y_is).1) known))

@@ -1,0 +1,196 @@
+-- A part takes one event more.
+use mathlib.Core.Logic.{∥∥₁_elim, ∥∥₁_map}
+use Rattle.std.proofs.Props.{props}
+use Rattle.std.proofs.lemmas.List.{length-append}
+use Rattle.std.proofs.Common.{◌≡◌, ℕ, suc, ◌+◌, ◌-◌, ◌<◌, ◌≤◌, Bool, true, false, ◌&&◌, nat_le, nat_lt, if◌then◌else◌, List, [], ◌∷◌, ◌++◌, length, refl, sym, ◌∙◌, ap, subst, arith, inl, inr}
+use Rattle.std.specs.Prelude.{Some}
+use Rattle.std.proofs.Math.Bool.{and-false}
+use Rattle.std.proofs.lemmas.Bool.{cases_lt, le-ltb}
+use Rattle.pmf_event.specs.declared.event.Event.{Event}
+use Rattle.pmf_event.specs.declared.event.Event.TheVariants.{Store, Exclude, Include, TxBegin, TxEnd, CheckStart, CheckEnd}
+use Rattle.pmf_event.specs.declared.section.TheConstants.{EVENT_LIMIT}
+use Rattle.pmf_event.specs.declared.span.TheConstants.{ADDRESS_LIMIT}
+use Rattle.pmf_event.specs.Span.{Extent, IsValidExtent, covers_byte}
+use Rattle.pmf_event.specs.Section.{IsValidEvent}
+use Rattle.pmf_event.specs.Line.{line_of_byte}
+use Rattle.pmf_event.specs.Store.{event_at, at, stores, last_store}
+use Rattle.pmf_event.specs.Interval.{first_write_back, closing_fence}
+use Rattle.pmf_event.specs.LineBytes.{is_undurable, is_unwritten}
+use Rattle.pmf_event.specs.Exclusion.{excludes, marks, is_excluded}
+use Rattle.pmf_event.specs.Transactions.{begins, ends, opens_scope, closes_scope, depth_at, in_scope}
+use Rattle.pmf_event.proofs.EventLemmas.{last-none, last-other}
+use Rattle.pmf_event.proofs.LineBytesLemmas.{lacks-not}
+use Rattle.pmf_event.proofs.TransactionLemmas.{outside-from, depth-start, scope-start as first-scope, depth-begun, depth-ended, depth-kept, scope-some, scope-none, scoped-from, unscoped-from, scope-stays, scope-opened, scope-kept, scope-closed, in_scope-same}
+use Rattle.pmf_shadow.specs.declared.shadow.Shadow.{Shadow}
+use Rattle.pmf_shadow.specs.Shadow.{FollowsAt, StandsFor, Keeps}
+use Rattle.pmf_shadow.proofs.StandsLemmas.{follows-within, stands-fences}
+use Rattle.pmf_cut.specs.declared.part.Part.{Part}
+use Rattle.pmf_cut.specs.Alike.{IsAlike, IsOutside}
+use Rattle.pmf_cut.specs.Comparing.{IsAlikeBelow}
+use Rattle.pmf_cut.specs.Parts.{LiesLow, Stands, Follows, BeginsWith, Renews}
+use Rattle.pmf_cut.proofs.StepLemmas.{excluded-step}
+
+high-uncovered : (s : Extent) (b : ℕ) → IsValidExtent s.first s.size → ADDRESS_LIMIT ≤ b → covers_byte s b ≡ false
+high-uncovered s b valid high = let ends = valid.ends in ap (λ v. nat_le s.first b && v) (le-ltb b (s.first + s.size) (omega arith)) ∙ and-false (nat_le s.first b)
+
+high-unstored : (e : Event) (b : ℕ) → IsValidEvent e → ADDRESS_LIMIT ≤ b → stores b e ≡ false
+unfolding stores
+high-unstored (Store s) b valid high = high-uncovered s b valid high
+high-unstored _ b valid high = refl
+
+high-unmarked : (e : Event) (b : ℕ) → IsValidEvent e → ADDRESS_LIMIT ≤ b → marks b e ≡ false
+unfolding marks
+high-unmarked (Exclude s) b valid high = high-uncovered s b valid high
+high-unmarked (Include s) b valid high = high-uncovered s b valid high
+high-unmarked _ b valid high = refl
+
+low-step : (fs : List Event) (m : ℕ) (e : Event) → event_at fs (suc m) ≡ Some e → IsValidEvent e → LiesLow fs m → LiesLow fs (suc m)
+low-step fs m e here valid low b high = (
+  last-other (stores b) fs m e here (high-unstored e b valid high) ∙ (low b high).0,
+  excluded-step fs m b e here ∙ ap (λ v. if v then excludes b e else is_excluded fs m b) (high-unmarked e b valid high) ∙ (low b high).1,
+)
+
+pub follows-part : (old new : Part) (e : Event) → IsValidEvent e → FollowsAt new.events old.shadow new.shadow e → new.events ≡ old.events + 1 →
+    ((fs : List Event) (m : ℕ) → event_at fs (suc m) ≡ Some e → old.depth ≡ depth_at fs m → new.depth ≡ depth_at fs (suc m)) →
+    ((fs : List Event) (m : ℕ) → event_at fs (suc m) ≡ Some e → old.is_scoped ≡ in_scope fs m → new.is_scoped ≡ in_scope fs (suc m)) → Follows old new e
+follows-part old new e valid follows longer depth scope = λ fs m here stands.
+    let count = stands.events in record {
+      shadow = follows-within new.events old.shadow new.shadow e follows (λ k. k) fs m here (omega arith) stands.shadow;
+      events = omega arith;
+      depth = depth fs m here stands.depth;
+      scope = scope fs m here stands.scope;
+      low = low-step fs m e here valid stands.low;
+    }
+
+pub stands-none : (part : Part) (fs : List Event) → part.events ≡ 0 → part.depth ≡ 0 → part.is_scoped ≡ false → StandsFor part.shadow (λ k. k) fs 0 → Stands part fs 0
+unfolding is_excluded at event_at
+stands-none part fs events depth scope shadow = record {
+  shadow = shadow;
+  events = events;
+  depth = depth ∙ sym (depth-start fs);
+  scope = scope ∙ sym (unscoped-from fs 0 (first-scope fs));
+  low = λ b high. (last-none (stores b) fs, ap (at (excludes b) fs) (last-none (marks b) fs));
+}
+
+-- ---- depth and scope
+
+begins-not : (e : Event) → (e ≡ TxBegin → ⊥) → begins e ≡ false
+unfolding begins
+begins-not TxBegin not_so = absurd (not_so refl)
+begins-not _ not_so = refl
+
+ends-not : (e : Event) → (e ≡ TxEnd → ⊥) → ends e ≡ false
+unfolding ends
+ends-not TxEnd not_so = absurd (not_so refl)
+ends-not _ not_so = refl
+
+opens-not : (e : Event) → (e ≡ CheckStart → ⊥) → opens_scope e ≡ false
+unfolding opens_scope
+opens-not CheckStart not_so = absurd (not_so refl)
+opens-not _ not_so = refl
+
+closes-not : (e : Event) → (e ≡ CheckEnd → ⊥) → closes_scope e ≡ false
+unfolding closes_scope
+closes-not CheckEnd not_so = absurd (not_so refl)
+closes-not _ not_so = refl
+
+module _ (fs : List Event) (m : ℕ) where
+  pub depth-begin : event_at fs (suc m) ≡ Some TxBegin → depth_at fs (suc m) ≡ suc (depth_at fs m)
+  unfolding begins ends
+  depth-begin here = depth-begun fs m TxBegin here refl refl
+
+  pub depth-end : event_at fs (suc m) ≡ Some TxEnd → depth_at fs (suc m) ≡ depth_at fs m - 1
+  unfolding begins ends
+  depth-end here = depth-ended fs m TxEnd here refl refl
+
+  pub depth-other : (e : Event) → event_at fs (suc m) ≡ Some e → (e ≡ TxBegin → ⊥) → (e ≡ TxEnd → ⊥) → depth_at fs (suc m) ≡ depth_at fs m
+  depth-other e here no_begin no_end = depth-kept fs m e here (begins-not e no_begin) (ends-not e no_end)
+
+  pub scope-start : event_at fs (suc m) ≡ Some CheckStart → in_scope fs (suc m) ≡ true
+  unfolding opens_scope closes_scope
+  scope-start here = elim (in_scope fs m) as (λ v. in_scope fs m ≡ v → in_scope fs (suc m) ≡ true) [
+    | true ↦ λ is. in_scope-same fs m (suc m) (scope-stays fs m CheckStart here refl (scope-some fs m is)) ∙ is
+    | false ↦ λ none. scoped-from fs (suc m) (let now = scope-opened fs m CheckStart here refl refl (scope-none fs m none) in omega arith)
+  ] refl
+
+  pub scope-end : event_at fs (suc m) ≡ Some CheckEnd → in_scope fs (suc m) ≡ false
+  unfolding closes_scope
+  scope-end here = unscoped-from fs (suc m) (scope-closed fs m CheckEnd here refl)
+
+  pub scope-other : (e : Event) → event_at fs (suc m) ≡ Some e → (e ≡ CheckStart → ⊥) → (e ≡ CheckEnd → ⊥) → in_scope fs (suc m) ≡ in_scope fs m
+  scope-other e here no_start no_end = in_scope-same fs m (suc m) (scope-kept fs m e here (closes-not e no_end) (opens-not e no_start))
+
+-- ---- some list is there
+
+-- the shadow stands for a list of so many events
+abbrev pub HasList : Shadow → ℕ → Type 0
+HasList shadow events = (fs : List Event) × (length fs ≡ events) × StandsFor shadow (λ k. k) fs events
+
+pub list-none : (shadow : Shadow) → ((told : ℕ → ℕ) (es : List Event) → StandsFor shadow told es 0) → ∥ HasList shadow 0 ∥₁
+list-none shadow stands = ∣ ([], refl, stands (λ k. k) []) ∣₁
+
+pub room-from : (shadow : Shadow) (events : ℕ) → ∥ HasList shadow events ∥₁ → events < EVENT_LIMIT → shadow.fences < EVENT_LIMIT
+room-from shadow events some below = ∥∥₁_elim some (hlevel props) (λ it. let few = stands-fences shadow (λ k. k) it.0 events it.2 in omega arith)
+
+pub list-kept : (old new : Shadow) (events : ℕ) → Keeps old new → ∥ HasList old events ∥₁ → ∥ HasList new events ∥₁
+list-kept old new events keeps some = ∥∥₁_map some (λ it. (it.0, it.1, keeps (λ k. k) it.0 events it.2))
+
+pub list-next : (old new : Shadow) (events place : ℕ) (e : Event) → FollowsAt place old new e → place ≡ events + 1 → ∥ HasList old events ∥₁ → ∥ HasList new (events + 1) ∥₁
+list-next old new events place e follows next some = ∥∥₁_map some (λ it.
+    let size : length it.0 ≡ events = it.1 in
+    let after = follows (λ k. k) it.0 (omega arith) (subst (StandsFor old (λ k. k) it.0) (sym size) it.2) in
+    (it.0 ++ e ∷ [], length-append it.0 (e ∷ []) ∙ omega arith, subst (StandsFor new (λ k. k) (it.0 ++ e ∷ [])) (omega arith) after))
+
+-- ---- a part renewed
+
+low-undurable : (fs : List Event) (m b : ℕ) → last_store fs m b ≡ 0 → is_undurable fs m b ≡ false
+unfolding is_undurable
+low-undurable fs m b none = lacks-not (last_store fs m b) (closing_fence (stores b) (line_of_byte b) fs m) (λ some. absurd (omega arith))
+
+low-unwritten : (fs : List Event) (m b : ℕ) → last_store fs m b ≡ 0 → is_unwritten fs m b ≡ false
+unfolding is_unwritten
+low-unwritten fs m b none = lacks-not (last_store fs m b) (first_write_back (stores b) (line_of_byte b) fs m) (λ some. absurd (omega arith))
+
+-- an undurable byte lies below the limit of addresses
+undurable-low : (fs : List Event) (m : ℕ) → LiesLow fs m → (b : ℕ) → is_undurable fs m b ≡ true → b < ADDRESS_LIMIT
+undurable-low fs m low b is = elim (cases_lt b ADDRESS_LIMIT) [
+  | inl below ↦ below
+  | inr high ↦ let bad : false ≡ true = sym (low-undurable fs m b (low b high).0) ∙ is in cc
+]
+
+alike-everywhere : (fs : List Event) (m : ℕ) (gs : List Event) (q : ℕ) → LiesLow fs m → LiesLow gs q → IsAlikeBelow fs m gs q ADDRESS_LIMIT → IsAlike fs m gs q
+alike-everywhere fs m gs q low low_too below = record {
+  excluded = λ b. elim (cases_lt b ADDRESS_LIMIT) [
+    | inl inside ↦ (below.bytes b inside).excluded
+    | inr high ↦ (low_too b high).1 ∙ sym (low b high).1
+  ];
+  undurable = λ b. elim (cases_lt b ADDRESS_LIMIT) [
+    | inl inside ↦ (below.bytes b inside).undurable
+    | inr high ↦ low-undurable gs q b (low_too b high).0 ∙ sym (low-undurable fs m b (low b high).0)
+  ];
+  unwritten = λ b. elim (cases_lt b ADDRESS_LIMIT) [
+    | inl inside ↦ (below.bytes b inside).unwritten
+    | inr high ↦ low-unwritten gs q b (low_too b high).0 ∙ sym (low-unwritten fs m b (low b high).0)
+  ];
+  order = λ x y line x_is y_is. below.order x y (undurable-low fs m low x x_is) (undurable-low fs m low y y_is) line x_is y_is;
+}
+
+pub renews-by : (old new : Part) (head : List Event) → ((gs : List Event) → BeginsWith gs head → Stands new gs (length head)) → new.depth ≡ 0 → new.is_scoped ≡ false →
+    ((fs : List Event) (m : ℕ) (gs : List Event) (q : ℕ) → StandsFor old.shadow (λ k. k) fs m → StandsFor new.shadow (λ k. k) gs q → IsAlikeBelow fs m gs q ADDRESS_LIMIT) → Renews old new head
+renews-by old new head stands flat unscoped alike = record {
+  stands = stands;
+  alike = λ fs m gs one begins.
+      let other = stands gs begins in
+      alike-everywhere fs m gs (length head) one.low other.low (alike fs m gs (length head) one.shadow other.shadow);
+  fresh = λ fs m gs one begins b some.
+      let other = stands gs begins in
+      elim (cases_lt b ADDRESS_LIMIT) [
+        | inl inside ↦ ((alike fs m gs (length head) one.shadow other.shadow).bytes b inside).fresh some
+        | inr high ↦ let none = (other.low b high).0 in absurd (omega arith)
+      ];
+  outside = λ gs begins.
+      let other = stands gs begins in record {
+        transaction = outside-from gs (length head) (sym other.depth ∙ flat);
+        scope = sym other.scope ∙ unscoped;
+      };
+}

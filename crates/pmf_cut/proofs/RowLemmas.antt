@@ -1,0 +1,290 @@
+-- What is found behind a cut: of the part as of the whole.
+use Rattle.std.proofs.Common.{◌≡◌, ◌⊎◌, ℕ, suc, ◌+◌, ◌-◌, ◌*◌, ◌<◌, ◌≤◌, ◌%◌, Bool, true, false, not, ◌&&◌, ◌||◌, ◌==◌, nat_lt, if◌then◌else◌, List, refl, sym, ◌∙◌, ap, subst, arith, inl, inr}
+use Rattle.std.specs.Prelude.{◌↔◌, Option, Some, None, is_some, is_none}
+use Rattle.std.specs.Cmp.{both_ways}
+use Rattle.std.proofs.lemmas.Bool.{cases_lt, cases_eq, lt-ltb, ltb-true, le-ltb, and_parts, and_from, not-true, not_from_false, false_from_ne_true, ne_eqb}
+use Rattle.std.proofs.lemmas.Bool.Decides.{Decides-eqb}
+use Rattle.pmf_event.specs.declared.event.Event.{Event}
+use Rattle.pmf_event.specs.declared.finding.Finding.{Finding}
+use Rattle.pmf_event.specs.declared.finding.Finding.TheVariants.{PersistPass, PersistEmpty, OrderedPass, OrderedEmpty, OrderedFail, OrderedSameLine}
+use Rattle.pmf_event.specs.declared.profile.Profile.{Profile}
+use Rattle.pmf_event.specs.declared.profile.Profile.TheVariants.{One, Two}
+use Rattle.pmf_event.specs.Span.{Extent, covers_byte}
+use Rattle.pmf_event.specs.Line.{line_of_byte}
+use Rattle.pmf_event.specs.Ranges.{first_byte, first_from}
+use Rattle.pmf_event.specs.Store.{stores, last_store}
+use Rattle.pmf_event.specs.Interval.{closing_fence, interval_at, is_open}
+use Rattle.pmf_event.specs.Exclusion.{is_excluded, is_included}
+use Rattle.pmf_event.specs.Persist.{is_checked, is_exposed, pass_unless, persist_finding}
+use Rattle.pmf_event.specs.Order.{precedes, share_line, is_stored_before, is_ordered, is_unordered, is_certified, has_partner, paired, with_partner, least_pair, finding_of_pairs, ordered_finding}
+use Rattle.pmf_event.specs.LineBytes.{is_undurable, is_unwritten}
+use Rattle.pmf_event.proofs.IntervalLemmas.{is_open-interval_at}
+use Rattle.pmf_event.proofs.LeastPairLemmas.{HasOne, first-from-one, one-from-first}
+use Rattle.pmf_event.proofs.LineLemmas.{covers-bounds, bounds-cover}
+use Rattle.pmf_event.proofs.RangeLemmas.{some-or-none, first_from-same, first_from-none, none-passes, first-passes}
+use Rattle.pmf_cut.specs.Behind.{SameBytes, SamePairs, IsBehind}
+use Rattle.pmf_cut.specs.Laws.{IsSameOrEmpty, IsSameOrder, KnowsPairs}
+
+-- ---- persist assertions
+
+exposed-cases : (written out unclosed : Bool) → ((written && not out) && (written && unclosed)) ≡ ((written && unclosed) && not out)
+exposed-cases true true true = refl
+exposed-cases true true false = refl
+exposed-cases true false true = refl
+exposed-cases true false false = refl
+exposed-cases false out unclosed = refl
+
+not-zero : (n : ℕ) → not (n == 0) ≡ nat_lt 0 n
+not-zero n = elim (cases_lt 0 n) [
+  | inl some ↦ not_from_false (n == 0) (ne_eqb n 0 (λ zero_is. omega arith)) ∙ sym (lt-ltb 0 n some)
+  | inr none ↦ ap not ((Decides-eqb n 0).1 (omega arith)) ∙ sym (le-ltb 0 n none)
+]
+
+-- a byte is exposed where it is undurable and not excluded
+pub exposed-is : (es : List Event) (p b : ℕ) → is_exposed es p b ≡ (is_undurable es p b && not (is_excluded es p b))
+unfolding is_exposed is_checked is_undurable
+exposed-is es p b =
+    ap (λ v. (nat_lt 0 (last_store es p b) && not (is_excluded es p b)) && v)
+    (is_open-interval_at es p b ∙ ap (λ v. v && closing_fence (stores b) (line_of_byte b) es p == 0) (not-zero (last_store es p b)))
+    ∙ exposed-cases (nat_lt 0 (last_store es p b)) (is_excluded es p b) (closing_fence (stores b) (line_of_byte b) es p == 0)
+
+pub checked-parts : (es : List Event) (p b : ℕ) → is_checked es p b ≡ true → (0 < last_store es p b) × (is_excluded es p b ≡ false)
+unfolding is_checked
+checked-parts es p b is = let parts = and_parts (nat_lt 0 (last_store es p b)) (not (is_excluded es p b)) is in (ltb-true 0 (last_store es p b) parts.0, not-true (is_excluded es p b) parts.1)
+
+pub checked-from : (es : List Event) (p b : ℕ) → 0 < last_store es p b → is_excluded es p b ≡ false → is_checked es p b ≡ true
+unfolding is_checked
+checked-from es p b some included = and_from _ _ (lt-ltb 0 (last_store es p b) some) (not_from_false (is_excluded es p b) included)
+
+exposed-checked : (es : List Event) (p b : ℕ) → is_exposed es p b ≡ true → is_checked es p b ≡ true
+unfolding is_exposed
+exposed-checked es p b is = (and_parts (is_checked es p b) (is_open (interval_at es p b)) is).0
+
+-- where no byte of a span passes, none passes a narrower test
+narrower-none : (few many : ℕ → Bool) (s : Extent) → ((b : ℕ) → few b ≡ true → many b ≡ true) → first_byte many s ≡ None → first_byte few s ≡ None
+narrower-none few many s narrower none =
+    first_from-none few s.first s.size (λ b low high. false_from_ne_true (few b) (λ is. let bad : false ≡ true = sym (none-passes many s.first s.size none b low high) ∙ narrower b is in cc))
+
+-- where one passes, one passes a wider test
+wider-some : (few many : ℕ → Bool) (s : Extent) (k : ℕ) → ((b : ℕ) → few b ≡ true → many b ≡ true) → first_byte few s ≡ Some k → is_none (first_byte many s) ≡ false
+wider-some few many s k wider is = elim (some-or-none (first_byte many s)) [
+  | inl found ↦ ap (λ (o : Option ℕ). is_none o) found.1
+  | inr none ↦ let bad : None ≡ Some k = sym (narrower-none few many s wider none) ∙ is in cc
+]
+
+persist-empty : (es : List Event) (p : ℕ) (s : Extent) → first_byte (is_checked es p) s ≡ None → persist_finding es p s ≡ PersistEmpty
+unfolding persist_finding
+persist-empty es p s none = ap (λ (o : Option ℕ). if is_none o then PersistEmpty else pass_unless (first_byte (is_exposed es p) s)) none
+
+persist-checked : (es : List Event) (p : ℕ) (s : Extent) → is_none (first_byte (is_checked es p) s) ≡ false → persist_finding es p s ≡ pass_unless (first_byte (is_exposed es p) s)
+unfolding persist_finding
+persist-checked es p s some = ap (λ v. if v then PersistEmpty else pass_unless (first_byte (is_exposed es p) s)) some
+
+module _ (es : List Event) (p n : ℕ) (fs : List Event) (q m : ℕ) (behind : IsBehind es p n fs q m) where
+  exposed-same : (b : ℕ) → is_exposed fs m b ≡ is_exposed es n b
+  exposed-same b =
+      exposed-is fs m b
+      ∙ ap (λ v. v && not (is_excluded fs m b)) (behind.bytes.undurable b)
+      ∙ ap (λ v. is_undurable es n b && not v) (behind.bytes.excluded b)
+      ∙ sym (exposed-is es n b)
+
+  checked-known : (b : ℕ) → is_checked fs m b ≡ true → is_checked es n b ≡ true
+  checked-known b is = let parts = checked-parts fs m b is in checked-from es n b (behind.pairs.known b parts.0) (sym (behind.bytes.excluded b) ∙ parts.1)
+
+  pub persist-stays : (s : Extent) → IsSameOrEmpty (persist_finding es n s) (persist_finding fs m s)
+  persist-stays s =
+      let same = first_from-same (is_exposed fs m) (is_exposed es n) s.first s.size (λ b low high. exposed-same b) in
+      elim (some-or-none (first_byte (is_checked fs m) s)) [
+        | inl found ↦ inl (persist-checked fs m s (ap (λ (o : Option ℕ). is_none o) found.1)
+            ∙ ap pass_unless same
+            ∙ sym (persist-checked es n s (wider-some (is_checked fs m) (is_checked es n) s found.0 checked-known found.1)))
+        | inr none ↦ elim (some-or-none (first_byte (is_checked es n) s)) [
+          | inr none_too ↦ inl (persist-empty fs m s none ∙ sym (persist-empty es n s none_too))
+          | inl found ↦ inr (
+            persist-checked es n s (ap (λ (o : Option ℕ). is_none o) found.1) ∙ ap pass_unless (sym same ∙ narrower-none (is_exposed fs m) (is_checked fs m) s (exposed-checked fs m) none),
+            persist-empty fs m s none,
+          )
+        ]
+      ]
+
+-- ---- order assertions
+
+share-other_way : (x y : ℕ) → share_line x y ≡ true → share_line y x ≡ true
+share-other_way x y is = (Decides-eqb (line_of_byte y) (line_of_byte x)).1 (sym ((Decides-eqb (line_of_byte x) (line_of_byte y)).0 is))
+
+unordered-parts : (profile : Profile) (es : List Event) (p x y : ℕ) → is_unordered profile es p x y ≡ true →
+    (is_checked es p x ≡ true) × (is_checked es p y ≡ true) × (is_ordered profile es p x y ≡ false)
+unfolding is_unordered
+unordered-parts profile es p x y is =
+    let outer = and_parts (is_checked es p x && is_checked es p y) (not (is_ordered profile es p x y)) is in
+    let inner = and_parts (is_checked es p x) (is_checked es p y) outer.0 in
+    (inner.0, inner.1, not-true (is_ordered profile es p x y) outer.1)
+
+unordered-from : (profile : Profile) (es : List Event) (p x y : ℕ) → is_checked es p x ≡ true → is_checked es p y ≡ true → is_ordered profile es p x y ≡ false →
+    is_unordered profile es p x y ≡ true
+unfolding is_unordered
+unordered-from profile es p x y one other free =
+    and_from _ _ (and_from _ _ one other) (not_from_false (is_ordered profile es p x y) free)
+
+ordered-by_interval : (profile : Profile) (es : List Event) (p x y : ℕ) → precedes (interval_at es p x) (interval_at es p y) ≡ true → is_ordered profile es p x y ≡ true
+unfolding is_ordered
+ordered-by_interval One es p x y is = is
+ordered-by_interval Two es p x y is = ap (λ v. v || (share_line x y && is_stored_before es p x y)) is
+
+certified-is : (profile : Profile) (es : List Event) (p x y : ℕ) → is_certified profile es p x y ≡ (is_unordered profile es p x y && (not (share_line x y) || is_stored_before es p y x))
+unfolding is_certified
+certified-is profile es p x y = refl
+
+least_pair-within : (s t : ℕ → ℕ → Bool) (a b : Extent) → ((x y : ℕ) → covers_byte a x ≡ true → covers_byte b y ≡ true → s x y ≡ t x y) → least_pair s a b ≡ least_pair t a b
+unfolding least_pair has_partner
+least_pair-within s t a b same =
+    let partner : (x : ℕ) → covers_byte a x ≡ true → first_byte (s x) b ≡ first_byte (t x) b =
+    λ x inside. first_from-same (s x) (t x) b.first b.size (λ y low high. same x y inside (bounds-cover b y low high)) in
+    let found = first_from-same (λ x. is_some (first_byte (s x) b)) (λ x. is_some (first_byte (t x) b)) a.first a.size
+    (λ x low high. ap (λ (o : Option ℕ). is_some o) (partner x (bounds-cover a x low high))) in
+    ap (with_partner s b) found ∙ elim (some-or-none (first_byte (λ x. is_some (first_byte (t x) b)) a)) [
+      | inr none ↦ ap (with_partner s b) none ∙ sym (ap (with_partner t b) none)
+      | inl is ↦
+          let first = first-passes (λ x. is_some (first_byte (t x) b)) a.first a.size is.0 is.1 in
+          ap (with_partner s b) is.1 ∙ ap (paired is.0) (partner is.0 (bounds-cover a is.0 first.from first.within)) ∙ sym (ap (with_partner t b) is.1)
+    ]
+
+-- where a byte of the one span or of the other is never checked, no pair passes
+no-pair : (test : ℕ → ℕ → Bool) (a b : Extent) → ((x y : ℕ) → covers_byte a x ≡ true → covers_byte b y ≡ true → test x y ≡ false) → least_pair test a b ≡ None
+unfolding least_pair has_partner
+no-pair test a b never =
+    ap (with_partner test b) (first_from-none (λ x. is_some (first_byte (test x) b)) a.first a.size (λ x low high.
+    ap (λ (o : Option ℕ). is_some o) (first_from-none (test x) b.first b.size (λ y from to. never x y (bounds-cover a x low high) (bounds-cover b y from to)))))
+
+ordered-none : (profile : Profile) (es : List Event) (p : ℕ) (a b : Extent) → (first_byte (is_checked es p) a ≡ None) ⊎ (first_byte (is_checked es p) b ≡ None) →
+    ordered_finding profile es p a b ≡ OrderedEmpty
+unfolding ordered_finding
+ordered-none profile es p a b (inl none) = ap (λ (o : Option ℕ). if is_none o then OrderedEmpty else (if is_none (first_byte (is_checked es p) b) then OrderedEmpty else finding_of_pairs es p (least_pair (is_certified profile es p) a b) (least_pair (is_unordered profile es p) a b))) none
+ordered-none profile es p a b (inr none) =
+    ap (λ (o : Option ℕ). if is_none (first_byte (is_checked es p) a) then OrderedEmpty else (if is_none o then OrderedEmpty else finding_of_pairs es p (least_pair (is_certified profile es p) a b) (least_pair (is_unordered profile es p) a b))) none
+    ∙ elim (is_none (first_byte (is_checked es p) a)) as (λ v. (if v then OrderedEmpty else OrderedEmpty) ≡ OrderedEmpty) [ true ↦ refl | false ↦ refl ]
+
+ordered-some : (profile : Profile) (es : List Event) (p : ℕ) (a b : Extent) → is_none (first_byte (is_checked es p) a) ≡ false → is_none (first_byte (is_checked es p) b) ≡ false →
+    ordered_finding profile es p a b ≡ finding_of_pairs es p (least_pair (is_certified profile es p) a b) (least_pair (is_unordered profile es p) a b)
+unfolding ordered_finding
+ordered-some profile es p a b one other =
+    let pairs = finding_of_pairs es p (least_pair (is_certified profile es p) a b) (least_pair (is_unordered profile es p) a b) in
+    ap (λ v. if v then OrderedEmpty else (if is_none (first_byte (is_checked es p) b) then OrderedEmpty else pairs)) one
+    ∙ ap (λ v. if v then OrderedEmpty else pairs) other
+
+-- the findings of equal pairs
+finding-stays : (es : List Event) (n : ℕ) (fs : List Event) (m : ℕ) (certified unordered : Option (ℕ × ℕ)) →
+    IsSameOrder (finding_of_pairs es n certified unordered) (finding_of_pairs fs m certified unordered)
+finding-stays es n fs m (Some (x, y)) unordered = (last_store fs m y, refl)
+finding-stays es n fs m None (Some (x, y)) = inl refl
+finding-stays es n fs m None None = inl refl
+
+order-by : (whole other : Finding) (part another : Finding) → whole ≡ other → part ≡ another → IsSameOrder other another → IsSameOrder whole part
+order-by whole other part another is is_too stays = subst (λ w. IsSameOrder w part) (sym is) (subst (λ f. IsSameOrder other f) (sym is_too) stays)
+
+module _ (profile : Profile) (es : List Event) (p n : ℕ) (fs : List Event) (q m : ℕ) (behind : IsBehind es p n fs q m) where
+  ordered-alike : (kind : Profile) (x y : ℕ) → precedes (interval_at fs m x) (interval_at fs m y) ≡ precedes (interval_at es n x) (interval_at es n y) →
+      (share_line x y && is_stored_before fs m x y) ≡ (share_line x y && is_stored_before es n x y) → is_ordered kind fs m x y ≡ is_ordered kind es n x y
+  unfolding is_ordered
+  ordered-alike One x y intervals order = intervals
+  ordered-alike Two x y intervals order =
+      ap (λ v. v || (share_line x y && is_stored_before fs m x y)) intervals ∙ ap (λ v. precedes (interval_at es n x) (interval_at es n y) || v) order
+
+  -- pairs that the part knows are ordered alike
+  ordered-same : (x y : ℕ) → 0 < last_store fs m x → 0 < last_store fs m y → is_ordered profile fs m x y ≡ is_ordered profile es n x y
+  ordered-same x y one other =
+      ordered-alike profile x y (behind.pairs.durable x y one other)
+      (elim (share_line x y) as (λ v. share_line x y ≡ v → (v && is_stored_before fs m x y) ≡ (v && is_stored_before es n x y)) [
+        | true ↦ λ is. behind.pairs.order x y is one other
+        | false ↦ λ is. refl
+      ] refl)
+
+  checked-same : (b : ℕ) → 0 < last_store fs m b → is_checked es n b ≡ true → is_checked fs m b ≡ true
+  checked-same b known is = checked-from fs m b known (behind.bytes.excluded b ∙ (checked-parts es n b is).1)
+
+  module _ (a b : Extent) (knows : KnowsPairs es p n fs m a b) where
+    -- both bytes of a pair that is left unordered in the whole are known to the part
+    known-pair : (x y : ℕ) → covers_byte a x ≡ true → covers_byte b y ≡ true → is_unordered profile es n x y ≡ true → (0 < last_store fs m x) × (0 < last_store fs m y)
+    known-pair x y one other is =
+        let parts = unordered-parts profile es n x y is in
+        elim (knows x y one other parts.0 parts.1) [
+          | inl both ↦ both
+          | inr behind_cut ↦ elim (cases_lt 0 (last_store fs m x)) [
+            | inl known ↦ (known, behind.pairs.fresh y behind_cut)
+            | inr unknown ↦
+                let ordered = ordered-by_interval profile es n x y (behind.pairs.old x y (omega arith) (checked-parts es n x parts.0).0 behind_cut) in
+                let bad : false ≡ true = sym parts.2 ∙ ordered in cc
+          ]
+        ]
+
+    unordered-same : (x y : ℕ) → covers_byte a x ≡ true → covers_byte b y ≡ true → is_unordered profile fs m x y ≡ is_unordered profile es n x y
+    unordered-same x y one other = both_ways _ _
+        (λ is.
+        let parts = unordered-parts profile fs m x y is in
+        let free = sym (ordered-same x y (checked-parts fs m x parts.0).0 (checked-parts fs m y parts.1).0) ∙ parts.2 in
+        unordered-from profile es n x y (checked-known es p n fs q m behind x parts.0) (checked-known es p n fs q m behind y parts.1) free)
+        (λ is.
+        let parts = unordered-parts profile es n x y is in
+        let known = known-pair x y one other is in
+        unordered-from profile fs m x y (checked-same x known.0 parts.0) (checked-same y known.1 parts.1) (ordered-same x y known.0 known.1 ∙ parts.2))
+
+    certified-same : (x y : ℕ) → covers_byte a x ≡ true → covers_byte b y ≡ true → is_certified profile fs m x y ≡ is_certified profile es n x y
+    certified-same x y one other =
+        certified-is profile fs m x y
+        ∙ ap (λ v. v && (not (share_line x y) || is_stored_before fs m y x)) (unordered-same x y one other)
+        ∙ elim (is_unordered profile es n x y) as (λ v. is_unordered profile es n x y ≡ v → (v && (not (share_line x y) || is_stored_before fs m y x)) ≡ (v && (not (share_line x y) || is_stored_before es n y x))) [
+          | false ↦ λ is. refl
+          | true ↦ λ is.
+              let known = known-pair x y one other is in
+              elim (share_line x y) as (λ v. share_line x y ≡ v → (not v || is_stored_before fs m y x) ≡ (not v || is_stored_before es n y x)) [
+                | false ↦ λ apart. refl
+                | true ↦ λ shared. behind.pairs.order y x (share-other_way x y shared) known.1 known.0
+              ] refl
+        ] refl
+        ∙ sym (certified-is profile es n x y)
+
+    -- where the part checks nothing of a span, no pair of the whole is unordered
+    none-unordered : (first_byte (is_checked fs m) a ≡ None) ⊎ (first_byte (is_checked fs m) b ≡ None) → (x y : ℕ) → covers_byte a x ≡ true → covers_byte b y ≡ true → is_unordered profile es n x y ≡ false
+    none-unordered none x y one other = false_from_ne_true _ (λ is.
+        let parts = unordered-parts profile fs m x y (unordered-same x y one other ∙ is) in
+        let within_a = covers-bounds a x one in
+        let within_b = covers-bounds b y other in
+        elim none [
+          | inl no_a ↦ let bad : false ≡ true = sym (none-passes (is_checked fs m) a.first a.size no_a x within_a.0 within_a.1) ∙ parts.0 in cc
+          | inr no_b ↦ let bad : false ≡ true = sym (none-passes (is_checked fs m) b.first b.size no_b y within_b.0 within_b.1) ∙ parts.1 in cc
+        ])
+
+    ordered-empty : (first_byte (is_checked fs m) a ≡ None) ⊎ (first_byte (is_checked fs m) b ≡ None) → IsSameOrder (ordered_finding profile es n a b) (ordered_finding profile fs m a b)
+    ordered-empty none =
+        let empty = ordered-none profile fs m a b none in
+        let free = none-unordered none in
+        let no_unordered = no-pair (is_unordered profile es n) a b free in
+        let no_certified = no-pair (is_certified profile es n) a b (λ x y one other. certified-is profile es n x y ∙ ap (λ v. v && (not (share_line x y) || is_stored_before es n y x)) (free x y one other)) in
+        elim (some-or-none (first_byte (is_checked es n) a)) [
+          | inr none_a ↦ order-by _ OrderedEmpty _ OrderedEmpty (ordered-none profile es n a b (inl none_a)) empty (inl refl)
+          | inl some_a ↦ elim (some-or-none (first_byte (is_checked es n) b)) [
+            | inr none_b ↦ order-by _ OrderedEmpty _ OrderedEmpty (ordered-none profile es n a b (inr none_b)) empty (inl refl)
+            | inl some_b ↦ order-by _ OrderedPass _ OrderedEmpty
+                (ordered-some profile es n a b (ap (λ (o : Option ℕ). is_none o) some_a.1) (ap (λ (o : Option ℕ). is_none o) some_b.1)
+                ∙ ap (λ c. finding_of_pairs es n c (least_pair (is_unordered profile es n) a b)) no_certified ∙ ap (finding_of_pairs es n None) no_unordered)
+                empty (inr (refl, refl))
+          ]
+        ]
+
+    pub ordered-stays : IsSameOrder (ordered_finding profile es n a b) (ordered_finding profile fs m a b)
+    ordered-stays = elim (some-or-none (first_byte (is_checked fs m) a)) [
+      | inr none_a ↦ ordered-empty (inl none_a)
+      | inl some_a ↦ elim (some-or-none (first_byte (is_checked fs m) b)) [
+        | inr none_b ↦ ordered-empty (inr none_b)
+        | inl some_b ↦
+            let known = checked-known es p n fs q m behind in
+            let c = least_pair (is_certified profile es n) a b in
+            let u = least_pair (is_unordered profile es n) a b in
+            order-by _ (finding_of_pairs es n c u) _ (finding_of_pairs fs m c u)
+            (ordered-some profile es n a b (wider-some (is_checked fs m) (is_checked es n) a some_a.0 known some_a.1) (wider-some (is_checked fs m) (is_checked es n) b some_b.0 known some_b.1))
+            (ordered-some profile fs m a b (ap (λ (o : Option ℕ). is_none o) some_a.1) (ap (λ (o : Option ℕ). is_none o) some_b.1)
+            ∙ ap (λ w. finding_of_pairs fs m w (least_pair (is_unordered profile fs m) a b)) (least_pair-within (is_certified profile fs m) (is_certified profile es n) a b certified-same)
+            ∙ ap (finding_of_pairs fs m c) (least_pair-within (is_unordered profile fs m) (is_unordered profile es n) a b unordered-same))
+            (finding-stays es n fs m c u)
+      ]
+    ]

@@ -1,0 +1,316 @@
+-- One more event: which bytes are excluded, undurable and unwritten after it, and which pairs are ordered.
+use Rattle.std.proofs.Common.{◌≡◌, ℕ, suc, ◌+◌, ◌-◌, ◌<◌, ◌≤◌, Bool, true, false, not, ◌&&◌, ◌==◌, nat_lt, nat_le, if◌then◌else◌, List, refl, sym, ◌∙◌, ap, arith, inl, inr}
+use Rattle.std.specs.Prelude.{Option, Some, None}
+use Rattle.std.specs.Cmp.{both_ways}
+use Rattle.std.proofs.lemmas.Bool.{cases_lt, cases_eq, lt-ltb, ltb-true, le-ltb, le-leb, leb-true, and_parts, and_from, ne_eqb, false_from_ne_true}
+use Rattle.std.proofs.lemmas.Bool.Decides.{Decides-eqb}
+use Rattle.pmf_event.specs.declared.event.Event.{Event}
+use Rattle.pmf_event.specs.declared.interval.Interval.{Interval}
+use Rattle.pmf_event.specs.Line.{line_of_byte}
+use Rattle.pmf_event.specs.Places.{greatest, least, count, some_between}
+use Rattle.pmf_event.specs.Store.{event_at, at, stores, flushes, is_fence, last, last_store, epoch_of}
+use Rattle.pmf_event.specs.Interval.{writes_back, first_write_back, closes, closing_fence, epoch_after, interval_at}
+use Rattle.pmf_event.specs.Exclusion.{excludes, marks, is_excluded}
+use Rattle.pmf_event.specs.Order.{precedes, is_closed_by, is_stored_before}
+use Rattle.pmf_event.specs.LineBytes.{is_undurable, is_unwritten}
+use Rattle.pmf_event.proofs.PlacesLemmas.{greatest-above, greatest-bound, greatest-passes, least-step, least-bound, least-passes, least-none_behind, least-below, count-mono, count-here, some_between-found}
+use Rattle.pmf_event.proofs.EventLemmas.{at-is, last-step, last-other, last-here}
+use Rattle.pmf_event.proofs.IntervalLemmas.{Closing-found, write_back-from_Closing}
+use Rattle.pmf_event.proofs.LineBytesLemmas.{lacks-parts, lacks-from, lacks-not}
+use Rattle.pmf_event.proofs.WriteBackLemmas.{or-zero, last-bound, epoch_after-none, epoch_after-some, first_write_back-next}
+
+-- a write-back follows a place where the last write-back does
+first-follows : (es : List Event) (line k p : ℕ) → nat_lt 0 (least (writes_back es line k) p) ≡ nat_lt k (greatest (at (flushes line) es) p)
+unfolding writes_back
+first-follows es line k p =
+    let w = least (writes_back es line k) p in
+    let g = greatest (at (flushes line) es) p in
+    both_ways _ _
+    (λ some.
+    let positive = ltb-true 0 w some in
+    let is = and_parts (nat_lt k w) (at (flushes line) es w) (least-passes (writes_back es line k) p positive) in
+    let after = ltb-true k w is.0 in
+    let above = greatest-above (at (flushes line) es) p w positive (least-bound (writes_back es line k) p) is.1 in
+    lt-ltb k g (omega arith))
+    (λ after.
+    let behind = ltb-true k g after in
+    let flush = greatest-passes (at (flushes line) es) p (omega arith) in
+    let found = least-below (writes_back es line k) p g (omega arith) (greatest-bound (at (flushes line) es) p) (and_from _ _ after flush) in
+    lt-ltb 0 w found.0)
+
+-- a fence that closes comes behind a write-back
+first-from_closing : (es : List Event) (line k p : ℕ) → 0 < least (closes es line k) p → 0 < least (writes_back es line k) p
+first-from_closing es line k p some = (write_back-from_Closing es line k p (Closing-found es line k p some)).0
+
+closing-bound : (es : List Event) (p b : ℕ) → closing_fence (stores b) (line_of_byte b) es p ≤ p
+unfolding closing_fence
+closing-bound es p b = least-bound (closes es (line_of_byte b) (last_store es p b)) p
+
+-- what is unwritten is undurable
+pub unwritten-undurable : (es : List Event) (p b : ℕ) → is_unwritten es p b ≡ true → is_undurable es p b ≡ true
+unfolding is_unwritten is_undurable first_write_back closing_fence
+unwritten-undurable es p b is =
+    let k = last_store es p b in
+    let line = line_of_byte b in
+    let parts = lacks-parts k (least (writes_back es line k) p) is in
+    elim (cases_lt 0 (least (closes es line k) p)) [
+      | inl some ↦ let more = first-from_closing es line k p some in let none = parts.1 in absurd (omega arith)
+      | inr none ↦ lacks-from k (least (closes es line k) p) parts.0 (omega arith)
+    ]
+
+pub undurable-stored_to : (es : List Event) (p b : ℕ) → is_undurable es p b ≡ true → 0 < last_store es p b
+unfolding is_undurable
+undurable-stored_to es p b is = (lacks-parts (last_store es p b) (closing_fence (stores b) (line_of_byte b) es p) is).0
+
+module _ (es : List Event) (p b : ℕ) (e : Event) (here : event_at es (suc p) ≡ Some e) where
+  pub excluded-step : is_excluded es (suc p) b ≡ (if marks b e then excludes b e else is_excluded es p b)
+  unfolding is_excluded
+  excluded-step = ap (at (excludes b) es) (last-step (marks b) es p e here) ∙ elim (marks b e) as (λ v. at (excludes b) es (if v then suc p else last (marks b) es p) ≡ (if v then excludes b e else at (excludes b) es (last (marks b) es p))) [
+    | true ↦ at-is (excludes b) es (suc p) (Some e) here
+    | false ↦ refl
+  ]
+
+  -- the closing fence after an event that is no store of the byte
+  pub closing-step : stores b e ≡ false →
+      closing_fence (stores b) (line_of_byte b) es (suc p)
+      ≡ (if nat_lt 0 (closing_fence (stores b) (line_of_byte b) es p) then closing_fence (stores b) (line_of_byte b) es p
+      else (if is_fence e && nat_lt (last_store es p b) (greatest (at (flushes (line_of_byte b)) es) p) then suc p else 0))
+  unfolding closing_fence closes some_between
+  closing-step other =
+      let line = line_of_byte b in
+      let k = last_store es p b in
+      let test = closes es line k in
+      let fence = λ (v : Bool). v && nat_lt k (greatest (at (flushes line) es) p) in
+      ap (λ l. least (closes es line l) (suc p)) (last-other (stores b) es p e here other)
+      ∙ least-step test p
+      ∙ ap (λ v. if nat_lt 0 (least test p) then least test p else (if v then suc p else 0))
+      (ap (λ n. at is_fence es (suc p) && nat_lt k (greatest (at (flushes line) es) n)) (let one : suc p - 1 ≡ p = omega arith in one) ∙ ap fence (at-is is_fence es (suc p) (Some e) here))
+
+  closing-stored : stores b e ≡ true → closing_fence (stores b) (line_of_byte b) es (suc p) ≡ 0
+  unfolding closing_fence closes
+  closing-stored is =
+      let line = line_of_byte b in
+      let test = closes es line (suc p) in
+      let none = least-none_behind test (suc p) (λ k closing.
+      let found = some_between-found (at (flushes line) es) (suc p) k (and_parts (at is_fence es k) (some_between (at (flushes line) es) (suc p) k) closing).1 in
+      let after = found.after in let within = found.within in omega arith) in
+      ap (λ l. least (closes es line l) (suc p)) (last-here (stores b) es p e here is) ∙ none
+
+  closing-kept : stores b e ≡ false → is_fence e ≡ false → closing_fence (stores b) (line_of_byte b) es (suc p) ≡ closing_fence (stores b) (line_of_byte b) es p
+  closing-kept other no_fence =
+      let f = closing_fence (stores b) (line_of_byte b) es p in
+      closing-step other
+      ∙ ap (λ v. if nat_lt 0 f then f else (if v && nat_lt (last_store es p b) (greatest (at (flushes (line_of_byte b)) es) p) then suc p else 0)) no_fence
+      ∙ or-zero f
+
+  -- one that has closed stays, and one that closes now is here
+  closing-same : stores b e ≡ false → 0 < closing_fence (stores b) (line_of_byte b) es p →
+      closing_fence (stores b) (line_of_byte b) es (suc p) ≡ closing_fence (stores b) (line_of_byte b) es p
+  closing-same other closed =
+      let f = closing_fence (stores b) (line_of_byte b) es p in
+      closing-step other ∙ ap (λ v. if v then f else (if is_fence e && nat_lt (last_store es p b) (greatest (at (flushes (line_of_byte b)) es) p) then suc p else 0)) (lt-ltb 0 f closed)
+
+  closing-late : stores b e ≡ false → closing_fence (stores b) (line_of_byte b) es p ≡ 0 → 0 < closing_fence (stores b) (line_of_byte b) es (suc p) →
+      closing_fence (stores b) (line_of_byte b) es (suc p) ≡ suc p
+  closing-late other unclosed some =
+      let f = closing_fence (stores b) (line_of_byte b) es p in
+      let test = is_fence e && nat_lt (last_store es p b) (greatest (at (flushes (line_of_byte b)) es) p) in
+      let now : closing_fence (stores b) (line_of_byte b) es (suc p) ≡ (if test then suc p else 0) =
+      closing-step other ∙ ap (λ v. if v then f else (if test then suc p else 0)) (le-ltb 0 f (omega arith)) in
+      elim test as (λ v. closing_fence (stores b) (line_of_byte b) es (suc p) ≡ (if v then suc p else 0) → closing_fence (stores b) (line_of_byte b) es (suc p) ≡ suc p) [
+        | true ↦ λ is. is
+        | false ↦ λ is. absurd (omega arith)
+      ] now
+
+  pub undurable-stored : stores b e ≡ true → is_undurable es (suc p) b ≡ true
+  unfolding is_undurable
+  undurable-stored is = lacks-from (last_store es (suc p) b) (closing_fence (stores b) (line_of_byte b) es (suc p)) (let now = last-here (stores b) es p e here is in omega arith) (closing-stored is)
+
+  pub undurable-kept : stores b e ≡ false → is_fence e ≡ false → is_undurable es (suc p) b ≡ is_undurable es p b
+  unfolding is_undurable
+  undurable-kept other no_fence =
+      ap (λ k. nat_lt 0 k && closing_fence (stores b) (line_of_byte b) es (suc p) == 0) (last-other (stores b) es p e here other)
+      ∙ ap (λ f. nat_lt 0 (last_store es p b) && f == 0) (closing-kept other no_fence)
+
+  -- (the closing fence is the first that closes)
+  first-closed : 0 < closing_fence (stores b) (line_of_byte b) es p → 0 < least (writes_back es (line_of_byte b) (last_store es p b)) p
+  unfolding closing_fence
+  first-closed closed = first-from_closing es (line_of_byte b) (last_store es p b) p closed
+
+  -- a fence makes durable what was written back
+  pub undurable-fenced : stores b e ≡ false → is_fence e ≡ true → is_undurable es (suc p) b ≡ is_unwritten es p b
+  unfolding is_undurable is_unwritten first_write_back
+  undurable-fenced other fence =
+      let line = line_of_byte b in
+      let k = last_store es p b in
+      let f = closing_fence (stores b) line es p in
+      let w = least (writes_back es line k) p in
+      let g = greatest (at (flushes line) es) p in
+      let now : closing_fence (stores b) line es (suc p) ≡ (if nat_lt 0 f then f else (if nat_lt 0 w then suc p else 0)) =
+      closing-step other ∙ ap (λ v. if nat_lt 0 f then f else (if v && nat_lt k g then suc p else 0)) fence
+      ∙ ap (λ v. if nat_lt 0 f then f else (if v then suc p else 0)) (sym (first-follows es line k p)) in
+      ap (λ l. nat_lt 0 l && closing_fence (stores b) line es (suc p) == 0) (last-other (stores b) es p e here other)
+      ∙ ap (λ c. nat_lt 0 k && c == 0) now
+      ∙ elim (cases_lt 0 w) [
+        | inl some ↦ lacks-not k (if nat_lt 0 f then f else (if nat_lt 0 w then suc p else 0)) (λ positive. elim (cases_lt 0 f) [
+          | inl closed ↦ let is : (if nat_lt 0 f then f else (if nat_lt 0 w then suc p else 0)) ≡ f = ap (λ v. if v then f else (if nat_lt 0 w then suc p else 0)) (lt-ltb 0 f closed) in omega arith
+          | inr unclosed ↦ let is : (if nat_lt 0 f then f else (if nat_lt 0 w then suc p else 0)) ≡ suc p =
+              ap (λ v. if v then f else (if nat_lt 0 w then suc p else 0)) (le-ltb 0 f unclosed) ∙ ap (λ v. if v then suc p else 0) (lt-ltb 0 w some) in omega arith
+        ]) ∙ sym (lacks-not k w (λ positive. some))
+        | inr none ↦
+            let unclosed : f ≤ 0 = elim (cases_lt 0 f) [
+              | inl closed ↦ let more = first-closed closed in absurd (omega arith)
+              | inr small ↦ small
+            ] in
+            let is : (if nat_lt 0 f then f else (if nat_lt 0 w then suc p else 0)) ≡ 0 =
+            ap (λ v. if v then f else (if nat_lt 0 w then suc p else 0)) (le-ltb 0 f unclosed) ∙ ap (λ v. if v then suc p else 0) (le-ltb 0 w none) in
+            ap (λ c. nat_lt 0 k && c == 0) is ∙ ap (λ c. nat_lt 0 k && c == 0) (let zero_is : 0 ≡ w = omega arith in zero_is)
+      ]
+
+  pub unwritten-stored : stores b e ≡ true → is_unwritten es (suc p) b ≡ true
+  unfolding is_unwritten first_write_back writes_back
+  unwritten-stored is =
+      let line = line_of_byte b in
+      let now = last-here (stores b) es p e here is in
+      let none = least-none_behind (writes_back es line (suc p)) (suc p) (λ k behind. ltb-true (suc p) k (and_parts (nat_lt (suc p) k) (at (flushes line) es k) behind).0) in
+      lacks-from (last_store es (suc p) b) (least (writes_back es line (last_store es (suc p) b)) (suc p)) (omega arith)
+      (ap (λ l. least (writes_back es line l) (suc p)) now ∙ none)
+
+  pub unwritten-kept : stores b e ≡ false → flushes (line_of_byte b) e ≡ false → is_unwritten es (suc p) b ≡ is_unwritten es p b
+  unfolding is_unwritten
+  unwritten-kept other no_flush =
+      let w = first_write_back (stores b) (line_of_byte b) es p in
+      ap (λ k. nat_lt 0 k && first_write_back (stores b) (line_of_byte b) es (suc p) == 0) (last-other (stores b) es p e here other)
+      ∙ ap (λ c. nat_lt 0 (last_store es p b) && c == 0)
+      (first_write_back-next (stores b) (line_of_byte b) es p e here other ∙ ap (λ v. if nat_lt 0 w then w else (if v then suc p else 0)) no_flush ∙ or-zero w)
+
+  pub unwritten-flushed : stores b e ≡ false → flushes (line_of_byte b) e ≡ true → is_unwritten es (suc p) b ≡ false
+  unfolding is_unwritten
+  unwritten-flushed other flush =
+      let w = first_write_back (stores b) (line_of_byte b) es p in
+      lacks-not (last_store es (suc p) b) (first_write_back (stores b) (line_of_byte b) es (suc p)) (λ some.
+      let next = first_write_back-next (stores b) (line_of_byte b) es p e here other ∙ ap (λ v. if nat_lt 0 w then w else (if v then suc p else 0)) flush in
+      elim (cases_lt 0 w) [
+        | inl has ↦ let is : (if nat_lt 0 w then w else suc p) ≡ w = ap (λ v. if v then w else suc p) (lt-ltb 0 w has) in omega arith
+        | inr none ↦ let is : (if nat_lt 0 w then w else suc p) ≡ suc p = ap (λ v. if v then w else suc p) (le-ltb 0 w none) in omega arith
+      ])
+
+-- ---- pairs
+
+-- the interval from a last store, its epoch, and when it closes
+interval_of : ℕ → ℕ → Option ℕ → Option Interval
+interval_of l opens closes = if l == 0 then None else Some (record { last = l; opens = opens; closes = closes })
+
+interval-is : (es : List Event) (p b : ℕ) → interval_at es p b ≡ interval_of (last_store es p b) (epoch_of es (last_store es p b)) (epoch_after es (closing_fence (stores b) (line_of_byte b) es p))
+unfolding interval_of
+interval-is es p b = refl
+
+interval_of-some : (l opens : ℕ) (closes : Option ℕ) → 0 < l → interval_of l opens closes ≡ Some (record { last = l; opens = opens; closes = closes })
+unfolding interval_of
+interval_of-some l opens closes some = ap (λ v. if v then None else Some (record { last = l; opens = opens; closes = closes })) (ne_eqb l 0 (λ zero_is. omega arith))
+
+interval_of-none : (l opens : ℕ) (closes : Option ℕ) → l ≡ 0 → interval_of l opens closes ≡ None
+unfolding interval_of
+interval_of-none l opens closes none = ap (λ v. if v then None else Some (record { last = l; opens = opens; closes = closes })) ((Decides-eqb l 0).1 none)
+
+-- the one byte was stored to, and closed by a fence before the last store of the other
+pub record IsBefore (es : List Event) (p x y : ℕ) : Type 0 where
+  pub stored : 0 < last_store es p x
+  pub closed : 0 < closing_fence (stores x) (line_of_byte x) es p
+  pub before : closing_fence (stores x) (line_of_byte x) es p < last_store es p y
+
+nothing-precedes : (o : Option Interval) → precedes o None ≡ false
+nothing-precedes None = refl
+nothing-precedes (Some i) = refl
+
+module _ (es : List Event) (p x y : ℕ) where
+  closing-fences : 0 < closing_fence (stores x) (line_of_byte x) es p → at is_fence es (closing_fence (stores x) (line_of_byte x) es p) ≡ true
+  unfolding closing_fence closes
+  closing-fences some =
+      let line = line_of_byte x in
+      let test = closes es line (last_store es p x) in
+      (and_parts (at is_fence es (least test p)) (some_between (at (flushes line) es) (last_store es p x) (least test p)) (least-passes test p some)).0
+
+  pub precedes-parts : precedes (interval_at es p x) (interval_at es p y) ≡ true → IsBefore es p x y
+  unfolding epoch_of
+  precedes-parts is =
+      let lx = last_store es p x in
+      let ly = last_store es p y in
+      let f = closing_fence (stores x) (line_of_byte x) es p in
+      let c = epoch_after es f in
+      let d = epoch_after es (closing_fence (stores y) (line_of_byte y) es p) in
+      elim (cases_lt 0 lx) [
+        | inr none ↦ let bad : false ≡ true = ap (λ o. precedes o (interval_at es p y)) (sym (interval-is es p x ∙ interval_of-none lx (epoch_of es lx) c (omega arith))) ∙ is in cc
+        | inl some ↦ elim (cases_lt 0 ly) [
+          | inr none ↦ let bad : false ≡ true = sym (ap (precedes (interval_at es p x)) (interval-is es p y ∙ interval_of-none ly (epoch_of es ly) d (omega arith)) ∙ nothing-precedes (interval_at es p x)) ∙ is in cc
+          | inl more ↦
+              let closed : is_closed_by c (epoch_of es ly) ≡ true =
+              sym (ap (λ o. precedes o (interval_at es p y)) (interval-is es p x ∙ interval_of-some lx (epoch_of es lx) c some)
+              ∙ ap (precedes (Some (record { last = lx; opens = epoch_of es lx; closes = c }))) (interval-is es p y ∙ interval_of-some ly (epoch_of es ly) d more)) ∙ is in
+              elim (cases_lt 0 f) [
+                | inr unclosed ↦ let bad : false ≡ true = ap (λ o. is_closed_by o (epoch_of es ly)) (sym (epoch_after-none es f (omega arith))) ∙ closed in cc
+                | inl shut ↦
+                    let low : nat_le (epoch_of es f + 1) (epoch_of es ly) ≡ true = ap (λ o. is_closed_by o (epoch_of es ly)) (sym (epoch_after-some es f shut)) ∙ closed in
+                    let early = leb-true (epoch_of es f + 1) (epoch_of es ly) low in
+                    elim (cases_lt f ly) [
+                      | inl before ↦ record { stored = some; closed = shut; before = before }
+                      | inr behind ↦ let up = count-mono (at is_fence es) (ly - 1) (f - 1) (omega arith) in absurd (omega arith)
+                    ]
+              ]
+        ]
+      ]
+
+  pub precedes-from : IsBefore es p x y → precedes (interval_at es p x) (interval_at es p y) ≡ true
+  unfolding epoch_of
+  precedes-from is =
+      let lx = last_store es p x in
+      let ly = last_store es p y in
+      let f = closing_fence (stores x) (line_of_byte x) es p in
+      let shut = is.closed in
+      let before = is.before in
+      let here = count-here (at is_fence es) f shut (closing-fences shut) in
+      let up = count-mono (at is_fence es) f (ly - 1) (omega arith) in
+      ap (λ o. precedes o (interval_at es p y)) (interval-is es p x ∙ interval_of-some lx (epoch_of es lx) (epoch_after es f) is.stored)
+      ∙ ap (precedes (Some (record { last = lx; opens = epoch_of es lx; closes = epoch_after es f })))
+      (interval-is es p y ∙ interval_of-some ly (epoch_of es ly) (epoch_after es (closing_fence (stores y) (line_of_byte y) es p)) (omega arith))
+      ∙ ap (λ o. is_closed_by o (epoch_of es ly)) (epoch_after-some es f shut)
+      ∙ le-leb (epoch_of es f + 1) (epoch_of es ly) (omega arith)
+
+module _ (es : List Event) (p x y : ℕ) (e : Event) (here : event_at es (suc p) ≡ Some e) where
+  -- what is stored to now is durable before nothing
+  pub precedes-reopened : stores x e ≡ true → precedes (interval_at es (suc p) x) (interval_at es (suc p) y) ≡ false
+  precedes-reopened is = false_from_ne_true _ (λ before. let b = precedes-parts es (suc p) x y before in let closed = b.closed in let none = closing-stored es p x e here is in omega arith)
+
+  -- what is durable is durable before what is stored to now
+  pub precedes-stored : stores x e ≡ false → stores y e ≡ true → is_fence e ≡ false → 0 < last_store es p x →
+      precedes (interval_at es (suc p) x) (interval_at es (suc p) y) ≡ not (is_undurable es p x)
+  unfolding is_undurable
+  precedes-stored other is no_fence some =
+      let f = closing_fence (stores x) (line_of_byte x) es p in
+      let kept = closing-kept es p x e here other no_fence in
+      let last_x = last-other (stores x) es p e here other in
+      let last_y = last-here (stores y) es p e here is in
+      elim (cases_lt 0 f) [
+        | inl closed ↦
+            let bound = closing-bound es p x in
+            precedes-from es (suc p) x y (record { stored = omega arith; closed = omega arith; before = omega arith })
+            ∙ ap not (sym (lacks-not (last_store es p x) f (λ positive. closed)))
+        | inr unclosed ↦
+            false_from_ne_true _ (λ before. let b = precedes-parts es (suc p) x y before in let closed = b.closed in omega arith)
+            ∙ ap not (sym (lacks-from (last_store es p x) f some (omega arith)))
+      ]
+
+  pub precedes-kept : stores x e ≡ false → stores y e ≡ false → precedes (interval_at es (suc p) x) (interval_at es (suc p) y) ≡ precedes (interval_at es p x) (interval_at es p y)
+  precedes-kept other no_store =
+      let f = closing_fence (stores x) (line_of_byte x) es p in
+      let now = closing-step es p x e here other in
+      let last_x = last-other (stores x) es p e here other in
+      let last_y = last-other (stores y) es p e here no_store in
+      let bound = last-bound (stores y) es p in
+      both_ways _ _
+      (λ after. let b = precedes-parts es (suc p) x y after in let shut = b.closed in let before = b.before in let stored = b.stored in elim (cases_lt 0 f) [
+        | inl closed ↦ let same = closing-same es p x e here other closed in precedes-from es p x y (record { stored = omega arith; closed = closed; before = omega arith })
+        | inr unclosed ↦ let late = closing-late es p x e here other (omega arith) shut in absurd (omega arith)
+      ])
+      (λ before. let b = precedes-parts es p x y before in let closed = b.closed in let early = b.before in let stored = b.stored in
+      let same = closing-same es p x e here other closed in precedes-from es (suc p) x y (record { stored = omega arith; closed = omega arith; before = omega arith }))

@@ -1,0 +1,104 @@
+-- A part of a whole goes on with it, and another one begins where it is cut.
+use Rattle.std.proofs.Common.{◌≡◌, ℕ, zero, suc, ◌+◌, ◌-◌, ◌<◌, ◌≤◌, Bool, true, false, List, [], ◌∷◌, ◌++◌, length, drop, slice_get, refl, sym, ◌∙◌, ap, subst, arith}
+use Rattle.std.specs.Prelude.{Some}
+use Rattle.pmf_event.specs.declared.event.Event.{Event}
+use Rattle.pmf_event.specs.Store.{event_at, stores, last_store}
+use Rattle.pmf_event.specs.Order.{share_line}
+use Rattle.pmf_event.specs.LineBytes.{is_undurable}
+use Rattle.pmf_event.specs.Transactions.{depth_at, in_transaction, in_scope}
+use Rattle.pmf_event.proofs.EventLemmas.{last-none}
+use Rattle.pmf_event.proofs.TransactionLemmas.{depth-start, scope-start, outside-from, unscoped-from}
+use Rattle.pmf_cut.specs.declared.part.Part.{Part}
+use Rattle.pmf_cut.specs.Alike.{IsAlike, IsOutside, IsCut}
+use Rattle.pmf_cut.specs.Behind.{IsBehind}
+use Rattle.pmf_cut.specs.Parts.{Stands, Follows, BeginsWith, Renews, part_of, IsPartOf, GoesOnWith, BeginsAt}
+use Rattle.pmf_cut.proofs.StepLemmas.{undurable-stored_to}
+use Rattle.pmf_cut.proofs.BehindLemmas.{behind-cut, behind-step}
+use Rattle.pmf_cut.proofs.CutLemmas.{behind-there}
+
+get-behind : {X : Type 0} (xs ys : List X) (k : ℕ) → slice_get (xs ++ ys) (length xs + k) ≡ slice_get ys k
+get-behind [] ys k = ap (slice_get ys) (omega arith)
+get-behind (x ∷ xs) ys k = ap (slice_get (x ∷ xs ++ ys)) (let more : length (x ∷ xs) + k ≡ suc (length xs + k) = omega arith in more) ∙ get-behind xs ys k
+
+get-front : {X : Type 0} (xs ys : List X) (k : ℕ) → k < length xs → slice_get (xs ++ ys) k ≡ slice_get xs k
+get-front [] ys k within = absurd (omega arith)
+get-front (x ∷ xs) ys zero within = refl
+get-front (x ∷ xs) ys (suc k) within = get-front xs ys k (omega arith)
+
+get-dropped : {X : Type 0} (p : ℕ) (xs : List X) (k : ℕ) → slice_get (drop p xs) k ≡ slice_get xs (p + k)
+get-dropped zero xs k = ap (slice_get xs) (omega arith)
+get-dropped (suc p) [] k = refl
+get-dropped (suc p) (x ∷ xs) k = get-dropped p xs k ∙ ap (slice_get (x ∷ xs)) (let more : suc (p + k) ≡ suc p + k = omega arith in more)
+
+-- the events of the part behind its head are those of the whole behind the cut
+part-event : (es : List Event) (p : ℕ) (head : List Event) (k : ℕ) → event_at (part_of es p head) (suc (length head + k)) ≡ event_at es (suc (p + k))
+unfolding event_at
+part-event es p head k = get-behind head (drop p es) k ∙ get-dropped p es k
+
+part-begins : (es : List Event) (p : ℕ) (head : List Event) → BeginsWith (part_of es p head) head
+unfolding event_at
+part-begins es p head k within = get-front head (drop p es) k within
+
+whole-cut : (es : List Event) → IsCut es 0 es 0
+whole-cut es =
+    let outside : IsOutside es 0 = record { transaction = outside-from es 0 (depth-start es); scope = unscoped-from es 0 (scope-start es) } in record {
+      alike = record { excluded = λ b. refl; undurable = λ b. refl; unwritten = λ b. refl; order = λ x y line x_is y_is. refl };
+      fresh = λ b some. let none = last-none (stores b) es in absurd (omega arith);
+      whole = outside;
+      part = outside;
+    }
+
+pub part-first : (part : Part) → ((fs : List Event) → Stands part fs 0) → (es : List Event) → IsPartOf part es 0 [] 0
+part-first part stands es = record {
+  cut = whole-cut es;
+  within = omega arith;
+  behind = behind-there es 0 0 0 es 0 0 (0 + (0 - 0)) refl (omega arith) (behind-cut es 0 es 0 (whole-cut es));
+  stands = subst (Stands part es) (let none : 0 ≡ 0 + (0 - 0) = omega arith in none) (stands es);
+}
+
+pub part-next : (old new : Part) (e : Event) → Follows old new e → GoesOnWith old new e
+part-next old new e follows es p head n here is =
+    let within = is.within in
+    let m = length head + (n - p) in
+    let size : suc m ≡ length head + (suc n - p) = omega arith in
+    let there : event_at (part_of es p head) (suc m) ≡ Some e = part-event es p head (n - p) ∙ ap (event_at es) (let same : suc (p + (n - p)) ≡ suc n = omega arith in same) ∙ here in record {
+      cut = is.cut;
+      within = omega arith;
+      behind = behind-there es p (suc n) (suc n) (part_of es p head) (length head) (suc m) (length head + (suc n - p)) refl size
+          (behind-step es (part_of es p head) n m e here there p (length head) within is.behind);
+      stands = subst (Stands new (part_of es p head)) size (follows (part_of es p head) m there is.stands);
+    }
+
+pub part-cut : (old new : Part) (head : List Event) → Renews old new head → old.depth ≡ 0 → old.is_scoped ≡ false → BeginsAt old new head
+part-cut old new head renews flat unscoped es p before n is =
+    let fs = part_of es p before in
+    let m = length before + (n - p) in
+    let gs = part_of es n head in
+    let q = length head in
+    let begins = part-begins es n head in
+    let alike = renews.alike fs m gs is.stands begins in
+    let bytes = is.behind.bytes in
+    let undurable_there = λ (b : ℕ) (open_there : is_undurable es n b ≡ true). bytes.undurable b ∙ open_there in
+    let cut : IsCut es n gs q = record {
+      alike = record {
+        excluded = λ b. alike.excluded b ∙ bytes.excluded b;
+        undurable = λ b. alike.undurable b ∙ bytes.undurable b;
+        unwritten = λ b. alike.unwritten b ∙ bytes.unwritten b;
+        order = λ x y line x_is y_is.
+            let x_there = undurable_there x x_is in
+            let y_there = undurable_there y y_is in
+            alike.order x y line x_there y_there
+            ∙ is.behind.pairs.order x y line (undurable-stored_to fs m x x_there) (undurable-stored_to fs m y y_there);
+      };
+      fresh = renews.fresh fs m gs is.stands begins;
+      whole = record {
+        transaction = outside-from es n (sym is.behind.transactions.depth ∙ sym is.stands.depth ∙ flat);
+        scope = sym is.behind.transactions.scope ∙ sym is.stands.scope ∙ unscoped;
+      };
+      part = renews.outside gs begins;
+    } in record {
+      cut = cut;
+      within = omega arith;
+      behind = behind-there es n n n gs q q (q + (n - n)) refl (omega arith) (behind-cut es n gs q cut);
+      stands = subst (Stands new gs) (let none : q ≡ q + (n - n) = omega arith in none) (renews.stands gs begins);
+    }

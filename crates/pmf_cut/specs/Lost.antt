@@ -1,0 +1,54 @@
+-- What the parts before one know, and the order assertions whose findings a cut may change.
+use Rattle.std.specs.Prelude.{◌≡◌, ◌⊎◌, ℕ, ◌<◌, ◌≤◌, Bool, true, false, not, ◌&&◌, nat_le, List, Option, None, Some, is_none}
+use Rattle.pmf_event.specs.declared.event.Event.{Event}
+use Rattle.pmf_event.specs.Span.{Extent}
+use Rattle.pmf_event.specs.Store.{last_store}
+use Rattle.pmf_event.specs.Exclusion.{is_excluded}
+use Rattle.pmf_shadow.specs.declared.shadow.Shadow.{Shadow}
+use Rattle.pmf_shadow.specs.declared.standing.Standing.{Standing}
+use Rattle.pmf_shadow.specs.Shadow.{StandsFor}
+use Rattle.pmf_runs.specs.Runs.{state_at}
+use Rattle.pmf_cut.specs.declared.lost.Past.{Past}
+use Rattle.pmf_cut.specs.declared.part.Part.{Part}
+use Rattle.pmf_cut.specs.Behind.{SameBytes, SamePairs}
+use Rattle.pmf_cut.specs.Laws.{KnowsPairs}
+use Rattle.pmf_cut.specs.Parts.{Stands}
+
+-- each byte that the whole knows a store of, and the part does not, is one of the past
+abbrev pub HasOld : Past → List Event → ℕ → List Event → ℕ → Type 0
+HasOld past es n fs m = (b : ℕ) → 0 < last_store es n b → last_store fs m b ≡ 0 → state_at past.bytes b ≡ true
+
+-- the new past has the bytes of the old one, and those that the part knows a store of
+abbrev pub Adds : Past → Past → Part → Type 0
+Adds old new part = (fs : List Event) (m : ℕ) → Stands part fs m → (b : ℕ) → (state_at old.bytes b ≡ true) ⊎ (0 < last_store fs m b) → state_at new.bytes b ≡ true
+
+-- a byte of the past that the list knows no store of
+pub record IsOld (past : Past) (fs : List Event) (m b : ℕ) : Type 0 where
+  pub member : state_at past.bytes b ≡ true
+  pub unknown : last_store fs m b ≡ 0
+
+-- each such byte, from one up to another, is excluded
+abbrev pub NoneOld : Past → Shadow → ℕ → ℕ → Type 0
+NoneOld past shadow first end = (fs : List Event) (m : ℕ) → StandsFor shadow (λ k. k) fs m → (b : ℕ) → first ≤ b → b < end → IsOld past fs m b → is_excluded fs m b ≡ true
+
+-- each byte that is not excluded, from one up to another, was not last stored to in a head of so many events
+abbrev pub NoneTold : Shadow → ℕ → ℕ → ℕ → Type 0
+NoneTold shadow head first end = (fs : List Event) (m : ℕ) → StandsFor shadow (λ k. k) fs m → (b : ℕ) → first ≤ b → b < end → is_excluded fs m b ≡ false → 0 < last_store fs m b → head < last_store fs m b
+
+-- of whatever whole and part the past and the shadow are, where the part has a head of so many events: it knows the pairs
+abbrev pub Knows : Past → Shadow → ℕ → Extent → Extent → Type 0
+Knows past shadow head before after = (es : List Event) (p n : ℕ) (fs : List Event) (m : ℕ) → SameBytes es n fs m → SamePairs es p n fs head m → HasOld past es n fs m →
+    StandsFor shadow (λ k. k) fs m → KnowsPairs es p n fs m before after
+
+-- whether bytes that stand so are known to have no store, and are not excluded
+abbrev pub is_unknown : Standing → Bool
+is_unknown s = is_none s.last && not s.excluded
+
+-- whether a place is one of the first
+abbrev pub is_within : ℕ → Option ℕ → Bool
+is_within head None = false
+is_within head (Some place) = nat_le place head
+
+-- whether bytes that stand so were last stored to in a head of so many events, and are not excluded
+abbrev pub is_told_again : ℕ → Standing → Bool
+is_told_again head s = is_within head s.last && not s.excluded

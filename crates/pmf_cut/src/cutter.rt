@@ -1,0 +1,381 @@
+//! The text of a log with its sections cut.
+
+ghost use Rattle.std.specs.Prelude.{◌<◌, ◌≤◌, length};
+
+use crate::fault::CutFault;
+use crate::part::{Part, PartFault};
+use crate::section::Cutting;
+use memchr::{memchr3, memrchr3};
+use pmf_event::{EVENT_LIMIT, Event};
+use pmf_storelog::{Cause, LogFault, SECTION_LIMIT, Saying, push_event, read_record, trim};
+use std::alloc::{AllocError, Global};
+use std::collections::BTreeMap;
+
+/// A log as it is read in pieces and written with its sections cut.
+///
+/// Every record goes out as it came, with its separators. What is put in stands in front of a record, and ends with `|`.
+/// Memory: for the runs of equal bytes of each section's part, and for those that its earlier parts stored to.
+#[derive(Debug, Drop)]
+pub struct Cutter {
+    alloc: Global,
+    /// The most events of a part.
+    limit: u32,
+    /// What a part's number is above that of the one before it.
+    step: u64,
+    sections: Vec<Cutting>,
+    /// Where the section of a number stands among them.
+    places: BTreeMap<u64, usize>,
+    /// Of which section a part has a number.
+    names: BTreeMap<u64, u64>,
+    /// Where the section stands that is current in what is read, once there is one.
+    current: Option<usize>,
+    /// The number that is current in what is written.
+    written: u64,
+    records: u64,
+    cuts: u64,
+    told: u64,
+    /// The bytes behind the last separator that was read.
+    waiting: Vec<u8>,
+    /// What is to be written.
+    out: Vec<u8>,
+    /// What is to be said.
+    notes: Vec<String>,
+}
+
+impl Cutter {
+    /// A cutter before the log's first byte. A part has at most so many events, of those that a section may have.
+    pub fn new(alloc: Global, events: u32, step: u64) -> Cutter {
+        Cutter {
+            alloc,
+            limit: events.min(EVENT_LIMIT as u32),
+            step,
+            sections: Vec::new(alloc),
+            places: BTreeMap::new(alloc),
+            names: BTreeMap::new(alloc),
+            current: None,
+            written: 0,
+            records: 0,
+            cuts: 0,
+            told: 0,
+            waiting: Vec::new(alloc),
+            out: Vec::new(alloc),
+            notes: Vec::new(alloc),
+        }
+    }
+
+    /// Reads a piece of the log. After an `Err` the cutter is of no use.
+    pub fn take(&mut self, piece: &[u8]) -> Result<(), CutFault> {
+        let end = ended(piece);
+        if end > 0 {
+            self.waiting.extend_from_slice(&piece[..end])?;
+            self.copy_waiting()?;
+        }
+        self.waiting.extend_from_slice(&piece[end..])?;
+        Ok(())
+    }
+
+    /// Reads the end of the log, which may end its last record.
+    pub fn finish(&mut self) -> Result<(), CutFault> {
+        self.copy_waiting()
+    }
+
+    /// What is to be written, and the lines that are to be said, of what was read since the last call: it is handed out once.
+    pub fn drain(&mut self) -> (Vec<u8>, Vec<String>) {
+        let out = std::mem::replace(&mut self.out, Vec::new(self.alloc));
+        let notes = std::mem::replace(&mut self.notes, Vec::new(self.alloc));
+        (out, notes)
+    }
+
+    /// How many records were read.
+    pub fn records(&self) -> u64 {
+        self.records
+    }
+
+    /// How many cuts were made.
+    pub fn cuts(&self) -> u64 {
+        self.cuts
+    }
+
+    /// How many things were said.
+    pub fn told(&self) -> u64 {
+        self.told
+    }
+
+    // Copies the bytes that wait, and puts in front of each record what has to stand there.
+    fn copy_waiting(&mut self) -> Result<(), CutFault> {
+        let mut text = std::mem::replace(&mut self.waiting, Vec::new(self.alloc));
+        self.copy(&text)?;
+        text.clear();
+        self.waiting = text;
+        Ok(())
+    }
+
+    fn copy(&mut self, text: &[u8]) -> Result<(), CutFault> {
+        let mut rest = text;
+        while !rest.is_empty() {
+            let (part, behind) = first_part(rest);
+            let record = trim(part);
+            if !record.is_empty() {
+                self.take_record(record)?;
+            }
+            let length = rest.len() - behind.len();
+            self.out.extend_from_slice(&rest[..length])?;
+            rest = behind;
+        }
+        Ok(())
+    }
+
+    // A record happens; what has to stand in front of it goes out.
+    fn take_record(&mut self, record: &[u8]) -> Result<(), CutFault> {
+        self.records = self.records.saturating_add(1);
+        match read_record(record) {
+            Ok(Saying::Happens(event)) => self.happen(&event),
+            Ok(Saying::Enters(number)) => {
+                self.current = Some(self.place_of(number)?);
+                self.written = number;
+                Ok(())
+            }
+            Ok(Saying::Skipped) => Ok(()),
+            Err(cause) => Err(self.refusal(cause)),
+        }
+    }
+
+    fn refusal(&self, cause: Cause) -> CutFault {
+        CutFault::Log(LogFault {
+            at: self.records,
+            cause,
+        })
+    }
+
+    // Where the section of this number stands, which is there from now on.
+    fn place_of(&mut self, number: u64) -> Result<usize, CutFault> {
+        if let Some(place) = self.places.get(&number) {
+            return Ok(*place);
+        }
+        self.name(number, number)?;
+        let place = self.sections.len();
+        self.sections
+            .push(Cutting::new(self.alloc, number, self.limit))?;
+        self.places.insert(number, place)?;
+        Ok(place)
+    }
+
+    // A part of the section gets a number.
+    fn name(&mut self, name: u64, number: u64) -> Result<(), CutFault> {
+        if let Some(section) = self.names.get(&name) {
+            return Err(CutFault::Taken {
+                at: self.records,
+                section: *section,
+                number: name,
+            });
+        }
+        if self.names.len() >= SECTION_LIMIT {
+            return Err(self.refusal(Cause::TooManySections));
+        }
+        self.names.insert(name, number)?;
+        Ok(())
+    }
+
+    fn happen(&mut self, event: &Event) -> Result<(), CutFault> {
+        let place = match self.current {
+            Some(place) => place,
+            None => self.place_of(0)?,
+        };
+        self.current = Some(place);
+        let head = self.cut_if_due(place, event)?;
+        self.enter(place)?;
+        self.push_head(&head)?;
+        if self.is_lost(place, event) {
+            self.tell(
+                place,
+                "PMT.ORDERED names bytes of before the cut: it may have lost its FAIL",
+            )?;
+        }
+        self.take_event(place, event)
+    }
+
+    // Writes the records of the events that are told again.
+    fn push_head(&mut self, head: &[Event]) -> Result<(), AllocError> {
+        let alloc = self.alloc;
+        for event in head {
+            push_told(&mut self.out, alloc, event)?;
+        }
+        Ok(())
+    }
+
+    fn is_lost(&self, place: usize, event: &Event) -> bool {
+        match self.sections.get(place) {
+            Some(section) => section.may_lose(event),
+            None => false,
+        }
+    }
+
+    fn take_event(&mut self, place: usize, event: &Event) -> Result<(), CutFault> {
+        let taken = match self.sections.get_mut(place) {
+            Some(section) => {
+                section.events = section.events.saturating_add(1);
+                section.part.take(*event)
+            }
+            None => Ok(()),
+        };
+        match taken {
+            Ok(()) => Ok(()),
+            Err(PartFault::TooManyEvents) => Err(self.refusal(Cause::TooManyEvents)),
+            Err(PartFault::OutOfMemory) => Err(CutFault::OutOfMemory),
+        }
+    }
+
+    // Makes the section's part current in what is written.
+    fn enter(&mut self, place: usize) -> Result<(), AllocError> {
+        let name = match self.sections.get(place) {
+            Some(section) => section.name,
+            None => self.written,
+        };
+        if name != self.written {
+            self.written = name;
+            let marker = format!(in self.alloc; "PMT.SECTION;{name}|")?;
+            self.out.extend_from_slice(marker.as_bytes())?;
+        }
+        Ok(())
+    }
+
+    // Cuts the section in front of this event, if it has to be, and says what its part begins with.
+    fn cut_if_due(&mut self, place: usize, event: &Event) -> Result<Vec<Event>, CutFault> {
+        let none = Vec::new(self.alloc);
+        let limit = self.limit;
+        let Some(section) = self.sections.get(place) else {
+            return Ok(none);
+        };
+        if !section.is_due() {
+            return Ok(none);
+        }
+        if !section.part.is_outside() {
+            if section.part.events() >= limit {
+                self.tell_length(place, "a transaction or a scope is open")?;
+            }
+            return Ok(none);
+        }
+        if !section.is_good(event, limit) {
+            return Ok(none);
+        }
+        let renewal = section.part.renewed(self.alloc, limit)?;
+        let head = renewal.head;
+        match renewal.part {
+            Some(part) => {
+                self.begin(place, part)?;
+                Ok(head)
+            }
+            None => {
+                self.put_off(place, head.len())?;
+                Ok(none)
+            }
+        }
+    }
+
+    // The section goes on with this part, under the next number.
+    fn begin(&mut self, place: usize, part: Part) -> Result<(), CutFault> {
+        let Some(section) = self.sections.get(place) else {
+            return Ok(());
+        };
+        let number = section.number;
+        let name = match next_name(section, self.step) {
+            Some(name) => name,
+            None => {
+                return Err(CutFault::NoNumber {
+                    at: self.records,
+                    section: number,
+                });
+            }
+        };
+        self.name(name, number)?;
+        self.cuts = self.cuts.saturating_add(1);
+        let limit = self.limit;
+        if let Some(section) = self.sections.get_mut(place) {
+            section.go_on(part, name, limit)?;
+        }
+        Ok(())
+    }
+
+    fn put_off(&mut self, place: usize, told: usize) -> Result<(), AllocError> {
+        let limit = self.limit;
+        let Some(section) = self.sections.get_mut(place) else {
+            return Ok(());
+        };
+        let is_long = section.part.events() >= limit;
+        section.put_off(limit);
+        if is_long {
+            let why = format!(in self.alloc;
+                "what is excluded or not durable takes {told} events"
+            )?;
+            self.tell_length(place, why.as_str())?;
+        }
+        Ok(())
+    }
+
+    // A part gets longer than it may be; told once.
+    fn tell_length(&mut self, place: usize, why: &str) -> Result<(), AllocError> {
+        let limit = self.limit;
+        match self.sections.get_mut(place) {
+            Some(section) if !section.is_told => section.is_told = true,
+            _ => return Ok(()),
+        }
+        let text = format!(in self.alloc; "the piece has more than {limit} events: {why}")?;
+        self.tell(place, text.as_str())
+    }
+
+    fn tell(&mut self, place: usize, text: &str) -> Result<(), AllocError> {
+        self.told = self.told.saturating_add(1);
+        if let Some(section) = self.sections.get(place) {
+            let number = section.number;
+            let event = section.events.saturating_add(1);
+            let line = format!(in self.alloc; "section {number}, event {event}: {text}")?;
+            self.notes.push(line)?;
+        }
+        Ok(())
+    }
+}
+
+fn next_name(section: &Cutting, step: u64) -> Option<u64> {
+    match section.parts.checked_mul(step) {
+        Some(above) => section.number.checked_add(above),
+        None => None,
+    }
+}
+
+// Writes the record of an event that is told again.
+fn push_told(out: &mut Vec<u8>, alloc: Global, event: &Event) -> Result<(), AllocError> {
+    let mut line = String::new(alloc);
+    push_event(&mut line, event)?;
+    out.extend_from_slice(trim_end(line.as_bytes()))?;
+    out.push(b'|')?;
+    Ok(())
+}
+
+// A text line without its end.
+fn trim_end(line: &[u8]) -> &[u8] {
+    match line.split_last() {
+        Some((_, front)) => front,
+        None => line,
+    }
+}
+
+// The bytes up to the first separator, and those behind it.
+fn first_part(text: &[u8]) -> (&[u8], &[u8])
+    requires { 0 < length text.now }
+    ensures { length result.1.now < length text.now }
+{
+    match memchr3(b'|', b'\n', b'\r', text) {
+        Some(end) if end < text.len() => (&text[..end], &text[end + 1..]),
+        _ => (text, &text[text.len()..]),
+    }
+}
+
+// How many bytes there are up to the last separator, with it.
+fn ended(piece: &[u8]) -> usize
+    ensures { result ≤ length piece.now }
+{
+    match memrchr3(b'|', b'\n', b'\r', piece) {
+        Some(end) => end + 1,
+        None => 0,
+    }
+}

@@ -1,0 +1,134 @@
+//! Logs that are cut, written out, and what is said of the cuts.
+
+use crate::{CutFault, Cutter};
+use pmf_storelog::{Cause, LogFault};
+use std::alloc::Global;
+use std::test::Fail;
+
+// Cuts a log that is read in pieces of so many bytes; the text, and the lines that are said.
+fn cut(
+    alloc: Global,
+    log: &[u8],
+    events: u32,
+    step: u64,
+    piece: usize,
+) -> Result<(Vec<u8>, Vec<String>), CutFault> {
+    let mut cutter = Cutter::new(alloc, events, step);
+    let mut rest = log;
+    while rest.len() > piece {
+        cutter.take(&rest[..piece])?;
+        rest = &rest[piece..];
+    }
+    cutter.take(rest)?;
+    cutter.finish()?;
+    Ok(cutter.drain())
+}
+
+// Whether the log is cut into this text in pieces of each size, with this line said, or none.
+fn is_cut(
+    alloc: Global,
+    log: &[u8],
+    events: u32,
+    step: u64,
+    text: &[u8],
+    line: Option<&str>,
+) -> Result<bool, CutFault> {
+    for piece in [1, 2, 7, 64, 1000] {
+        let (out, lines) = cut(alloc, log, events, step, piece)?;
+        let said = match lines.first() {
+            Some(said) => lines.len() == 1 && line == Some(said.as_str()),
+            None => line.is_none(),
+        };
+        if out.as_slice() != text || !said {
+            return Ok(false);
+        }
+    }
+    Ok(true)
+}
+
+const DURABLE: &[u8] =
+    b"STORE;0x1000;7;8|FLUSH;0x1000;64|FENCE|STORE;0x1000;7;8|FLUSH;0x1000;64|FENCE|";
+
+const DURABLE_CUT: &[u8] =
+    b"STORE;0x1000;7;8|FLUSH;0x1000;64|FENCE|PMT.SECTION;1000|STORE;0x1000;7;8|FLUSH;0x1000;64|FENCE|";
+
+// Open at each place: cut at seven eighths of eight, in front of a store.
+const OPEN: &[u8] =
+    b"PMT.EXCLUDE;0x40;8|PMT.EXCLUDE;0x48;8|STORE;0x0;1;8|FLUSH;0x0;1|STORE;0x8;1;2|STORE;0x9;1;1|FENCE
+PMT.PERSIST;0x0;9|STORE;0x80;1;8";
+
+const OPEN_CUT: &[u8] =
+    b"PMT.EXCLUDE;0x40;8|PMT.EXCLUDE;0x48;8|STORE;0x0;1;8|FLUSH;0x0;1|STORE;0x8;1;2|STORE;0x9;1;1|FENCE
+PMT.PERSIST;0x0;9|PMT.SECTION;57|PMT.EXCLUDE;0x40;0x10|STORE;0x8;0x0;0x1|STORE;0x9;0x0;0x1|STORE;0x80;1;8";
+
+// Written back and not fenced: told again with its write-back, as one store, though a later one lies within it.
+const UNFENCED: &[u8] =
+    b"STORE;0x0;1;8|FLUSH;0x0;1|STORE;0x4;1;8|FENCE|STORE;0x44;1;60|FLUSH;0x40;1|STORE;0x70;1;1|STORE;0x100;1;1";
+
+const UNFENCED_CUT: &[u8] =
+    b"STORE;0x0;1;8|FLUSH;0x0;1|STORE;0x4;1;8|FENCE|STORE;0x44;1;60|FLUSH;0x40;1|STORE;0x70;1;1|\
+PMT.SECTION;9|STORE;0x44;0x0;0x3c|FLUSH;0x40;0x40|STORE;0x4;0x0;0x8|STORE;0x70;0x0;0x1|STORE;0x100;1;1";
+
+#[test]
+fn what_is_open_is_told_again(rt: HostRuntime) -> Result<(), Fail> {
+    assert!(rt; is_cut(rt.alloc(), DURABLE, 4, 1000, DURABLE_CUT, None)?);
+    assert!(rt; is_cut(rt.alloc(), OPEN, 8, 57, OPEN_CUT, None)?);
+    assert!(rt; is_cut(rt.alloc(), UNFENCED, 8, 9, UNFENCED_CUT, None)?);
+    Ok(())
+}
+
+const SCOPE: &[u8] = b"PMT.CHECKSTART|FENCE|FENCE|FENCE|PMT.CHECKEND|FENCE";
+
+const SCOPE_CUT: &[u8] = b"PMT.CHECKSTART|FENCE|FENCE|FENCE|PMT.CHECKEND|PMT.SECTION;9|FENCE";
+
+const OLD: &[u8] = b"STORE;0;1;8|FLUSH;0;1|FENCE|STORE;64;1;8|PMT.ORDERED;64;8;0;8";
+
+const OLD_CUT: &[u8] =
+    b"STORE;0;1;8|FLUSH;0;1|FENCE|PMT.SECTION;9|STORE;64;1;8|PMT.ORDERED;64;8;0;8";
+
+#[test]
+fn what_a_cut_may_change_is_said(rt: HostRuntime) -> Result<(), Fail> {
+    let long =
+        "section 0, event 4: the piece has more than 3 events: a transaction or a scope is open";
+    assert!(rt; is_cut(rt.alloc(), SCOPE, 3, 9, SCOPE_CUT, Some(long))?);
+    let lost =
+        "section 0, event 5: PMT.ORDERED names bytes of before the cut: it may have lost its FAIL";
+    assert!(rt; is_cut(rt.alloc(), OLD, 4, 9, OLD_CUT, Some(lost))?);
+    Ok(())
+}
+
+#[test]
+fn numbers_that_meet_are_refused(rt: HostRuntime) -> Result<(), Fail> {
+    let behind = cut(
+        rt.alloc(),
+        b"PMT.SECTION;3|PMT.SECTION;1|FENCE|FENCE|FENCE",
+        2,
+        2,
+        64,
+    )
+    .err();
+    assert!(rt;
+        behind
+            == Some(CutFault::Taken {
+                at: 5,
+                section: 3,
+                number: 3
+            })
+    );
+    let last = b"PMT.SECTION;18446744073709551614|FENCE|FENCE|FENCE";
+    let none = cut(rt.alloc(), last, 2, 2, 64).err();
+    assert!(rt;
+        none == Some(CutFault::NoNumber {
+            at: 4,
+            section: 18446744073709551614
+        })
+    );
+    let few = cut(rt.alloc(), b"FENCE||FLUSH;0", 2, 2, 64).err();
+    assert!(rt;
+        few == Some(CutFault::Log(LogFault {
+            at: 2,
+            cause: Cause::TooFewFields
+        }))
+    );
+    Ok(())
+}

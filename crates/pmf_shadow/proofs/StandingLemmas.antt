@@ -1,0 +1,85 @@
+-- A run of equal states: its bytes stand alike, and it goes on up to the first byte that has another state.
+use Rattle.std.proofs.Common.{◌≡◌, ℕ, ◌+◌, ◌-◌, ◌<◌, ◌≤◌, Bool, true, false, not, ◌&&◌, ◌==◌, if◌then◌else◌, List, refl, sym, ◌∙◌, ap, arith, inl, inr}
+use Rattle.std.specs.Prelude.{Option, Some, None}
+use Rattle.std.proofs.Math.Bool.{beq}
+use Rattle.std.proofs.lemmas.Bool.{cases_eq, and_from, not-false, not_from_true, ne_eqb}
+use Rattle.std.proofs.lemmas.Bool.Decides.{Decides-eqb}
+use Rattle.pmf_event.specs.declared.event.Event.{Event}
+use Rattle.pmf_event.specs.Line.{line_of_byte}
+use Rattle.pmf_event.specs.Places.{count}
+use Rattle.pmf_event.specs.Ranges.{first_from}
+use Rattle.pmf_event.specs.Store.{at, stores, is_fence, last_store}
+use Rattle.pmf_event.specs.WriteBack.{write_back_epoch}
+use Rattle.pmf_event.proofs.RangeLemmas.{none-passes, first-passes}
+use Rattle.pmf_shadow.specs.declared.byte.ByteState.{ByteState}
+use Rattle.pmf_shadow.specs.declared.byte.bounds.Bounds.{Bounds}
+use Rattle.pmf_shadow.specs.declared.shadow.Shadow.{Shadow}
+use Rattle.pmf_shadow.specs.declared.standing.Standing.{Standing}
+use Rattle.pmf_runs.specs.declared.runs.RunMap.{RunMap}
+use Rattle.pmf_runs.specs.declared.state.State.{Ghosts}
+use Rattle.pmf_runs.specs.Runs.{state_at, passing}
+use Rattle.pmf_shadow.specs.EqualStates.{is_like, equal_states}
+use Rattle.pmf_shadow.specs.Shadow.{stored_at, StandsFor}
+use Rattle.pmf_shadow.specs.Standing.{place_as_told, StandsSo}
+use Rattle.pmf_shadow.specs.States.{holds_of, lacks_write_back, late_for, place_of, stored_of}
+use Rattle.pmf_shadow.proofs.StandsLemmas.{store_of, store_of-none, store_of-some, stored_at-is}
+use Rattle.pmf_shadow.proofs.QuestionLemmas.{undurable-by, unwritten-by}
+
+beq-itself : (v : Bool) → beq v v ≡ true
+beq-itself true = refl
+beq-itself false = refl
+
+like-itself : (s : ByteState) → is_like s s ≡ true
+like-itself s =
+    and_from _ _ ((Decides-eqb s.last s.last).1 refl)
+    (and_from _ _ ((Decides-eqb s.opens s.opens).1 refl)
+    (and_from _ _ ((Decides-eqb s.written_back s.written_back).1 refl)
+    (and_from _ _ (beq-itself s.is_stored) (and_from _ _ (beq-itself s.is_written_back) (beq-itself s.excluded)))))
+
+module _ {laws : Ghosts ByteState Bounds} (runs : RunMap ByteState Bounds laws) (state : ByteState) where
+  pub same-from_none : (first n : ℕ) → first_from (passing (λ s. not (is_like s state)) runs) first n ≡ None → (b : ℕ) → first ≤ b → b < first + n → state_at runs b ≡ state
+  unfolding passing
+  same-from_none first n none b low high =
+      equal_states (state_at runs b) state (not-false (is_like (state_at runs b) state) (none-passes (λ b. not (is_like (state_at runs b) state)) first n none b low high))
+
+  pub same-from_first : (first n k : ℕ) → first_from (passing (λ s. not (is_like s state)) runs) first n ≡ Some k → (b : ℕ) → first ≤ b → b < k → state_at runs b ≡ state
+  unfolding passing
+  same-from_first first n k is b low high =
+      let found = first-passes (λ b. not (is_like (state_at runs b) state)) first n k is in
+      equal_states (state_at runs b) state (not-false (is_like (state_at runs b) state) (found.before b low high))
+
+  pub first-further : (first n k : ℕ) → state ≡ state_at runs first → first_from (passing (λ s. not (is_like s state)) runs) first n ≡ Some k → (first < k) × (k < first + n)
+  unfolding passing
+  first-further first n k here is =
+      let found = first-passes (λ b. not (is_like (state_at runs b) state)) first n k is in
+      let from = found.from in
+      let within = found.within in
+      elim (cases_eq first k) [
+        | inl same ↦
+            let alike = ap (λ s. is_like s state) (ap (state_at runs) (sym same) ∙ sym here) ∙ like-itself state in
+            let bad : false ≡ true = sym (not_from_true (is_like (state_at runs k) state) alike) ∙ found.passes in cc
+        | inr other ↦ (omega arith, omega arith)
+      ]
+
+place-some : (told : ℕ → ℕ) (es : List Event) (p b : ℕ) → (last_store es p b ≡ 0 → ⊥) → place_of (stored_at told es p b) ≡ place_as_told told (last_store es p b)
+place-some told es p b some =
+    ap place_of (stored_at-is told es p b ∙ store_of-some told es (last_store es p b) (write_back_epoch (stores b) (line_of_byte b) es p) (omega arith))
+    ∙ sym (ap (λ v. if v then None else Some (told (last_store es p b))) (ne_eqb (last_store es p b) 0 some))
+
+place-told : (told : ℕ → ℕ) (es : List Event) (p b : ℕ) → place_of (stored_at told es p b) ≡ place_as_told told (last_store es p b)
+place-told told es p b = elim (cases_eq (last_store es p b) 0) [
+  | inl none ↦ ap place_of (stored_at-is told es p b ∙ store_of-none told es (last_store es p b) (write_back_epoch (stores b) (line_of_byte b) es p) none)
+      ∙ sym (ap (λ v. if v then None else Some (told (last_store es p b))) ((Decides-eqb (last_store es p b) 0).1 none))
+  | inr some ↦ place-some told es p b some
+]
+
+pub stands-so : (shadow : Shadow) (told : ℕ → ℕ) (es : List Event) (p b : ℕ) (state : ByteState) (standing : Standing) → StandsFor shadow told es p → state_at shadow.bytes b ≡ state →
+    standing.last ≡ place_of (stored_of state) → standing.undurable ≡ holds_of (late_for shadow.fences) (stored_of state) →
+    standing.unwritten ≡ holds_of lacks_write_back (stored_of state) → standing.excluded ≡ state.excluded → StandsSo told es p b standing
+stands-so shadow told es p b state standing stands here last undurable unwritten excluded =
+    let stored : stored_of state ≡ stored_at told es p b = ap stored_of (sym here) ∙ stands.stored b in record {
+      last = last ∙ ap place_of stored ∙ place-told told es p b;
+      undurable = undurable ∙ ap (λ f. holds_of (late_for f) (stored_of state)) stands.fences ∙ sym (undurable-by told es p b (stored_of state) (sym stored));
+      unwritten = unwritten ∙ sym (unwritten-by told es p b (stored_of state) (sym stored));
+      excluded = excluded ∙ ap (λ (s : ByteState). s.excluded) (sym here) ∙ stands.excluded b;
+    }

@@ -1,0 +1,22 @@
+-- What is told of a run of bytes, which are alike in it.
+use Rattle.std.specs.Prelude.{◌≡◌, ℕ, ◌<◌, ◌≤◌, ◌==◌, List, Option, None, Some, if◌then◌else◌}
+use Rattle.pmf_event.specs.declared.event.Event.{Event}
+use Rattle.pmf_event.specs.Store.{last_store}
+use Rattle.pmf_event.specs.Exclusion.{is_excluded}
+use Rattle.pmf_event.specs.LineBytes.{is_undurable, is_unwritten}
+use Rattle.pmf_shadow.specs.declared.standing.Standing.{Standing}
+
+-- the place that was told of a store, if there is one
+abbrev pub place_as_told : (ℕ → ℕ) → ℕ → Option ℕ
+place_as_told told place = if place == 0 then None else Some (told place)
+
+-- byte b stands so at p
+pub record StandsSo (told : ℕ → ℕ) (es : List Event) (p b : ℕ) (standing : Standing) : Type 0 where
+  pub last : standing.last ≡ place_as_told told (last_store es p b)
+  pub undurable : standing.undurable ≡ is_undurable es p b
+  pub unwritten : standing.unwritten ≡ is_unwritten es p b
+  pub excluded : standing.excluded ≡ is_excluded es p b
+
+-- each byte from the first up to the end stands so
+abbrev pub AllStandSo : (ℕ → ℕ) → List Event → ℕ → ℕ → ℕ → Standing → Type 0
+AllStandSo told es p first end standing = (b : ℕ) → first ≤ b → b < end → StandsSo told es p b standing

@@ -1,0 +1,83 @@
+//! How the bytes stand, run by run, for who goes over all of them.
+
+ghost use Rattle.std.specs.Prelude.{◌≡◌, ◌<◌, ◌≤◌, ◌-◌, ℕ};
+ghost use Rattle.pmf_event.specs.LineBytes.{is_undurable};
+ghost use Rattle.pmf_event.specs.Ranges.{first_from};
+ghost use Rattle.pmf_runs.specs.Runs.{state_at};
+ghost use Rattle.pmf_shadow.specs.Shadow.{ForEachList};
+ghost use Rattle.pmf_shadow.specs.Standing.{AllStandSo};
+ghost use Rattle.pmf_shadow.specs.States.{holds_of, lacks_write_back, late_for, place_of, stored_of};
+
+use crate::byte::{ByteState, HasOther, IsUndurable, IsUnwritten};
+use crate::shadow::Shadow;
+use pmf_runs::Test;
+
+/// How some neighbouring bytes stand: all of them so.
+#[derive(Clone, Copy, Debug, PartialEq, Eq)]
+pub struct Standing {
+    /// The place that was told of the last store, where there is one.
+    pub last: Option<u32>,
+    /// Whether there is one that is not durable.
+    pub undurable: bool,
+    /// Whether there is one that no write-back follows.
+    pub unwritten: bool,
+    /// Whether the bytes are excluded.
+    pub excluded: bool,
+}
+
+impl Shadow {
+    /// How the bytes from the first one on stand, and the byte up to which they do, at most the end. It takes
+    /// O(log n) steps for n runs of equal state that are held.
+    pub fn standing_from(&self, first: u64, end: u64) -> (Standing, u64)
+        requires { first < end }
+        ensures further { first < result.1 }
+        ensures within { result.1 ≤ end }
+        ensures stands { ForEachList self.now (λ told es p. AllStandSo told es p first result.1 result.0) }
+    {
+        let state = self.bytes.at(first);
+        let until = self.end_of_run(first, end, state);
+        (self.standing_of(state), until)
+    }
+
+    /// The least byte from the first one on, up to the end, whose last store is not durable.
+    pub fn least_undurable(&self, first: u64, end: u64) -> Option<u64>
+        ensures { ForEachList self.now (λ told es p. result ≡ first_from (is_undurable es p) first (end - first)) }
+    {
+        let undurable = IsUndurable { epoch: self.fences };
+        self.bytes.first_where(first, end, &undurable)
+    }
+
+    // How a byte with this state stands.
+    fn standing_of(&self, state: ByteState) -> Standing
+        ensures last { result.last ≡ place_of (stored_of state) }
+        ensures undurable { result.undurable ≡ holds_of (late_for self.now.fences) (stored_of state) }
+        ensures unwritten { result.unwritten ≡ holds_of lacks_write_back (stored_of state) }
+        ensures excluded { result.excluded ≡ state.excluded }
+    {
+        let undurable = IsUndurable { epoch: self.fences };
+        let last = match state.stored() {
+            None => None,
+            Some(stored) => Some(stored.last),
+        };
+        Standing {
+            last,
+            undurable: undurable.passes(state),
+            unwritten: IsUnwritten.passes(state),
+            excluded: state.excluded,
+        }
+    }
+
+    // The first byte from there on that has another state, or the end.
+    fn end_of_run(&self, first: u64, end: u64, state: ByteState) -> u64
+        requires within { first < end }
+        requires here { state ≡ state_at self.now.bytes first }
+        ensures further { first < result }
+        ensures within { result ≤ end }
+        ensures same { (b : ℕ) → first ≤ b → b < result → state_at self.now.bytes b ≡ state }
+    {
+        match self.bytes.first_where(first, end, &HasOther { state }) {
+            None => end,
+            Some(byte) => byte,
+        }
+    }
+}

@@ -1,0 +1,135 @@
+//! A log that is read in pieces, and written with its sections cut as it is read.
+
+ghost use Rattle.std.specs.Prelude.{◌≡◌, ◌+◌, IfErr};
+ghost use Rattle.pmf_stream.specs.Answering.{IsRefused, failed_reads, failed_writes};
+ghost use Rattle.pmf_stream.specs.Failures.{CanCountOneMore};
+
+use crate::failed::Failed;
+use crate::fault::StreamFault;
+use crate::sink::Sink;
+use crate::source::{Source, read_piece};
+use crate::writing::write_text;
+use pmf_cut::{CutFault, Cutter};
+use pmf_request::Lengths;
+use pmf_storelog::{Cause, LOG_LIMIT, LogFault};
+use std::alloc::Global;
+
+/// How many bytes are read at once, at most.
+const PIECE: usize = 65_536;
+
+/// What is said while a log is cut.
+pub trait Notes {
+    /// Says this line.
+    fn note(&mut self, line: &str);
+}
+
+/// What a log was cut into.
+#[derive(Clone, Copy, Debug, PartialEq, Eq)]
+pub struct Pieces {
+    /// How many cuts were made.
+    pub cuts: u64,
+    /// How many things were said: what the cuts may have changed, and what is too long.
+    pub told: u64,
+}
+
+/// Reads a log and writes it with its sections cut, as it is read; what a cut may have changed is said.
+///
+/// Refusals: the first fault of the log, but for the length of a section, or a number that a part has not; what was written by
+/// then is of no use. Takes memory as [`Cutter`] does.
+pub fn cut_stream<R: Source, W: Sink, N: Notes>(
+    alloc: Global,
+    reader: &mut R,
+    writer: &mut W,
+    notes: &mut N,
+    lengths: Lengths,
+) -> Result<Pieces, StreamFault<CutFault>>
+    requires read { CanCountOneMore (R.failed_calls reader.old) }
+    requires write { CanCountOneMore (W.failed_calls writer.old) }
+    ensures reads { R.failed_calls reader.new ≡ R.failed_calls reader.old + failed_reads result }
+    ensures writes { W.failed_calls writer.new ≡ W.failed_calls writer.old + failed_writes result }
+{
+    let mut cutter = Cutter::new(alloc, lengths.events, lengths.step);
+    let mut piece = [0u8; PIECE];
+    let mut total = 0;
+    let mut size = 0;
+    while total < LOG_LIMIT {
+        let count = match read_piece(reader, &mut piece, LOG_LIMIT - total) {
+            Ok(count) => count,
+            Err(Failed) => return Err(StreamFault::ReadFault),
+        };
+        if count == 0 {
+            break;
+        }
+        take(&mut cutter, &piece[..count])?;
+        size = write_out(&mut cutter, writer, notes, size)?;
+        total += count;
+    }
+    let more = match read_piece(reader, &mut piece, 1) {
+        Ok(count) => count,
+        Err(Failed) => return Err(StreamFault::ReadFault),
+    };
+    if more > 0 {
+        return Err(too_long(&cutter));
+    }
+    end(&mut cutter)?;
+    size = write_out(&mut cutter, writer, notes, size)?;
+    let is_long = size > LOG_LIMIT as u64;
+    if is_long {
+        let text = format!(in alloc; "the cut log has {size} bytes, more than a log may have")?;
+        notes.note(text.as_str());
+    }
+    Ok(Pieces {
+        cuts: cutter.cuts(),
+        told: cutter.told().saturating_add(u64::from(is_long)),
+    })
+}
+
+fn too_long(cutter: &Cutter) -> StreamFault<CutFault>
+    ensures { IsRefused result }
+{
+    StreamFault::Refused(CutFault::Log(LogFault {
+        at: cutter.records().saturating_add(1),
+        cause: Cause::TooLong,
+    }))
+}
+
+fn take(cutter: &mut Cutter, piece: &[u8]) -> Result<(), StreamFault<CutFault>>
+    ensures { IfErr result IsRefused }
+{
+    match cutter.take(piece) {
+        Ok(()) => Ok(()),
+        Err(fault) => Err(StreamFault::Refused(fault)),
+    }
+}
+
+fn end(cutter: &mut Cutter) -> Result<(), StreamFault<CutFault>>
+    ensures { IfErr result IsRefused }
+{
+    match cutter.finish() {
+        Ok(()) => Ok(()),
+        Err(fault) => Err(StreamFault::Refused(fault)),
+    }
+}
+
+// Writes what the cutter hands out, behind so many bytes, and says what it says.
+fn write_out<W: Sink, N: Notes>(
+    cutter: &mut Cutter,
+    writer: &mut W,
+    notes: &mut N,
+    size: u64,
+) -> Result<u64, StreamFault<CutFault>>
+    requires { CanCountOneMore (W.failed_calls writer.old) }
+    ensures writes { W.failed_calls writer.new ≡ W.failed_calls writer.old + failed_writes result }
+    ensures reads { failed_reads result ≡ 0 }
+{
+    let (text, lines) = cutter.drain();
+    for line in &lines {
+        notes.note(line.as_str());
+    }
+    match write_text(writer, &text) {
+        Ok(()) => Ok(size.saturating_add(text.len() as u64)),
+        Err(cut) => Err(StreamFault::WriteFault {
+            written: size.saturating_add(cut.written),
+        }),
+    }
+}
