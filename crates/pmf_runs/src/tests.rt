@@ -4,6 +4,7 @@ ghost use Rattle.std.specs.Prelude.{◌≤◌};
 
 use crate::{Change, RunMap};
 use pmf_event::LINE_SIZE;
+use pmf_fixtures::Numbers;
 use std::alloc::{AllocError, Global};
 use std::process::Abort;
 use std::test::Fail;
@@ -322,9 +323,9 @@ fn rising_changes_leave_full_leaves_behind(rt: HostRuntime) -> Result<(), Fail> 
 #[test]
 fn no_list_outgrows_a_full_leaf(rt: HostRuntime) -> Result<(), Fail> {
     let mut map = RunMap::new(rt.alloc(), Colour::Red);
-    let mut numbers = Numbers(11);
+    let mut numbers = Numbers::of(11);
     for _ in 0..10_000 {
-        let place = numbers.next() % 100_000 * 4;
+        let place = numbers.below(100_000) * 4;
         map.change(place, place + 2, &To(Colour::Green))?;
     }
     assert!(rt; map.leaf_count() > 200, "{}", map.leaf_count());
@@ -332,48 +333,34 @@ fn no_list_outgrows_a_full_leaf(rt: HostRuntime) -> Result<(), Fail> {
     Ok(())
 }
 
-/// Numbers that look random, the same ones in each run of the test.
-#[derive(Debug, Drop)]
-struct Numbers(u64);
-
-impl Numbers {
-    fn next(&mut self) -> u64 {
-        self.0 = self
-            .0
-            .wrapping_mul(6_364_136_223_846_793_005)
-            .wrapping_add(1_442_695_040_888_963_407);
-        self.0 >> 33
+fn some_colour(numbers: &mut Numbers) -> Colour {
+    match numbers.below(3) {
+        0 => Colour::Red,
+        1 => Colour::Green,
+        _ => Colour::Blue,
     }
+}
 
-    fn colour(&mut self) -> Colour {
-        match self.next() % 3 {
-            0 => Colour::Red,
-            1 => Colour::Green,
-            _ => Colour::Blue,
-        }
+fn some_brush(numbers: &mut Numbers) -> Brush {
+    if numbers.below(3) == 0 {
+        Brush::Next
+    } else {
+        Brush::To(some_colour(numbers))
     }
+}
 
-    fn brush(&mut self) -> Brush {
-        if self.next() % 3 == 0 {
-            Brush::Next
-        } else {
-            Brush::To(self.colour())
-        }
-    }
+/// Two of so many places, the lesser first.
+fn some_range(numbers: &mut Numbers, places: u64) -> (u64, u64)
+    ensures { result.0 ≤ result.1 }
+{
+    let one = up_to(numbers, places);
+    let other = up_to(numbers, places);
+    (one.min(other), one.max(other))
+}
 
-    /// Two of so many places, the lesser first.
-    fn range(&mut self, places: u64) -> (u64, u64)
-        ensures { result.0 ≤ result.1 }
-    {
-        let one = self.below(places);
-        let other = self.below(places);
-        (one.min(other), one.max(other))
-    }
-
-    /// A number up to this one.
-    fn below(&mut self, places: u64) -> u64 {
-        self.next() % places.saturating_add(1).max(1)
-    }
+/// A number up to this one.
+fn up_to(numbers: &mut Numbers, places: u64) -> u64 {
+    numbers.below(places.saturating_add(1).max(1))
 }
 
 /// The map has the states of the array.
@@ -384,8 +371,8 @@ fn assert_states(rt: &impl Abort, map: &RunMap<Colour>, plain: &Plain) {
 }
 
 fn assert_answers(rt: &impl Abort, map: &RunMap<Colour>, plain: &Plain, numbers: &mut Numbers) {
-    let (first, end) = numbers.range(plain.places());
-    let test = Is(numbers.colour());
+    let (first, end) = some_range(numbers, plain.places());
+    let test = Is(some_colour(numbers));
     assert_eq!(rt;
         map.first_where(first, end, &test),
         plain.first_where(first, end, &test)
@@ -421,14 +408,14 @@ fn paint_both(
 
 #[test]
 fn a_map_answers_as_an_array_does(rt: HostRuntime) -> Result<(), Fail> {
-    let mut numbers = Numbers(1);
+    let mut numbers = Numbers::of(1);
     for _list in 0..1000 {
         let mut map = RunMap::new(rt.alloc(), Colour::Red);
         let mut plain = Plain::new(rt.alloc(), PLACES)?;
-        let changes = numbers.next() % 12;
+        let changes = numbers.below(12);
         for _change in 0..changes {
-            let (first, end) = numbers.range(PLACES);
-            let brush = numbers.brush();
+            let (first, end) = some_range(&mut numbers, PLACES);
+            let brush = some_brush(&mut numbers);
             paint_both(&rt, &mut map, &mut plain, brush, first, end)?;
             assert_answers(&rt, &map, &plain, &mut numbers);
         }
@@ -449,9 +436,9 @@ fn scattered(
     let mut map = RunMap::new(alloc, Colour::Red);
     let mut plain = Plain::new(alloc, places)?;
     for _change in 0..changes {
-        let first = numbers.below(places);
-        let end = first.saturating_add(numbers.next() % 5).min(places);
-        let brush = numbers.brush();
+        let first = up_to(numbers, places);
+        let end = first.saturating_add(numbers.below(5)).min(places);
+        let brush = some_brush(numbers);
         paint_both(rt, &mut map, &mut plain, brush, first, end)?;
     }
     Ok((map, plain))
@@ -459,13 +446,13 @@ fn scattered(
 
 #[test]
 fn a_map_of_many_groups_answers_as_an_array_does(rt: HostRuntime) -> Result<(), Fail> {
-    let mut numbers = Numbers(2);
+    let mut numbers = Numbers::of(2);
     let (mut map, mut plain) = scattered(&rt, rt.alloc(), 20_000, 20_000, &mut numbers)?;
     assert!(rt; map.leaf_count() > 100);
     assert!(rt; map.group_count() > 2);
     assert_states(&rt, &map, &plain);
     for _wide in 0..100 {
-        let (first, end) = numbers.range(20_000);
+        let (first, end) = some_range(&mut numbers, 20_000);
         assert_answers(&rt, &map, &plain, &mut numbers);
         paint_both(&rt, &mut map, &mut plain, Brush::Next, first, end)?;
         assert_answers(&rt, &map, &plain, &mut numbers);
@@ -476,7 +463,7 @@ fn a_map_of_many_groups_answers_as_an_array_does(rt: HostRuntime) -> Result<(), 
 
 #[test]
 fn emptied_parts_are_taken_out(rt: HostRuntime) -> Result<(), Fail> {
-    let mut numbers = Numbers(3);
+    let mut numbers = Numbers::of(3);
     let (mut map, mut plain) = scattered(&rt, rt.alloc(), 20_000, 20_000, &mut numbers)?;
     let before = map.leaf_count();
     paint_both(

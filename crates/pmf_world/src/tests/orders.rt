@@ -1,13 +1,12 @@
 //! Random schedules: each ledger holds what the steps brought there, and the order of joins doesn't count.
 
-ghost use Rattle.std.specs.Prelude.{◌<◌};
-
 use super::{
     again, arrive, assert_steps, check, fresh, join, lose, mark, name, not_persisted, persisted,
     send,
 };
 use crate::{World, WorldAnswer, WorldFault, WorldStep};
 use pmf_event::{Profile, Section};
+use pmf_fixtures::Numbers;
 use pmf_ledger::Ledger;
 use std::alloc::{AllocError, Global};
 use std::process::Abort;
@@ -20,39 +19,19 @@ const WORKERS: u32 = 3;
 
 const LEDGERS: u32 = 3;
 
-// Marsaglia's xorshift ("Xorshift RNGs", 2003), by shifts of 13, 7 and 17.
-#[derive(Debug, Drop)]
-struct Numbers(u64);
-
-impl Numbers {
-    // The odd factor spreads small numbers over all bits, and gives 0 for 0 alone.
-    fn of(schedule: u64) -> Numbers {
-        Numbers(schedule.wrapping_mul(0x9E37_79B9_7F4A_7C15))
-    }
-
-    fn below(&mut self, limit: u32) -> u32
-        requires { 0 < limit }
-    {
-        self.0 ^= self.0 << 13;
-        self.0 ^= self.0 >> 7;
-        self.0 ^= self.0 << 17;
-        (self.0 >> 33) as u32 % limit
-    }
-
-    fn step(&mut self) -> WorldStep {
-        let worker = self.below(WORKERS);
-        let section = self.below(SECTIONS);
-        let ledger = self.below(LEDGERS);
-        match self.below(128) {
-            0 => lose(worker),
-            1..=20 => fresh(worker, section),
-            21..=40 => again(worker, section),
-            41..=60 => check(worker),
-            61..=80 => send(worker),
-            81..=96 => mark(worker),
-            97..=124 => arrive(self.below(20), ledger),
-            _ => join(ledger, self.below(LEDGERS)),
-        }
+fn some_step(numbers: &mut Numbers) -> WorldStep {
+    let worker = numbers.below(WORKERS as u64) as u32;
+    let section = numbers.below(SECTIONS as u64) as u32;
+    let ledger = numbers.below(LEDGERS as u64) as u32;
+    match numbers.below(128) {
+        0 => lose(worker),
+        1..=20 => fresh(worker, section),
+        21..=40 => again(worker, section),
+        41..=60 => check(worker),
+        61..=80 => send(worker),
+        81..=96 => mark(worker),
+        97..=124 => arrive(numbers.below(20) as u32, ledger),
+        _ => join(ledger, numbers.below(LEDGERS as u64) as u32),
     }
 }
 
@@ -224,7 +203,7 @@ fn world_after(
     let mut kept = Kept::new(alloc, schedule)?;
     let mut numbers = Numbers::of(schedule);
     for _ in 0..300 {
-        let step = numbers.step();
+        let step = some_step(&mut numbers);
         match world.step(step) {
             Ok(answer) => kept.follow(rt, step, answer)?,
             Err(WorldFault::OutOfMemory) => return Err(AllocError.into()),
