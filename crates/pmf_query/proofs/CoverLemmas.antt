@@ -1,16 +1,10 @@
 -- What later assertions cover, one event further to the front.
-use Rattle.std.proofs.Common.{◌≡◌, ℕ, suc, ◌+◌, ◌-◌, ◌<◌, ◌≤◌, Bool, true, false, not, cond, if◌then◌else◌, ◌&&◌, ◌||◌, List, length, refl, sym, ap, ◌∙◌, arith, inl, inr}
-use Rattle.std.specs.Prelude.{Option, Some, None, nat_lt, is_some}
-use Rattle.std.proofs.lemmas.Bool.{cases_lt, lt-ltb, le-ltb, false≢true}
+use Rattle.pmf_event.proofs.Common.{◌≡◌, ℕ, suc, ◌+◌, ◌-◌, ◌<◌, ◌≤◌, Bool, true, false, not, cond, if◌then◌else◌, ◌&&◌, ◌||◌, List, length, refl, sym, ap, ◌∙◌, arith, inl, inr, Option, Some, None, nat_lt, is_some, cases_lt, lt-ltb, le-ltb, false≢true}
 use Rattle.pmf_event.specs.declared.event.Event.{Event}
-use Rattle.pmf_event.specs.Places.{count, greatest, some_between}
-use Rattle.pmf_event.specs.Store.{at, event_at}
-use Rattle.pmf_event.specs.Transactions.{closes_scope}
+use Rattle.pmf_event.specs.declared.event.Event.TheVariants.{Store}
+use Rattle.pmf_event.specs.Prelude.{count, greatest, some_between, at, event_at, closes_scope, Extent, covers_byte, first_from}
 use Rattle.pmf_event.proofs.PlacesLemmas.{count-step, count-zero, greatest-bound, greatest-passes, some_between-here}
 use Rattle.pmf_event.proofs.EventLemmas.{at-is}
-use Rattle.pmf_event.specs.declared.event.Event.TheVariants.{Store}
-use Rattle.pmf_event.specs.Span.{Extent, covers_byte}
-use Rattle.pmf_event.specs.Ranges.{first_from}
 use Rattle.pmf_event.proofs.RangeLemmas.{first_from-same}
 use Rattle.pmf_runs.specs.declared.members.Members.{Members}
 use Rattle.pmf_runs.specs.declared.runs.RunMap.{RunMap}

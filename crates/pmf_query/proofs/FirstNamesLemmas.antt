@@ -1,11 +1,5 @@
 -- The different ones of some names, in the order in which they first stand, with one name more.
-use Rattle.std.proofs.Common.{◌≡◌, ℕ, zero, suc, ◌<◌, ◌≤◌, Bool, true, false, cond, List, [], ◌∷◌, ◌++◌, length, take, refl, sym, ap, subst, ◌∙◌, arith, length-append, length-take, take_all}
-use Rattle.std.specs.Prelude.{not, ◌||◌, filter}
-use Rattle.std.specs.List.{list_any}
-use Rattle.std.specs.Str.{bytes_eq}
-use Rattle.std.proofs.lemmas.Slice.Eq.{bytes_eq-Decides}
-use Rattle.std.proofs.lemmas.List.{append-nil, take-append-le}
-use Rattle.std.proofs.lemmas.List.Elements.{filter-append}
+use Rattle.pmf_event.proofs.Common.{◌≡◌, ℕ, zero, suc, ◌<◌, ◌≤◌, Bool, true, false, cond, List, [], ◌∷◌, ◌++◌, length, take, refl, sym, ap, subst, ◌∙◌, arith, length-append, length-take, take_all, not, ◌||◌, filter, bytes_eq, list_any, bytes_eq-Decides, append-nil, take-append-le, filter-append}
 use Rattle.pmf_query.specs.declared.naming.TheConstants.{LISTED}
 use Rattle.pmf_query.specs.Naming.{first_names, is_among}
 

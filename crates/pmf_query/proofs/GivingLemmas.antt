@@ -1,11 +1,7 @@
 -- The events of a section before and behind the record that gave one.
-use Rattle.std.proofs.Common.{◌≡◌, ℕ, ◌+◌, ◌-◌, ◌<◌, List, [], ◌∷◌, ◌++◌, Some, length, length-append, take, drop, get_or, refl, sym, ap, ◌∙◌, arith, append_assoc, inl, inr}
-use Rattle.std.specs.Prelude.{slice_get}
-use Rattle.std.proofs.lemmas.Bool.{eq-eqb, cases_lt}
-use Rattle.std.proofs.lemmas.List.{append-nil, take_more, take-take, take-append-drop, length-take-le}
+use Rattle.pmf_event.proofs.Common.{◌≡◌, ℕ, ◌+◌, ◌-◌, ◌<◌, List, [], ◌∷◌, ◌++◌, Some, length, length-append, take, drop, get_or, refl, sym, ap, ◌∙◌, arith, append_assoc, inl, inr, slice_get, eq-eqb, cases_lt, append-nil, take_more, take-take, take-append-drop, length-take-le}
 use Rattle.pmf_event.specs.declared.event.Event.{Event}
-use Rattle.pmf_storelog.specs.Records.{record_of}
-use Rattle.pmf_storelog.specs.LogText.{current_at, current_of, events_in, numbered, reading_at}
+use Rattle.pmf_storelog.specs.Prelude.{record_of, current_at, current_of, events_in, numbered, reading_at}
 use Rattle.pmf_storelog.proofs.LogLemmas.{current_at-append, events_in-push, in_section}
 use Rattle.pmf_query.specs.Locating.{Gives}
 use Rattle.pmf_query.proofs.LocationLemmas.{slice_get-at}

@@ -1,16 +1,13 @@
 -- What is told of a log that was read.
-use Rattle.std.proofs.Common.{◌≡◌, ℕ, List, [], ◌∷◌, ◌++◌, Ok, length, take, sym, ap, subst}
-use Rattle.std.proofs.lemmas.List.{length-map}
-use Rattle.pmf_storelog.specs.Separators.{records_of}
-use Rattle.pmf_storelog.specs.LogValue.{LogValue}
-use Rattle.pmf_storelog.specs.LogText.{fault_of, log_of, numbers_of, sections_of, skipped_of, value_of}
+use Rattle.pmf_event.proofs.Common.{◌≡◌, ℕ, List, [], ◌∷◌, ◌++◌, Ok, length, take, sym, ap, subst, length-map}
+use Rattle.pmf_storelog.specs.Prelude.{records_of, LogValue, fault_of, log_of, numbers_of, sections_of, skipped_of, value_of}
 use Rattle.pmf_query.specs.Linting.{IsLint}
 use Rattle.pmf_query.specs.Locating.{IsFaultless}
 use Rattle.pmf_query.specs.Summing.{sums_of}
 use Rattle.pmf_query.specs.declared.summing.Sums.{Sums}
 use Rattle.pmf_query.specs.Walking.{IsNext}
-use Rattle.pmf_query.specs.declared.rolling.Roll.{Roll}
-use Rattle.pmf_query.specs.Rolling.{Tallies}
+use Rattle.pmf_query.specs.declared.counting.NameCounts.{NameCounts}
+use Rattle.pmf_query.specs.Counting.{Tallies}
 use Rattle.pmf_query.proofs.NumberFoundLemmas.{by_fault}
 
 pub skipped_so : (run : ℕ) (bytes : List ℕ) (log : LogValue) → log_of run bytes ≡ Ok log → log.skipped ≡ skipped_of (records_of bytes)
@@ -21,13 +18,13 @@ pub sections_long : (run : ℕ) (records : List (List ℕ)) → length (sections
 unfolding sections_of
 sections_long run records = length-map (numbers_of records) _
 
-pub tallied_next : (bytes : List ℕ) (start offset : ℕ) (text : List ℕ) (next : ℕ) (roll : Roll) → IsNext bytes start offset text next → Tallies roll (records_of (take start bytes) ++ text ∷ []) → Tallies roll (records_of (take next bytes))
-tallied_next bytes start offset text next roll found tallies = subst (Tallies roll) (sym found.adds) tallies
+pub tallied_next : (bytes : List ℕ) (start offset : ℕ) (text : List ℕ) (next : ℕ) (counts : NameCounts) → IsNext bytes start offset text next → Tallies counts (records_of (take start bytes) ++ text ∷ []) → Tallies counts (records_of (take next bytes))
+tallied_next bytes start offset text next counts found tallies = subst (Tallies counts) (sym found.adds) tallies
 
-pub told_so : (bytes : List ℕ) (roll : Roll) (skipped sections : ℕ) (sums : Sums) → IsFaultless bytes → Tallies roll (records_of bytes) → skipped ≡ skipped_of (records_of bytes) →
+pub told_so : (bytes : List ℕ) (counts : NameCounts) (skipped sections : ℕ) (sums : Sums) → IsFaultless bytes → Tallies counts (records_of bytes) → skipped ≡ skipped_of (records_of bytes) →
     sections ≡ length (numbers_of (records_of bytes)) → sums ≡ sums_of (sections_of 0 (records_of bytes)) →
-    IsLint bytes (record { records = roll.records; known = roll.known; skipped = skipped; listed = roll.listing.listed; others = roll.listing.others; has_near = roll.listing.has_near; has_strange = roll.listing.has_strange; sections = sections; sums = sums })
-told_so bytes roll skipped sections sums faultless tallies skipped_is sections_are sums_are = record {
+    IsLint bytes (record { records = counts.records; known = counts.known; skipped = skipped; listed = counts.listing.listed; others = counts.listing.others; has_near = counts.listing.has_near; has_strange = counts.listing.has_strange; sections = sections; sums = sums })
+told_so bytes counts skipped sections sums faultless tallies skipped_is sections_are sums_are = record {
   faultless = faultless;
   records = tallies.count;
   names = tallies.names;

@@ -1,9 +1,5 @@
 -- The bytes of a printed character, and names that are shown whole.
-use Rattle.std.proofs.Common.{◌≡◌, ℕ, ◌≤◌, Bool, true, List, [], ◌∷◌, ◌++◌, cond, length, take, take_all, ap, sym, ◌∙◌, arith}
-use Rattle.std.specs.Prelude.{nat_le, codes}
-use Rattle.std.specs.List.{flat_map}
-use Rattle.std.proofs.lemmas.Bool.{and_parts, le-leb, leb-true}
-use Rattle.std.proofs.lemmas.List.{append-nil}
+use Rattle.pmf_event.proofs.Common.{◌≡◌, ℕ, ◌≤◌, Bool, true, List, [], ◌∷◌, ◌++◌, cond, length, take, take_all, ap, sym, ◌∙◌, arith, nat_le, codes, flat_map, append-nil, and_parts, le-leb, leb-true}
 use Rattle.std.proofs.lemmas.Str.{encode_ascii}
 use Rattle.std.proofs.Math.Utf8.{encode}
 use Rattle.pmf_query.specs.declared.telling.TheConstants.{SHOWN}

@@ -1,15 +1,10 @@
 -- The record that a walk has come to, as the one that gave an event.
-use Rattle.std.proofs.Common.{◌≡◌, ℕ, ◌+◌, List, [], ◌∷◌, ◌++◌, Some, length, length-append, take, drop, refl, sym, ap, subst, ◌∙◌, arith, append_assoc}
-use Rattle.std.specs.Prelude.{slice_get}
-use Rattle.std.proofs.lemmas.List.{take_at}
-use Rattle.pmf_storelog.specs.Separators.{records_of}
-use Rattle.pmf_storelog.specs.Records.{record_of}
-use Rattle.pmf_storelog.specs.LogText.{current_at, current_of, events_in, numbered, reading_at}
+use Rattle.std.proofs.Common.{◌≡◌, ℕ, ◌+◌, List, [], ◌∷◌, ◌++◌, Some, length, length-append, take, drop, refl, sym, ap, subst, ◌∙◌, arith, append_assoc, slice_get, take_at}
+use Rattle.pmf_storelog.specs.Prelude.{records_of, record_of, current_at, current_of, events_in, numbered, reading_at}
 use Rattle.pmf_storelog.proofs.LogLemmas.{current_at-append, reading_at-append, reading_at-last}
 use Rattle.pmf_query.specs.Walking.{IsNext}
-use Rattle.pmf_query.specs.Passing.{GivesNext, HasPassed}
+use Rattle.pmf_query.specs.Passing.{GivesNext}
 use Rattle.pmf_query.specs.Locating.{Gives, IsLocation}
-use Rattle.pmf_query.specs.declared.passing.Passed.{Passed}
 use Rattle.pmf_query.proofs.CursorLemmas.{anew_all}
 
 pub slice_get-at : {A : Type 0} (xs : List A) (y : A) (ys : List A) → slice_get (xs ++ y ∷ ys) (length xs) ≡ Some y
@@ -64,6 +59,3 @@ module _ (bytes : List ℕ) (start offset : ℕ) (text : List ℕ) (next : ℕ) 
       here = found.here;
     };
   }
-
-  pub passed_next : (section : ℕ) (passed : Passed) → HasPassed section (records_of (take start bytes) ++ text ∷ []) passed → HasPassed section (records_of (take next bytes)) passed
-  passed_next section passed has = subst (λ (records : List (List ℕ)). HasPassed section records passed) (sym found.adds) has

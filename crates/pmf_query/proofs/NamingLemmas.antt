@@ -1,25 +1,15 @@
 -- Counts of names, with one more name.
-use Rattle.std.proofs.Common.{◌≡◌, ℕ, zero, suc, ◌+◌, ◌-◌, ◌^◌, ◌<◌, ◌≤◌, Bool, true, false, cond, List, [], ◌∷◌, ◌++◌, Some, None, length, take, get_or, map, All, refl, sym, ap, subst, ◌∙◌, arith, length-append}
-use Rattle.std.specs.Prelude.{not, ◌||◌, filter, is_some}
-use Rattle.std.proofs.lemmas.Slice.Eq.{bytes_eq-Decides}
-use Rattle.std.specs.List.{list_any}
-use Rattle.std.specs.Str.{bytes_eq}
-use Rattle.std.proofs.lemmas.Bool.{false≢true}
-use Rattle.std.proofs.lemmas.List.{append-nil, map-append, length-map, take_more}
-use Rattle.std.proofs.lemmas.List.Elements.{All-append, All-cons, filter-append}
-use Rattle.std.proofs.lemmas.List.Folds.{list_any-append}
-use Rattle.std.proofs.lemmas.List.Sums.{sum_by-append, count_by-le-length, length-filter}
+use Rattle.pmf_event.proofs.Common.{◌≡◌, ℕ, zero, suc, ◌+◌, ◌-◌, ◌^◌, ◌<◌, ◌≤◌, Bool, true, false, cond, List, [], ◌∷◌, ◌++◌, Some, None, length, take, get_or, map, All, refl, sym, ap, subst, ◌∙◌, arith, length-append, not, ◌||◌, filter, is_some, bytes_eq, bytes_eq-Decides, list_any, false≢true, append-nil, map-append, length-map, take_more, All-append, All-cons, filter-append, list_any-append, sum_by-append, count_by-le-length, length-filter}
 use Rattle.memchr.specs.Find.{IsFirstByte, is_byte}
-use Rattle.pmf_storelog.specs.LogText.{is_skipped}
-use Rattle.pmf_storelog.specs.Records.{fields_of, is_field_end}
+use Rattle.pmf_storelog.specs.Prelude.{is_skipped, fields_of, is_field_end}
 use Rattle.pmf_storelog.proofs.SplitLemmas.{split_none, split_some}
 use Rattle.pmf_query.specs.declared.naming.Named.{Named}
 use Rattle.pmf_query.specs.declared.naming.TheConstants.{LISTED}
 use Rattle.pmf_query.specs.declared.listing.Listing.{Listing}
-use Rattle.pmf_query.specs.declared.rolling.Roll.{Roll}
+use Rattle.pmf_query.specs.declared.counting.NameCounts.{NameCounts}
 use Rattle.pmf_query.proofs.FirstNamesLemmas.{all_first, among_others, first_again, first_full, first_new, is_other}
 use Rattle.pmf_query.specs.Nearness.{has_near, has_strange, is_text, near_of}
-use Rattle.pmf_query.specs.Rolling.{Lists, Tallies}
+use Rattle.pmf_query.specs.Counting.{Lists, Tallies}
 use Rattle.pmf_query.specs.Naming.{Count, first_names, known_names, count_named, count_others, counting, first_field, is_among, name_of, names_in, names_of, skipped_names}
 
 count_named-push : (n name : List ℕ) (names : List (List ℕ)) → count_named n (names ++ name ∷ []) ≡ count_named n names + cond (bytes_eq n name) 1 0
@@ -170,7 +160,7 @@ module _ (listed : List (List ℕ)) (name : List ℕ) (apart : is_among listed n
       other_name : (counts : List Named) (k : ℕ) (d : Named) → k < length counts → listed ≡ names_in counts → bytes_eq (get_or counts k d).name.now name ≡ false
       other_name counts k d within are = apart_from counts name (subst (λ (ns : List (List ℕ)). is_among ns name ≡ false) are apart) k d within
 
--- ---- what a listing and a roll hold
+-- ---- what a listing and a counts hold
 
 has_near-push : (names : List (List ℕ)) (name : List ℕ) → has_near (names ++ name ∷ []) ≡ (has_near names || is_some (near_of name))
 unfolding has_near
@@ -260,11 +250,11 @@ pub names_long : (records : List (List ℕ)) → length (names_of records) ≡ l
 unfolding names_of
 names_long records = length-map records (λ text. name_of text)
 
-pub tallies_none : (roll : Roll) → roll.records ≡ 0 → names_in roll.known.items ≡ known_names → Count roll.known.items [] → Lists roll.listing [] → Tallies roll []
+pub tallies_none : (counts : NameCounts) → counts.records ≡ 0 → names_in counts.known.items ≡ known_names → Count counts.known.items [] → Lists counts.listing [] → Tallies counts []
 unfolding names_of skipped_names
-tallies_none roll none names known lists = record { count = none; names = names; known = known; skipped = lists }
+tallies_none counts none names known lists = record { count = none; names = names; known = known; skipped = lists }
 
-module _ (old new : Roll) (records : List (List ℕ)) (tallies : Tallies old records) (text : List ℕ) (more : new.records ≡ old.records + 1)
+module _ (old new : NameCounts) (records : List (List ℕ)) (tallies : Tallies old records) (text : List ℕ) (more : new.records ≡ old.records + 1)
     (counted : new.known.items ≡ map (counting (name_of text)) old.known.items) where
   one_more : new.records ≡ length (records ++ text ∷ [])
   one_more = omega (arith, tallies.count, length-append records (text ∷ []))

@@ -1,12 +1,9 @@
 -- What one more record says of a section.
-use Rattle.std.proofs.Common.{◌≡◌, ℕ, ◌+◌, List, [], ◌∷◌, ◌++◌, Ok, Err, length, length-append, refl, sym, ap, ◌∙◌, arith}
-use Rattle.std.proofs.lemmas.Bool.{eq-eqb, ne_eqb}
-use Rattle.std.proofs.lemmas.List.{append-nil}
+use Rattle.std.proofs.Common.{◌≡◌, ℕ, ◌+◌, List, [], ◌∷◌, ◌++◌, Ok, Err, length, length-append, refl, sym, ap, ◌∙◌, arith, eq-eqb, ne_eqb, append-nil}
 use Rattle.pmf_event.specs.declared.event.Event.{Event}
 use Rattle.pmf_storelog.specs.declared.fault.Cause.{Cause}
 use Rattle.pmf_storelog.specs.declared.record.Saying.TheVariants.{Happens, Enters, Skipped}
-use Rattle.pmf_storelog.specs.Records.{record_of}
-use Rattle.pmf_storelog.specs.LogText.{current_of, events_in, number_after, numbered}
+use Rattle.pmf_storelog.specs.Prelude.{record_of, current_of, events_in, number_after, numbered}
 use Rattle.pmf_storelog.proofs.LogLemmas.{current_of-push, events_in-push, events_in-event, events_in-enter, events_in-nothing, in_section}
 use Rattle.pmf_storelog.proofs.TallyLemmas.{current_of-nil, events_in-nil}
 use Rattle.pmf_query.specs.declared.passing.Passed.{Passed}

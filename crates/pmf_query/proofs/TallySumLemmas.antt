@@ -1,21 +1,9 @@
 -- Counts over lists, and the sums of sections, with one more.
-use Rattle.std.proofs.Common.{◌≡◌, ℕ, ◌+◌, ◌*◌, ◌^◌, ◌<◌, ◌≤◌, Bool, cond, List, [], ◌∷◌, ◌++◌, length, take, get_or, map, refl, sym, ◌∙◌, ap, arith}
-use Rattle.std.specs.Prelude.{count_by}
-use Rattle.std.proofs.lemmas.List.{take_more, map-append}
-use Rattle.std.proofs.lemmas.List.Sums.{sum_by-append}
+use Rattle.pmf_event.proofs.Common.{◌≡◌, ℕ, ◌+◌, ◌*◌, ◌^◌, ◌<◌, List, [], ◌∷◌, ◌++◌, length, take, get_or, map, refl, sym, ◌∙◌, ap, arith, count_by, take_more, map-append, sum_by-append}
 use Rattle.pmf_event.specs.Section.{Trace}
 use Rattle.pmf_query.specs.declared.summing.Sums.{Sums}
 use Rattle.pmf_query.specs.Covering.{uncovered_of}
 use Rattle.pmf_query.specs.Summing.{IsWithin, asserts, both, empty_of, is_store, sums_of}
-
--- one more element of a list is counted
-pub count_more : {X : Type 0} (p : X → Bool) (xs : List X) (i : ℕ) (x : X) (n one : ℕ) (b : Bool) → i < length xs → x ≡ get_or xs i x → b ≡ p x → one ≡ cond b 1 0 →
-    n ≡ count_by p (take i xs) → n + one ≡ count_by p (take (i + 1) xs)
-count_more p xs i x n one b within is passes once so_far =
-    let last : count_by p (take (i + 1) xs) ≡ count_by p (take i xs) + (0 + cond (p x) 1 0) =
-    ap (count_by p) (take_more xs i x within ∙ ap (λ y. take i xs ++ y ∷ []) (sym is)) ∙ sum_by-append (λ y. cond (p y) 1 0) (take i xs) (x ∷ []) in
-    let same : one ≡ cond (p x) 1 0 = once ∙ ap (λ v. cond v 1 0) passes in
-    omega arith
 
 sums_of-push : (ts : List Trace) (t : Trace) → sums_of (ts ++ t ∷ []) ≡ both (sums_of ts) (sums_of (t ∷ []))
 unfolding sums_of
@@ -41,15 +29,6 @@ within_both i a b small one = record {
   empty_within = let l = small.empty_within in let r = one.empty_within in omega arith;
   stores_within = let l = small.stores_within in let r = one.stores_within in omega arith;
   unasserted_within = let l = small.unasserted_within in let r = one.unasserted_within in omega arith;
-}
-
-pub within_all : (n most : ℕ) (sums : Sums) → n ≤ most → IsWithin n sums → IsWithin most sums
-within_all n most sums le small = record {
-  events_within = let l = small.events_within in omega arith;
-  assertions_within = let l = small.assertions_within in omega arith;
-  empty_within = let l = small.empty_within in omega arith;
-  stores_within = let l = small.stores_within in omega arith;
-  unasserted_within = let l = small.unasserted_within in omega arith;
 }
 
 pub none_within : IsWithin (0 * 2 ^ 64) (sums_of [])

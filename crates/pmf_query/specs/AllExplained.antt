@@ -1,21 +1,15 @@
 -- What explains every failing row of a log at once. Defined here.
-use Rattle.std.specs.Prelude.{◌≡◌, ℕ, List, [], ◌++◌, codes, Option, None, Some, Ok}
-use Rattle.std.specs.List.{flat_map}
-use Rattle.std.specs.Fmt.{decimal}
+use Rattle.std.specs.Prelude.{◌≡◌, ℕ, List, [], ◌++◌, codes, Option, None, Some, Ok, flat_map, decimal}
 use Rattle.pmf_event.specs.declared.event.Event.{Event}
 use Rattle.pmf_event.specs.declared.name.Name.{Name}
 use Rattle.pmf_event.specs.declared.profile.Profile.{Profile}
 use Rattle.pmf_event.specs.declared.row.Row.{Row}
-use Rattle.pmf_event.specs.Section.{Trace}
+use Rattle.pmf_event.specs.Prelude.{Trace}
 use Rattle.pmf_image.specs.declared.certificate.Certificate.{Certificate}
-use Rattle.pmf_storelog.specs.LogText.{log_of}
-use Rattle.pmf_storelog.specs.LogValue.{LogValue}
-use Rattle.pmf_verdict.specs.Explained.{certificate_of}
-use Rattle.pmf_verdict.specs.Outcome.{outcome_of}
+use Rattle.pmf_storelog.specs.Prelude.{log_of, LogValue}
 use Rattle.pmf_verdict.specs.declared.outcome.Outcome.{Outcome}
 use Rattle.pmf_verdict.specs.declared.outcome.Outcome.TheVariants.{Fail}
-use Rattle.pmf_verdict.specs.Rows.{rows_of}
-use Rattle.pmf_verdict.specs.Text.{text_of_row}
+use Rattle.pmf_verdict.specs.Prelude.{certificate_of, outcome_of, rows_of, text_of_row}
 use Rattle.pmf_query.specs.Explanation.{text_of_bytes, text_of_image}
 
 -- what the image of a row's certificate holds of the bytes that the row names, or `no image`

@@ -2,11 +2,7 @@
 use Rattle.std.specs.Prelude.{◌≡◌, ℕ, suc, Bool, false, not, ◌&&◌, ◌||◌, is_some, ◌<◌, List, Option, Some, None, length, slice_index_or}
 use Rattle.pmf_event.specs.declared.event.Event.{Event}
 use Rattle.pmf_event.specs.declared.event.Event.TheVariants.{Store, Persist, Ordered}
-use Rattle.pmf_event.specs.Span.{Extent, covers_byte}
-use Rattle.pmf_event.specs.Places.{count, some_between}
-use Rattle.pmf_event.specs.Ranges.{first_byte}
-use Rattle.pmf_event.specs.Store.{event_at, at}
-use Rattle.pmf_event.specs.Transactions.{closes_scope, in_scope, in_transaction}
+use Rattle.pmf_event.specs.Prelude.{Extent, covers_byte, count, some_between, first_byte, event_at, at, closes_scope, in_scope, in_transaction}
 use Rattle.pmf_runs.specs.Runs.{state_at}
 use Rattle.pmf_query.specs.declared.covering.Later.{Later}
 

@@ -1,23 +1,15 @@
 -- What explain_text answers: the text that explains one place of a section. Defined here.
-use Rattle.std.specs.Prelude.{◌≡◌, ℕ, List, [], ◌∷◌, ◌++◌, codes, Option, None, Some, Ok}
-use Rattle.std.specs.List.{flat_map}
-use Rattle.std.specs.Fmt.{decimal}
+use Rattle.std.specs.Prelude.{◌≡◌, ℕ, List, [], ◌∷◌, ◌++◌, codes, Option, None, Some, Ok, flat_map, decimal}
 use Rattle.pmf_event.specs.declared.event.Event.{Event}
 use Rattle.pmf_event.specs.declared.finding.Finding.{Finding}
 use Rattle.pmf_event.specs.declared.finding.Finding.TheVariants.{PersistFail, OrderedFail, CheckFail}
 use Rattle.pmf_event.specs.declared.profile.Profile.{Profile}
 use Rattle.pmf_event.specs.declared.row.Row.{Row}
-use Rattle.pmf_event.specs.Address.{address}
-use Rattle.pmf_event.specs.Line.{line_of_byte}
-use Rattle.pmf_event.specs.Section.{Trace}
-use Rattle.pmf_event.specs.Store.{last_store}
+use Rattle.pmf_event.specs.Prelude.{address, line_of_byte, Trace, last_store}
 use Rattle.pmf_image.specs.declared.certificate.Certificate.{Certificate}
 use Rattle.pmf_image.specs.Certificate.{cut_in, shows_in}
-use Rattle.pmf_storelog.specs.LogText.{log_of}
-use Rattle.pmf_storelog.specs.LogValue.{LogValue}
-use Rattle.pmf_verdict.specs.Explained.{Explains}
-use Rattle.pmf_verdict.specs.Rows.{rows_of}
-use Rattle.pmf_verdict.specs.Text.{text_of_rows, rows_at}
+use Rattle.pmf_storelog.specs.Prelude.{log_of, LogValue}
+use Rattle.pmf_verdict.specs.Prelude.{Explains, rows_of, text_of_rows, rows_at}
 use Rattle.pmf_query.specs.Refusals.{IsPlace, IsSection}
 
 -- the bytes that a failed row names; other rows have no image

@@ -15,7 +15,7 @@ pub mod Locating
 pub mod Laws
 pub mod Naming
 pub mod Nearness
-pub mod Rolling
+pub mod Counting
 pub mod Covering
 pub mod Summing
 pub mod Linting

@@ -1,6 +1,5 @@
 -- The text that tells what a log holds: ASCII, in text lines. Defined here.
-use Rattle.std.specs.Prelude.{ℕ, ◌/◌, ◌%◌, Bool, false, not, ◌&&◌, ◌||◌, ◌==◌, nat_le, List, [], ◌∷◌, ◌++◌, Option, None, Some, length, take, codes, if◌then◌else◌}
-use Rattle.std.specs.List.{flat_map}
+use Rattle.std.specs.Prelude.{ℕ, ◌/◌, ◌%◌, Bool, false, not, ◌&&◌, ◌||◌, ◌==◌, nat_le, List, [], ◌∷◌, ◌++◌, Option, None, Some, length, take, codes, if◌then◌else◌, flat_map}
 use Rattle.std.specs.Fmt.{decimal, digit_glyph}
 use Rattle.pmf_query.specs.declared.lint.Lint.{Lint}
 use Rattle.pmf_query.specs.declared.naming.Named.{Named}

@@ -1,7 +1,6 @@
 -- What is told of a whole log. Defined here.
 use Rattle.std.specs.Prelude.{◌≡◌, ℕ, List, length, take}
-use Rattle.pmf_storelog.specs.Separators.{records_of}
-use Rattle.pmf_storelog.specs.LogText.{numbers_of, sections_of, skipped_of}
+use Rattle.pmf_storelog.specs.Prelude.{records_of, numbers_of, sections_of, skipped_of}
 use Rattle.pmf_query.specs.Locating.{IsFaultless}
 use Rattle.pmf_query.specs.Naming.{Count, count_others, first_names, known_names, names_in, names_of, skipped_names}
 use Rattle.pmf_query.specs.Nearness.{has_near, has_strange}

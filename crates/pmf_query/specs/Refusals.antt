@@ -1,10 +1,7 @@
 -- Which section and event of a log are asked for, and why a log gives no answer. Defined here.
-use Rattle.std.specs.Prelude.{◌≡◌, ◌≢◌, ℕ, ◌≤◌, List, ◌++◌, length, codes, Ok, Err, Contains}
-use Rattle.std.specs.Fmt.{decimal}
+use Rattle.std.specs.Prelude.{◌≡◌, ◌≢◌, ℕ, ◌≤◌, List, ◌++◌, length, codes, Ok, Err, Contains, decimal}
 use Rattle.pmf_event.specs.Section.{Trace}
-use Rattle.pmf_storelog.specs.FaultText.{text_of_fault}
-use Rattle.pmf_storelog.specs.LogText.{log_of, out_of_memory}
-use Rattle.pmf_storelog.specs.LogValue.{LogValue}
+use Rattle.pmf_storelog.specs.Prelude.{text_of_fault, log_of, out_of_memory, LogValue}
 use Rattle.pmf_request.specs.declared.settings.Sought.{Sought}
 use Rattle.pmf_query.specs.declared.refusal.EventFault.{EventFault}
 use Rattle.pmf_query.specs.declared.refusal.EventFault.TheVariants as fault

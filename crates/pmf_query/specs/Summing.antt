@@ -1,13 +1,12 @@
 -- What the sections of a log hold, in numbers. Defined here.
 use Rattle.std.specs.Prelude.{ℕ, ◌+◌, ◌≤◌, Bool, true, false, List, length, count_by, sum_by}
-use Rattle.pmf_event.specs.Section.{Trace}
 use Rattle.pmf_event.specs.declared.event.Event.{Event}
 use Rattle.pmf_event.specs.declared.event.Event.TheVariants.{Store, Persist, Ordered, CheckEnd}
 use Rattle.pmf_event.specs.declared.profile.Profile.TheVariants.{One}
 use Rattle.pmf_event.specs.declared.row.Row.{Row}
+use Rattle.pmf_event.specs.Prelude.{Trace}
 use Rattle.pmf_verdict.specs.declared.outcome.Outcome.TheVariants.{Empty}
-use Rattle.pmf_verdict.specs.Outcome.{outcome_of, is_same}
-use Rattle.pmf_verdict.specs.Rows.{rows_of}
+use Rattle.pmf_verdict.specs.Prelude.{outcome_of, is_same, rows_of}
 use Rattle.pmf_query.specs.Covering.{uncovered_of}
 use Rattle.pmf_query.specs.declared.summing.Sums.{Sums}
 

@@ -1,7 +1,6 @@
 //! The text that explains one place of a section.
 
-ghost use Rattle.std.specs.Prelude.{◌≡◌, ◌≤◌, ◌++◌, length, OnOk, IfOk, MatchResult};
-ghost use Rattle.std.specs.String.{string_bytes};
+ghost use Rattle.std.specs.Prelude.{◌≡◌, ◌≤◌, ◌++◌, length, OnOk, IfOk, MatchResult, string_bytes};
 ghost use Rattle.pmf_image.specs.Certificate.{Fits};
 ghost use Rattle.pmf_verdict.specs.Checked.{rows_in};
 ghost use Rattle.pmf_query.specs.Explanation.{ExplainsPlace, IsExplanation, text_of_byte, text_of_bytes, text_of_image, text_of_line, text_of_certificate};

@@ -1,8 +1,6 @@
 //! The text that explains every failing row of a log.
 
-ghost use Rattle.std.specs.Prelude.{◌≡◌, ◌≤◌, ◌++◌, ℕ, length, Some, OnOk, IfOk, MatchResult};
-ghost use Rattle.std.specs.List.{flat_map};
-ghost use Rattle.std.specs.String.{string_bytes};
+ghost use Rattle.std.specs.Prelude.{◌≡◌, ◌≤◌, ◌++◌, ℕ, length, Some, OnOk, IfOk, MatchResult, flat_map, string_bytes};
 ghost use Rattle.pmf_image.specs.Certificate.{Fits};
 ghost use Rattle.pmf_image.specs.declared.certificate.Certificate.{Certificate};
 ghost use Rattle.pmf_verdict.specs.Explained.{certificate_of};

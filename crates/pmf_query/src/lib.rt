@@ -13,6 +13,7 @@
 //! Not promised here: that memory suffices, and that a log is what the program did.
 #![tactic(auto)]
 
+mod counting;
 mod covering;
 mod explain;
 mod explain_all;
@@ -26,7 +27,6 @@ mod nearness;
 mod passing;
 mod query;
 mod refusal;
-mod rolling;
 mod section;
 mod summing;
 mod telling;

@@ -2,15 +2,15 @@
 
 ghost use Rattle.std.specs.Prelude.{◌≡◌, MatchResult, IfOk};
 ghost use Rattle.pmf_storelog.specs.Separators.{records_of};
-ghost use Rattle.pmf_query.specs.Rolling.{Tallies};
+ghost use Rattle.pmf_query.specs.Counting.{Tallies};
 ghost use Rattle.pmf_query.specs.Linting.{IsLint, Overviews};
 ghost use Rattle.pmf_query.specs.Refusals.{IsLogRefusal};
 
+use crate::counting::NameCounts;
 use crate::listing::Listing;
 use crate::naming::Named;
 use crate::query::{Answer, Query};
 use crate::refusal::LogRefusal;
-use crate::rolling::Roll;
 use crate::summing::{Sums, sum};
 use crate::telling::lint_text;
 use crate::walking::next_record;
@@ -83,33 +83,33 @@ pub fn lint_log<'a>(alloc: Global, log: &'a [u8]) -> Result<Lint<'a>, LogRefusal
         Ok(sums) => sums,
         Err(_) => return Err(LogRefusal::OutOfMemory),
     };
-    match call_roll(alloc, log) {
-        Ok(roll) => {
+    match count_names(alloc, log) {
+        Ok(counts) => {
             let sections = read.sections().len() as u64;
-            Ok(told(roll, read.skipped(), sections, sums))
+            Ok(told(counts, read.skipped(), sections, sums))
         }
         Err(_) => Err(LogRefusal::OutOfMemory),
     }
 }
 
-fn told<'a>(roll: Roll<'a>, skipped: u64, sections: u64, sums: Sums) -> Lint<'a>
+fn told<'a>(counts: NameCounts<'a>, skipped: u64, sections: u64, sums: Sums) -> Lint<'a>
     ensures { result ≡ record {
-      records = roll.entry.records;
-      known = roll.entry.known;
+      records = counts.entry.records;
+      known = counts.entry.known;
       skipped = skipped;
-      listed = roll.entry.listing.listed;
-      others = roll.entry.listing.others;
-      has_near = roll.entry.listing.has_near;
-      has_strange = roll.entry.listing.has_strange;
+      listed = counts.entry.listing.listed;
+      others = counts.entry.listing.others;
+      has_near = counts.entry.listing.has_near;
+      has_strange = counts.entry.listing.has_strange;
       sections = sections;
       sums = sums;
     } }
 {
-    let Roll {
+    let NameCounts {
         records,
         known,
         listing,
-    } = roll;
+    } = counts;
     let Listing {
         listed,
         others,
@@ -130,14 +130,14 @@ fn told<'a>(roll: Roll<'a>, skipped: u64, sections: u64, sums: Sums) -> Lint<'a>
 }
 
 // How many records of each name the log has.
-fn call_roll<'a>(alloc: Global, log: &'a [u8]) -> Result<Roll<'a>, AllocError>
-    ensures { IfOk result (λ roll. Tallies roll (records_of log.now)) }
+fn count_names<'a>(alloc: Global, log: &'a [u8]) -> Result<NameCounts<'a>, AllocError>
+    ensures { IfOk result (λ counts. Tallies counts (records_of log.now)) }
 {
-    let mut roll = Roll::new(alloc)?;
+    let mut counts = NameCounts::new(alloc)?;
     let mut start = 0;
     while let Some(found) = next_record(log, start) {
-        roll.take(found.text)?;
+        counts.take(found.text)?;
         start = found.next;
     }
-    Ok(roll)
+    Ok(counts)
 }

@@ -19,7 +19,7 @@ pub(crate) struct Listing<'a> {
 }
 
 impl<'a> Listing<'a> {
-    ghost use Rattle.pmf_query.specs.Rolling.{Lists};
+    ghost use Rattle.pmf_query.specs.Counting.{Lists};
 
     /// Of no name. Takes no memory.
     pub(crate) fn new(alloc: Global) -> Listing<'a>

@@ -1,8 +1,7 @@
 //! Where an event of a section stands in its log.
 
 ghost use Rattle.std.specs.Prelude.{◌≡◌, ◌≢◌, ◌<◌, ◌≤◌, length, MatchResult, MatchOption, IfErr, IfOk};
-ghost use Rattle.pmf_storelog.specs.LogText.{events_in};
-ghost use Rattle.pmf_storelog.specs.Separators.{records_of};
+ghost use Rattle.pmf_storelog.specs.Prelude.{events_in, records_of};
 ghost use Rattle.pmf_query.specs.Locating.{IsLocated, IsLocation, IsLocationText, text_of_location};
 ghost use Rattle.pmf_query.specs.Refusals.{IsEventFault, IsEventRefusal};
 

@@ -1,7 +1,6 @@
 //! Names of records, and how many records have each.
 
-ghost use Rattle.std.specs.Prelude.{◌≡◌, ◌-◌, ◌<◌, ◌^◌, map, slice_index_or, [], IfOk, length};
-ghost use Rattle.std.specs.List.{All};
+ghost use Rattle.std.specs.Prelude.{◌≡◌, ◌-◌, ◌<◌, ◌^◌, map, slice_index_or, [], IfOk, length, All};
 ghost use Rattle.pmf_storelog.specs.LogText.{is_skipped};
 ghost use Rattle.pmf_query.specs.Naming.{Count, counting, is_among, known_names, name_of, names_in};
 

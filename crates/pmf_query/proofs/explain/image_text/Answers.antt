@@ -1,5 +1,4 @@
-use Rattle.std.proofs.Common.{◌∙◌, ap}
-use Rattle.std.specs.String.{string_bytes}
+use Rattle.std.proofs.Common.{◌∙◌, ap, string_bytes}
 use Rattle.pmf_verdict.proofs.TextLemmas.{text-here, text-elsewhere}
 use Rattle.pmf_query.specs.Explanation.{text_of_bytes, text_of_image}
 use Rattle.pmf_query.proofs.explain.image_text.Goals as goal

@@ -1,6 +1,4 @@
-use Rattle.std.proofs.Common.{◌≡◌, ◌++◌, take}
-use Rattle.std.specs.List.{flat_map}
-use Rattle.std.specs.String.{string_bytes}
+use Rattle.std.proofs.Common.{◌≡◌, ◌++◌, take, flat_map, string_bytes}
 use Rattle.pmf_verdict.specs.Text.{rows_at}
 use Rattle.pmf_query.specs.Explanation.{text_of_bytes, text_of_image}
 use Rattle.pmf_query.proofs.explain.image_text.Given as goal

@@ -1,6 +1,4 @@
-use Rattle.std.proofs.Common.{◌≡◌, map, take}
-use Rattle.std.specs.List.{flat_map}
-use Rattle.std.specs.String.{string_bytes}
+use Rattle.std.proofs.Common.{◌≡◌, map, take, flat_map, string_bytes}
 use Rattle.pmf_query.specs.AllExplained.{text_of_failures}
 use Rattle.pmf_query.proofs.explain_all.failures_of.Given as goal
 

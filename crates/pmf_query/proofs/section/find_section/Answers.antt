@@ -1,6 +1,4 @@
-use Rattle.std.proofs.Common.{◌≤◌, map, length, sym, subst, arith}
-use Rattle.std.specs.Prelude.{Contains}
-use Rattle.std.proofs.lemmas.List.{take_all}
+use Rattle.std.proofs.Common.{◌≤◌, map, length, sym, subst, arith, Contains, take_all}
 use Rattle.pmf_query.proofs.NumberFoundLemmas.{LacksNumber-more}
 use Rattle.pmf_query.proofs.section.find_section.Goals as goal
 

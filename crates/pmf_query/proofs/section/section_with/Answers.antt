@@ -1,5 +1,4 @@
-use Rattle.std.proofs.Common.{sym, subst}
-use Rattle.std.specs.Prelude.{Contains}
+use Rattle.std.proofs.Common.{sym, subst, Contains}
 use Rattle.pmf_query.proofs.section.section_with.Goals as goal
 
 pub returns-in_default : goal.returns-in_default

@@ -1,5 +1,4 @@
-use Rattle.std.proofs.Common.{◌≡◌, ◌≤◌, take}
-use Rattle.std.specs.Prelude.{count_by}
+use Rattle.std.proofs.Common.{◌≡◌, ◌≤◌, take, count_by}
 use Rattle.pmf_query.specs.Summing.{is_empty_row}
 use Rattle.pmf_query.proofs.summing.count_empty_rows.Given as goal
 

@@ -1,6 +1,4 @@
-use Rattle.std.proofs.Common.{false, ◌∙◌, ◌∷◌, ◌++◌, ap, List, ℕ, arith}
-use Rattle.std.specs.String.{string_bytes}
-use Rattle.std.proofs.lemmas.Fmt.{hex_byte}
+use Rattle.pmf_event.proofs.Common.{false, ◌∙◌, ◌∷◌, ◌++◌, ap, List, ℕ, arith, string_bytes, hex_byte}
 use Rattle.pmf_query.proofs.telling.push_escaped.Goals as goal
 
 pub returns : goal.returns

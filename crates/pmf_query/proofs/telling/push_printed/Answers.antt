@@ -1,5 +1,4 @@
-use Rattle.std.proofs.Common.{◌∙◌, ◌++◌, ap, List, ℕ}
-use Rattle.std.specs.String.{string_bytes}
+use Rattle.std.proofs.Common.{◌∙◌, ◌++◌, ap, List, ℕ, string_bytes}
 use Rattle.pmf_query.proofs.LintTextLemmas.{printed_alone}
 use Rattle.pmf_query.proofs.telling.push_printed.Goals as goal
 

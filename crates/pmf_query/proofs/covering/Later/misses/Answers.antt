@@ -1,5 +1,4 @@
-use Rattle.std.proofs.Common.{◌∙◌, ap, sym, not, ◌||◌}
-use Rattle.std.specs.Prelude.{is_some}
+use Rattle.std.proofs.Common.{◌∙◌, ap, sym, not, ◌||◌, is_some}
 use Rattle.pmf_query.proofs.CoverLemmas.{missed, missed_none}
 use Rattle.pmf_query.proofs.covering.Later.misses.Goals as goal
 

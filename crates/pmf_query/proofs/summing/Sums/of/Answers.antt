@@ -1,5 +1,4 @@
-use Rattle.std.proofs.Common.{◌∙◌, ap, length}
-use Rattle.std.specs.Prelude.{count_by}
+use Rattle.std.proofs.Common.{◌∙◌, ap, length, count_by}
 use Rattle.pmf_event.specs.Section.{Trace}
 use Rattle.pmf_query.specs.Covering.{uncovered_of}
 use Rattle.pmf_query.specs.Summing.{asserts, is_store}

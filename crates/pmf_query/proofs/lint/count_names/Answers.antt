@@ -1,17 +1,17 @@
 use Rattle.std.proofs.Common.{[], length-append, take, sym, subst, arith, ◌∷◌}
 use Rattle.pmf_storelog.specs.Separators.{records_of}
-use Rattle.pmf_query.specs.Rolling.{Tallies}
+use Rattle.pmf_query.specs.Counting.{Tallies}
 use Rattle.pmf_query.proofs.CursorLemmas.{anew_first, records_of-nil}
 use Rattle.pmf_query.proofs.LintLemmas.{tallied_next}
-use Rattle.pmf_query.proofs.lint.call_roll.Goals as goal
+use Rattle.pmf_query.proofs.lint.count_names.Goals as goal
 
 pub loop-found-init : goal.loop-found-init
 loop-found-init c =
-    let none = c.in_ok-roll.ensures in record {
+    let none = c.in_ok-counts.ensures in record {
       within = omega arith;
       anew = anew_first c.args.log.now;
       few = omega (arith, none.count);
-      tallies = subst (Tallies c.in_ok-roll.roll) (sym records_of-nil) none;
+      tallies = subst (Tallies c.in_ok-counts.counts) (sym records_of-nil) none;
     }
 
 pub loop-found-preserved : goal.loop-found-preserved

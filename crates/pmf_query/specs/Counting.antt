@@ -2,7 +2,7 @@
 use Rattle.std.specs.Prelude.{◌≡◌, ℕ, List, length, take}
 use Rattle.pmf_query.specs.declared.naming.TheConstants.{LISTED}
 use Rattle.pmf_query.specs.declared.listing.Listing.{Listing}
-use Rattle.pmf_query.specs.declared.rolling.Roll.{Roll}
+use Rattle.pmf_query.specs.declared.counting.NameCounts.{NameCounts}
 use Rattle.pmf_query.specs.Naming.{Count, count_others, first_names, known_names, names_in, names_of, skipped_names}
 use Rattle.pmf_query.specs.Nearness.{has_near, has_strange}
 
@@ -16,8 +16,8 @@ pub record Lists (listing : Listing) (names : List (List ℕ)) : Type 0 where
   pub strange : listing.has_strange ≡ has_strange names
 
 -- what is counted is that of these records: of each known name, and of the names of those that are skipped
-pub record Tallies (roll : Roll) (records : List (List ℕ)) : Type 0 where
-  pub count : roll.records ≡ length records
-  pub names : names_in roll.known.items ≡ known_names
-  pub known : Count roll.known.items (names_of records)
-  pub skipped : Lists roll.listing (skipped_names records)
+pub record Tallies (counts : NameCounts) (records : List (List ℕ)) : Type 0 where
+  pub count : counts.records ≡ length records
+  pub names : names_in counts.known.items ≡ known_names
+  pub known : Count counts.known.items (names_of records)
+  pub skipped : Lists counts.listing (skipped_names records)

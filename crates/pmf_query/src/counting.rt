@@ -8,7 +8,7 @@ use std::alloc::{AllocError, Global};
 
 /// How many records of each name a walk has passed.
 #[derive(Debug, Drop)]
-pub(crate) struct Roll<'a> {
+pub(crate) struct NameCounts<'a> {
     /// All of them.
     pub(crate) records: u64,
     /// Those of each known name, in the order of the format's table.
@@ -17,15 +17,15 @@ pub(crate) struct Roll<'a> {
     pub(crate) listing: Listing<'a>,
 }
 
-impl<'a> Roll<'a> {
-    ghost use Rattle.pmf_query.specs.Rolling.{Tallies};
+impl<'a> NameCounts<'a> {
+    ghost use Rattle.pmf_query.specs.Counting.{Tallies};
 
     /// Of no record.
-    pub(crate) fn new(alloc: Global) -> Result<Roll<'a>, AllocError>
-        ensures { IfOk result (λ roll. Tallies roll []) }
+    pub(crate) fn new(alloc: Global) -> Result<NameCounts<'a>, AllocError>
+        ensures { IfOk result (λ counts. Tallies counts []) }
     {
         let known = known_counts(alloc)?;
-        Ok(Roll {
+        Ok(NameCounts {
             records: 0,
             known,
             listing: Listing::new(alloc),
