@@ -1,7 +1,7 @@
 -- What a worker did on a board: the tasks that it took, and the verdicts that it put. Defined here.
-use Rattle.std.specs.Prelude.{◌≡◌, ℕ, ◌≤◌, List, [], ◌∷◌, ◌++◌, length, map, get_or, Result, Ok, Err}
+use Rattle.std.specs.Prelude.{◌≡◌, ℕ, ◌≤◌, Bool, if◌then◌else◌, List, [], ◌∷◌, ◌++◌, length, map, get_or, Result, Ok, Err}
 use Rattle.pmf_event.specs.declared.profile.Profile.{Profile}
-use Rattle.pmf_event.specs.Section.{Trace}
+use Rattle.pmf_event.specs.Prelude.{Trace}
 use Rattle.pmf_verdict.specs.Checked.{Checked, checked_by}
 use Rattle.pmf_ledger.specs.Repeats.{section_at}
 use Rattle.pmf_board.specs.Calls.{Marks}
@@ -28,6 +28,10 @@ abbrev pub most_left : {E : Type 0} → Result Ended E → ℕ
 most_left (Ok ended.All) = 0
 most_left (Ok ended.Lost) = 1
 most_left (Err fault) = 1
+
+-- below how many hand-outs a section is taken: of one that was never handed out, and again
+abbrev pub limit_of : Bool → ℕ
+limit_of again = if again then 8 else 1
 
 -- the task's section was marked, and its verdict put
 pub record Serves (sections : List Trace) (profile : Profile) (task : Task) (old new : View) (before after : List Checked) : Type 0 where

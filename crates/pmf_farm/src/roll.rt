@@ -7,7 +7,7 @@ ghost use Rattle.pmf_farm.specs.Rolls.{IsRepeatOf};
 
 use crate::fault::FarmFault;
 use crate::slot::Slot;
-use pmf_event::{Name, Profile, Section};
+use pmf_event::{Profile, Section};
 use pmf_ledger::least_repeat;
 use pmf_verdict::Verdict;
 use std::alloc::{AllocError, Global};
@@ -52,29 +52,11 @@ pub(crate) fn call(
     Ok(roll)
 }
 
-// Where the section of this name stands, or where it would.
-fn place_of(roll: &[Slot], name: Name) -> usize
-    ensures { result ≤ length roll.now }
-{
-    let mut low = 0;
-    let mut high = roll.len();
-    while low < high {
-        let middle = low + (high - low) / 2;
-        if roll[middle].name() < name {
-            low = middle + 1;
-        } else {
-            high = middle;
-        }
-    }
-    low
-}
-
 /// Keeps the verdict in the slot of its section, if it is one of a section of the roll. Any other is dropped.
 pub(crate) fn keep(roll: &mut [Slot], verdict: Verdict)
     ensures { roll.new ≡ roll.old }
 {
-    let place = place_of(roll, verdict.name());
-    if place < roll.len() {
+    if let Ok(place) = roll.binary_search_by_key(&verdict.name(), |slot| slot.name()) {
         roll[place].keep(verdict);
     }
 }

@@ -1,9 +1,7 @@
 //! A farm: workers on threads of their own, and the ledger of what they and the caller's own thread checked.
 
-ghost use Rattle.std.specs.Prelude.{◌≡◌, ◌≤◌, map, length, vec_len, IfOk, IfErr};
-ghost use Rattle.std.specs.List.{All};
-ghost use Rattle.pmf_ledger.specs.Gathered.{IsLedgerOf};
-ghost use Rattle.pmf_ledger.specs.Repeats.{HaveOwnNames};
+ghost use Rattle.std.specs.Prelude.{◌≡◌, ◌≤◌, map, length, vec_len, IfOk, IfErr, All};
+ghost use Rattle.pmf_ledger.specs.Prelude.{IsLedgerOf, HaveOwnNames};
 ghost use Rattle.pmf_farm.specs.Rolls.{IsRepeatOf, sections_of};
 ghost use Rattle.pmf_farm.specs.Running.{IsRefused, IsTaken};
 

@@ -1,11 +1,11 @@
 //! What a worker does: it takes sections from a board, checks them, and puts their verdicts.
 
 ghost use Rattle.std.specs.Prelude.{◌≡◌, ◌≢◌, ◌<◌, length, map, IfOk, OnOk, OnErr, IfNone, IfSome, IfErr, Ok};
-ghost use Rattle.pmf_board.specs.Calls.{PassesOverAll, Stays};
+ghost use Rattle.pmf_board.specs.Calls.{PassesOverAll, Stays, Takes};
 ghost use Rattle.pmf_board.specs.Views.{HasTaken};
 ghost use Rattle.pmf_verdict.specs.Checked.{checked_by};
 ghost use Rattle.pmf_ledger.specs.Repeats.{section_at};
-ghost use Rattle.pmf_farm.specs.Working.{HasWorked, Serves, most_left};
+ghost use Rattle.pmf_farm.specs.Working.{HasWorked, Serves, limit_of, most_left};
 
 use crate::gate::{Gate, Turn};
 use crate::outbox::Outbox;
@@ -101,17 +101,40 @@ impl<'a, G: Gate> Worker<'a, G> {
         self.board.is_done(pass, section)
     }
 
-    // Takes fresh sections and serves them, until there is none.
-    fn serve_fresh<O: Outbox>(&self, pass: &mut Pass, outbox: &mut O) -> Result<Ended, AllocError>
+    // Takes a section that was never handed out or, again, one that isn't done.
+    fn take(&self, pass: &mut Pass, start: u32, again: bool) -> Option<Task>
+        requires own { pass.old.board ≡ self.now.board.now }
+        ensures same { pass.new.board ≡ pass.old.board }
+        ensures some { IfSome result (λ t. Takes (limit_of again) pass.old.view t pass.new.view) }
+        ensures there { IfSome result (λ t. t.section < self.now.board.now.words) }
+        ensures none { IfNone result (Stays pass.old.view pass.new.view) }
+        ensures all { IfNone result (PassesOverAll (limit_of again) self.now.board.now.words pass.new.view) }
+    {
+        if again {
+            self.board.take_again(pass, start)
+        } else {
+            self.board.take_fresh(pass, start)
+        }
+    }
+
+    // Takes sections and serves them, until there is none.
+    fn serve_all<O: Outbox>(
+        &self,
+        pass: &mut Pass,
+        outbox: &mut O,
+        again: bool,
+    ) -> Result<Ended, AllocError>
         requires own { pass.old.board ≡ self.now.board.now }
         requires all { length self.now.sections.now ≡ self.now.board.now.words }
         ensures same { pass.new.board ≡ pass.old.board }
         ensures worked { HasWorked (map (λ s. s.value) self.now.sections.now) self.now.profile
             pass.old.view pass.new.view (O.sent outbox.old) (O.sent outbox.new) (most_left result) }
+        ensures all { (result ≡ Ok Ended.All)
+            → PassesOverAll (limit_of again) self.now.board.now.words pass.new.view }
     {
         // Behind the last task, so that no section is passed over twice in a round.
         let mut start = self.number;
-        while let Some(task) = self.board.take_fresh(pass, start) {
+        while let Some(task) = self.take(pass, start, again) {
             start = task.section().wrapping_add(1);
             match self.serve(pass, outbox, task) {
                 Ok(Turn::Go) => {}
@@ -137,28 +160,6 @@ impl<'a, G: Gate> Worker<'a, G> {
             let Some(task) = self.board.take_again(pass, section) else {
                 continue;
             };
-            match self.serve(pass, outbox, task) {
-                Ok(Turn::Go) => {}
-                Ok(Turn::Lost) => return Ok(Ended::Lost),
-                Err(refused) => return Err(refused),
-            }
-        }
-        Ok(Ended::All)
-    }
-
-    // Takes sections again and serves them, until there is none.
-    fn serve_again<O: Outbox>(&self, pass: &mut Pass, outbox: &mut O) -> Result<Ended, AllocError>
-        requires own { pass.old.board ≡ self.now.board.now }
-        requires all { length self.now.sections.now ≡ self.now.board.now.words }
-        ensures same { pass.new.board ≡ pass.old.board }
-        ensures worked { HasWorked (map (λ s. s.value) self.now.sections.now) self.now.profile
-            pass.old.view pass.new.view (O.sent outbox.old) (O.sent outbox.new) (most_left result) }
-        ensures all { (result ≡ Ok Ended.All)
-            → PassesOverAll 8 self.now.board.now.words pass.new.view }
-    {
-        let mut start = self.number;
-        while let Some(task) = self.board.take_again(pass, start) {
-            start = task.section().wrapping_add(1);
             match self.serve(pass, outbox, task) {
                 Ok(Turn::Go) => {}
                 Ok(Turn::Lost) => return Ok(Ended::Lost),
@@ -204,7 +205,7 @@ pub fn work<O: Outbox, G: Gate>(
         profile,
         gate,
     };
-    match worker.serve_fresh(pass, outbox) {
+    match worker.serve_all(pass, outbox, false) {
         Ok(Ended::All) => {}
         ended => return ended,
     }
@@ -212,5 +213,5 @@ pub fn work<O: Outbox, G: Gate>(
         Ok(Ended::All) => {}
         ended => return ended,
     }
-    worker.serve_again(pass, outbox)
+    worker.serve_all(pass, outbox, true)
 }

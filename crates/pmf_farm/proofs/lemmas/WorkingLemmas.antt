@@ -1,18 +1,11 @@
 -- A worker's turns, one after another.
-use Rattle.std.proofs.Common.{◌≡◌, ℕ, zero, suc, ◌+◌, ◌-◌, ◌<◌, ◌≤◌, List, [], ◌∷◌, ◌++◌, length, map, refl, sym, ◌∙◌, ap, subst, arith, inl, inr}
-use Rattle.std.specs.Prelude.{eqb, count_by, cond}
-use Rattle.std.proofs.lemmas.List.{map-append, append-nil}
-use Rattle.std.proofs.lemmas.Bool.{cases_order}
-use Rattle.std.proofs.lemmas.List.Sums.{sum_by-append, sum_by-cons}
-use Rattle.std.proofs.Common.{eq-eqb}
-use Rattle.std.proofs.Common.{append_assoc}
+use Rattle.pmf_event.proofs.Common.{◌≡◌, ℕ, zero, suc, ◌+◌, ◌-◌, ◌<◌, ◌≤◌, List, [], ◌∷◌, ◌++◌, length, map, refl, sym, ◌∙◌, ap, subst, arith, inl, inr, eqb, count_by, cond, eq-eqb, append_assoc, Ok, map-append, append-nil, cases_order, sum_by-append, sum_by-cons}
 use Rattle.pmf_event.specs.declared.profile.Profile.{Profile}
-use Rattle.pmf_event.specs.Section.{Trace}
+use Rattle.pmf_event.specs.Prelude.{Trace}
 use Rattle.pmf_verdict.specs.Checked.{Checked}
 use Rattle.pmf_board.specs.Calls.{Stays, Takes}
 use Rattle.pmf_board.specs.declared.task.Task.{Task}
 use Rattle.pmf_board.specs.declared.view.View.{View}
-use Rattle.std.proofs.Common.{Ok}
 use Rattle.std.specs.declared.alloc.AllocError.{AllocError}
 use Rattle.pmf_farm.specs.declared.working.Ended.{Ended}
 use Rattle.pmf_farm.specs.declared.working.Ended.TheVariants.{All}
@@ -28,17 +21,6 @@ module _ (sections : List Trace) (profile : Profile) where
     marked = sym (append-nil v.marked);
     put = sym (append-nil xs);
     few = omega arith;
-  }
-
-  -- what may be left may be more
-  pub HasWorked-weaker : (old new : View) (before after : List Checked) (m n : ℕ) → m ≤ n → HasWorked sections profile old new before after m → HasWorked sections profile old new before after n
-  HasWorked-weaker old new before after m n less worked = record {
-    tasks = worked.tasks;
-    rest = worked.rest;
-    took = worked.took;
-    marked = worked.marked;
-    put = worked.put;
-    few = let few = worked.few in omega (arith, few, less);
   }
 
   -- who ended with all left nothing
@@ -63,17 +45,6 @@ module _ (sections : List Trace) (profile : Profile) where
     marked = stays.marked ∙ worked.marked;
     put = worked.put;
     few = worked.few;
-  }
-
-  -- a task that was taken and not served is left
-  pub HasWorked-left : (old mid new : View) (before after : List Checked) (limit : ℕ) (t : Task) → HasWorked sections profile old mid before after 0 → Takes limit mid t new → HasWorked sections profile old new before after 1
-  HasWorked-left old mid new before after limit t worked takes = record {
-    tasks = worked.tasks;
-    rest = t ∷ [];
-    took = takes.took ∙ ap (λ ts. ts ++ t ∷ []) (took_all old mid before after worked);
-    marked = takes.marked ∙ worked.marked;
-    put = worked.put;
-    few = omega arith;
   }
 
   -- a task that was taken and served is one more

@@ -1,5 +1,4 @@
-use Rattle.std.proofs.Common.{◌≡◌}
-use Rattle.std.specs.List.{All}
+use Rattle.std.proofs.Common.{◌≡◌, All}
 use Rattle.pmf_farm.proofs.running.hands_of.Given as goal
 
 abbrev pub invariant-loop-number : goal.invariant-loop-number

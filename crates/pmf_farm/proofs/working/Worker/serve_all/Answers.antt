@@ -1,6 +1,6 @@
 use Rattle.std.proofs.Common.{refl, sym, Ok, ◌∙◌, ap, subst, ◌<◌, ◌∷◌, [], ◌++◌}
 use Rattle.pmf_farm.proofs.lemmas.WorkingLemmas.{HasWorked-none, HasWorked-served, unmarked, unmarked-falls}
-use Rattle.pmf_farm.proofs.working.Worker.serve_again.Goals as goal
+use Rattle.pmf_farm.proofs.working.Worker.serve_all.Goals as goal
 
 pub loop-task-init : goal.loop-task-init
 loop-task-init g c = record { same = refl; worked = HasWorked-none _ _ _ _ }
@@ -15,6 +15,6 @@ loop-task-smaller g c =
 
 pub loop-task-preserved : goal.loop-task-preserved
 loop-task-preserved g c = record {
-  same = c.serve.ensures.same ∙ c.take_again.ensures.same ∙ c.loop-task.invariant.same;
-  worked = HasWorked-served _ _ _ _ _ _ _ _ _ 8 _ c.loop-task.invariant.worked c.in-Some.ensures.some (c.in-Ok-Go.ensures.served (ap Ok c.in-Ok-Go.field-0-is));
+  same = c.serve.ensures.same ∙ c.take.ensures.same ∙ c.loop-task.invariant.same;
+  worked = HasWorked-served _ _ _ _ _ _ _ _ _ _ _ c.loop-task.invariant.worked c.in-Some.ensures.some (c.in-Ok-Go.ensures.served (ap Ok c.in-Ok-Go.field-0-is));
 }
