@@ -1,8 +1,7 @@
 //! What an order assertion finds.
 
 ghost use Rattle.std.specs.Prelude.{◌≡◌, ◌<◌};
-ghost use Rattle.pmf_event.specs.Store.{last_store};
-ghost use Rattle.pmf_event.specs.Order.{ordered_finding};
+ghost use Rattle.pmf_event.specs.Prelude.{last_store, ordered_finding};
 ghost use Rattle.pmf_shadow.specs.Shadow.{ForEachList};
 ghost use Rattle.pmf_shadow.specs.Told.{KeepsOrder, finding_as_told};
 

@@ -3,13 +3,13 @@ use Rattle.std.specs.Prelude.{◌≡◌, ◌⊎◌, ℕ, ◌==◌, Result, Ok, E
 use Rattle.clap.specs.declared.error.kind.ErrorKind.{ErrorKind}
 use Rattle.clap.specs.declared.error.kind.ErrorKind.TheVariants.{DisplayHelp, DisplayVersion, OutOfMemory}
 use Rattle.pmf_storelog.specs.declared.fault.Cause.{Cause}
-use Rattle.pmf_storelog.specs.declared.fault.Cause.TheVariants as log
 use Rattle.pmf_storelog.specs.declared.fault.LogFault.{LogFault}
 use Rattle.pmf_cut.specs.declared.fault.CutFault.{CutFault}
 use Rattle.pmf_cut.specs.declared.fault.CutFault.TheVariants as cutting
+use Rattle.pmf_storelog.specs.declared.fault.Cause.TheVariants as log
 use Rattle.pmf_ledger.specs.declared.joining.JoinFault.{JoinFault}
-use Rattle.pmf_ledger.specs.declared.joining.JoinFault.TheVariants as joining
 use Rattle.pmf_ledger.specs.declared.loading.LedgerFault.{LedgerFault}
+use Rattle.pmf_ledger.specs.declared.joining.JoinFault.TheVariants as joining
 use Rattle.pmf_ledger.specs.declared.loading.LedgerFault.TheVariants as loading
 use Rattle.pmf_farm.specs.declared.fault.FarmFault.{FarmFault}
 use Rattle.pmf_farm.specs.declared.fault.FarmFault.TheVariants as farm

@@ -1,6 +1,5 @@
 -- Laws of tests at a place of a list of events.
-use Rattle.std.proofs.Common.{◌≡◌, ℕ, suc, Bool, true, false, List, if◌then◌else◌, refl, ◌∙◌, ap}
-use Rattle.std.specs.Prelude.{Option, Some, None}
+use Rattle.std.proofs.Common.{◌≡◌, ℕ, suc, Bool, true, false, List, if◌then◌else◌, refl, ◌∙◌, ap, Option, Some, None}
 use Rattle.std.proofs.Math.Numerals.{sub-one}
 use Rattle.pmf_event.specs.declared.event.Event.{Event}
 use Rattle.pmf_event.specs.declared.event.Event.TheVariants.{Fence}

@@ -1,16 +1,11 @@
 -- Where all spans are valid, written bytes lie below the limit of addresses.
-use Rattle.std.proofs.Common.{◌≡◌, ℕ, zero, suc, ◌<◌, true, List, refl, subst, arith}
-use Rattle.std.specs.Prelude.{Option, Some, None}
-use Rattle.std.specs.List.{All}
-use Rattle.std.proofs.lemmas.List.Elements.{All-get_or}
-use Rattle.std.proofs.lemmas.Option.{slice_get_within, get_or_from_slice_get}
+use Rattle.pmf_event.proofs.Common.{◌≡◌, ℕ, zero, suc, ◌<◌, true, List, refl, subst, arith, Option, Some, None, All, All-get_or, slice_get_within, get_or_from_slice_get}
 use Rattle.pmf_event.specs.declared.event.Event.{Event}
 use Rattle.pmf_event.specs.declared.event.Event.TheVariants.{Store}
 use Rattle.pmf_event.specs.declared.span.TheConstants.{ADDRESS_LIMIT}
 use Rattle.pmf_event.specs.Laws.{BytesLieBelowTheLimit}
 use Rattle.pmf_event.specs.Section.{IsValidEvent}
 use Rattle.pmf_event.specs.Store.{event_at, passes, at, stores, last, last_store}
-use Rattle.pmf_event.specs.Transactions.{is_scoped}
 use Rattle.pmf_event.proofs.LineLemmas.{covers-bounds}
 use Rattle.pmf_event.proofs.PlacesLemmas.{greatest-passes}
 use Rattle.pmf_event.proofs.TransactionLemmas.{scoped-written}

@@ -1,9 +1,6 @@
 -- The state of a line follows from its bytes: the last store that meets it is the last store of one of
 -- its bytes, and no byte of it has a later one.
-use Rattle.std.proofs.Common.{◌≡◌, ℕ, ◌%◌, ◌<◌, ◌≤◌, Bool, true, false, not, ◌&&◌, ◌||◌, ◌==◌, nat_lt, List, refl, sym, ◌∙◌, ap, arith, inl, inr}
-use Rattle.std.specs.Prelude.{◌↔◌, Option, Some, None}
-use Rattle.std.proofs.lemmas.Bool.{cases_eq, cases_lt, lt-ltb, ltb-true, le-ltb, ne_eqb, and_parts, and_from, or_left, or_right, or_from, not_from_false, not-true, false_from_ne_true}
-use Rattle.std.proofs.lemmas.Bool.Decides.{Decides-eqb}
+use Rattle.pmf_event.proofs.Common.{◌≡◌, ℕ, ◌%◌, ◌<◌, ◌≤◌, Bool, true, false, not, ◌&&◌, ◌||◌, ◌==◌, nat_lt, List, refl, sym, ◌∙◌, ap, arith, inl, inr, ◌↔◌, Option, Some, None, cases_eq, cases_lt, lt-ltb, ltb-true, le-ltb, ne_eqb, and_parts, and_from, or_left, or_right, or_from, not_from_false, not-true, false_from_ne_true, Decides-eqb}
 use Rattle.pmf_event.specs.declared.event.Event.{Event}
 use Rattle.pmf_event.specs.declared.event.Event.TheVariants.{Store}
 use Rattle.pmf_event.specs.declared.span.TheConstants.{LINE_SIZE}

@@ -1,6 +1,5 @@
 -- Laws of the searches over places.
-use Rattle.std.proofs.Common.{◌≡◌, ℕ, zero, suc, ◌-◌, ◌<◌, ◌≤◌, Bool, true, false, if◌then◌else◌, nat_lt, refl, ◌∙◌, inl, inr, arith}
-use Rattle.std.proofs.lemmas.Bool.{cases_lt, ltb-false, lt-ltb, ltb-true}
+use Rattle.pmf_event.proofs.Common.{◌≡◌, ℕ, zero, suc, ◌-◌, ◌<◌, ◌≤◌, Bool, true, false, if◌then◌else◌, nat_lt, refl, ◌∙◌, inl, inr, arith, cases_lt, ltb-false, lt-ltb, ltb-true}
 use Rattle.std.proofs.Math.Numerals.{sub-one}
 use Rattle.pmf_event.specs.Places.{greatest, least, count, some_between}
 

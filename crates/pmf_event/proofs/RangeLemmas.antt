@@ -1,7 +1,5 @@
 -- Laws of the searches over a range of numbers.
-use Rattle.std.proofs.Common.{◌≡◌, ℕ, zero, suc, ◌+◌, ◌-◌, ◌<◌, ◌≤◌, min, Bool, true, false, nat_le, if◌then◌else◌, refl, sym, ◌∙◌, ap, arith, inl, inr}
-use Rattle.std.specs.Prelude.{Option, Some, None, is_some, ◌⊎◌}
-use Rattle.std.proofs.lemmas.Bool.{cases_eq, leb-true, leb-false}
+use Rattle.pmf_event.proofs.Common.{◌≡◌, ℕ, zero, suc, ◌+◌, ◌-◌, ◌<◌, ◌≤◌, min, Bool, true, false, nat_le, if◌then◌else◌, refl, sym, ◌∙◌, ap, arith, inl, inr, Option, Some, None, is_some, ◌⊎◌, cases_eq, leb-true, leb-false}
 use Rattle.pmf_event.specs.Ranges.{first_from, count_from, lesser, least_from}
 
 -- ---- what a search found, or that it found none
@@ -106,51 +104,6 @@ count_from-same s t b (suc n) same =
 module _ (test : ℕ → Bool) where
   count_if : Bool → ℕ → ℕ
   count_if t c = if t then suc c else c
-
-  count_if-add : (t : Bool) (c d : ℕ) → count_if t (c + d) ≡ count_if t c + d
-  unfolding count_if
-  count_if-add true c d = omega arith
-  count_if-add false c d = refl
-
-  -- the m numbers from b on, and the n after them
-  pub count_from-split : (b m n : ℕ) (whole middle : ℕ) → whole ≡ m + n → middle ≡ b + m → count_from test b whole ≡ count_from test b m + count_from test middle n
-  unfolding count_from count_if
-  count_from-split b zero n whole middle all at =
-      let same : whole ≡ n = omega arith in
-      let here : middle ≡ b = omega arith in
-      ap (count_from test b) same ∙ ap (λ k. count_from test k n) (sym here) ∙ omega arith
-  count_from-split b (suc m) n zero middle all at = absurd (omega arith)
-  count_from-split b (suc m) n (suc whole) middle all at =
-      ap (count_if (test b)) (count_from-split (b + 1) m n whole middle (omega arith) (omega arith))
-      ∙ count_if-add (test b) (count_from test (b + 1) m) (count_from test middle n)
-
-  pub count_from-bound : (b n : ℕ) → count_from test b n ≤ n
-  unfolding count_from
-  count_from-bound b zero = omega arith
-  count_from-bound b (suc n) =
-      let rest = count_from-bound (b + 1) n in
-      elim (test b) as (λ v. (if v then suc (count_from test (b + 1) n) else count_from test (b + 1) n) ≤ suc n) [ true ↦ omega arith | false ↦ omega arith ]
-
-  pub count_from-all : (b n : ℕ) → ((k : ℕ) → b ≤ k → k < b + n → test k ≡ true) → count_from test b n ≡ n
-  unfolding count_from count_if
-  count_from-all b zero all = refl
-  count_from-all b (suc n) all =
-      ap (λ v. count_if v (count_from test (b + 1) n)) (all b (omega arith) (omega arith))
-      ∙ ap suc (count_from-all (b + 1) n (λ k low high. all k (omega arith) (omega arith)))
-
-  pub count_from-none : (b n : ℕ) → NonePass test b n → count_from test b n ≡ 0
-  unfolding count_from count_if
-  count_from-none b zero none = refl
-  count_from-none b (suc n) none =
-      ap (λ v. count_if v (count_from test (b + 1) n)) (none b (omega arith) (omega arith))
-      ∙ count_from-none (b + 1) n (λ k low high. none k (omega arith) (omega arith))
-
-  -- a count may begin at the first that passes
-  pub count_from-first : (b n k : ℕ) → IsFirst test b n k → count_from test b n ≡ count_from test k (b + n - k)
-  count_from-first b n k first =
-      let low = first.from in let high = first.within in
-      let none = count_from-none b (k - b) (λ j from until. first.before j from (omega arith)) in
-      let split = count_from-split b (k - b) (b + n - k) n k (omega arith) (omega arith) in omega arith
 
 -- ---- the lesser of values that may be missing
 

@@ -1,9 +1,6 @@
 -- Laws of transactions and of the scope, event by event: the depth, the bytes that are backed up, the
 -- place that opened the scope, and its bytes.
-use Rattle.std.proofs.Common.{◌≡◌, ℕ, zero, suc, ◌-◌, ◌<◌, ◌≤◌, Bool, true, false, not, ◌&&◌, nat_lt, if◌then◌else◌, List, refl, sym, ◌∙◌, ap, arith, inl, inr}
-use Rattle.std.specs.Prelude.{Some}
-use Rattle.std.proofs.lemmas.Bool.{cases_lt, cases_eq, le-ltb, ltb-false, lt-ltb, and_parts, and_from, ltb-true}
-use Rattle.std.proofs.Math.Bool.{and-false}
+use Rattle.pmf_event.proofs.Common.{◌≡◌, ℕ, zero, suc, ◌-◌, ◌<◌, ◌≤◌, Bool, true, false, not, ◌&&◌, nat_lt, if◌then◌else◌, List, refl, sym, ◌∙◌, ap, arith, inl, inr, Some, cases_lt, cases_eq, le-ltb, ltb-false, lt-ltb, and_parts, and_from, ltb-true, and-false}
 use Rattle.pmf_event.specs.declared.event.Event.{Event}
 use Rattle.pmf_event.specs.Places.{greatest, least, count, highest}
 use Rattle.pmf_event.specs.Store.{event_at, at, stores, last, last_store}
@@ -322,7 +319,3 @@ unfolding is_left_open is_exposed is_checked is_included
 left_open-exposed es p b scoped =
     ap (λ v. v && is_included es (suc p) b && is_open (interval_at es (suc p) b)) scoped
     ∙ sym (ap (λ v. v && is_included es (suc p) b && is_open (interval_at es (suc p) b)) (lt-ltb 0 (last_store es (suc p) b) (scoped-written es p b scoped)))
-
-pub left_open-none : (es : List Event) (p b : ℕ) → is_scoped es p b ≡ false → is_left_open es p b ≡ false
-unfolding is_left_open
-left_open-none es p b other = ap (λ v. v && is_included es (suc p) b && is_open (interval_at es (suc p) b)) other

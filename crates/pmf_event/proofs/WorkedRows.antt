@@ -1,6 +1,5 @@
 -- The worked examples, computed by the definitions alone.
-use Rattle.std.proofs.Common.{◌≡◌, ℕ, true, false, List, [], ◌∷◌, refl, ap, zero, suc, Bool, ◌<◌, ◌≤◌, arith}
-use Rattle.std.specs.Prelude.{Some, None, Ok, Err}
+use Rattle.std.proofs.Common.{◌≡◌, ℕ, true, false, List, [], ◌∷◌, refl, ap, zero, suc, Bool, ◌<◌, ◌≤◌, arith, Some, None, Ok, Err}
 use Rattle.pmf_event.specs.Span.{Extent, extent_of, covers_byte}
 use Rattle.pmf_event.specs.Line.{line_of_byte, meets_span, meets_line}
 use Rattle.pmf_event.specs.declared.span.TheConstants.{ADDRESS_LIMIT}

@@ -1,9 +1,6 @@
 -- The first write-back after the last of some stores, event by event, and the epoch in which it lies.
 -- The stores are those of a byte or those of a line: no such store is a write-back of the line.
-use Rattle.std.proofs.Common.{◌≡◌, ℕ, suc, ◌+◌, ◌-◌, ◌<◌, ◌≤◌, Bool, true, false, ◌&&◌, nat_lt, if◌then◌else◌, List, refl, sym, ◌∙◌, ap, arith, inl, inr}
-use Rattle.std.specs.Prelude.{Option, Some, None, is_none}
-use Rattle.std.proofs.lemmas.Bool.{cases_lt, cases_eq, le-ltb, ltb-false, lt-ltb, and_parts, and_from, ne_eqb, ltb-true}
-use Rattle.std.proofs.lemmas.Bool.Decides.{Decides-eqb}
+use Rattle.pmf_event.proofs.Common.{◌≡◌, ℕ, suc, ◌+◌, ◌-◌, ◌<◌, ◌≤◌, Bool, true, false, ◌&&◌, nat_lt, if◌then◌else◌, List, refl, sym, ◌∙◌, ap, arith, inl, inr, Option, Some, None, is_none, cases_lt, cases_eq, le-ltb, ltb-false, lt-ltb, and_parts, and_from, ne_eqb, ltb-true, Decides-eqb}
 use Rattle.pmf_event.specs.declared.event.Event.{Event}
 use Rattle.pmf_event.specs.Places.{least, count, some_between}
 use Rattle.pmf_event.specs.Store.{event_at, at, flushes, is_fence, last, epoch_of}

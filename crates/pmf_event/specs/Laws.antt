@@ -1,6 +1,5 @@
 -- Laws of this crate's definitions, which its empty public functions prove.
-use Rattle.std.specs.Prelude.{◌≡◌, ℕ, ◌+◌, ◌*◌, ◌<◌, ◌≤◌, ◌↔◌, true, List}
-use Rattle.std.specs.List.{All}
+use Rattle.std.specs.Prelude.{◌≡◌, ℕ, ◌+◌, ◌*◌, ◌<◌, ◌≤◌, ◌↔◌, true, List, All}
 use Rattle.pmf_event.specs.declared.event.Event.{Event}
 use Rattle.pmf_event.specs.Span.{Extent, covers_byte}
 use Rattle.pmf_event.specs.declared.span.TheConstants.{ADDRESS_LIMIT, LINE_SIZE}

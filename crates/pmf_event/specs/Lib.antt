@@ -14,3 +14,4 @@ pub mod FlushWarnings
 pub mod LineBytes
 pub mod Transactions
 pub mod Laws
+pub mod Prelude

@@ -1,7 +1,6 @@
 //! A section: its name and its events.
 
-ghost use Rattle.std.specs.Prelude.{◌≡◌, ◌↔◌, ◌≤◌, ◌<◌, [], ◌∷◌, ◌++◌, length, IsTrue, OnOk, OnErr, IsErrOf};
-ghost use Rattle.std.specs.List.{All};
+ghost use Rattle.std.specs.Prelude.{◌≡◌, ◌↔◌, ◌≤◌, ◌<◌, [], ◌∷◌, ◌++◌, length, IsTrue, OnOk, OnErr, IsErrOf, All};
 ghost use Rattle.pmf_event.specs.Section.{Trace, IsValidEvent};
 ghost use Rattle.pmf_event.specs.declared.section.TheConstants.{EVENT_LIMIT};
 
@@ -26,8 +25,7 @@ pub struct Section {
 }
 
 impl Model for Section {
-    ghost use Rattle.std.specs.List.{All};
-    ghost use Rattle.std.specs.Prelude.{◌≤◌, length};
+    ghost use Rattle.std.specs.Prelude.{◌≤◌, length, All};
     ghost use Rattle.pmf_event.specs.Section.{Trace, IsValidEvent};
     ghost use Rattle.pmf_event.specs.declared.section.TheConstants.{EVENT_LIMIT};
 

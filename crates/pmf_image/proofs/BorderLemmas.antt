@@ -1,19 +1,9 @@
 -- Stretches of alike bytes: between two borders all bytes are alike, and alike bytes answer alike.
-use Rattle.std.proofs.Common.{◌≡◌, ℕ, zero, suc, ◌+◌, ◌-◌, ◌<◌, ◌≤◌, not, ◌&&◌, nat_lt, nat_le, if◌then◌else◌, List, length, refl, sym, ◌∙◌, ap, arith, inl, inr, subst}
-use Rattle.std.specs.Prelude.{Some, None, nat_eq, get_or, ◌⊎◌}
-use Rattle.std.specs.Option.{option_eq}
+use Rattle.pmf_event.proofs.Common.{◌≡◌, ℕ, zero, suc, ◌+◌, ◌-◌, ◌<◌, ◌≤◌, not, ◌&&◌, nat_lt, nat_le, if◌then◌else◌, List, length, refl, sym, ◌∙◌, ap, arith, inl, inr, subst, Some, None, nat_eq, get_or, ◌⊎◌, option_eq, cases_lt, cases_eq, slice_get_past, slice_get_read}
 use Rattle.std.proofs.Math.Path.{fun_ext}
-use Rattle.std.proofs.lemmas.Bool.{cases_lt, cases_eq}
-use Rattle.std.proofs.lemmas.Option.{slice_get_past, slice_get_read}
 use Rattle.pmf_event.specs.declared.event.Event.{Event}
 use Rattle.pmf_event.specs.declared.event.Event.TheVariants.{Store, Flush, Exclude, Include}
-use Rattle.pmf_event.specs.Span.{Extent, covers_byte}
-use Rattle.pmf_event.specs.Line.{line_of_byte, meets_line}
-use Rattle.pmf_event.specs.Places.{greatest, count, some_between}
-use Rattle.pmf_event.specs.Store.{event_at, at, stores, stores_line, flushes, is_fence, last, last_store}
-use Rattle.pmf_event.specs.Exclusion.{excludes, marks, is_excluded, is_included}
-use Rattle.pmf_event.specs.Persist.{is_checked}
-use Rattle.pmf_event.specs.Transactions.{in_transaction, scope_at, in_scope, stores_inside, is_scoped}
+use Rattle.pmf_event.specs.Prelude.{Extent, covers_byte, line_of_byte, meets_line, greatest, count, some_between, event_at, at, stores, stores_line, flushes, is_fence, last, last_store, excludes, marks, is_excluded, is_included, is_checked, in_transaction, scope_at, in_scope, stores_inside, is_scoped}
 use Rattle.pmf_event.proofs.EventLemmas.{at-is}
 use Rattle.pmf_image.specs.declared.certificate.Certificate.{Certificate}
 use Rattle.pmf_image.specs.declared.questions.Question.{Question}

@@ -1,15 +1,10 @@
 -- The search for a byte that answers yes.
-use Rattle.std.proofs.Common.{◌≡◌, ℕ, ◌<◌, ◌≤◌, ◌-◌, Bool, true, false, not, ◌&&◌, nat_lt, List, refl, sym, ◌∙◌, ap, arith, inl, inr}
-use Rattle.std.proofs.Math.Bool.{and-false}
-use Rattle.std.proofs.lemmas.Bool.{cases_lt}
+use Rattle.pmf_event.proofs.Common.{◌≡◌, ℕ, ◌<◌, ◌≤◌, ◌-◌, Bool, true, false, not, ◌&&◌, nat_lt, List, refl, sym, ◌∙◌, ap, arith, inl, inr, and-false, cases_lt}
 use Rattle.pmf_event.specs.declared.event.Event.{Event}
+use Rattle.pmf_event.specs.Prelude.{last_store, is_excluded, is_included, is_checked, is_scoped}
 use Rattle.pmf_image.specs.declared.certificate.Certificate.{Certificate}
 use Rattle.pmf_image.specs.declared.questions.Question.{Question}
 use Rattle.pmf_image.specs.declared.questions.Question.TheVariants.{FallsShort, IsShown, IsLost, ScopeFallsShort}
-use Rattle.pmf_event.specs.Store.{last_store}
-use Rattle.pmf_event.specs.Exclusion.{is_excluded, is_included}
-use Rattle.pmf_event.specs.Persist.{is_checked}
-use Rattle.pmf_event.specs.Transactions.{is_scoped}
 use Rattle.pmf_image.specs.Certificate.{shows_in}
 use Rattle.pmf_image.specs.Borders.{Alike}
 use Rattle.pmf_image.specs.Questions.{is_asked, compares, answer_of}

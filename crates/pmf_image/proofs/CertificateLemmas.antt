@@ -1,18 +1,9 @@
 -- Certificates: what a pass over the events keeps of a line and of a byte, and what a certificate's image
 -- holds.
-use Rattle.std.proofs.Common.{◌≡◌, ℕ, zero, suc, ◌+◌, ◌-◌, ◌<◌, ◌≤◌, Bool, true, false, ◌&&◌, ◌==◌, nat_lt, if◌then◌else◌, List, [], length, refl, sym, ◌∙◌, ap, arith, inl, inr}
-use Rattle.std.specs.Prelude.{Option, Some, None, unwrap_or, get_or, take, nat_eq}
-use Rattle.std.specs.Option.{option_eq}
-use Rattle.std.proofs.lemmas.Bool.{cases_lt, cases_eq, ltb-true}
-use Rattle.std.proofs.lemmas.Bool.Decides.{Decides-eqb}
-use Rattle.std.proofs.lemmas.List.{length-take-le, get_or-take}
-use Rattle.std.proofs.lemmas.Option.{slice_get_read}
+use Rattle.pmf_event.proofs.Common.{◌≡◌, ℕ, zero, suc, ◌+◌, ◌-◌, ◌<◌, ◌≤◌, Bool, true, false, ◌&&◌, ◌==◌, nat_lt, if◌then◌else◌, List, [], length, refl, sym, ◌∙◌, ap, arith, inl, inr, Option, Some, None, unwrap_or, get_or, take, nat_eq, length-take-le, get_or-take, option_eq, cases_lt, cases_eq, ltb-true, Decides-eqb, slice_get_read}
 use Rattle.pmf_event.specs.declared.event.Event.{Event}
 use Rattle.pmf_event.specs.declared.event.Event.TheVariants.{Store, Flush, Fence}
-use Rattle.pmf_event.specs.Span.{Extent, covers_byte}
-use Rattle.pmf_event.specs.Line.{line_of_byte, meets_line}
-use Rattle.pmf_event.specs.Places.{greatest, count, some_between}
-use Rattle.pmf_event.specs.Store.{event_at, at, stores, stores_line, flushes, is_fence, last, last_store}
+use Rattle.pmf_event.specs.Prelude.{Extent, covers_byte, line_of_byte, meets_line, greatest, count, some_between, event_at, at, stores, stores_line, flushes, is_fence, last, last_store}
 use Rattle.pmf_event.proofs.PlacesLemmas.{SameUpTo, greatest-step, greatest-zero, greatest-bound, count-step, count-zero, count-le, some_between-here}
 use Rattle.pmf_event.proofs.EventLemmas.{at-is, last-step, not_fence_and_flush}
 use Rattle.pmf_image.specs.declared.certificate.Certificate.{Certificate}

@@ -1,17 +1,10 @@
 -- From the searches to the contradiction of an assertion, and back.
-use Rattle.std.proofs.Common.{◌≡◌, ℕ, zero, suc, ◌+◌, ◌-◌, ◌<◌, ◌≤◌, Bool, true, false, not, ◌&&◌, ◌==◌, nat_lt, ◌↔◌, List, length, refl, sym, ◌∙◌, ap, arith, subst}
-use Rattle.std.specs.Prelude.{Some, get_or}
+use Rattle.pmf_event.proofs.Common.{◌≡◌, ℕ, zero, suc, ◌+◌, ◌-◌, ◌<◌, ◌≤◌, Bool, true, false, not, ◌&&◌, ◌==◌, nat_lt, ◌↔◌, List, length, refl, sym, ◌∙◌, ap, arith, subst, Some, get_or, Decides-eqb, slice_get-get_or}
 use Rattle.std.proofs.lemmas.Bool.{and_parts, and_from, both_ways, lt-ltb, ltb-true}
-use Rattle.std.proofs.lemmas.Bool.Decides.{Decides-eqb}
-use Rattle.std.proofs.lemmas.Option.{slice_get-get_or}
 use Rattle.pmf_event.specs.declared.event.Event.{Event}
 use Rattle.pmf_event.specs.declared.event.Event.TheVariants.{Persist, Ordered, CheckEnd}
 use Rattle.pmf_event.specs.declared.span.TheConstants.{ADDRESS_LIMIT}
-use Rattle.pmf_event.specs.Span.{Extent}
-use Rattle.pmf_event.specs.Store.{event_at, last_store}
-use Rattle.pmf_event.specs.Exclusion.{is_included}
-use Rattle.pmf_event.specs.Persist.{is_checked}
-use Rattle.pmf_event.specs.Transactions.{depth_at, in_transaction, in_scope, is_scoped}
+use Rattle.pmf_event.specs.Prelude.{Extent, event_at, last_store, is_included, is_checked, depth_at, in_transaction, in_scope, is_scoped}
 use Rattle.pmf_event.proofs.LineLemmas.{covers-bounds, bounds-cover}
 use Rattle.pmf_event.proofs.TransactionLemmas.{inside-from, outside-from}
 use Rattle.pmf_image.specs.declared.certificate.Certificate.{Certificate}

@@ -1,19 +1,10 @@
 -- What does not hold: contradicted assertions, certified pairs, and pairs of two bytes that one store wrote.
-use Rattle.std.proofs.Common.{◌≡◌, ℕ, ◌+◌, ◌-◌, ◌<◌, ◌≤◌, Bool, true, false, not, ◌&&◌, ◌||◌, if◌then◌else◌, List, length, refl, sym, ◌∙◌, ap, arith, inl, inr, subst}
-use Rattle.std.specs.Prelude.{Option, Some}
-use Rattle.std.proofs.lemmas.Bool.{cases_lt, cases_eq, lt-ltb, and_from, and_parts}
-use Rattle.std.proofs.lemmas.Bool.Decides.{Decides-eqb}
+use Rattle.pmf_event.proofs.Common.{◌≡◌, ℕ, ◌+◌, ◌-◌, ◌<◌, ◌≤◌, Bool, true, false, not, ◌&&◌, ◌||◌, if◌then◌else◌, List, length, refl, sym, ◌∙◌, ap, arith, inl, inr, subst, Option, Some, cases_lt, cases_eq, lt-ltb, and_from, and_parts, Decides-eqb}
 use Rattle.pmf_event.specs.declared.event.Event.{Event}
 use Rattle.pmf_event.specs.declared.event.Event.TheVariants.{Persist, Ordered, CheckEnd}
 use Rattle.pmf_event.specs.declared.profile.Profile.{Profile}
 use Rattle.pmf_event.specs.declared.profile.Profile.TheVariants.{Two}
-use Rattle.pmf_event.specs.Line.{line_of_byte}
-use Rattle.pmf_event.specs.Span.{Extent, covers_byte}
-use Rattle.pmf_event.specs.Places.{greatest}
-use Rattle.pmf_event.specs.Store.{event_at, last_store}
-use Rattle.pmf_event.specs.Interval.{interval_at}
-use Rattle.pmf_event.specs.Persist.{is_checked}
-use Rattle.pmf_event.specs.Order.{precedes, share_line, is_stored_before, is_ordered, is_unordered, is_certified}
+use Rattle.pmf_event.specs.Prelude.{line_of_byte, Extent, covers_byte, greatest, event_at, last_store, interval_at, is_checked, precedes, share_line, is_stored_before, is_ordered, is_unordered, is_certified}
 use Rattle.pmf_event.proofs.PlacesLemmas.{greatest-bound}
 use Rattle.pmf_image.specs.Image.{Image, count_of, is_fenced, floor_of, is_in, cut_of, reach_of, shows}
 use Rattle.pmf_image.specs.declared.certificate.Certificate.{Certificate}

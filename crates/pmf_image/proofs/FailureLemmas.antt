@@ -1,19 +1,10 @@
 -- Failures are real: the image of a certificate that shows one.
-use Rattle.std.proofs.Common.{◌≡◌, ℕ, ◌+◌, ◌-◌, ◌<◌, ◌≤◌, Bool, true, false, not, ◌&&◌, ◌||◌, ◌==◌, nat_lt, if◌then◌else◌, List, [], refl, sym, ◌∙◌, ap, arith, inl, inr, subst}
-use Rattle.std.specs.Prelude.{Some, None, nat_eq}
-use Rattle.std.specs.Option.{option_eq}
-use Rattle.std.proofs.lemmas.Bool.{cases_lt, le-leb, ne_eqb, or_cases, and_parts, and_from, ltb-true}
-use Rattle.std.proofs.lemmas.Bool.Decides.{Decides-eqb}
+use Rattle.pmf_event.proofs.Common.{◌≡◌, ℕ, ◌+◌, ◌-◌, ◌<◌, ◌≤◌, Bool, true, false, not, ◌&&◌, ◌||◌, ◌==◌, nat_lt, if◌then◌else◌, List, [], refl, sym, ◌∙◌, ap, arith, inl, inr, subst, Some, None, nat_eq, option_eq, cases_lt, le-leb, ne_eqb, or_cases, and_parts, and_from, ltb-true, Decides-eqb}
 use Rattle.pmf_event.specs.declared.event.Event.{Event}
 use Rattle.pmf_event.specs.declared.interval.Interval.{Interval}
 use Rattle.pmf_event.specs.declared.profile.Profile.{Profile}
 use Rattle.pmf_event.specs.declared.profile.Profile.TheVariants.{One, Two}
-use Rattle.pmf_event.specs.Line.{line_of_byte}
-use Rattle.pmf_event.specs.Places.{greatest, least, count, some_between}
-use Rattle.pmf_event.specs.Store.{at, stores, flushes, is_fence, last_store, epoch_of}
-use Rattle.pmf_event.specs.Interval.{closes, closing_fence, epoch_after, interval_at, is_open}
-use Rattle.pmf_event.specs.Order.{is_closed_by, precedes, share_line, is_stored_before, is_ordered, is_unordered, is_certified}
-use Rattle.pmf_event.specs.Persist.{is_checked, is_exposed}
+use Rattle.pmf_event.specs.Prelude.{line_of_byte, greatest, least, count, some_between, at, stores, flushes, is_fence, last_store, epoch_of, closes, closing_fence, epoch_after, interval_at, is_open, is_closed_by, precedes, share_line, is_stored_before, is_ordered, is_unordered, is_certified, is_checked, is_exposed}
 use Rattle.pmf_event.proofs.PlacesLemmas.{greatest-bound, least-below, least-passes, count-mono, count-here, some_between-here}
 use Rattle.pmf_event.proofs.EventLemmas.{not_fence_and_store}
 use Rattle.pmf_event.proofs.IntervalLemmas.{Closing, no_Closing-from_open}

@@ -1,16 +1,8 @@
 -- Soundness of closed intervals, the two images that are always there, and the image of an open interval.
-use Rattle.std.specs.Prelude.{◌||◌, ◌⊎◌}
-use Rattle.std.proofs.Common.{◌≡◌, ℕ, zero, suc, ◌+◌, ◌-◌, ◌<◌, ◌≤◌, true, false, ◌==◌, List, [], ◌∷◌, if◌then◌else◌, refl, sym, ◌∙◌, ap, subst, arith, inl, inr}
-use Rattle.std.specs.Prelude.{Some, None, unwrap_or, slice_get}
-use Rattle.std.proofs.lemmas.Bool.{cases_lt, cases_eq, or_cases, leb-true, le-leb, ne_eqb, and_parts, and_from, ltb-true}
-use Rattle.std.proofs.lemmas.Bool.Decides.{Decides-eqb}
+use Rattle.pmf_event.proofs.Common.{◌≡◌, ℕ, zero, suc, ◌+◌, ◌-◌, ◌<◌, ◌≤◌, true, false, ◌==◌, List, [], ◌∷◌, if◌then◌else◌, refl, sym, ◌∙◌, ap, subst, arith, inl, inr, ◌||◌, ◌⊎◌, Some, None, unwrap_or, slice_get, cases_lt, cases_eq, or_cases, leb-true, le-leb, ne_eqb, and_parts, and_from, ltb-true, Decides-eqb}
 use Rattle.pmf_event.specs.declared.event.Event.{Event}
 use Rattle.pmf_event.specs.declared.event.Event.TheVariants.{Store}
-use Rattle.pmf_event.specs.Line.{line_of_byte}
-use Rattle.pmf_event.specs.Places.{greatest, count, some_between}
-use Rattle.pmf_event.specs.Store.{event_at, passes, at, stores, stores_line, flushes, is_fence, last, last_store}
-use Rattle.pmf_event.specs.Interval.{interval_at, is_open}
-use Rattle.pmf_event.specs.Persist.{is_checked, is_exposed}
+use Rattle.pmf_event.specs.Prelude.{line_of_byte, greatest, count, some_between, event_at, passes, at, stores, stores_line, flushes, is_fence, last, last_store, interval_at, is_open, is_checked, is_exposed}
 use Rattle.pmf_event.proofs.PlacesLemmas.{greatest-bound, greatest-passes, greatest-above, count-zero, count-mono, count-here, count-found, some_between-here, some_between-found}
 use Rattle.pmf_event.proofs.LineLemmas.{stores-line, meets-bounds}
 use Rattle.pmf_event.proofs.IntervalLemmas.{Closing, Closing-from_closed, no_Closing-from_open}

@@ -1,17 +1,10 @@
 -- Soundness of ordered pairs: what is durable before a store is shown wherever that store is.
-use Rattle.std.proofs.Common.{◌≡◌, ℕ, ◌+◌, ◌-◌, ◌<◌, ◌≤◌, Bool, true, false, ◌&&◌, ◌==◌, if◌then◌else◌, List, refl, sym, ◌∙◌, arith, inl, inr, subst}
-use Rattle.std.specs.Prelude.{Some, None}
-use Rattle.std.proofs.lemmas.Bool.{cases_lt, cases_eq, leb-true, or_cases, and_parts, ltb-true}
-use Rattle.std.proofs.lemmas.Bool.Decides.{Decides-eqb}
+use Rattle.pmf_event.proofs.Common.{◌≡◌, ℕ, ◌+◌, ◌-◌, ◌<◌, ◌≤◌, Bool, true, false, ◌&&◌, ◌==◌, if◌then◌else◌, List, refl, sym, ◌∙◌, arith, inl, inr, subst, Some, None, cases_lt, cases_eq, leb-true, or_cases, and_parts, ltb-true, Decides-eqb}
 use Rattle.pmf_event.specs.declared.event.Event.{Event}
 use Rattle.pmf_event.specs.declared.interval.Interval.{Interval}
 use Rattle.pmf_event.specs.declared.profile.Profile.{Profile}
 use Rattle.pmf_event.specs.declared.profile.Profile.TheVariants.{One, Two}
-use Rattle.pmf_event.specs.Line.{line_of_byte}
-use Rattle.pmf_event.specs.Places.{some_between}
-use Rattle.pmf_event.specs.Store.{at, stores, flushes, is_fence, last_store, epoch_of}
-use Rattle.pmf_event.specs.Interval.{closes, closing_fence, epoch_after, interval_at}
-use Rattle.pmf_event.specs.Order.{is_closed_by, precedes, share_line, is_stored_before, is_ordered}
+use Rattle.pmf_event.specs.Prelude.{line_of_byte, some_between, at, stores, flushes, is_fence, last_store, epoch_of, closes, closing_fence, epoch_after, interval_at, is_closed_by, precedes, share_line, is_stored_before, is_ordered}
 use Rattle.pmf_event.proofs.PlacesLemmas.{least-passes, count-mono, some_between-found}
 use Rattle.pmf_event.proofs.IntervalLemmas.{Closing}
 use Rattle.pmf_image.specs.Image.{Image, IsAllowed, count_of, cut_of, is_in, reach_of, shows}

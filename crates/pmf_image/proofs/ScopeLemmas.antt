@@ -1,15 +1,8 @@
 -- Passes over the events, for what they say of transactions, of the scope and of one byte.
-use Rattle.std.proofs.Common.{◌≡◌, ℕ, suc, ◌-◌, ◌<◌, ◌≤◌, Bool, true, false, not, ◌&&◌, nat_lt, if◌then◌else◌, List, refl, sym, ◌∙◌, ap, arith}
-use Rattle.std.specs.Prelude.{Some}
-use Rattle.std.proofs.lemmas.Bool.{and_from, le-ltb}
-use Rattle.std.proofs.Math.Bool.{and-false}
+use Rattle.pmf_event.proofs.Common.{◌≡◌, ℕ, suc, ◌-◌, ◌<◌, ◌≤◌, Bool, true, false, not, ◌&&◌, nat_lt, if◌then◌else◌, List, refl, sym, ◌∙◌, ap, arith, Some, and_from, le-ltb, and-false}
 use Rattle.pmf_event.specs.declared.event.Event.{Event}
 use Rattle.pmf_event.specs.declared.event.Event.TheVariants.{Store, Exclude, Include, TxBegin, TxEnd, CheckStart, CheckEnd}
-use Rattle.pmf_event.specs.Span.{Extent, covers_byte}
-use Rattle.pmf_event.specs.Places.{greatest}
-use Rattle.pmf_event.specs.Store.{event_at, at, stores, last}
-use Rattle.pmf_event.specs.Exclusion.{excludes, marks, is_excluded, is_included}
-use Rattle.pmf_event.specs.Transactions.{begins, ends, depth_at, in_transaction, opens_scope, closes_scope, scope_at, in_scope, stores_inside, is_scoped}
+use Rattle.pmf_event.specs.Prelude.{Extent, covers_byte, greatest, event_at, at, stores, last, excludes, marks, is_excluded, is_included, begins, ends, depth_at, in_transaction, opens_scope, closes_scope, scope_at, in_scope, stores_inside, is_scoped}
 use Rattle.pmf_image.proofs.CertificateLemmas.{stores-other}
 use Rattle.pmf_event.proofs.EventLemmas.{at-is, last-step, last-none}
 use Rattle.pmf_event.proofs.TransactionLemmas.{depth-start, depth-begun, depth-ended, depth-kept, inside-from, scope-start, scope-none, scope-some, scoped-from, unscoped-from, in_scope-same, scope-stays, scope-opened, scope-kept, scope-closed, scoped-opened, scoped-kept, scoped-stored}

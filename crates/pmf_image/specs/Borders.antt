@@ -2,9 +2,7 @@
 use Rattle.std.specs.Prelude.{◌≡◌, ℕ, List, Some, nat_eq}
 use Rattle.std.specs.Option.{option_eq}
 use Rattle.pmf_event.specs.declared.event.Event.{Event}
-use Rattle.pmf_event.specs.Line.{line_of_byte}
-use Rattle.pmf_event.specs.Store.{at, stores, stores_line, flushes}
-use Rattle.pmf_event.specs.Exclusion.{excludes, marks}
+use Rattle.pmf_event.specs.Prelude.{line_of_byte, at, stores, stores_line, flushes, excludes, marks}
 use Rattle.pmf_image.specs.declared.certificate.Certificate.{Certificate}
 
 -- the event at place k, if there is one, covers both bytes or neither, and meets the lines of both or of

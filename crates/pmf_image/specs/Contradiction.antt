@@ -4,11 +4,7 @@ use Rattle.std.specs.Prelude.{◌≡◌, ◌≢◌, ℕ, ◌-◌, ◌<◌, ◌�
 use Rattle.pmf_event.specs.declared.event.Event.{Event}
 use Rattle.pmf_event.specs.declared.event.Event.TheVariants.{Persist, Ordered, CheckEnd}
 use Rattle.pmf_event.specs.declared.span.TheConstants.{ADDRESS_LIMIT}
-use Rattle.pmf_event.specs.Span.{Extent, covers_byte}
-use Rattle.pmf_event.specs.Store.{event_at, last_store}
-use Rattle.pmf_event.specs.Exclusion.{is_included}
-use Rattle.pmf_event.specs.Persist.{is_checked}
-use Rattle.pmf_event.specs.Transactions.{in_transaction, in_scope, is_scoped}
+use Rattle.pmf_event.specs.Prelude.{Extent, covers_byte, event_at, last_store, is_included, is_checked, in_transaction, in_scope, is_scoped}
 use Rattle.pmf_image.specs.declared.certificate.Certificate.{Certificate}
 use Rattle.pmf_image.specs.Certificate.{shows_in}
 

@@ -4,12 +4,8 @@
 use Rattle.std.specs.Prelude.{◌≡◌, ℕ, ◌-◌, ◌<◌, ◌≤◌, true, List, length, Option, Some}
 use Rattle.pmf_event.specs.declared.event.Event.{Event}
 use Rattle.pmf_event.specs.declared.event.Event.TheVariants.{Persist, Ordered, CheckEnd}
-use Rattle.pmf_event.specs.Span.{Extent, covers_byte}
-use Rattle.pmf_event.specs.Store.{event_at, last_store}
-use Rattle.pmf_event.specs.Persist.{is_checked}
 use Rattle.pmf_event.specs.declared.span.TheConstants.{ADDRESS_LIMIT}
-use Rattle.pmf_event.specs.Exclusion.{is_included}
-use Rattle.pmf_event.specs.Transactions.{is_scoped}
+use Rattle.pmf_event.specs.Prelude.{Extent, covers_byte, event_at, last_store, is_checked, is_included, is_scoped}
 use Rattle.pmf_image.specs.Image.{Image, IsAllowed, shows}
 
 -- a persist assertion over the span holds at p: wherever a crash comes from p to the end of the section,

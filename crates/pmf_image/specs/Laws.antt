@@ -1,19 +1,10 @@
 -- Laws of this crate's definitions, which its empty public functions prove.
-use Rattle.std.specs.Prelude.{◌≡◌, ◌≢◌, ℕ, ◌-◌, ◌<◌, ◌≤◌, ◌↔◌, true, false, List, [], length, None, Some}
+use Rattle.std.specs.Prelude.{◌≡◌, ◌≢◌, ℕ, ◌-◌, ◌<◌, ◌≤◌, ◌↔◌, true, false, List, [], length, None, Some, All}
 use Rattle.pmf_event.specs.declared.event.Event.{Event}
-use Rattle.pmf_event.specs.Span.{Extent, covers_byte}
-use Rattle.pmf_event.specs.Line.{line_of_byte}
-use Rattle.pmf_event.specs.Interval.{interval_at, is_open}
-use Rattle.pmf_event.specs.Persist.{is_checked, is_exposed}
-use Rattle.std.specs.List.{All}
-use Rattle.pmf_event.specs.Section.{IsValidEvent}
-use Rattle.pmf_event.specs.Exclusion.{is_included}
-use Rattle.pmf_event.specs.Transactions.{is_scoped}
-use Rattle.pmf_image.specs.Image.{Image, IsAllowed, count_of, floor_of, cut_of, is_in, shows}
 use Rattle.pmf_event.specs.declared.profile.Profile.{Profile}
 use Rattle.pmf_event.specs.declared.profile.Profile.TheVariants.{Two}
-use Rattle.pmf_event.specs.Order.{is_ordered, is_unordered, is_certified}
-use Rattle.pmf_event.specs.Store.{last_store}
+use Rattle.pmf_event.specs.Prelude.{Extent, covers_byte, line_of_byte, interval_at, is_open, is_checked, is_exposed, IsValidEvent, is_included, is_scoped, is_ordered, is_unordered, is_certified, last_store}
+use Rattle.pmf_image.specs.Image.{Image, IsAllowed, count_of, floor_of, cut_of, is_in, shows}
 use Rattle.pmf_image.specs.declared.certificate.Certificate.{Certificate}
 use Rattle.pmf_image.specs.Certificate.{image_of, shows_in}
 use Rattle.pmf_image.specs.Contradiction.{Contradicts}

@@ -2,10 +2,7 @@
 -- here.
 use Rattle.std.specs.Prelude.{◌≡◌, ℕ, ◌-◌, ◌<◌, ◌≤◌, Bool, true, not, ◌&&◌, ◌==◌, nat_lt, List}
 use Rattle.pmf_event.specs.declared.event.Event.{Event}
-use Rattle.pmf_event.specs.Store.{last_store}
-use Rattle.pmf_event.specs.Exclusion.{is_included}
-use Rattle.pmf_event.specs.Persist.{is_checked}
-use Rattle.pmf_event.specs.Transactions.{is_scoped}
+use Rattle.pmf_event.specs.Prelude.{last_store, is_included, is_checked, is_scoped}
 use Rattle.pmf_image.specs.declared.certificate.Certificate.{Certificate}
 use Rattle.pmf_image.specs.declared.questions.Question.{Question}
 use Rattle.pmf_image.specs.declared.questions.Question.TheVariants.{FallsShort, IsShown, IsLost, ScopeFallsShort}

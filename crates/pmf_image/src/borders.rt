@@ -2,8 +2,7 @@
 
 ghost use Rattle.std.specs.Prelude.{ℕ, ◌≡◌, ◌⊎◌, ◌<◌, ◌≤◌, Some, nat_eq};
 ghost use Rattle.std.specs.Option.{option_eq};
-ghost use Rattle.pmf_event.specs.Line.{line_of_byte, meets_line};
-ghost use Rattle.pmf_event.specs.Span.{covers_byte};
+ghost use Rattle.pmf_event.specs.Prelude.{line_of_byte, meets_line, covers_byte};
 ghost use Rattle.pmf_image.specs.Certificate.{Fits, IsLine};
 ghost use Rattle.pmf_image.specs.Borders.{Alike};
 

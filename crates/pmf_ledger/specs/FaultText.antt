@@ -1,8 +1,7 @@
 -- How the fault of a ledger text is told. ASCII. Defined here.
-use Rattle.std.specs.Prelude.{ℕ, List, ◌++◌, ◌==◌, if◌then◌else◌, codes}
-use Rattle.std.specs.Fmt.{decimal}
-use Rattle.pmf_storelog.specs.FaultText.{words_of_cause}
+use Rattle.std.specs.Prelude.{ℕ, List, ◌++◌, ◌==◌, if◌then◌else◌, codes, decimal}
 use Rattle.pmf_storelog.specs.declared.fault.LogFault.{LogFault}
+use Rattle.pmf_storelog.specs.Prelude.{words_of_cause}
 use Rattle.pmf_ledger.specs.declared.loading.LedgerFault.{LedgerFault}
 use Rattle.pmf_ledger.specs.declared.loading.LedgerFault.TheVariants.{NotALedger, FalseRows, Conflict, Log, OutOfMemory}
 

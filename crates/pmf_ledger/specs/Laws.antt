@@ -1,7 +1,7 @@
 -- What is said of the ledgers of equal sets, and of one text.
 use Rattle.std.specs.Prelude.{◌≡◌, ℕ, List}
 use Rattle.pmf_event.specs.declared.profile.Profile.{Profile}
-use Rattle.pmf_event.specs.Section.{Trace}
+use Rattle.pmf_event.specs.Prelude.{Trace}
 use Rattle.pmf_ledger.specs.Gathered.{IsLedgerOf}
 use Rattle.pmf_ledger.specs.Gathering.{HaveSameMembers}
 use Rattle.pmf_ledger.specs.LedgerText.{text_of_ledger}

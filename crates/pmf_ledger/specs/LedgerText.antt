@@ -1,16 +1,12 @@
 -- The ledger text: a text line for the version, which tells the profile; for each section a block of its header, its
 -- events in canonical spelling and its rows; and a last text line with the number of blocks. Defined here.
-use Rattle.std.specs.Prelude.{ℕ, ◌^◌, ◌<◌, ◌≤◌, List, ◌++◌, length, codes}
-use Rattle.std.specs.List.{All, flat_map}
-use Rattle.std.specs.Fmt.{decimal}
+use Rattle.std.specs.Prelude.{ℕ, ◌^◌, ◌<◌, ◌≤◌, List, ◌++◌, length, codes, All, flat_map, decimal}
 use Rattle.pmf_event.specs.declared.name.Name.{Name}
 use Rattle.pmf_event.specs.declared.profile.Profile.{Profile}
 use Rattle.pmf_event.specs.declared.profile.Profile.TheVariants.{One, Two}
 use Rattle.pmf_event.specs.declared.section.TheConstants.{EVENT_LIMIT}
-use Rattle.pmf_storelog.specs.Canonical.{line_of_event}
-use Rattle.pmf_storelog.specs.Spelling.{AllValid}
-use Rattle.pmf_verdict.specs.Checked.{Checked, rows_in}
-use Rattle.pmf_verdict.specs.Text.{text_of_rows}
+use Rattle.pmf_storelog.specs.Prelude.{line_of_event, AllValid}
+use Rattle.pmf_verdict.specs.Prelude.{Checked, rows_in, text_of_rows}
 use Rattle.pmf_ledger.specs.LedgerValue.{LedgerValue}
 
 -- the version of a profile

@@ -23,3 +23,4 @@ pub mod Loading
 pub mod FaultText
 pub mod Following
 pub mod Laws
+pub mod Prelude

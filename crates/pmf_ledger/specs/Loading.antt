@@ -1,23 +1,19 @@
 -- What a text says that is loaded as a ledger: it is read from the top, text line by text line, and the first fault
 -- decides. Defined here.
-use Rattle.std.specs.Prelude.{◌≡◌, ◌≢◌, ⊤, ℕ, zero, suc, ◌-◌, Bool, nat_lt, nat_eq, ◌==◌, List, [], ◌∷◌, ◌++◌, length, take, drop, slice_index_or, Option, Some, None, Result, Ok, Err, if◌then◌else◌, codes, Contains}
+use Rattle.std.specs.Prelude.{◌≡◌, ◌≢◌, ⊤, ℕ, zero, suc, ◌-◌, Bool, nat_lt, nat_eq, ◌==◌, List, [], ◌∷◌, ◌++◌, length, take, drop, slice_index_or, Option, Some, None, Result, Ok, Err, if◌then◌else◌, codes, Contains, bytes_eq}
 use Rattle.std.specs.List.{slice_split, starts_with}
-use Rattle.std.specs.Str.{bytes_eq}
 use Rattle.pmf_event.specs.declared.event.Event.{Event}
 use Rattle.pmf_event.specs.declared.name.Name.{Name}
 use Rattle.pmf_event.specs.declared.profile.Profile.{Profile}
 use Rattle.pmf_event.specs.declared.profile.Profile.TheVariants.{One, Two}
 use Rattle.pmf_event.specs.declared.row.Row.{Row}
 use Rattle.pmf_event.specs.declared.section.TheConstants.{EVENT_LIMIT}
-use Rattle.pmf_event.specs.Section.{Trace}
+use Rattle.pmf_event.specs.Prelude.{Trace}
 use Rattle.pmf_storelog.specs.declared.fault.Cause.TheVariants.{TooManyEvents}
 use Rattle.pmf_storelog.specs.declared.line.LineFault.{LineFault}
 use Rattle.pmf_storelog.specs.declared.line.LineFault.TheVariants.{NoEvent, Refused}
-use Rattle.pmf_storelog.specs.Lines.{event_of_line}
-use Rattle.pmf_storelog.specs.LogText.{out_of_memory}
-use Rattle.pmf_storelog.specs.Numbers.{number_in_front}
-use Rattle.pmf_verdict.specs.Rows.{rows_of}
-use Rattle.pmf_verdict.specs.Text.{text_of_row}
+use Rattle.pmf_storelog.specs.Prelude.{event_of_line, out_of_memory, number_in_front}
+use Rattle.pmf_verdict.specs.Prelude.{rows_of, text_of_row}
 use Rattle.pmf_ledger.specs.declared.head.Head.{Head}
 use Rattle.pmf_ledger.specs.declared.loading.LedgerFault.{LedgerFault}
 use Rattle.pmf_ledger.specs.declared.loading.LedgerFault.TheVariants.{NotALedger, FalseRows, Conflict, Log, OutOfMemory}

@@ -1,6 +1,5 @@
 -- The order of sections' names: by run, then by number. Defined here.
-use Rattle.std.specs.Prelude.{◌≡◌, ◌⊎◌, ◌<◌, List}
-use Rattle.std.specs.List.{AllPairs}
+use Rattle.std.specs.Prelude.{◌≡◌, ◌⊎◌, ◌<◌, List, AllPairs}
 use Rattle.pmf_event.specs.declared.name.Name.{Name}
 use Rattle.pmf_verdict.specs.Checked.{Checked}
 

@@ -1,6 +1,5 @@
 -- Where a name stands among the sections of a ledger. Defined here.
-use Rattle.std.specs.Prelude.{◌≡◌, ℕ, ◌<◌, ◌≤◌, List, length, Contains}
-use Rattle.std.specs.List.{slice_index_or}
+use Rattle.std.specs.Prelude.{◌≡◌, ℕ, ◌<◌, ◌≤◌, List, length, Contains, slice_index_or}
 use Rattle.pmf_event.specs.declared.name.Name.{Name}
 use Rattle.pmf_verdict.specs.Checked.{Checked}
 use Rattle.pmf_ledger.specs.Names.{IsBefore}

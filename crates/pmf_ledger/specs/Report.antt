@@ -1,14 +1,10 @@
 -- The report of checked sections: for each a text line with its counts and then its rows, and a last text line with
 -- the sums. Defined here.
-use Rattle.std.specs.Prelude.{ℕ, ◌+◌, ◌≤◌, List, [], ◌∷◌, ◌++◌, length, codes, count_by, sum_by}
-use Rattle.std.specs.List.{flat_map}
-use Rattle.std.specs.Fmt.{decimal}
+use Rattle.std.specs.Prelude.{ℕ, ◌+◌, ◌≤◌, List, [], ◌∷◌, ◌++◌, length, codes, count_by, sum_by, flat_map, decimal}
 use Rattle.pmf_event.specs.declared.row.Row.{Row}
 use Rattle.pmf_verdict.specs.declared.outcome.Outcome.{Outcome}
 use Rattle.pmf_verdict.specs.declared.outcome.Outcome.TheVariants.{Pass, Fail, Warn, Empty}
-use Rattle.pmf_verdict.specs.Outcome.{outcome_of, is_same}
-use Rattle.pmf_verdict.specs.Checked.{Checked, rows_in}
-use Rattle.pmf_verdict.specs.Text.{text_of_rows}
+use Rattle.pmf_verdict.specs.Prelude.{outcome_of, is_same, Checked, rows_in, text_of_rows}
 use Rattle.pmf_ledger.specs.declared.totals.Totals.{Totals}
 
 -- how many of these rows count so

@@ -1,8 +1,6 @@
 //! How two ledgers become one.
 
-ghost use Rattle.std.specs.Prelude.{◌≡◌, ◌≢◌, ◌↔◌, ◌+◌, ◌<◌, ◌≤◌, List, [], IfErr, IfOk, MatchOption};
-ghost use Rattle.std.specs.List.{All};
-ghost use Rattle.std.specs.Vec.{vec_len, vec_capacity};
+ghost use Rattle.std.specs.Prelude.{◌≡◌, ◌≢◌, ◌↔◌, ◌+◌, ◌<◌, ◌≤◌, List, [], IfErr, IfOk, MatchOption, All, vec_len, vec_capacity};
 ghost use Rattle.pmf_verdict.specs.Checked.{Checked};
 ghost use Rattle.pmf_ledger.specs.Gathered.{GathersBoth, IsLeastClash, Unites};
 ghost use Rattle.pmf_ledger.specs.Joining.{Agree, AgreeInNames, AgreeTogether, AreRefusedAs, IsLeastDiffering, IsMerging, IsMerged};

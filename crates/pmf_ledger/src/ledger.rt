@@ -1,7 +1,6 @@
 //! A ledger, and what it tells.
 
-ghost use Rattle.std.specs.Prelude.{◌≡◌, ◌↔◌, [], length, Contains, IsTrue, IfSome, MatchOption};
-ghost use Rattle.std.specs.List.{All};
+ghost use Rattle.std.specs.Prelude.{◌≡◌, ◌↔◌, [], length, Contains, IsTrue, IfSome, MatchOption, All};
 ghost use Rattle.pmf_verdict.specs.Checked.{Checked};
 ghost use Rattle.pmf_ledger.specs.Gathered.{IsLedgerOf};
 ghost use Rattle.pmf_ledger.specs.LedgerValue.{LedgerValue};

@@ -1,7 +1,6 @@
 //! The report of a ledger: a text line for each section, its rows, and the sums.
 
-ghost use Rattle.std.specs.Prelude.{◌≡◌, ◌++◌, ◌∷◌, [], OnOk, IfOk};
-ghost use Rattle.std.specs.String.{string_bytes};
+ghost use Rattle.std.specs.Prelude.{◌≡◌, ◌++◌, ◌∷◌, [], OnOk, IfOk, string_bytes};
 ghost use Rattle.pmf_ledger.specs.Report.{report_of, text_of_counts, text_of_header, text_of_section, text_of_totals, totals_of};
 
 use crate::ledger::Ledger;

@@ -1,7 +1,6 @@
 //! What a ledger takes.
 
-ghost use Rattle.std.specs.Prelude.{◌≡◌, ◌≢◌, ◌↔◌, ◌<◌, ◌≤◌, length, get_or, Contains, OnOk, OnErr, IfErr, IfOk, IsTrue, MatchResult};
-ghost use Rattle.std.specs.List.{All};
+ghost use Rattle.std.specs.Prelude.{◌≡◌, ◌≢◌, ◌↔◌, ◌<◌, ◌≤◌, length, get_or, Contains, OnOk, OnErr, IfErr, IfOk, IsTrue, MatchResult, All};
 ghost use Rattle.pmf_verdict.specs.Checked.{Checked};
 ghost use Rattle.pmf_ledger.specs.Gathered.{Gains, Gathers, Holds, HoldsOther};
 ghost use Rattle.pmf_ledger.specs.Taking.{IsRefusedAs, IsStandingOf};

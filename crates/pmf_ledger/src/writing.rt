@@ -1,12 +1,8 @@
 //! The text of a ledger, from which it can be loaded.
 
-ghost use Rattle.std.specs.Prelude.{◌≡◌, ◌≤◌, ◌++◌, OnOk, IfOk, length};
-ghost use Rattle.std.specs.List.{All, flat_map};
-ghost use Rattle.std.specs.String.{string_bytes};
-ghost use Rattle.pmf_storelog.specs.Canonical.{line_of_event};
-ghost use Rattle.pmf_storelog.specs.Spelling.{AllValid};
-ghost use Rattle.pmf_verdict.specs.Checked.{Checked, rows_in};
-ghost use Rattle.pmf_verdict.specs.Text.{text_of_rows};
+ghost use Rattle.std.specs.Prelude.{◌≡◌, ◌≤◌, ◌++◌, OnOk, IfOk, length, All, flat_map, string_bytes};
+ghost use Rattle.pmf_storelog.specs.Prelude.{line_of_event, AllValid};
+ghost use Rattle.pmf_verdict.specs.Prelude.{Checked, rows_in, text_of_rows};
 ghost use Rattle.pmf_ledger.specs.Loading.{LoadsAs};
 ghost use Rattle.pmf_ledger.specs.Names.{Rises};
 ghost use Rattle.pmf_ledger.specs.declared.loading.TheConstants.{LEDGER_LIMIT};

@@ -1,7 +1,5 @@
 -- Walks over the elements of a range, and what a question has found so far.
-use Rattle.std.proofs.Common.{◌≡◌, ℕ, zero, suc, ◌+◌, ◌-◌, ◌<◌, ◌≤◌, min, max, Bool, true, false, if◌then◌else◌, List, length, get_or, refl, sym, ◌∙◌, ap, subst, arith, inl, inr}
-use Rattle.std.specs.Prelude.{Option, Some, None, is_some}
-use Rattle.std.proofs.lemmas.Bool.{cases_lt}
+use Rattle.pmf_event.proofs.Common.{◌≡◌, ℕ, zero, suc, ◌+◌, ◌-◌, ◌<◌, ◌≤◌, min, max, Bool, true, false, if◌then◌else◌, List, length, get_or, refl, sym, ◌∙◌, ap, subst, arith, inl, inr, Option, Some, None, is_some, cases_lt}
 use Rattle.pmf_event.specs.Ranges.{first_from, lesser, least_from}
 use Rattle.pmf_event.proofs.RangeLemmas.{first_from-none, first_from-some, first_from-same, least_from-same, least_from-split, least_from-alike, lesser-none, lesser-assoc}
 use Rattle.pmf_runs.specs.declared.leaf.Leaf.{Leaf}
@@ -102,9 +100,6 @@ walks-more keys first end start index until rises some is walk = let p = piece k
 
 pub walks-at : (keys : List ℕ) (first end start index until : ℕ) → Rises keys → start < end → until ≡ end_of keys index end → Walks keys first end start index → (b : ℕ) → start ≤ b → b < until → index ≡ rank keys b
 walks-at keys first end start index until rises some is walk = let p = piece keys first end start index until rises some is walk in p.at
-
-pub walks-within : (keys : List ℕ) (first end start index : ℕ) → start < end → Walks keys first end start index → index ≤ length keys
-walks-within keys first end start index some walk = let here = walk.at some in here.bound
 
 -- the walk passes over the elements from the index up to next, and comes to the end of the last of them
 record Past (keys : List ℕ) (first end start index next until : ℕ) : Type 0 where

@@ -1,8 +1,5 @@
 -- Where a change alters states, run by run, and what a change of those alone comes to.
-use Rattle.std.proofs.Common.{◌≡◌, ℕ, suc, ◌+◌, ◌<◌, ◌≤◌, Bool, true, false, List, [], ◌∷◌, zero, set, map, length, get_or, sym, ◌∙◌, ap, subst, arith, inl, inr}
-use Rattle.std.specs.Prelude.{min, ◌&&◌, nat_le, nat_lt, if◌then◌else◌, Option, Some, Result, Ok, Err, OnOk, OnErr}
-use Rattle.std.proofs.lemmas.Bool.{cases_lt, cases_eq}
-use Rattle.std.proofs.lemmas.List.{get_or-map, get_or-set_same, get_or-set_other, map-set, length-map}
+use Rattle.pmf_event.proofs.Common.{◌≡◌, ℕ, suc, ◌+◌, ◌<◌, ◌≤◌, Bool, true, false, List, [], ◌∷◌, zero, set, map, length, get_or, sym, ◌∙◌, ap, subst, arith, inl, inr, min, ◌&&◌, nat_le, nat_lt, if◌then◌else◌, Option, Some, Result, Ok, Err, OnOk, OnErr, cases_lt, cases_eq, get_or-map, get_or-set_same, get_or-set_other, map-set, length-map}
 use Rattle.pmf_runs.specs.declared.leaf.Leaf.{Leaf}
 use Rattle.pmf_runs.specs.declared.level.Level.{Level}
 use Rattle.pmf_runs.specs.Levels.{level_state}
@@ -104,14 +101,6 @@ module _ {S : Type 0} (state : S → ℕ → S) (change : S → S) where
         below = λ d b from lt less. so_far.below d b from (omega arith) (omega arith);
         above = λ d b from lt past. absurd (omega arith);
       }
-
-  pub alters-upto : (first start end low high : ℕ) → end ≤ start → AltersWithin first start low high change state → (low < high → high ≤ end) → AltersWithin first end low high change state
-  alters-upto first start end low high past found upto = record {
-    from = found.from;
-    upto = upto;
-    below = λ d b from lt less. found.below d b from (omega arith) less;
-    above = λ d b from lt more. found.above d b from (omega arith) more;
-  }
 
   -- nothing is altered
   pub changes-none : (new : S → ℕ → S) (first end low high : ℕ) → high ≤ low → AltersWithin first end low high change state → SameStates state new → ChangesWithin (Some first) (Some end) change state new

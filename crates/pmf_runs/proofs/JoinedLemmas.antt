@@ -1,10 +1,5 @@
 -- Leaves and levels whose neighbouring runs differ, by what is done to them.
-use Rattle.std.proofs.Common.{◌≡◌, ℕ, ◌+◌, ◌-◌, ◌<◌, ◌≤◌, List, [], length, get_or, take, drop, sym, ◌∙◌, ap, subst, arith, inl, inr}
-use Rattle.std.specs.Prelude.{◌⊎◌, nat_le, nat_lt, ◌&&◌, if◌then◌else◌, Option, None, Some, IfSome, min}
-use Rattle.std.specs.List.{insert, remove}
-use Rattle.std.proofs.lemmas.Bool.{cases_lt, cases_eq, and_right}
-use Rattle.std.proofs.lemmas.List.{get_or_read, length-take-le, get_or-take, length-drop, get_or-drop}
-use Rattle.std.proofs.lemmas.List.Edits.{length-insert, get_or-insert_below, get_or-insert_at, get_or-insert_above, length-remove, get_or-remove_below, get_or-remove_above}
+use Rattle.pmf_event.proofs.Common.{◌≡◌, ℕ, ◌+◌, ◌-◌, ◌<◌, ◌≤◌, List, [], length, get_or, take, drop, sym, ◌∙◌, ap, subst, arith, inl, inr, ◌⊎◌, nat_le, nat_lt, ◌&&◌, if◌then◌else◌, Option, None, Some, IfSome, insert, remove, cases_lt, cases_eq, and_right, get_or_read, length-take-le, get_or-take, length-drop, get_or-drop, length-insert, get_or-insert_below, get_or-insert_at, get_or-insert_above, length-remove, get_or-remove_below, get_or-remove_above}
 use Rattle.pmf_runs.specs.declared.leaf.Leaf.{Leaf}
 use Rattle.pmf_runs.specs.Ranks.{rank, HasKey, Rises, ChangesItems, low_rank, high_rank}
 use Rattle.pmf_runs.specs.Leaves.{leaf_begins}
@@ -83,16 +78,6 @@ module _ {S : Type 0} where
       | inl is ↦ inr is
       | inr is ↦ inl is
     ];
-  }
-
-  -- a run that begins at the number already
-  pub joined-begun : (old new : Leaf S) (p : ℕ) (other : Option ℕ) → new.keys.items ≡ old.keys.items → new.states.items ≡ old.states.items → JoinedBut old other None → JoinedBut new (Some p) other
-  joined-begun old new p other keys states joined = record {
-    only = λ k d within same.
-        elim (joined.only k d (subst (λ ks. k < length ks) keys within) (subst (λ ss. get_or ss k d ≡ get_or ss (k + 1) d) states same)) [
-          | inl is ↦ inr (subst (λ ks. other ≡ Some (get_or ks k 0)) (sym keys) is)
-          | inr is ↦ absurd (none-some _ is)
-        ];
   }
 
   -- a key is put in, with the same state on its two sides
@@ -185,43 +170,6 @@ module _ {S : Type 0} where
   joined-rewritten old mid new low high from end change joins has_from has_end order at_low at_high keys changes joined =
       let beside = joined-changed old mid from end change has_from has_end order keys changes joined in
       joins (subst (λ n. JoinedBeside mid n high) (sym at_low) (subst (λ n. JoinedBeside mid (low_rank old.keys.items from) n) (sym at_high) beside))
-
-  -- the walk over the keys begins, and ends
-  pub beside-begins : (leaf : Leaf S) (low high key : ℕ) → key ≡ min high (length leaf.keys.items) → JoinedBeside leaf low high → JoinedBeside leaf low key
-  beside-begins leaf low high key at beside = record {
-    differ = λ k d within where_is same. beside.differ k d within (elim where_is [
-      | inl below ↦ inl below
-      | inr above ↦ inr (omega arith)
-    ]) same;
-  }
-
-  pub beside-ends : (leaf : Leaf S) (low key : ℕ) → (key ≡ 0) ⊎ (key < low) → JoinedBeside leaf low key → JoinedBut leaf None None
-  beside-ends leaf low key done beside = record {
-    only = λ k d within same. absurd (beside.differ k d within (elim (cases_lt k key) [
-      | inl below ↦ elim done [
-        | inl none ↦ absurd (omega arith)
-        | inr past ↦ inl (omega arith)
-      ]
-      | inr above ↦ inr above
-    ]) same);
-  }
-
-  -- the states on the two sides of a key differ
-  pub beside-apart : (leaf : Leaf S) (low key : ℕ) (x y : S) → key < length leaf.keys.items → x ≡ get_or leaf.states.items key x → y ≡ get_or leaf.states.items (key + 1) y → (x ≡ y → ⊥) →
-      JoinedBeside leaf low (key + 1) → JoinedBeside leaf low key
-  beside-apart leaf low key x y inside read_x read_y apart beside = record {
-    differ = λ k d within where_is same. elim (cases_eq k key) [
-      | inl here ↦
-          let counted = leaf-counted leaf in
-          let is_x = get_or_read leaf.states.items key x (omega arith) read_x d in
-          let is_y = get_or_read leaf.states.items (key + 1) y (omega arith) read_y d in
-          apart (is_x ∙ ap (λ j. get_or leaf.states.items j d) (sym here) ∙ same ∙ ap (λ j. get_or leaf.states.items (j + 1) d) here ∙ sym is_y)
-      | inr other ↦ beside.differ k d within (elim where_is [
-        | inl below ↦ inl below
-        | inr above ↦ inr (omega arith)
-      ]) same
-    ];
-  }
 
   -- a key is taken out, and the state after it, which is that before it
   pub beside-taken : (old new : Leaf S) (low key : ℕ) (x y : S) → key < length old.keys.items → x ≡ get_or old.states.items key x → y ≡ get_or old.states.items (key + 1) y → x ≡ y → low ≤ key + 1 →

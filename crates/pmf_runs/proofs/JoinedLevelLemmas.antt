@@ -1,10 +1,5 @@
 -- Levels whose parts are joined, by what is done to them.
-use Rattle.std.proofs.Common.{◌≡◌, ℕ, ◌+◌, ◌-◌, ◌<◌, ◌≤◌, List, [], ◌∷◌, length, get_or, set, take, drop, refl, sym, ◌∙◌, ap, subst, arith, inl, inr}
-use Rattle.std.specs.Prelude.{◌⊎◌, Option, None, Some, IfSome}
-use Rattle.std.specs.List.{insert, remove}
-use Rattle.std.proofs.lemmas.Bool.{cases_lt, cases_eq}
-use Rattle.std.proofs.lemmas.List.{get_or_read, get_or-set_same, get_or-set_other, length-set, length-take-le, get_or-take, length-drop, get_or-drop}
-use Rattle.std.proofs.lemmas.List.Edits.{length-insert, get_or-insert_below, get_or-insert_at, get_or-insert_above, length-remove, get_or-remove_below, get_or-remove_above}
+use Rattle.pmf_event.proofs.Common.{◌≡◌, ℕ, ◌+◌, ◌-◌, ◌<◌, ◌≤◌, List, [], length, get_or, set, take, drop, refl, sym, ◌∙◌, ap, subst, arith, inl, inr, ◌⊎◌, Option, None, Some, IfSome, cases_lt, cases_eq, get_or_read, get_or-set_same, get_or-set_other, length-set, length-take-le, get_or-take, length-drop, get_or-drop}
 use Rattle.pmf_runs.specs.declared.level.Level.{Level}
 use Rattle.pmf_runs.specs.Ranks.{rank, Rises, HasKey, IsFresh, IsInner, bound_at, low_rank, high_rank}
 use Rattle.pmf_runs.specs.Joined.{AllJoined, PartsJoined, IsHanded, JoinsParts, InOrder}
@@ -88,13 +83,6 @@ pub order-bound : (low high i : ℕ) (from end first last : Option ℕ) → firs
 order-bound low high i from end first last is_first is_last order =
     subst (λ o. InOrder o last) (sym is_first) (subst (InOrder (bound_at low i from)) (sym is_last) (order-at low high i from end order))
 
-pub order-inner : (keys : List ℕ) (from end first last : Option ℕ) → IsInner keys from first → IsInner keys end last → InOrder from end → InOrder first last
-order-inner keys None end first last is_first is_last order = subst (λ o. InOrder o last) (sym is_first) tt
-order-inner keys (Some a) end first last (inl key) is_last order = subst (λ o. InOrder o last) (sym key.0) tt
-order-inner keys (Some a) None first last (inr free) is_last order = subst (InOrder first) (sym is_last) (order-none first)
-order-inner keys (Some a) (Some b) first last (inr free) (inl key) order = subst (InOrder first) (sym key.0) (order-none first)
-order-inner keys (Some a) (Some b) first last (inr free) (inr other) order = subst (λ o. InOrder o last) (sym free.0) (subst (InOrder (Some a)) (sym other.0) order)
-
 module _ {P : Type 0} (joined : P → Option ℕ → Option ℕ → Type 0) where
   pub parts-each : (level : Level P) → PartsJoined joined level None None → (k : ℕ) (part : P) → k < length level.parts.items → joined (get_or level.parts.items k part) None None
   parts-each level whole k part within = whole.parts k part None None within refl refl
@@ -118,12 +106,6 @@ module _ {P : Type 0} (joined : P → Option ℕ → Option ℕ → Type 0) wher
         subst (λ ps. joined (get_or ps k part) first second) (sym parts)
         (whole.parts k part first second (subst (λ ps. k < length ps) parts within) (subst (λ ks. IsHanded ks k one first) keys is_first) (subst (λ ks. IsHanded ks k other second) keys is_second));
   }
-
-  pub parts-single : (level : Level P) (part : P) → level.parts.items ≡ part ∷ [] → joined part None None → PartsJoined joined level None None
-  parts-single level part parts whole = each-parts level (λ k other within.
-      let first : k ≡ 0 = omega (arith, ap length parts) in
-      let is : get_or level.parts.items k other ≡ part = ap (λ j. get_or level.parts.items j other) first ∙ ap (λ ps. get_or ps 0 other) parts in
-      subst (λ q. joined q None None) (sym is) whole)
 
   -- ---- cuts
 
@@ -186,32 +168,6 @@ module _ {P : Type 0} (joined : P → Option ℕ → Option ℕ → Type 0) wher
 
   -- ---- splitting, parting and taking out
 
-  pub parts-split : (old new : Level P) (part low high : P) (i : ℕ) → i < length old.parts.items → part ≡ get_or old.parts.items i part → new.parts.items ≡ insert (set old.parts.items i low) (i + 1) high →
-      (joined part None None → joined low None None) → (joined part None None → joined high None None) → PartsJoined joined old None None → PartsJoined joined new None None
-  parts-split old new part low high i inside read parts to_low to_high whole = each-parts new (λ k q within_new.
-      let was = subst (λ r. joined r None None) (sym read) (parts-each old whole i part inside) in
-      let set_len = length-set old.parts.items i low in
-      let fits : i + 1 ≤ length (set old.parts.items i low) = omega arith in
-      let len = length-insert (set old.parts.items i low) (i + 1) high fits in
-      let within : k < length (insert (set old.parts.items i low) (i + 1) high) = subst (λ ps. k < length ps) parts within_new in
-      subst (λ ps. joined (get_or ps k q) None None) (sym parts) (elim (cases_lt k (i + 1)) [
-        | inl below ↦
-            subst (λ r. joined r None None) (sym (get_or-insert_below (set old.parts.items i low) (i + 1) high q k below fits)) (elim (cases_eq k i) [
-              | inl same ↦ subst (λ r. joined r None None) (sym (ap (λ j. get_or (set old.parts.items i low) j q) same ∙ get_or-set_same old.parts.items i low q inside)) (to_low was)
-              | inr other ↦ subst (λ r. joined r None None) (sym (get_or-set_other old.parts.items i k low q other)) (parts-each old whole k q (omega arith))
-            ])
-        | inr from ↦ elim (cases_eq k (i + 1)) [
-          | inl same ↦
-              subst (λ r. joined r None None) (sym (ap (λ j. get_or (insert (set old.parts.items i low) (i + 1) high) j q) same ∙ get_or-insert_at (set old.parts.items i low) (i + 1) high q fits)) (to_high was)
-          | inr other ↦
-              let back : k - 1 + 1 ≡ k = omega arith in
-              let is : get_or (insert (set old.parts.items i low) (i + 1) high) k q ≡ get_or old.parts.items (k - 1) q =
-              ap (λ j. get_or (insert (set old.parts.items i low) (i + 1) high) j q) (sym back) ∙ get_or-insert_above (set old.parts.items i low) (i + 1) high q (k - 1) (omega arith) fits
-              ∙ get_or-set_other old.parts.items i (k - 1) low q (λ same. omega arith) in
-              subst (λ r. joined r None None) (sym is) (parts-each old whole (k - 1) q (omega arith))
-        ]
-      ]))
-
   pub parts-low : (old low : Level P) (m : ℕ) → m ≤ length old.parts.items → low.parts.items ≡ take m old.parts.items → PartsJoined joined old None None → PartsJoined joined low None None
   parts-low old low m inside parts whole = each-parts low (λ k q within_new.
       let len = length-take-le m old.parts.items inside in
@@ -223,15 +179,6 @@ module _ {P : Type 0} (joined : P → Option ℕ → Option ℕ → Type 0) wher
       let len = length-drop m old.parts.items in
       let within : k < length (drop m old.parts.items) = subst (λ ps. k < length ps) parts within_new in
       subst (λ r. joined r None None) (sym (ap (λ ps. get_or ps k q) parts ∙ get_or-drop m old.parts.items k q)) (parts-each old whole (m + k) q (omega arith)))
-
-  pub parts-taken : (old new : Level P) (i : ℕ) → i < length old.parts.items → new.parts.items ≡ remove old.parts.items i → PartsJoined joined old None None → PartsJoined joined new None None
-  parts-taken old new i inside parts whole = each-parts new (λ k q within_new.
-      let len = length-remove old.parts.items i inside in
-      let within : k < length (remove old.parts.items i) = subst (λ ps. k < length ps) parts within_new in
-      subst (λ ps. joined (get_or ps k q) None None) (sym parts) (elim (cases_lt k i) [
-        | inl below ↦ subst (λ r. joined r None None) (sym (get_or-remove_below old.parts.items i q k below inside)) (parts-each old whole k q (omega arith))
-        | inr from ↦ subst (λ r. joined r None None) (sym (get_or-remove_above old.parts.items i q k from inside)) (parts-each old whole (k + 1) q (omega arith))
-      ]))
 
   -- ---- rewriting the parts one after another
 
@@ -262,18 +209,6 @@ module _ {P : Type 0} (joined : P → Option ℕ → Option ℕ → Type 0) wher
             | inr above ↦ inr (omega arith)
           ]);
     }
-
-    pub joins-end : (high i : ℕ) (old new : List P) → low ≤ i → high ≤ i → (low < i → i ≤ high) → JoinsParts joined low last from end i old new → JoinsParts joined low last from end high old new
-    joins-end high i old new after past upto so_far = elim (cases_lt low i) [
-      | inl some ↦ let le = upto some in let same : i ≡ high = omega arith in subst (λ n. JoinsParts joined low last from end n old new) same so_far
-      | inr none ↦ record {
-        done = λ k part above below within was. absurd (omega arith);
-        rest = λ k part where_is. so_far.rest k part (elim (cases_lt k low) [
-          | inl below ↦ inl below
-          | inr above ↦ inr (omega arith)
-        ]);
-      }
-    ]
 
   -- the bounds that are handed down and the parts that they are handed to leave no cut
   pub parts-rewritten : (old new : Level P) (low high stop : ℕ) (from end first last : Option ℕ) → new.keys ≡ old.keys → JoinsParts joined low high first last stop old.parts.items new.parts.items →

@@ -1,9 +1,5 @@
 -- The states of a leaf, by its keys and states.
-use Rattle.std.proofs.Common.{◌≡◌, ℕ, ◌+◌, ◌-◌, ◌/◌, ◌<◌, ◌≤◌, List, [], ◌∷◌, ◌++◌, length, get_or, set, take, drop, refl, sym, ◌∙◌, ap, subst, arith, inl, inr}
-use Rattle.std.specs.Prelude.{true, false, ◌&&◌, nat_le, nat_lt, if◌then◌else◌, Option, IfSome}
-use Rattle.std.proofs.lemmas.Bool.{cases_lt, and_right, false≢true}
-use Rattle.std.specs.List.{insert, remove}
-use Rattle.std.proofs.lemmas.List.{get_or_read, set-get_or, take_rest}
+use Rattle.pmf_event.proofs.Common.{◌≡◌, ℕ, ◌+◌, ◌-◌, ◌/◌, ◌<◌, ◌≤◌, List, [], ◌∷◌, ◌++◌, length, get_or, set, take, drop, refl, sym, ◌∙◌, ap, subst, arith, inl, inr, true, false, ◌&&◌, nat_le, nat_lt, if◌then◌else◌, Option, IfSome, insert, remove, cases_lt, and_right, get_or_read, set-get_or, take_rest}
 use Rattle.pmf_runs.specs.declared.leaf.Leaf.{Leaf}
 use Rattle.pmf_runs.specs.Ranks.{rank, at_rank, HasKey, SameStates, ChangesWithin, ChangesItems, low_rank, high_rank, IsTail, parting}
 use Rattle.pmf_runs.specs.Leaves.{leaf_state, leaf_begins, leaf_middle}
@@ -111,18 +107,6 @@ module _ {S : Type 0} where
 
   -- ---- changing the states in place
 
-  pub changes-end : (low high i : ℕ) (change : S → S) (old new : List S) → low ≤ i → high ≤ i → (low < i → i ≤ high) → ChangesItems low i change old new → ChangesItems low high change old new
-  changes-end low high i change old new from past upto changes = elim (cases_lt low i) [
-    | inl some ↦ let le = upto some in let same : i ≡ high = omega arith in subst (λ n. ChangesItems low n change old new) same changes
-    | inr none ↦
-        let same : i ≡ low = omega arith in record {
-          len = changes.len;
-          items = λ k d within.
-              changes.items k d within
-              ∙ ap (λ t. if t then change (get_or old k d) else get_or old k d) (none-within low i k (omega arith) ∙ sym (none-within low high k (omega arith)));
-        }
-  ]
-
   pub changes-rewritten : (old mid new : Leaf S) (from end : Option ℕ) (change : S → S) → SameStates (leaf_state mid) (leaf_state new) → IfSome from (leaf_begins old) → IfSome end (leaf_begins old) →
       mid.keys.items ≡ old.keys.items → ChangesItems (low_rank old.keys.items from) (high_rank old.keys.items end) change old.states.items mid.states.items → ChangesWithin from end change (leaf_state old) (leaf_state new)
   changes-rewritten old mid new from end change same has_from has_end keys changes =
@@ -148,12 +132,6 @@ module _ {S : Type 0} where
 pub rest-copied : (keys now before after : List ℕ) (n : ℕ) → now ≡ keys → before ≡ [] → after ≡ before ++ take (length now - n) (drop n now) → after ≡ drop n keys
 rest-copied keys now before after n is none copied =
     copied ∙ ap (λ xs. xs ++ take (length now - n) (drop n now)) none ∙ take_rest now n ∙ ap (drop n) is
-
-pub le-is : (a b : ℕ) → nat_le a b ≡ true → a ≤ b
-le-is a b is = elim (cases_lt b a) [
-  | inl below ↦ absurd (false≢true (sym (le-false a b below) ∙ is))
-  | inr above ↦ above
-]
 
 pub middle-is : {S : Type 0} (leaf : Leaf S) (m place : ℕ) → m ≡ parting leaf.keys.items place → get_or leaf.keys.items m 0 ≡ leaf_middle leaf place
 unfolding leaf_middle

@@ -1,9 +1,5 @@
 -- The states of a level, by its keys and parts.
-use Rattle.std.proofs.Common.{◌≡◌, ℕ, zero, suc, ◌+◌, ◌-◌, ◌<◌, ◌≤◌, Bool, true, List, [], ◌∷◌, length, get_or, set, take, drop, map, refl, sym, ◌∙◌, ap, subst, arith, inl, inr}
-use Rattle.std.specs.Prelude.{nat_le, nat_lt, ◌&&◌, false, if◌then◌else◌, Option, None, Some, IfSome}
-use Rattle.std.specs.List.{insert, remove}
-use Rattle.std.proofs.lemmas.Bool.{cases_lt, cases_eq}
-use Rattle.std.proofs.lemmas.List.{get_or-map, get_or-set_same, get_or-set_other, length-set, set-get_or, map-set, length-map, take-map, drop-map}
+use Rattle.pmf_event.proofs.Common.{◌≡◌, ℕ, zero, suc, ◌+◌, ◌-◌, ◌<◌, ◌≤◌, Bool, true, List, [], ◌∷◌, length, get_or, set, take, drop, map, refl, sym, ◌∙◌, ap, subst, arith, inl, inr, nat_le, nat_lt, ◌&&◌, false, if◌then◌else◌, Option, None, Some, IfSome, insert, remove, cases_eq, get_or-map, get_or-set_same, get_or-set_other, length-set, set-get_or, map-set, length-map, take-map, drop-map}
 use Rattle.pmf_runs.specs.declared.level.Level.{Level}
 use Rattle.pmf_runs.specs.Ranks.{rank, at_rank, HasKey, IsFresh, SameStates, ChangesWithin, Splits, IsInner, reaches, falls_short, is_within, bound_at, IsTail, parting}
 use Rattle.pmf_runs.specs.Levels.{part_states, level_state, level_begins, level_middle, Rewrites, BeginsAt, GoesOn}
@@ -176,19 +172,6 @@ module _ {P S : Type 0} (state : P → S → ℕ → S) (change : S → S) (low 
     len = refl;
     states = λ d b k within. sym (if-false (nat_le low k && nat_lt k low) _ (get_or (part_states state parts d b) k d) (none-within low low k (omega arith)));
   }
-
-  pub rewrites-end : (high i : ℕ) (old new : List P) → low ≤ i → high ≤ i → (low < i → i ≤ high) → Rewrites state change low last from end i old new → Rewrites state change low last from end high old new
-  rewrites-end high i old new after past upto so_far = elim (cases_lt low i) [
-    | inl some ↦ let le = upto some in let same : i ≡ high = omega arith in subst (λ n. Rewrites state change low last from end n old new) same so_far
-    | inr none ↦
-        let same : i ≡ low = omega arith in record {
-          len = so_far.len;
-          states = λ d b k within.
-              so_far.states d b k within
-              ∙ ap (λ t. if t then (if is_within (bound_at low k from) (bound_at last k end) b then change (get_or (part_states state old d b) k d) else get_or (part_states state old d b) k d) else get_or (part_states state old d b) k d)
-              (none-within low i k (omega arith) ∙ sym (none-within low high k (omega arith)));
-        }
-  ]
 
   pub rewrites-more : (old now new : List P) (part next : P) (i : ℕ) → low ≤ i → i < length now → part ≡ get_or now i part →
       ChangesWithin (bound_at low i from) (bound_at last i end) change (state part) (state next) → new ≡ set now i next →

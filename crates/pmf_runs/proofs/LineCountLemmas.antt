@@ -1,7 +1,5 @@
 -- Cache lines counted byte by byte, and run by run.
-use Rattle.std.proofs.Common.{◌≡◌, ℕ, zero, suc, ◌+◌, ◌-◌, ◌*◌, ◌/◌, ◌%◌, ◌<◌, ◌≤◌, max, Bool, true, false, if◌then◌else◌, refl, sym, ◌∙◌, ap, arith, inl, inr}
-use Rattle.std.specs.Prelude.{Some, is_some}
-use Rattle.std.proofs.lemmas.Bool.{cases_lt}
+use Rattle.pmf_event.proofs.Common.{◌≡◌, ℕ, zero, suc, ◌+◌, ◌-◌, ◌*◌, ◌/◌, ◌%◌, ◌<◌, ◌≤◌, max, Bool, true, false, if◌then◌else◌, refl, sym, ◌∙◌, ap, arith, inl, inr, Some, is_some, cases_lt}
 use Rattle.pmf_event.specs.Ranges.{first_from, count_from}
 use Rattle.pmf_runs.specs.declared.walk.Counted.{Counted}
 use Rattle.pmf_runs.specs.Lines.{line_has, with_line, counted_from}

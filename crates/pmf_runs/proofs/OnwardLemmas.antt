@@ -1,8 +1,5 @@
 -- The first state that passes, where the range ends beyond all keys.
-use Rattle.std.proofs.Common.{◌≡◌, ℕ, ◌-◌, ◌<◌, ◌≤◌, Bool, true, false, List, length, get_or, sym, ◌∙◌, ap, subst, arith, inl, inr}
-use Rattle.std.proofs.lemmas.Bool.{cases_lt}
-use Rattle.std.specs.Prelude.{Some, None}
-use Rattle.std.proofs.lemmas.List.{get_or_read}
+use Rattle.pmf_event.proofs.Common.{◌≡◌, ℕ, ◌-◌, ◌<◌, ◌≤◌, Bool, true, false, List, length, get_or, sym, ◌∙◌, ap, subst, arith, inl, inr, Some, None, cases_lt, get_or_read}
 use Rattle.pmf_event.specs.Ranges.{first_from}
 use Rattle.pmf_event.proofs.RangeLemmas.{first_from-none, first_from-some}
 use Rattle.pmf_runs.specs.declared.leaf.Leaf.{Leaf}

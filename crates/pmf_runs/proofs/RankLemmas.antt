@@ -1,11 +1,5 @@
 -- Ranks by index, and what an edit of the keys and the elements does to them.
-use Rattle.std.proofs.Common.{◌≡◌, ℕ, zero, suc, ◌+◌, ◌-◌, ◌<◌, ◌≤◌, Bool, true, false, List, [], ◌∷◌, length, get_or, take, drop, set, refl, sym, ◌∙◌, ap, subst, arith, rules, inl, inr}
-use Rattle.std.specs.Prelude.{◌==◌, nat_le, nat_lt, ◌&&◌, if◌then◌else◌, Option, None, Some, IfSome, is_some}
-use Rattle.std.specs.List.{insert, remove}
-use Rattle.std.proofs.lemmas.Bool.{cases_lt, cases_eq, false≢true}
-use Rattle.std.proofs.lemmas.Bool.Decides.{nat_tests}
-use Rattle.std.proofs.lemmas.List.{length-take-le, get_or-take, length-drop, get_or-drop, length-set, get_or-set_same, get_or-set_other}
-use Rattle.std.proofs.lemmas.List.Edits.{length-insert, get_or-insert_below, get_or-insert_at, get_or-insert_above, length-remove, get_or-remove_below, get_or-remove_above}
+use Rattle.pmf_event.proofs.Common.{◌≡◌, ℕ, zero, suc, ◌+◌, ◌-◌, ◌<◌, ◌≤◌, Bool, true, false, List, [], ◌∷◌, length, get_or, take, drop, set, refl, sym, ◌∙◌, ap, subst, arith, rules, inl, inr, ◌==◌, nat_le, nat_lt, ◌&&◌, if◌then◌else◌, Option, None, Some, IfSome, is_some, insert, remove, length-take-le, get_or-take, length-drop, get_or-drop, length-set, get_or-set_same, get_or-set_other, cases_lt, cases_eq, false≢true, nat_tests, length-insert, get_or-insert_below, get_or-insert_at, get_or-insert_above, length-remove, get_or-remove_below, get_or-remove_above}
 use Rattle.pmf_runs.specs.Ranks.{IsFresh, rank, at_rank, Rises, HasKey, reaches, falls_short, is_within, low_rank, high_rank, ChangesItems, IsInner, bound_at}
 
 -- the first i keys are at most the number, and the next one is above it
@@ -281,24 +275,6 @@ remove-rank_above keys b i r within at_b above =
     }
 
 -- ---- the keys are parted at one of them
-
-pub take-rises : (keys : List ℕ) (m : ℕ) → Rises keys → m ≤ length keys → Rises (take m keys)
-take-rises keys m rises within = record {
-  order = λ a c le last.
-      let len = length-take-le m keys within in
-      let x = get_or-take m keys a 0 (omega arith) in
-      let y = get_or-take m keys c 0 (omega arith) in
-      let order = rises.order a c le (omega arith) in omega arith;
-}
-
-pub drop-rises : (keys : List ℕ) (m : ℕ) → Rises keys → Rises (drop m keys)
-drop-rises keys m rises = record {
-  order = λ a c le last.
-      let len = length-drop m keys in
-      let x = get_or-drop m keys a 0 in
-      let y = get_or-drop m keys c 0 in
-      let order = rises.order (m + a) (m + c) (omega arith) (omega arith) in omega arith;
-}
 
 -- a number below the parting key keeps its rank
 pub take-rank : (keys : List ℕ) (b m r : ℕ) → m < length keys → IsRank keys b r → b < get_or keys m 0 → (r ≤ m) × IsRank (take m keys) b r

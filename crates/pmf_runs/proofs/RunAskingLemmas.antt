@@ -1,6 +1,5 @@
 -- What a map of runs answers about a range, by its root.
-use Rattle.std.proofs.Common.{◌≡◌, ℕ, Bool, refl, sym, ◌∙◌, ap}
-use Rattle.std.specs.Prelude.{Option, None, Some}
+use Rattle.std.proofs.Common.{◌≡◌, ℕ, Bool, refl, sym, ◌∙◌, ap, Option, None, Some}
 use Rattle.pmf_runs.specs.declared.group.Group.{Group}
 use Rattle.pmf_runs.specs.declared.level.Level.{Level}
 use Rattle.pmf_runs.specs.declared.runs.RunMap.{RunMap}

@@ -1,6 +1,5 @@
 -- Maps whose neighbouring runs differ, by their roots.
-use Rattle.std.proofs.Common.{◌≡◌, sym, ◌∙◌, subst}
-use Rattle.std.specs.Prelude.{None, Some}
+use Rattle.std.proofs.Common.{◌≡◌, sym, ◌∙◌, subst, None, Some}
 use Rattle.pmf_runs.specs.declared.group.Group.{Group}
 use Rattle.pmf_runs.specs.declared.page.Page.{Page}
 use Rattle.pmf_runs.specs.declared.level.Level.{Level}
@@ -14,9 +13,6 @@ use Rattle.pmf_runs.proofs.JoinedLevelLemmas.{parts-all, all-parts-joined}
 
 some-same : {X : Type 0} (x y : X) → Some x ≡ Some y → x ≡ y
 some-same x y is = cc is
-
-none-other : {X : Type 0} (x : X) → None ≡ Some x → ⊥
-none-other x is = absurd (cc is)
 
 module _ {S M : Type 0} {laws : Ghosts S M} where
   pages-plain : (level : Level (Page S M laws)) → pages_joined level None None → AllJoined (λ page. Joined page.leaf) level
@@ -39,6 +35,3 @@ module _ {S M : Type 0} {laws : Ghosts S M} where
 
   pub root-joined : (runs : RunMap S M laws) (root : Level (Group S M laws)) → runs.root ≡ Some root → IsJoined runs → root_joined root None None
   root-joined runs root is joined = plain-groups root (joined.leaves root is)
-
-  pub joined-gap : (runs : RunMap S M laws) → runs.root ≡ None → IsJoined runs
-  joined-gap runs is = record { leaves = λ root at. absurd (none-other root (sym is ∙ at)) }

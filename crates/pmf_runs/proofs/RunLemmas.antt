@@ -1,6 +1,5 @@
 -- The states of a map of runs, by its root.
-use Rattle.std.proofs.Common.{◌≡◌, ◌≤◌, ℕ, refl, sym, ◌∙◌, ap, if◌then◌else◌}
-use Rattle.std.specs.Prelude.{None, Some, is_some, false, Result, Ok, Err, OnErr}
+use Rattle.std.proofs.Common.{◌≡◌, ◌≤◌, ℕ, sym, ◌∙◌, ap, if◌then◌else◌, None, Some, is_some, false, Result, Ok, Err, OnErr}
 use Rattle.pmf_runs.specs.declared.group.Group.{Group}
 use Rattle.pmf_runs.specs.declared.level.Level.{Level}
 use Rattle.pmf_runs.specs.declared.runs.RunMap.{RunMap}
@@ -35,17 +34,6 @@ module _ {S M : Type 0} {laws : Ghosts S M} where
     states = λ b.
         root-is new next b is ∙ ap (λ s. root_state next s b) gap ∙ changes.states old.gap b
         ∙ ap (λ s. if is_within (Some first) (Some end) b then change s else s) (sym (root-is old root b was));
-  }
-
-  pub keeps-none : (runs : RunMap S M laws) → KeepsStates runs runs
-  keeps-none runs = record { states = λ b. refl }
-
-  pub keeps-both : (a b c : RunMap S M laws) → KeepsStates a b → KeepsStates b c → KeepsStates a c
-  keeps-both a b c one two = record { states = λ p. two.states p ∙ one.states p }
-
-  pub changes-kept : (a b c : RunMap S M laws) (first end : ℕ) (change : S → S) → KeepsStates a b → ChangesBetween first end change b c → ChangesBetween first end change a c
-  changes-kept a b c first end change one two = record {
-    states = λ p. two.states p ∙ ap (λ s. if is_between first end p then change s else s) (one.states p);
   }
 
   -- a range that ends where it begins, or before

@@ -1,6 +1,5 @@
 -- What a question comes to where no state can answer it.
-use Rattle.std.proofs.Common.{◌≡◌, ℕ, zero, suc, ◌+◌, Bool, false, refl, sym, ◌∙◌, ap}
-use Rattle.std.specs.Prelude.{if◌then◌else◌, Option, None, Some}
+use Rattle.std.proofs.Common.{◌≡◌, ℕ, zero, suc, ◌+◌, Bool, false, refl, sym, ◌∙◌, ap, if◌then◌else◌, Option, None, Some}
 use Rattle.pmf_event.proofs.RangeLemmas.{lesser-none, lesser-assoc}
 use Rattle.pmf_event.specs.Ranges.{first_from, least_from, lesser}
 

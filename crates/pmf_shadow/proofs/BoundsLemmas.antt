@@ -1,7 +1,5 @@
 -- Bounds that are wider than others cover what those cover.
-use Rattle.std.proofs.Common.{◌≡◌, ℕ, ◌≤◌, Bool, true, false, refl, arith}
-use Rattle.std.specs.Prelude.{◌||◌, Option, None, Some}
-use Rattle.std.proofs.lemmas.Bool.{leb-true, le-leb, and_parts, and_from}
+use Rattle.pmf_event.proofs.Common.{◌≡◌, ℕ, ◌≤◌, Bool, true, false, refl, arith, ◌||◌, Option, None, Some, leb-true, le-leb, and_parts, and_from}
 use Rattle.pmf_shadow.specs.declared.byte.ByteState.{ByteState}
 use Rattle.pmf_shadow.specs.declared.byte.Stored.{Stored}
 use Rattle.pmf_shadow.specs.declared.byte.bounds.Bounds.{Bounds}

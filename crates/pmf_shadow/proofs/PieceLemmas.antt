@@ -1,11 +1,6 @@
 -- A search of a span in three pieces: before a line, on it, and after it.
-use Rattle.std.proofs.Common.{◌≡◌, ℕ, zero, suc, ◌+◌, ◌-◌, ◌%◌, ◌<◌, ◌≤◌, Bool, true, false, refl, sym, ◌∙◌, ap, arith, subst, inl, inr, min, max}
-use Rattle.std.specs.Prelude.{◌⊎◌, Option, Some, None, is_some}
-use Rattle.std.proofs.lemmas.Bool.{cases_lt, cases_eq, leb-true, leb-false}
-use Rattle.std.specs.Prelude.{nat_le, if◌then◌else◌}
-use Rattle.pmf_event.specs.Span.{Extent}
-use Rattle.pmf_event.specs.Line.{line_of_byte}
-use Rattle.pmf_event.specs.Ranges.{first_from, lesser, least_from}
+use Rattle.pmf_event.proofs.Common.{◌≡◌, ℕ, zero, suc, ◌+◌, ◌-◌, ◌%◌, ◌<◌, ◌≤◌, Bool, true, false, refl, sym, ◌∙◌, ap, arith, subst, inl, inr, min, max, ◌⊎◌, Option, Some, None, is_some, nat_le, if◌then◌else◌, cases_lt, cases_eq, leb-true, leb-false}
+use Rattle.pmf_event.specs.Prelude.{Extent, line_of_byte, first_from, lesser, least_from}
 use Rattle.pmf_event.proofs.LineLemmas.{line-bounds, line-unique}
 use Rattle.pmf_event.proofs.RangeLemmas.{first_from-none, first_from-some, none-passes, first-passes, some-or-none, some-from, none-from}
 use Rattle.pmf_shadow.specs.Pairs.{by_line, on_line, off_line, HasValue, IsLeastValue}

@@ -1,22 +1,8 @@
 -- What is kept answers the questions as the definitions do.
-use Rattle.std.proofs.Common.{◌≡◌, ℕ, ◌+◌, ◌*◌, ◌<◌, ◌≤◌, Bool, true, false, not, ◌&&◌, ◌==◌, nat_lt, if◌then◌else◌, List, refl, sym, ◌∙◌, ap, arith, inl, inr}
-use Rattle.std.specs.Prelude.{Option, Some, None, is_none}
-use Rattle.std.proofs.lemmas.Bool.{cases_lt, cases_eq, le-leb, le-ltb, lt-ltb, ne_eqb, lt-leb}
-use Rattle.std.proofs.lemmas.Bool.Decides.{Decides-eqb}
-use Rattle.std.proofs.Math.Bool.{and-false}
+use Rattle.pmf_event.proofs.Common.{◌≡◌, ℕ, ◌+◌, ◌*◌, ◌<◌, ◌≤◌, Bool, true, false, not, ◌&&◌, ◌==◌, nat_lt, if◌then◌else◌, List, refl, sym, ◌∙◌, ap, arith, inl, inr, Option, Some, None, is_none, cases_lt, cases_eq, le-leb, le-ltb, lt-ltb, ne_eqb, lt-leb, Decides-eqb, and-false}
 use Rattle.pmf_event.specs.declared.event.Event.{Event}
 use Rattle.pmf_event.specs.declared.interval.Interval.{Interval}
-use Rattle.pmf_event.specs.Span.{Extent}
-use Rattle.pmf_event.specs.Line.{line_of_byte}
-use Rattle.pmf_event.specs.Places.{count}
-use Rattle.pmf_event.specs.Ranges.{first_byte}
-use Rattle.pmf_event.specs.Store.{at, stores, is_fence, last_store, epoch_of}
-use Rattle.pmf_event.specs.WriteBack.{write_back_epoch, epoch_unless}
-use Rattle.pmf_event.specs.Interval.{first_write_back, closing_fence, epoch_after, interval_at, is_open}
-use Rattle.pmf_event.specs.Exclusion.{is_excluded, is_included}
-use Rattle.pmf_event.specs.Persist.{is_checked, is_exposed}
-use Rattle.pmf_event.specs.FlushWarnings.{is_clean, is_pending, lines_where}
-use Rattle.pmf_event.specs.LineBytes.{is_undurable, is_unwritten}
+use Rattle.pmf_event.specs.Prelude.{Extent, line_of_byte, count, first_byte, at, stores, is_fence, last_store, epoch_of, write_back_epoch, epoch_unless, first_write_back, closing_fence, epoch_after, interval_at, is_open, is_excluded, is_included, is_checked, is_exposed, is_clean, is_pending, lines_where, is_undurable, is_unwritten}
 use Rattle.pmf_event.proofs.RangeLemmas.{first_from-same}
 use Rattle.pmf_event.proofs.WriteBackLemmas.{epoch_unless-none, epoch_unless-some, epoch_after-none, epoch_after-some, closing-from_epoch, closing-none, closing-late}
 use Rattle.pmf_event.proofs.LineBytesLemmas.{lines_follow_from_their_bytes}

@@ -1,19 +1,10 @@
 -- The shadow stands for one more event: what the definitions say of a byte after it, and that the changed
 -- runs say the same.
-use Rattle.std.proofs.Common.{◌≡◌, ℕ, zero, suc, ◌+◌, ◌-◌, ◌*◌, ◌/◌, ◌<◌, ◌≤◌, Bool, true, false, ◌==◌, if◌then◌else◌, List, [], ◌∷◌, ◌++◌, length, take, refl, sym, ◌∙◌, ap, subst, arith, inl, inr}
-use Rattle.std.specs.Prelude.{Option, Some, None, is_none}
-use Rattle.std.proofs.lemmas.Bool.{cases_eq, leb-true, le-leb, lt-ltb, and_parts, and_from, ne_eqb, ltb-true}
-use Rattle.std.proofs.lemmas.Bool.Decides.{Decides-eqb}
+use Rattle.pmf_event.proofs.Common.{◌≡◌, ℕ, zero, suc, ◌+◌, ◌-◌, ◌*◌, ◌/◌, ◌<◌, ◌≤◌, Bool, true, false, ◌==◌, if◌then◌else◌, List, [], ◌∷◌, ◌++◌, length, take, refl, sym, ◌∙◌, ap, subst, arith, inl, inr, Option, Some, None, is_none, cases_eq, leb-true, le-leb, lt-ltb, and_parts, and_from, ne_eqb, ltb-true, Decides-eqb}
 use Rattle.std.specs.Cmp.{both_ways}
 use Rattle.pmf_event.specs.declared.event.Event.{Event}
 use Rattle.pmf_event.specs.declared.event.Event.TheVariants.{Store, Flush, Fence, Persist, Ordered, Exclude, Include, TxBegin, TxAdd, TxEnd, CheckStart, CheckEnd}
-use Rattle.pmf_event.specs.Span.{Extent}
-use Rattle.pmf_event.specs.Line.{line_of_byte, meets_line}
-use Rattle.pmf_event.specs.Places.{count}
-use Rattle.pmf_event.specs.Store.{event_at, at, stores, flushes, is_fence, last_store, epoch_of}
-use Rattle.pmf_event.specs.WriteBack.{write_back_epoch}
-use Rattle.pmf_event.specs.Exclusion.{excludes, marks, is_excluded}
-use Rattle.pmf_event.specs.LineBytes.{HasBytes}
+use Rattle.pmf_event.specs.Prelude.{Extent, line_of_byte, meets_line, count, event_at, at, stores, flushes, is_fence, last_store, epoch_of, write_back_epoch, excludes, marks, is_excluded, HasBytes}
 use Rattle.pmf_event.proofs.PlacesLemmas.{count-le, count-zero}
 use Rattle.pmf_event.proofs.EventLemmas.{at-is, last-none, last-other, last-here, epoch_of-next, fences-step}
 use Rattle.pmf_event.proofs.LineLemmas.{line-bounds, meets-bounds, bounds-meet}

@@ -1,24 +1,12 @@
 -- What is kept of two bytes says whether they are unordered, and whether the pair is certified; and the
 -- walks that the shadow makes find the least pair.
-use Rattle.std.proofs.Common.{◌≡◌, ℕ, ◌+◌, ◌-◌, ◌<◌, ◌≤◌, Bool, true, false, not, ◌&&◌, ◌==◌, nat_lt, if◌then◌else◌, List, refl, sym, ◌∙◌, ap, subst, arith, inl, inr}
-use Rattle.std.specs.Prelude.{◌||◌, Option, Some, None}
-use Rattle.std.proofs.lemmas.Bool.{cases_lt, cases_eq, le-leb, le-ltb, lt-ltb, and_parts, ltb-true, lt-leb, ne_eqb}
-use Rattle.std.proofs.lemmas.Bool.Decides.{Decides-eqb}
-use Rattle.std.proofs.Math.Bool.{or-false, and-false, or-true, and-true}
+use Rattle.pmf_event.proofs.Common.{◌≡◌, ℕ, ◌+◌, ◌-◌, ◌<◌, ◌≤◌, Bool, true, false, not, ◌&&◌, ◌==◌, nat_lt, if◌then◌else◌, List, refl, sym, ◌∙◌, ap, subst, arith, inl, inr, ◌||◌, Option, Some, None, cases_lt, cases_eq, le-leb, le-ltb, lt-ltb, and_parts, ltb-true, lt-leb, ne_eqb, Decides-eqb, or-false, and-false, or-true, and-true}
 use Rattle.pmf_event.proofs.LeastPairLemmas.{least_pair-by, least_pair-none}
 use Rattle.pmf_event.specs.declared.event.Event.{Event}
 use Rattle.pmf_event.specs.declared.event.Event.TheVariants.{Store}
 use Rattle.pmf_event.specs.declared.profile.Profile.{Profile}
 use Rattle.pmf_event.specs.declared.profile.Profile.TheVariants.{One, Two}
-use Rattle.pmf_event.specs.Span.{Extent}
-use Rattle.pmf_event.specs.Line.{line_of_byte}
-use Rattle.pmf_event.specs.Places.{least, count}
-use Rattle.pmf_event.specs.Ranges.{first_byte}
-use Rattle.pmf_event.specs.Store.{event_at, passes, at, stores, is_fence, last, last_store, epoch_of}
-use Rattle.pmf_event.specs.WriteBack.{write_back_epoch}
-use Rattle.pmf_event.specs.Interval.{writes_back, first_write_back, interval_at}
-use Rattle.pmf_event.specs.Persist.{is_checked}
-use Rattle.pmf_event.specs.Order.{is_closed_by, precedes, share_line, is_stored_before, is_ordered, is_unordered, is_certified, with_partner, least_pair}
+use Rattle.pmf_event.specs.Prelude.{Extent, line_of_byte, least, count, first_byte, event_at, passes, at, stores, is_fence, last, last_store, epoch_of, write_back_epoch, writes_back, first_write_back, interval_at, is_checked, is_closed_by, precedes, share_line, is_stored_before, is_ordered, is_unordered, is_certified, with_partner, least_pair}
 use Rattle.pmf_event.proofs.PlacesLemmas.{greatest-passes, least-passes, count-mono}
 use Rattle.pmf_event.proofs.RangeLemmas.{none-passes, first_from-same}
 use Rattle.pmf_event.proofs.WriteBackLemmas.{last-bound, epoch_unless-place}

@@ -2,7 +2,7 @@
 use Rattle.std.specs.Prelude.{◌≡◌, ℕ, suc, ◌≤◌, Bool, true, false, List, Some}
 use Rattle.pmf_event.specs.declared.event.Event.{Event}
 use Rattle.pmf_event.specs.declared.event.Event.TheVariants.{Store, Flush, Fence, Exclude, Include}
-use Rattle.pmf_event.specs.Store.{event_at}
+use Rattle.pmf_event.specs.Prelude.{event_at}
 use Rattle.pmf_shadow.specs.declared.shadow.Shadow.{Shadow}
 use Rattle.pmf_shadow.specs.Shadow.{StandsFor, FollowsAt, Follows}
 

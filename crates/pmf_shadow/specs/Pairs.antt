@@ -2,8 +2,7 @@
 use Rattle.std.specs.Prelude.{◌≡◌, ℕ, ◌+◌, ◌<◌, ◌≤◌, Bool, true, false, ◌==◌, List, Option, None, Some, if◌then◌else◌}
 use Rattle.pmf_event.specs.declared.event.Event.{Event}
 use Rattle.pmf_event.specs.declared.profile.Profile.{Profile}
-use Rattle.pmf_event.specs.Line.{line_of_byte}
-use Rattle.pmf_event.specs.Order.{share_line, is_unordered, is_certified}
+use Rattle.pmf_event.specs.Prelude.{line_of_byte, share_line, is_unordered, is_certified}
 use Rattle.pmf_shadow.specs.declared.byte.ByteState.{ByteState}
 use Rattle.pmf_shadow.specs.declared.byte.Stored.{Stored}
 use Rattle.pmf_runs.specs.declared.runs.RunMap.{RunMap}

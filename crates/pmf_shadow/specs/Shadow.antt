@@ -4,12 +4,7 @@
 use Rattle.std.specs.Prelude.{◌≡◌, ℕ, suc, ◌+◌, ◌<◌, ◌==◌, nat_lt, [], ◌∷◌, ◌++◌, List, length, Option, None, Some, if◌then◌else◌}
 use Rattle.pmf_event.specs.declared.event.Event.{Event}
 use Rattle.pmf_event.specs.declared.section.TheConstants.{EVENT_LIMIT}
-use Rattle.pmf_event.specs.Line.{line_of_byte}
-use Rattle.pmf_event.specs.Places.{count}
-use Rattle.pmf_event.specs.Store.{at, stores, is_fence, last_store, epoch_of}
-use Rattle.pmf_event.specs.WriteBack.{write_back_epoch}
-use Rattle.pmf_event.specs.Exclusion.{is_excluded}
-use Rattle.pmf_event.specs.LineBytes.{HasBytes}
+use Rattle.pmf_event.specs.Prelude.{line_of_byte, count, at, stores, is_fence, last_store, epoch_of, write_back_epoch, is_excluded, HasBytes}
 use Rattle.pmf_shadow.specs.declared.byte.Stored.{Stored}
 use Rattle.pmf_shadow.specs.declared.shadow.Shadow.{Shadow}
 use Rattle.pmf_runs.specs.Runs.{state_at}

@@ -1,9 +1,7 @@
 -- Cache lines by number and by a test on their bytes. No public clause cites this.
 use Rattle.std.specs.Prelude.{◌≡◌, ℕ, ◌<◌, ◌≤◌, Bool, true, not, ◌&&◌, Option}
 use Rattle.pmf_event.specs.declared.lines.Lines.{Lines}
-use Rattle.pmf_event.specs.Span.{Extent}
-use Rattle.pmf_event.specs.Ranges.{first_from, count_from}
-use Rattle.pmf_event.specs.FlushWarnings.{first_line, line_count, lines_from}
+use Rattle.pmf_event.specs.Prelude.{Extent, first_from, count_from, first_line, line_count, lines_from}
 use Rattle.pmf_runs.specs.Lines.{line_has}
 
 -- whether no byte of the line with this number passes

@@ -6,8 +6,7 @@ use Rattle.pmf_event.specs.declared.event.Event.TheVariants.{Store}
 use Rattle.pmf_event.specs.declared.finding.Finding.{Finding}
 use Rattle.pmf_event.specs.declared.finding.Finding.TheVariants.{OrderedFail, Unclosed}
 use Rattle.pmf_event.specs.declared.interval.Interval.{Interval}
-use Rattle.pmf_event.specs.Span.{Extent}
-use Rattle.pmf_event.specs.Store.{event_at}
+use Rattle.pmf_event.specs.Prelude.{Extent, event_at}
 
 -- of two stores up to p the later one was told at the greater place
 abbrev pub KeepsOrder : (ℕ → ℕ) → List Event → ℕ → Type 0

@@ -2,9 +2,7 @@
 
 ghost use Rattle.std.specs.Prelude.{◌≡◌, ◌%◌, ◌<◌};
 ghost use Rattle.pmf_event.specs.declared.span.TheConstants.{ADDRESS_LIMIT, LINE_SIZE};
-ghost use Rattle.pmf_event.specs.Span.{IsValidExtent};
-ghost use Rattle.pmf_event.specs.Ranges.{first_byte, lesser};
-ghost use Rattle.pmf_event.specs.Order.{least_pair};
+ghost use Rattle.pmf_event.specs.Prelude.{IsValidExtent, first_byte, lesser, least_pair};
 ghost use Rattle.pmf_runs.specs.Runs.{passing, keyed};
 ghost use Rattle.pmf_shadow.specs.Pairs.{by_epochs, by_line, by_lines, kept, off_line, on_line, pairs_of, IsLeastValue};
 ghost use Rattle.pmf_shadow.specs.Shadow.{ForEachList};

@@ -2,12 +2,7 @@
 
 ghost use Rattle.std.specs.Prelude.{◌≡◌, ℕ, ◌+◌, List, OnOk, OnErr, is_some};
 ghost use Rattle.pmf_event.specs.declared.event.Event.{Event};
-ghost use Rattle.pmf_event.specs.Span.{IsValidExtent};
-ghost use Rattle.pmf_event.specs.Ranges.{first_byte};
-ghost use Rattle.pmf_event.specs.Interval.{interval_at};
-ghost use Rattle.pmf_event.specs.Exclusion.{is_included};
-ghost use Rattle.pmf_event.specs.Persist.{is_checked, is_exposed};
-ghost use Rattle.pmf_event.specs.FlushWarnings.{is_clean, is_pending, lines_where};
+ghost use Rattle.pmf_event.specs.Prelude.{IsValidExtent, first_byte, interval_at, is_included, is_checked, is_exposed, is_clean, is_pending, lines_where};
 ghost use Rattle.pmf_runs.specs.Runs.{passing};
 ghost use Rattle.pmf_shadow.specs.Shadow.{StandsFor, ForEachList, HasRoom, FollowsAt, Follows, Keeps, closing};
 ghost use Rattle.pmf_shadow.specs.Told.{interval_as_told};

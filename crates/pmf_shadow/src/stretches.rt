@@ -2,9 +2,7 @@
 
 ghost use Rattle.std.specs.Prelude.{◌≡◌, ℕ, ◌+◌, ◌-◌, ◌*◌, ◌/◌, ◌<◌, ◌≤◌, Bool, true, false};
 ghost use Rattle.pmf_event.specs.declared.span.TheConstants.{ADDRESS_LIMIT, LINE_SIZE};
-ghost use Rattle.pmf_event.specs.Span.{IsValidExtent};
-ghost use Rattle.pmf_event.specs.Ranges.{count_from, first_from};
-ghost use Rattle.pmf_event.specs.FlushWarnings.{first_line};
+ghost use Rattle.pmf_event.specs.Prelude.{IsValidExtent, count_from, first_from, first_line};
 ghost use Rattle.pmf_shadow.specs.declared.byte.ByteState.{ByteState};
 ghost use Rattle.pmf_runs.specs.Runs.{passing};
 ghost use Rattle.pmf_runs.specs.Lines.{line_has};

@@ -1,20 +1,10 @@
 -- What is written of a number and of a span reads as itself.
-use Rattle.std.proofs.Common.{◌≡◌, ℕ, zero, suc, ◌+◌, ◌*◌, ◌/◌, ◌%◌, ◌^◌, ◌<◌, ◌≤◌, true, false, ◌==◌, if◌then◌else◌, List, [], ◌∷◌, ◌++◌, Some, length, refl, sym, ap, ◌∙◌, arith, inl, inr}
-use Rattle.std.specs.Fmt.{digits, digits_onto, digit_glyph}
-use Rattle.std.specs.Char.{digit_value}
-use Rattle.std.specs.Str.Parse.{digits_value, AllDigits}
-use Rattle.std.specs.Prelude.{Ok}
-use Rattle.std.specs.List.{list_all, AllByRecursion}
-use Rattle.std.proofs.lemmas.List.Elements.{All-from_recursion}
-use Rattle.pmf_event.specs.Span.{Extent, extent_of}
+use Rattle.pmf_event.proofs.Common.{◌≡◌, ℕ, zero, suc, ◌+◌, ◌*◌, ◌/◌, ◌%◌, ◌^◌, ◌<◌, ◌≤◌, true, false, ◌==◌, if◌then◌else◌, List, [], ◌∷◌, ◌++◌, Some, length, refl, sym, ap, ◌∙◌, arith, inl, inr, Ok, digits_onto, digit_glyph, digit_value, digits_value, AllDigits, list_all, AllByRecursion, All-from_recursion, digits_is_IsNumeral, Decides-eqb, lt-ltb, le-leb, cases_eq, slice_split_none, slice_split_at}
+use Rattle.std.specs.Fmt.{digits}
+use Rattle.pmf_event.specs.Prelude.{Extent, IsValidExtent, extent_of, address}
 use Rattle.pmf_storelog.specs.Records.{is_field_end, fields_of, span_of_texts, span_of_numbers, span_or_cause}
-use Rattle.std.proofs.lemmas.Fmt.{digits_is_IsNumeral}
 use native.Mathlib.Nat.{pow-suc}
-use Rattle.std.proofs.lemmas.Bool.Decides.{Decides-eqb}
-use Rattle.std.proofs.lemmas.Bool.{lt-ltb, le-leb, cases_eq}
-use Rattle.std.proofs.lemmas.List.Splits.{slice_split_none, slice_split_at}
 use Rattle.pmf_storelog.specs.Numbers.{is_digit_in, is_numeral, numeral_of, number_of}
-use Rattle.pmf_event.specs.Address.{address}
 use Rattle.pmf_storelog.specs.Canonical.{field_of, fields_of_span}
 
 -- a number below 16 ^ m has at most m hexadecimal digits
@@ -92,6 +82,10 @@ fields_of-last front none = slice_split_none is_field_end front (All-from_recurs
 pub record Fits (s : Extent) : Type 0 where
   pub first : s.first < 2 ^ 64
   pub size : s.size < 2 ^ 64
+
+-- a span keeps its limits
+pub fits_of : (s : Extent) → IsValidExtent s.first s.size → Fits s
+fits_of s valid = record { first = omega (arith, valid.ends); size = omega (arith, valid.small) }
 
 -- the fields of a name and a span
 pub fields_of-span : (name : List ℕ) (s : Extent) → NoFieldEnd name → Fits s → fields_of (name ++ fields_of_span s) ≡ name ∷ address s.first ∷ address s.size ∷ []

@@ -1,10 +1,5 @@
 -- Text lines that are one record, and what an event's canonical text line reads as.
-use Rattle.std.proofs.Common.{◌≡◌, ℕ, ◌≤◌, true, false, List, [], ◌∷◌, ◌++◌, None, Some, Option, length, All, refl, sym, ◌∙◌, arith, length-append}
-use Rattle.std.specs.Prelude.{Ok, nat_le, codes}
-use Rattle.std.specs.Str.{bytes_eq}
-use Rattle.std.proofs.lemmas.Bool.{le-leb}
-use Rattle.std.proofs.lemmas.List.Folds.{list_any_none, list_any_at}
-use Rattle.std.proofs.lemmas.Slice.Eq.{bytes_eq-Decides}
+use Rattle.pmf_event.proofs.Common.{◌≡◌, ℕ, ◌≤◌, true, false, List, [], ◌∷◌, ◌++◌, None, Some, Option, length, All, refl, sym, ◌∙◌, arith, length-append, Ok, nat_le, codes, bytes_eq, le-leb, list_any_none, list_any_at, bytes_eq-Decides}
 use Rattle.memchr.specs.Find.{IsFirstByte, is_byte3}
 use Rattle.pmf_event.specs.declared.event.Event.{Event}
 use Rattle.pmf_storelog.specs.declared.fault.TheConstants.{LOG_LIMIT}
@@ -18,7 +13,7 @@ use Rattle.pmf_storelog.specs.Spelling.{AllValid}
 use Rattle.pmf_storelog.proofs.PlainRecordLemmas.{IsPlain, trimmed-plain}
 use Rattle.pmf_storelog.proofs.PlainLemmas.{text_of_event, text_of_event-plain}
 use Rattle.pmf_storelog.proofs.RoundTripLemmas.{line-length}
-use Rattle.pmf_storelog.proofs.SpellingLemmas.{all_fit, record_of-event}
+use Rattle.pmf_storelog.proofs.SpellingLemmas.{record_of-event}
 use Rattle.pmf_storelog.proofs.SplitLemmas.{none_pass}
 
 -- what a search for a separator says of a text line
@@ -73,13 +68,13 @@ event_of_line-plain event line plain short says =
 -- an event's canonical text line, without its end
 pub text-short : (event : Event) → AllValid event → length (text_of_event event) ≤ 91
 text-short event valid =
-    omega (arith, line-length event (all_fit event valid), length-append (name_of event ++ fields_of_event event) (codes "\n"))
+    omega (arith, line-length event valid, length-append (name_of event ++ fields_of_event event) (codes "\n"))
 
 -- reads as the event
 pub event_of_line-event : (event : Event) → AllValid event → event_of_line (text_of_event event) ≡ Ok event
 event_of_line-event event valid =
-    event_of_line-plain event (text_of_event event) (text_of_event-plain event (all_fit event valid)) (omega (arith, text-short event valid)) (record_of-event event valid)
+    event_of_line-plain event (text_of_event event) (text_of_event-plain event valid) (omega (arith, text-short event valid)) (record_of-event event valid)
 
 -- no separator stands in it
 pub text-one_line : (event : Event) → AllValid event → All (λ c. is_separator c ≡ false) (text_of_event event)
-text-one_line event valid = (text_of_event-plain event (all_fit event valid)).whole
+text-one_line event valid = (text_of_event-plain event valid).whole

@@ -1,10 +1,6 @@
 -- The numbers of a list in order: they rise, are those of the list, and with one more are one insertion more.
-use Rattle.std.proofs.Common.{◌≡◌, ℕ, zero, suc, ◌<◌, List, [], ◌∷◌, ◌++◌, length, get_or, refl, sym, ◌∙◌, ap, subst, arith, inl, inr, Less, Equal, Greater}
-use Rattle.std.specs.Prelude.{◌⊎◌, Contains}
-use Rattle.std.specs.Ordering.{nat_cmp}
+use Rattle.pmf_event.proofs.Common.{◌≡◌, ℕ, zero, suc, ◌<◌, List, [], ◌∷◌, ◌++◌, length, get_or, refl, sym, ◌∙◌, ap, subst, arith, inl, inr, Less, Equal, Greater, ◌⊎◌, Contains, nat_cmp, nat_cmp_is, cases_order}
 use Rattle.std.specs.BTreeSet.{insert_key}
-use Rattle.std.specs.Cmp.{nat_cmp_is}
-use Rattle.std.proofs.lemmas.Bool.{cases_order}
 use Rattle.pmf_storelog.specs.Rising.{IsBelow, Rises, with_number, in_order}
 use Rattle.pmf_storelog.specs.Laws.{InOrderIsTheSetInOrder}
 

@@ -1,8 +1,5 @@
 -- The parts and the ended records of bytes that more bytes follow.
-use Rattle.std.proofs.Common.{◌≡◌, ℕ, ◌+◌, ◌-◌, ◌<◌, List, [], ◌∷◌, ◌++◌, Option, Some, None, length, take, map, MatchOption, refl, sym, ap, ◌∙◌, arith, length-append}
-use Rattle.std.specs.List.{filter}
-use Rattle.std.proofs.lemmas.List.{append_assoc, append-nil, take_at, map-append}
-use Rattle.std.proofs.lemmas.List.Elements.{filter-append}
+use Rattle.pmf_event.proofs.Common.{◌≡◌, ℕ, ◌+◌, ◌-◌, ◌<◌, List, [], ◌∷◌, ◌++◌, Option, Some, None, length, take, map, MatchOption, refl, sym, ap, ◌∙◌, arith, length-append, filter, append_assoc, append-nil, take_at, map-append, filter-append}
 use Rattle.memchr.specs.Find.{IsFirstByte, is_byte3}
 use Rattle.pmf_storelog.specs.Separators.{is_separator, is_filled, trimmed, records_in, parts_of, ended_parts, records_of, ended_records}
 use Rattle.pmf_storelog.proofs.SplitLemmas.{split_none, split_upto, split_filled, slice_split-append, joined, joined_at}

@@ -1,21 +1,12 @@
 -- The lines of the canonical text of a section have no separator and no blank.
-use Rattle.std.proofs.Common.{◌≡◌, ℕ, ◌^◌, ◌<◌, ◌≤◌, Bool, true, false, ◌==◌, List, [], ◌∷◌, ◌++◌, length, refl, ap, ◌∙◌, arith, rules, inl, inr, length-append}
-use Rattle.std.specs.Prelude.{codes, ⊤}
-use Rattle.std.specs.Fmt.{digits}
-use Rattle.std.specs.Char.{digit_value}
-use Rattle.std.specs.Str.Parse.{AllDigits}
-use Rattle.std.specs.List.{AllByRecursion}
-use Rattle.std.proofs.lemmas.Bool.Decides.{Decides-eqb}
-use Rattle.std.proofs.lemmas.Bool.{cases_eq}
-use Rattle.std.proofs.lemmas.Fmt.{digits_is_IsNumeral}
-use Rattle.std.proofs.lemmas.List.Elements.{All-from_recursion}
+use Rattle.pmf_event.proofs.Common.{◌≡◌, ℕ, ◌^◌, ◌<◌, ◌≤◌, Bool, true, false, ◌==◌, List, [], ◌∷◌, ◌++◌, length, refl, ap, ◌∙◌, arith, rules, inl, inr, length-append, codes, ⊤, digits, digit_value, AllDigits, AllByRecursion, Decides-eqb, cases_eq, digits_is_IsNumeral, All-from_recursion}
 use Rattle.pmf_event.specs.declared.event.Event.{Event}
 use Rattle.pmf_event.specs.declared.event.Event.TheVariants.{Store, Flush, Fence, Persist, Ordered, Exclude, Include, TxBegin, TxAdd, TxEnd, CheckStart, CheckEnd}
-use Rattle.pmf_event.specs.Span.{Extent}
+use Rattle.pmf_event.specs.Prelude.{Extent, IsValidExtent, address}
 use Rattle.pmf_storelog.specs.Separators.{is_separator, is_blank}
-use Rattle.pmf_event.specs.Address.{address}
 use Rattle.pmf_storelog.specs.Canonical.{field_of, fields_of_span, fields_of_event, name_of}
-use Rattle.pmf_storelog.proofs.CanonicalLemmas.{Fits}
+use Rattle.pmf_storelog.specs.Spelling.{AllValid}
+use Rattle.pmf_storelog.proofs.CanonicalLemmas.{fits_of}
 use Rattle.pmf_storelog.proofs.PlainRecordLemmas.{IsPlain}
 
 -- no byte passes
@@ -32,21 +23,6 @@ not_digit m c stop digit = elim (cases_eq c m) [
   | inl same ↦ let large : digit_value c ≡ 36 = ap digit_value same ∙ stop in absurd (omega arith)
   | inr other ↦ elim (c == m) as (λ v. (c == m) ≡ v → v ≡ false) [ true ↦ λ is. absurd (other ((Decides-eqb c m).0 is)) | false ↦ λ is. refl ] refl
 ]
-
--- the spans of an event fit into 64 bits
-abbrev pub AllFit : Event → Type 0
-AllFit (Store s) = Fits s
-AllFit (Flush s) = Fits s
-AllFit Fence = ⊤
-AllFit (Persist s) = Fits s
-AllFit (Ordered a b) = Fits a × Fits b
-AllFit (Exclude s) = Fits s
-AllFit (Include s) = Fits s
-AllFit TxBegin = ⊤
-AllFit (TxAdd s) = Fits s
-AllFit TxEnd = ⊤
-AllFit CheckStart = ⊤
-AllFit CheckEnd = ⊤
 
 -- the text of an event
 abbrev pub text_of_event : Event → List ℕ
@@ -66,16 +42,16 @@ module _ (p : ℕ → Bool) (digit : (c : ℕ) → digit_value c < 36 → p c �
   unfolding field_of
   none-field n small = (semicolon, none-address n small)
 
-  none-span : (s : Extent) → Fits s → NoneIn p (fields_of_span s)
+  none-span : (s : Extent) → IsValidExtent s.first s.size → NoneIn p (fields_of_span s)
   unfolding fields_of_span
-  none-span s fits = none-append p (field_of s.first) (field_of s.size) (none-field s.first fits.first) (none-field s.size fits.size)
+  none-span s valid = let fits = fits_of s valid in none-append p (field_of s.first) (field_of s.size) (none-field s.first fits.first) (none-field s.size fits.size)
 
-  none-fields : (event : Event) → AllFit event → NoneIn p (fields_of_event event)
+  none-fields : (event : Event) → AllValid event → NoneIn p (fields_of_event event)
   unfolding fields_of_event
   none-fields (Store s) fit =
       none-append p (field_of s.first ++ codes ";0x0") (field_of s.size)
-      (none-append p (field_of s.first) (codes ";0x0") (none-field s.first fit.first) (semicolon, (digit 48 (omega arith), (x, (digit 48 (omega arith), tt)))))
-      (none-field s.size fit.size)
+      (none-append p (field_of s.first) (codes ";0x0") (none-field s.first (fits_of s fit).first) (semicolon, (digit 48 (omega arith), (x, (digit 48 (omega arith), tt)))))
+      (none-field s.size (fits_of s fit).size)
   none-fields (Flush s) fit = none-span s fit
   none-fields Fence fit = tt
   none-fields (Persist s) fit = none-span s fit
@@ -88,7 +64,7 @@ module _ (p : ℕ → Bool) (digit : (c : ℕ) → digit_value c < 36 → p c �
   none-fields CheckStart fit = tt
   none-fields CheckEnd fit = tt
 
-  none-text : (event : Event) → AllFit event → NoneIn p (text_of_event event)
+  none-text : (event : Event) → AllValid event → NoneIn p (text_of_event event)
   none-text event fit = none-append p (name_of event) (fields_of_event event) (named event) (none-fields event fit)
 
 pub no_separator : (c : ℕ) → digit_value c < 36 → is_separator c ≡ false
@@ -97,57 +73,27 @@ no_separator c digit = rw (not_digit 124 c refl digit, not_digit 10 c refl digit
 pub no_blank : (c : ℕ) → digit_value c < 36 → is_blank c ≡ false
 no_blank c digit = rw (not_digit 32 c refl digit, not_digit 9 c refl digit) refl
 
-separators_named : (event : Event) → NoneIn is_separator (name_of event)
+-- a name has no separator and no blank, and is no empty and no long text
+pub spelled : (event : Event) → NoneIn is_separator (name_of event) × (NoneIn is_blank (name_of event) × ((5 ≤ length (name_of event)) × (length (name_of event) ≤ 14)))
 unfolding name_of
-separators_named (Store s) = search rules
-separators_named (Flush s) = search rules
-separators_named Fence = search rules
-separators_named (Persist s) = search rules
-separators_named (Ordered a b) = search rules
-separators_named (Exclude s) = search rules
-separators_named (Include s) = search rules
-separators_named TxBegin = search rules
-separators_named (TxAdd s) = search rules
-separators_named TxEnd = search rules
-separators_named CheckStart = search rules
-separators_named CheckEnd = search rules
+spelled (Store s) = (search rules, (search rules, (omega arith, omega arith)))
+spelled (Flush s) = (search rules, (search rules, (omega arith, omega arith)))
+spelled Fence = (search rules, (search rules, (omega arith, omega arith)))
+spelled (Persist s) = (search rules, (search rules, (omega arith, omega arith)))
+spelled (Ordered a b) = (search rules, (search rules, (omega arith, omega arith)))
+spelled (Exclude s) = (search rules, (search rules, (omega arith, omega arith)))
+spelled (Include s) = (search rules, (search rules, (omega arith, omega arith)))
+spelled TxBegin = (search rules, (search rules, (omega arith, omega arith)))
+spelled (TxAdd s) = (search rules, (search rules, (omega arith, omega arith)))
+spelled TxEnd = (search rules, (search rules, (omega arith, omega arith)))
+spelled CheckStart = (search rules, (search rules, (omega arith, omega arith)))
+spelled CheckEnd = (search rules, (search rules, (omega arith, omega arith)))
 
-blanks_named : (event : Event) → NoneIn is_blank (name_of event)
-unfolding name_of
-blanks_named (Store s) = search rules
-blanks_named (Flush s) = search rules
-blanks_named Fence = search rules
-blanks_named (Persist s) = search rules
-blanks_named (Ordered a b) = search rules
-blanks_named (Exclude s) = search rules
-blanks_named (Include s) = search rules
-blanks_named TxBegin = search rules
-blanks_named (TxAdd s) = search rules
-blanks_named TxEnd = search rules
-blanks_named CheckStart = search rules
-blanks_named CheckEnd = search rules
-
--- a name is no empty text
-name_filled : (event : Event) → 5 ≤ length (name_of event)
-unfolding name_of
-name_filled (Store s) = omega arith
-name_filled (Flush s) = omega arith
-name_filled Fence = omega arith
-name_filled (Persist s) = omega arith
-name_filled (Ordered a b) = omega arith
-name_filled (Exclude s) = omega arith
-name_filled (Include s) = omega arith
-name_filled TxBegin = omega arith
-name_filled (TxAdd s) = omega arith
-name_filled TxEnd = omega arith
-name_filled CheckStart = omega arith
-name_filled CheckEnd = omega arith
-
-pub text_of_event-plain : (event : Event) → AllFit event → IsPlain (text_of_event event)
+pub text_of_event-plain : (event : Event) → AllValid event → IsPlain (text_of_event event)
 text_of_event-plain event fit = record {
-  filled = omega (arith, name_filled event, length-append (name_of event) (fields_of_event event));
-  whole = All-from_recursion (λ c. is_separator c ≡ false) (text_of_event event) (none-text is_separator no_separator refl refl separators_named event fit);
-  close = All-from_recursion (λ c. is_blank c ≡ false) (text_of_event event) (none-text is_blank no_blank refl refl blanks_named event fit);
+  filled = omega (arith, (spelled event).1.1.0, length-append (name_of event) (fields_of_event event));
+  whole = All-from_recursion (λ c. is_separator c ≡ false) (text_of_event event) (none-text is_separator no_separator refl refl (λ e. (spelled e).0) event fit);
+  close = All-from_recursion (λ c. is_blank c ≡ false) (text_of_event event) (none-text is_blank no_blank refl refl (λ e. (spelled e).1.0) event fit);
 }
 
 -- the text of the marker
@@ -158,6 +104,6 @@ pub text_of_marker-plain : (n : ℕ) → n < 2 ^ 64 → IsPlain (text_of_marker 
 unfolding text_of_marker
 text_of_marker-plain n small = record {
   filled = omega (arith, length-append (codes "PMT.SECTION") (field_of n));
-  whole = All-from_recursion (λ c. is_separator c ≡ false) (text_of_marker n) (none-append is_separator (codes "PMT.SECTION") (field_of n) (search rules) (none-field is_separator no_separator refl refl separators_named n small));
-  close = All-from_recursion (λ c. is_blank c ≡ false) (text_of_marker n) (none-append is_blank (codes "PMT.SECTION") (field_of n) (search rules) (none-field is_blank no_blank refl refl blanks_named n small));
+  whole = All-from_recursion (λ c. is_separator c ≡ false) (text_of_marker n) (none-append is_separator (codes "PMT.SECTION") (field_of n) (search rules) (none-field is_separator no_separator refl refl (λ e. (spelled e).0) n small));
+  close = All-from_recursion (λ c. is_blank c ≡ false) (text_of_marker n) (none-append is_blank (codes "PMT.SECTION") (field_of n) (search rules) (none-field is_blank no_blank refl refl (λ e. (spelled e).1.0) n small));
 }

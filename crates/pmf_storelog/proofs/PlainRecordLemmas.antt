@@ -1,10 +1,5 @@
 -- Lines of a text that are records as they stand.
-use Rattle.std.proofs.Common.{◌≡◌, ℕ, suc, ◌-◌, ◌<◌, false, List, [], ◌∷◌, ◌++◌, length, drop, All, refl, ap, ◌∙◌, arith, append_assoc}
-use Rattle.std.specs.List.{flat_map, suffix_len}
-use Rattle.std.proofs.lemmas.List.{take_all}
-use Rattle.std.proofs.lemmas.List.Sums.{prefix_len_is, suffix_len_is}
-use Rattle.std.proofs.lemmas.List.Splits.{slice_split_at}
-use Rattle.std.proofs.lemmas.Bool.{lt-ltb}
+use Rattle.pmf_event.proofs.Common.{◌≡◌, ℕ, suc, ◌-◌, ◌<◌, false, List, [], ◌∷◌, ◌++◌, length, drop, All, refl, ap, ◌∙◌, arith, append_assoc, take_all, lt-ltb, flat_map, suffix_len, prefix_len_is, suffix_len_is, slice_split_at}
 use Rattle.pmf_storelog.specs.Separators.{is_separator, is_blank, trimmed, without_front_blanks, without_end_blanks, records_in, parts_of, records_of}
 use Rattle.pmf_storelog.proofs.PartLemmas.{records_in-append}
 

@@ -1,7 +1,5 @@
 -- What is kept of bytes that more bytes follow.
-use Rattle.std.proofs.Common.{◌≡◌, ℕ, ◌+◌, ◌-◌, List, [], ◌∷◌, ◌++◌, Result, Ok, Err, OnOk, IfErr, length, take, drop, sym, ap, subst, ◌∙◌, arith}
-use Rattle.std.proofs.lemmas.List.{append_assoc, take-append-drop, take_rest}
-use Rattle.std.proofs.Math.Seq.{take-add}
+use Rattle.pmf_event.proofs.Common.{◌≡◌, ℕ, ◌+◌, ◌-◌, List, [], ◌∷◌, ◌++◌, Result, Ok, Err, OnOk, IfErr, length, take, drop, sym, ap, subst, ◌∙◌, arith, append_assoc, take-append-drop, take_rest, take-add}
 use Rattle.pmf_storelog.specs.declared.fault.LogFault.{LogFault}
 use Rattle.pmf_storelog.specs.declared.progress.Progress.{Progress}
 use Rattle.pmf_storelog.specs.Separators.{records_in, parts_of, ended_parts, ended_records}

@@ -1,20 +1,11 @@
 -- What the quick reading finds, it finds as the definition of a record says.
-use Rattle.std.proofs.Common.{◌≡◌, ℕ, ◌+◌, ◌-◌, length-drop, get_or, append_assoc, append-nil, length-append, ◌^◌, ◌<◌, ◌≤◌, List, [], ◌∷◌, ◌++◌, Bool, true, false, ◌==◌, rules, length, take, drop, refl, sym, ap, subst, ◌∙◌, arith}
-use Rattle.std.specs.Prelude.{codes, Result, Ok, nat_eq}
-use Rattle.std.specs.List.{starts_with, slice_split}
-use Rattle.std.specs.Str.{bytes_eq}
-use Rattle.std.proofs.lemmas.Slice.Eq.{starts_is, bytes_eq-Decides}
-use Rattle.std.proofs.lemmas.Bool.Decides.{Decides-eqb}
-use Rattle.std.specs.Str.Parse.{AllDigits, digits_value}
+use Rattle.pmf_event.proofs.Common.{◌≡◌, ℕ, ◌+◌, ◌-◌, length-drop, get_or, append_assoc, length-append, ◌^◌, ◌<◌, ◌≤◌, List, [], ◌∷◌, ◌++◌, Bool, true, false, rules, length, take, drop, refl, sym, ap, subst, ◌∙◌, arith, codes, Result, Ok, nat_eq, bytes_eq, starts_with, slice_split, starts_is, bytes_eq-Decides, Decides-eqb, AllDigits, digits_value, length-take-le, take-append-drop, take_all, take_at, drop_at, drop_more, All-from_recursion, slice_split_at}
 use Rattle.std.proofs.Math.Nat.{pow-le-pow_right}
 use Rattle.std.proofs.lemmas.Int.Digits.{digits_value-lt}
-use Rattle.std.proofs.lemmas.List.{length-take-le, take-append-drop, take_all, nil_from_length, take_at, drop_at, drop_more}
-use Rattle.std.proofs.lemmas.List.Elements.{All-from_recursion}
-use Rattle.std.proofs.lemmas.List.Splits.{slice_split_at}
 use Rattle.pmf_storelog.specs.Numbers.{number_of}
-use Rattle.pmf_event.specs.Span.{Extent, extent_of}
 use Rattle.pmf_event.specs.declared.event.Event.{Event}
 use Rattle.pmf_event.specs.declared.event.Event.TheVariants.{Store, Flush, Fence, Persist, Ordered, TxAdd}
+use Rattle.pmf_event.specs.Prelude.{Extent, extent_of}
 use Rattle.pmf_storelog.specs.declared.record.Saying.TheVariants.{Happens, Skipped}
 use Rattle.pmf_storelog.specs.Records.{is_field_end, fields_of, record_of, saying_of, transaction_of, saying_of_fields, other_name, event_over, order_of_fields, order_of_texts, span_of_fields, span_of_texts, stored_span}
 use Rattle.pmf_storelog.specs.declared.fault.Cause.{Cause}
@@ -52,19 +43,6 @@ pub begins_with : (text front : List ℕ) → starts_with nat_eq text front ≡ 
 begins_with text front starts =
     (starts_is Decides-eqb text front (starts_with nat_eq text front) refl).0 starts
     ∙ ap (λ rest. front ++ rest) (sym (slice_tail (length front) text))
-
-pub none_left : (xs : List ℕ) (b : Bool) → b ≡ (length xs == 0) → b ≡ true → xs ≡ []
-none_left [] b read is = refl
-none_left (x ∷ xs) b read is = let none = (Decides-eqb (length (x ∷ xs)) 0).0 (sym read ∙ is) in absurd (omega arith)
-
-pub some_left : (xs : List ℕ) (b : Bool) → b ≡ (length xs == 0) → b ≡ false → 0 < length xs
-some_left [] b read is = let both : true ≡ false = sym read ∙ is in cc
-some_left (x ∷ xs) b read is = omega arith
-
--- the text after a semicolon that it begins with
-pub after_semicolon : (xs : List ℕ) → 0 < length xs → get_or xs 0 0 ≡ 59 → xs ≡ 59 ∷ take (length xs - 1) (drop 1 xs)
-after_semicolon [] some is = absurd (omega arith)
-after_semicolon (x ∷ xs) some is = rw (slice_tail 1 (x ∷ xs), is) refl
 
 -- letters and digits end no field, and are clean
 word-NoFieldEnd : (cs : List ℕ) → AllDigits 36 cs → NoFieldEnd cs
@@ -194,12 +172,6 @@ fence_found text rest is = record {
   clean = search rules;
   says = ap saying_of_fields (fields_of-last (codes "FENCE") (search rules));
 }
-
--- a record with nothing after it
-pub whole_record : (text : List ℕ) (event : Event) (len : ℕ) → BeginsWithEvent text event len → length text ≤ len → record_of text ≡ Ok (Happens event)
-whole_record text event len found all =
-    let none : found.rest ≡ [] = nil_from_length found.rest (omega (arith, ap length found.whole, found.long, length-append found.line found.rest)) in
-    ap record_of (found.whole ∙ ap (λ l. found.line ++ l) none ∙ append-nil found.line) ∙ found.says
 
 -- a record with a separator after it
 part_of : (line more : List ℕ) (c : ℕ) (event : Event) → IsPlain line → is_separator c ≡ true → record_of line ≡ Ok (Happens event) → BeginsWithPart (line ++ c ∷ more) event (length line)

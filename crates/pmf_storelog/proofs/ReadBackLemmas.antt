@@ -1,16 +1,9 @@
 -- What is written of a section is a log that says the section alone.
-use Rattle.std.proofs.Common.{Equal, ◌≡◌, ℕ, suc, ◌+◌, ◌^◌, ◌<◌, ◌≤◌, true, false, ◌==◌, List, [], ◌∷◌, ◌++◌, None, Ok, length, map, take, get_or, All, refl, sym, ap, subst, ◌∙◌, arith}
-use Rattle.std.specs.Prelude.{⊤}
-use Rattle.std.specs.List.{flat_map}
-use Rattle.std.proofs.lemmas.List.{append_assoc, append-nil, length_push, take_more, take_all}
-use Rattle.std.proofs.lemmas.List.Elements.{All-more}
-use Rattle.std.proofs.lemmas.Grind.{flat_map-append}
-use Rattle.std.proofs.lemmas.Bool.Decides.{Decides-eqb}
+use Rattle.pmf_event.proofs.Common.{Equal, ◌≡◌, ℕ, suc, ◌+◌, ◌^◌, ◌<◌, ◌≤◌, true, false, ◌==◌, List, [], ◌∷◌, ◌++◌, None, Ok, length, map, take, All, refl, sym, ap, subst, ◌∙◌, arith, flat_map, ⊤, append_assoc, append-nil, length_push, take_all, Decides-eqb, nat_cmp_is}
 use Rattle.std.specs.Ordering.{match_ordering}
-use Rattle.std.specs.Cmp.{nat_cmp_is}
-use Rattle.pmf_event.specs.Section.{Trace}
 use Rattle.pmf_event.specs.declared.event.Event.{Event}
 use Rattle.pmf_event.specs.declared.section.TheConstants.{EVENT_LIMIT}
+use Rattle.pmf_event.specs.Prelude.{Trace}
 use Rattle.pmf_storelog.specs.declared.fault.TheConstants.{LOG_LIMIT}
 use Rattle.pmf_storelog.specs.declared.record.Saying.TheVariants.{Happens, Enters}
 use Rattle.pmf_storelog.specs.Separators.{records_of}
@@ -22,8 +15,8 @@ use Rattle.pmf_storelog.specs.Canonical.{canonical_text, line_of_event, line_of_
 use Rattle.pmf_storelog.specs.Spelling.{AllValid}
 use Rattle.pmf_storelog.proofs.LogLemmas.{numbers_with, current_of-push, numbers_of-push, events_in-event, events_in-enter, skipped_of-event, skipped_of-enter, first_fault-push, fault_within-short}
 use Rattle.pmf_storelog.proofs.PlainLemmas.{text_of_event, text_of_marker}
-use Rattle.pmf_storelog.proofs.RoundTripLemmas.{EachFits, canonical_records, records_of-canonical, canonical-length}
-use Rattle.pmf_storelog.proofs.SpellingLemmas.{record_of-event, record_of-marker, all_fit}
+use Rattle.pmf_storelog.proofs.RoundTripLemmas.{EachValid, canonical_records, records_of-canonical, canonical-length}
+use Rattle.pmf_storelog.proofs.SpellingLemmas.{record_of-event, record_of-marker}
 use Rattle.pmf_storelog.specs.LogValue.{LogValue}
 
 -- these records say one section, with this number and these events
@@ -77,15 +70,6 @@ module _ (n : ℕ) (events : List Event) (records : List (List ℕ)) (has : Says
     no_fault = first_fault-push records text ∙ ap (λ fault. or_else fault (refusal_after records (record_of text))) has.no_fault ∙ no_refusal few;
   }
 
--- the spans of each event keep the limits
-abbrev pub EachValid : List Event → Type 0
-EachValid [] = ⊤
-EachValid (event ∷ events) = AllValid event × EachValid events
-
-each_fits : (events : List Event) → EachValid events → EachFits events
-each_fits [] valid = tt
-each_fits (event ∷ events) valid = (all_fit event valid.0, each_fits events valid.1)
-
 says-events : (n : ℕ) (done left : List Event) (records : List (List ℕ)) → Says n done records → EachValid left → length done + length left ≤ EVENT_LIMIT →
     Says n (done ++ left) (records ++ map text_of_event left)
 says-events n done [] records has valid few =
@@ -103,12 +87,12 @@ says-section section small valid few =
 
 module _ (section : Trace) (small : section.name.number < 2 ^ 64) (valid : EachValid section.events) (few : length section.events ≤ EVENT_LIMIT) where
   records_are : records_of (canonical_text section) ≡ canonical_records section
-  records_are = records_of-canonical section small (each_fits section.events valid)
+  records_are = records_of-canonical section small valid
 
   no_fault_in_text : fault_of (canonical_text section) ≡ None
   unfolding fault_of
   no_fault_in_text =
-      fault_within-short LOG_LIMIT (canonical_text section) (omega (arith, canonical-length section small (each_fits section.events valid) (omega (arith, few))))
+      fault_within-short LOG_LIMIT (canonical_text section) (omega (arith, canonical-length section small valid (omega (arith, few))))
       ∙ ap first_fault records_are
       ∙ (says-section section small valid few).no_fault
 
@@ -140,23 +124,6 @@ pub reads_back : (section : Trace) (text : List ℕ) → text ≡ canonical_text
     log_of section.name.run text ≡ Ok (record { sections = section ∷ []; skipped = 0 })
 reads_back section text is small few valid =
     ap (log_of section.name.run) is ∙ log_of-canonical section small (each_valid section.events valid) few
-
--- one more line is written
-pub next_line : (events : List Event) (i : ℕ) (event : Event) (marker before after : List ℕ) → i < length events → event ≡ get_or events i event →
-    before ≡ marker ++ flat_map line_of_event (take i events) → All AllValid (take i events) → AllValid event → after ≡ before ++ line_of_event event →
-    (after ≡ marker ++ flat_map line_of_event (take (i + 1) events)) × All AllValid (take (i + 1) events)
-next_line events i event marker before after below is written valid one more = (
-  more ∙ ap (λ text. text ++ line_of_event event) written
-      ∙ append_assoc marker (flat_map line_of_event (take i events)) (line_of_event event)
-      ∙ ap (λ text. marker ++ text) (sym lines),
-  All-more AllValid events i event below valid (subst AllValid is one),
-)
-  where
-    lines : flat_map line_of_event (take (i + 1) events) ≡ flat_map line_of_event (take i events) ++ line_of_event event
-    lines =
-        ap (flat_map line_of_event) (take_more events i event below ∙ ap (λ e. take i events ++ e ∷ []) (sym is))
-        ∙ flat_map-append line_of_event (take i events) (event ∷ [])
-        ∙ ap (λ text. flat_map line_of_event (take i events) ++ text) (append-nil (line_of_event event))
 
 -- all lines are written
 pub read_back : (section : Trace) (items : List Event) (i : ℕ) (text : List ℕ) → items ≡ section.events → length items ≤ i →

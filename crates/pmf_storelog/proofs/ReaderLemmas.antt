@@ -1,7 +1,5 @@
 -- What a reader says of all bytes fed to it.
-use Rattle.std.proofs.Common.{◌≡◌, ◌≢◌, ℕ, ◌+◌, ◌-◌, ◌<◌, ◌≤◌, min, List, [], ◌∷◌, ◌++◌, Some, None, Result, Ok, Err, IfOk, IfErr, length, length-append, take, refl, sym, ap, subst, ◌∙◌, arith}
-use Rattle.std.proofs.lemmas.List.{append_assoc, take_all, take_min}
-use Rattle.std.proofs.Math.Seq.{take-append-add}
+use Rattle.pmf_event.proofs.Common.{◌≡◌, ◌≢◌, ℕ, ◌+◌, ◌-◌, ◌<◌, ◌≤◌, min, List, [], ◌∷◌, ◌++◌, Some, None, Result, Ok, Err, IfOk, IfErr, length, length-append, take, refl, sym, ap, subst, ◌∙◌, arith, append_assoc, take_all, take_min, take-append-add}
 use Rattle.pmf_storelog.specs.declared.fault.TheConstants.{LOG_LIMIT}
 use Rattle.pmf_storelog.specs.declared.fault.Cause.TheVariants.{TooLong}
 use Rattle.pmf_storelog.specs.declared.fault.LogFault.{LogFault}

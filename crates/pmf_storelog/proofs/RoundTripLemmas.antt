@@ -1,21 +1,19 @@
 -- The records of the canonical text of a section, and its length.
-use Rattle.std.proofs.Common.{◌≡◌, ℕ, zero, suc, ◌*◌, ◌^◌, ◌<◌, ◌≤◌, List, [], ◌∷◌, ◌++◌, length, map, All, refl, ap, ◌∙◌, arith, length-append}
-use Rattle.std.specs.Prelude.{codes, ⊤}
-use Rattle.std.specs.List.{flat_map}
+use Rattle.pmf_event.proofs.Common.{◌≡◌, ℕ, zero, suc, ◌*◌, ◌^◌, ◌<◌, ◌≤◌, List, [], ◌∷◌, ◌++◌, length, map, All, refl, ap, ◌∙◌, arith, length-append, flat_map, codes, ⊤}
 use Rattle.pmf_event.specs.declared.event.Event.{Event}
 use Rattle.pmf_event.specs.declared.event.Event.TheVariants.{Store, Flush, Fence, Persist, Ordered, Exclude, Include, TxBegin, TxAdd, TxEnd, CheckStart, CheckEnd}
-use Rattle.pmf_event.specs.Section.{Trace}
-use Rattle.pmf_event.specs.Span.{Extent}
+use Rattle.pmf_event.specs.Prelude.{Trace, Extent, IsValidExtent}
 use Rattle.pmf_storelog.specs.Separators.{records_of}
 use Rattle.pmf_storelog.specs.Canonical.{field_of, fields_of_span, fields_of_event, name_of, line_of_event, line_of_marker, canonical_text}
-use Rattle.pmf_storelog.proofs.CanonicalLemmas.{Fits, hex-length}
+use Rattle.pmf_storelog.specs.Spelling.{AllValid}
+use Rattle.pmf_storelog.proofs.CanonicalLemmas.{fits_of, hex-length}
 use Rattle.pmf_storelog.proofs.PlainRecordLemmas.{IsPlain, text_of_lines, records_of-lines}
-use Rattle.pmf_storelog.proofs.PlainLemmas.{AllFit, text_of_event, text_of_event-plain, text_of_marker, text_of_marker-plain}
+use Rattle.pmf_storelog.proofs.PlainLemmas.{spelled, text_of_event, text_of_event-plain, text_of_marker, text_of_marker-plain}
 
--- each event of a list has spans of 64 bits
-abbrev pub EachFits : List Event → Type 0
-EachFits [] = ⊤
-EachFits (event ∷ events) = AllFit event × EachFits events
+-- the spans of each event keep the limits
+abbrev pub EachValid : List Event → Type 0
+EachValid [] = ⊤
+EachValid (event ∷ events) = AllValid event × EachValid events
 
 -- the records that the canonical text is to have
 abbrev pub canonical_records : Trace → List (List ℕ)
@@ -30,18 +28,18 @@ canonical_lines : (section : Trace) → canonical_text section ≡ text_of_lines
 unfolding line_of_marker text_of_marker
 canonical_lines section = ap (λ rest. line_of_marker section.name.number ++ rest) (lines_of_events section.events)
 
-plain_events : (events : List Event) → EachFits events → All IsPlain (map text_of_event events)
+plain_events : (events : List Event) → EachValid events → All IsPlain (map text_of_event events)
 plain_events [] fit zero d l = absurd (omega arith)
 plain_events [] fit (suc k) d l = absurd (omega arith)
 plain_events (event ∷ events) fit zero d l = text_of_event-plain event fit.0
 plain_events (event ∷ events) fit (suc k) d l = plain_events events fit.1 k d (omega arith)
 
-plain_section : (section : Trace) → section.name.number < 2 ^ 64 → EachFits section.events → All IsPlain (canonical_records section)
+plain_section : (section : Trace) → section.name.number < 2 ^ 64 → EachValid section.events → All IsPlain (canonical_records section)
 plain_section section small fit zero d l = text_of_marker-plain section.name.number small
 plain_section section small fit (suc k) d l = plain_events section.events fit k d (omega arith)
 
 -- what is written reads as these records
-pub records_of-canonical : (section : Trace) → section.name.number < 2 ^ 64 → EachFits section.events → records_of (canonical_text section) ≡ canonical_records section
+pub records_of-canonical : (section : Trace) → section.name.number < 2 ^ 64 → EachValid section.events → records_of (canonical_text section) ≡ canonical_records section
 records_of-canonical section small fit =
     ap records_of (canonical_lines section) ∙ records_of-lines (canonical_records section) (plain_section section small fit)
 
@@ -50,14 +48,15 @@ field-length : (n : ℕ) → n < 2 ^ 64 → length (field_of n) ≤ 19
 unfolding field_of
 field-length n small = omega (arith, hex-length n small)
 
-span-length : (s : Extent) → Fits s → length (fields_of_span s) ≤ 38
+span-length : (s : Extent) → IsValidExtent s.first s.size → length (fields_of_span s) ≤ 38
 unfolding fields_of_span
-span-length s fits = omega (arith, field-length s.first fits.first, field-length s.size fits.size, length-append (field_of s.first) (field_of s.size))
+span-length s valid = let fits = fits_of s valid in omega (arith, field-length s.first fits.first, field-length s.size fits.size, length-append (field_of s.first) (field_of s.size))
 
-fields-length : (event : Event) → AllFit event → length (fields_of_event event) ≤ 76
+fields-length : (event : Event) → AllValid event → length (fields_of_event event) ≤ 76
 unfolding fields_of_event
 fields-length (Store s) fit =
-    omega (arith, field-length s.first fit.first, field-length s.size fit.size, length-append (field_of s.first) (codes ";0x0"), length-append (field_of s.first ++ codes ";0x0") (field_of s.size))
+    let fits = fits_of s fit in
+    omega (arith, field-length s.first fits.first, field-length s.size fits.size, length-append (field_of s.first) (codes ";0x0"), length-append (field_of s.first ++ codes ";0x0") (field_of s.size))
 fields-length (Flush s) fit = omega (arith, span-length s fit)
 fields-length Fence fit = omega arith
 fields-length (Persist s) fit = omega (arith, span-length s fit)
@@ -70,32 +69,17 @@ fields-length TxEnd fit = omega arith
 fields-length CheckStart fit = omega arith
 fields-length CheckEnd fit = omega arith
 
-name-length : (event : Event) → length (name_of event) ≤ 14
-unfolding name_of
-name-length (Store s) = omega arith
-name-length (Flush s) = omega arith
-name-length Fence = omega arith
-name-length (Persist s) = omega arith
-name-length (Ordered a b) = omega arith
-name-length (Exclude s) = omega arith
-name-length (Include s) = omega arith
-name-length TxBegin = omega arith
-name-length (TxAdd s) = omega arith
-name-length TxEnd = omega arith
-name-length CheckStart = omega arith
-name-length CheckEnd = omega arith
-
-pub line-length : (event : Event) → AllFit event → length (line_of_event event) ≤ 91
+pub line-length : (event : Event) → AllValid event → length (line_of_event event) ≤ 91
 line-length event fit =
-    omega (arith, name-length event, fields-length event fit, length-append (name_of event) (fields_of_event event), length-append (name_of event ++ fields_of_event event) (codes "\n"))
+    omega (arith, (spelled event).1.1.1, fields-length event fit, length-append (name_of event) (fields_of_event event), length-append (name_of event ++ fields_of_event event) (codes "\n"))
 
-lines-length : (events : List Event) → EachFits events → length (flat_map line_of_event events) ≤ 91 * length events
+lines-length : (events : List Event) → EachValid events → length (flat_map line_of_event events) ≤ 91 * length events
 lines-length [] fit = omega arith
 lines-length (event ∷ events) fit =
     omega (arith, line-length event fit.0, lines-length events fit.1, length-append (line_of_event event) (flat_map line_of_event events))
 
 -- a section that keeps to its limit is a log that keeps to its own
-pub canonical-length : (section : Trace) → section.name.number < 2 ^ 64 → EachFits section.events → length section.events ≤ 1048576 → length (canonical_text section) ≤ 268435456
+pub canonical-length : (section : Trace) → section.name.number < 2 ^ 64 → EachValid section.events → length section.events ≤ 1048576 → length (canonical_text section) ≤ 268435456
 unfolding line_of_marker
 canonical-length section small fit few =
     omega (

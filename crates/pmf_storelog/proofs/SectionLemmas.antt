@@ -1,21 +1,16 @@
 -- The open sections with one more event, and with another current one.
-use Rattle.std.proofs.Common.{◌≡◌, ◌≢◌, ℕ, zero, suc, ◌+◌, ◌<◌, ◌≤◌, Bool, true, false, cond, nat_lt, map, List, [], ◌∷◌, ◌++◌, Option, Some, None, length, set, get_or, length-append, Result, Ok, Err, OnOk, IfOk, IfErr, refl, sym, ap, subst, ◌∙◌, arith, ⊎_elim}
-use Rattle.std.specs.Ordering.{nat_cmp, is_eq}
-use Rattle.std.specs.declared.cmp.Ordering.{Ordering}
+use Rattle.pmf_event.proofs.Common.{◌≡◌, ◌≢◌, ℕ, suc, ◌+◌, ◌<◌, ◌≤◌, Bool, true, false, cond, nat_lt, map, List, [], ◌∷◌, ◌++◌, Option, Some, None, length, set, get_or, length-append, Result, Ok, Err, OnOk, IfOk, IfErr, refl, sym, ap, subst, ◌∙◌, arith, ⊎_elim, nat_cmp, is_eq, Ordering, nat_cmp_total, eq-eqb, ne_eqb, cases_eq, append_assoc, append-nil, get_or_append_left, get_or_push, get_or-set_same, get_or-set_other, length-set, length_push}
 use Rattle.std.specs.declared.cmp.Ordering.TheVariants.{Less, Equal, Greater}
-use Rattle.std.specs.Cmp.{nat_cmp_total}
 use Rattle.std.specs.Map.{lookup, keys_of}
 use Rattle.std.specs.BTreeMap.{get, is_at, insert_entry}
 use Rattle.std.specs.BTreeSet.{insert_key}
 use Rattle.std.specs.List.Sorted.{IsStrictlySortedBy}
-use Rattle.std.proofs.lemmas.Bool.{eq-eqb, ne_eqb, cases_eq}
-use Rattle.std.proofs.lemmas.List.{append_assoc, append-nil, get_or_append_left, get_or_push, get_or-set_same, get_or-set_other, length-set, length_push}
 use Rattle.std.proofs.lemmas.Map.{lookup-none}
 use Rattle.std.proofs.lemmas.Map.Entries.{none_below_head}
 use Rattle.std.proofs.lemmas.Map.Views.{All-found}
 use Rattle.std.proofs.lemmas.Map.Keys.{sorted_tail}
-use Rattle.pmf_event.specs.Section.{Trace}
 use Rattle.pmf_event.specs.declared.event.Event.{Event}
+use Rattle.pmf_event.specs.Prelude.{Trace}
 use Rattle.pmf_storelog.specs.declared.fault.Cause.{Cause}
 use Rattle.pmf_storelog.specs.declared.fault.Cause.TheVariants.{OutOfMemory, TooManySections}
 use Rattle.pmf_storelog.specs.declared.fault.TheConstants.{SECTION_LIMIT}
@@ -93,11 +88,6 @@ blank = section_named 0 0 []
 
 pub one_longer : (list new : List Trace) (section : Trace) → new ≡ list ++ section ∷ [] → length new ≡ length list + 1
 one_longer list new section is = ap length is ∙ length_push list section
-
-pub current_inside : (current count : ℕ) → (0 < current → current < count) → count ≢ 0 → current < count
-current_inside zero zero inside some = absurd (some refl)
-current_inside zero (suc count) inside some = omega arith
-current_inside (suc current) count inside some = inside (omega arith)
 
 -- a place that an insertion leaves or puts is inside the list
 pub inside_either : (here : Bool) (put place bound : ℕ) (before : Option ℕ) → cond here (Some put) before ≡ Some place → put < bound → (before ≡ Some place → place < bound) → place < bound

@@ -1,23 +1,15 @@
 -- What the text of an event reads as: the event.
-use Rattle.std.proofs.Common.{◌≡◌, ℕ, ◌+◌, ◌^◌, ◌<◌, true, false, ◌==◌, [], ◌∷◌, ◌++◌, refl, ap, ◌∙◌, arith, rules, append_assoc}
-use Rattle.std.specs.Prelude.{codes, Ok}
-use Rattle.std.proofs.lemmas.Bool.{le-ltb}
-use Rattle.std.proofs.lemmas.Bool.Decides.{Decides-eqb}
-use Rattle.pmf_event.specs.Span.{Extent, IsValidExtent, extent_of}
-use Rattle.pmf_event.specs.declared.span.TheConstants.{SPAN_LIMIT, ADDRESS_LIMIT}
+use Rattle.pmf_event.proofs.Common.{◌≡◌, ℕ, ◌+◌, ◌^◌, ◌<◌, true, false, ◌==◌, [], ◌∷◌, ◌++◌, refl, ap, ◌∙◌, arith, rules, append_assoc, codes, Ok, le-ltb, Decides-eqb}
 use Rattle.pmf_event.specs.declared.event.Event.{Event}
 use Rattle.pmf_event.specs.declared.event.Event.TheVariants.{Store, Flush, Fence, Persist, Ordered, Exclude, Include, TxBegin, TxAdd, TxEnd, CheckStart, CheckEnd}
+use Rattle.pmf_event.specs.declared.span.TheConstants.{SPAN_LIMIT, ADDRESS_LIMIT}
+use Rattle.pmf_event.specs.Prelude.{Extent, IsValidExtent, extent_of, address}
 use Rattle.pmf_storelog.specs.declared.record.Saying.TheVariants.{Happens, Enters}
 use Rattle.pmf_storelog.specs.Records.{record_of, saying_of, transaction_of, saying_of_fields, section_of_fields, section_of_number, event_over, span_of_fields, stored_span, order_of_fields, order_of_texts, fields_of}
-use Rattle.pmf_event.specs.Address.{address}
 use Rattle.pmf_storelog.specs.Canonical.{field_of, fields_of_span, fields_of_event, name_of}
-use Rattle.pmf_storelog.proofs.CanonicalLemmas.{Fits, address-NoFieldEnd, fields_of-more, fields_of-last, fields_of-span, span_of_texts-address, number_of-address}
-use Rattle.pmf_storelog.proofs.PlainLemmas.{AllFit, text_of_event, text_of_marker}
+use Rattle.pmf_storelog.proofs.CanonicalLemmas.{fits_of, address-NoFieldEnd, fields_of-more, fields_of-last, fields_of-span, span_of_texts-address, number_of-address}
+use Rattle.pmf_storelog.proofs.PlainLemmas.{text_of_event, text_of_marker}
 use Rattle.pmf_storelog.specs.Spelling.{AllValid}
-
--- a span keeps its limits
-pub fits_of : (s : Extent) → IsValidExtent s.first s.size → Fits s
-fits_of s valid = record { first = omega (arith, valid.ends); size = omega (arith, valid.small) }
 
 pub extent_of-valid : (s : Extent) → IsValidExtent s.first s.size → extent_of s.first s.size ≡ Ok s
 extent_of-valid s valid =
@@ -25,20 +17,6 @@ extent_of-valid s valid =
   where
     some : (n : ℕ) → 0 < n → (n == 0) ≡ false
     some n l = elim (n == 0) as (λ v. (n == 0) ≡ v → v ≡ false) [ true ↦ λ is. let none : n ≡ 0 = (Decides-eqb n 0).0 is in absurd (omega arith) | false ↦ λ is. refl ] refl
-
-pub all_fit : (event : Event) → AllValid event → AllFit event
-all_fit (Store s) valid = fits_of s valid
-all_fit (Flush s) valid = fits_of s valid
-all_fit Fence valid = tt
-all_fit (Persist s) valid = fits_of s valid
-all_fit (Ordered a b) valid = (fits_of a valid.0, fits_of b valid.1)
-all_fit (Exclude s) valid = fits_of s valid
-all_fit (Include s) valid = fits_of s valid
-all_fit TxBegin valid = tt
-all_fit (TxAdd s) valid = fits_of s valid
-all_fit TxEnd valid = tt
-all_fit CheckStart valid = tt
-all_fit CheckEnd valid = tt
 
 -- the event of a name and the fields of a span
 event_over-span : (kind : Extent → Event) (s : Extent) → IsValidExtent s.first s.size →

@@ -1,6 +1,5 @@
 -- How a fault is told. ASCII. Defined here.
-use Rattle.std.specs.Prelude.{ℕ, ◌==◌, List, ◌++◌, codes, if◌then◌else◌}
-use Rattle.std.specs.Fmt.{decimal}
+use Rattle.std.specs.Prelude.{ℕ, ◌==◌, List, ◌++◌, codes, if◌then◌else◌, decimal}
 use Rattle.pmf_event.specs.Span.{words_of_fault}
 use Rattle.pmf_storelog.specs.declared.fault.Cause.{Cause}
 use Rattle.pmf_storelog.specs.declared.fault.Cause.TheVariants.{TooFewFields, BadNumber, BadSpan, UnknownMarker, TooManySections, TooManyEvents, TooLong, OutOfMemory, Spent}

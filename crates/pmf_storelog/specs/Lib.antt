@@ -19,3 +19,4 @@ pub mod Reader
 pub mod Canonical
 pub mod Spelling
 pub mod Lines
+pub mod Prelude

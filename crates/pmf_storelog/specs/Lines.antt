@@ -1,7 +1,6 @@
 -- What a text line says that is to be one event. Defined here.
-use Rattle.std.specs.Prelude.{ℕ, Bool, false, nat_le, List, [], ◌∷◌, length, Result, Ok, Err, if◌then◌else◌, codes}
+use Rattle.std.specs.Prelude.{ℕ, Bool, false, nat_le, List, [], ◌∷◌, length, Result, Ok, Err, if◌then◌else◌, codes, bytes_eq}
 use Rattle.std.specs.List.{list_any}
-use Rattle.std.specs.Str.{bytes_eq}
 use Rattle.pmf_event.specs.declared.event.Event.{Event}
 use Rattle.pmf_storelog.specs.declared.fault.TheConstants.{LOG_LIMIT}
 use Rattle.pmf_storelog.specs.declared.fault.Cause.{Cause}

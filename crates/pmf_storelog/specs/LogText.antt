@@ -1,8 +1,8 @@
 -- What the bytes of a log say: its sections, or its first fault. Defined here.
 use Rattle.std.specs.Prelude.{◌≡◌, ℕ, zero, suc, ◌+◌, Bool, true, false, nat_lt, ◌==◌, List, [], ◌∷◌, ◌++◌, length, take, map, filter, slice_index_or, Option, Some, None, Result, Ok, Err, if◌then◌else◌, count_by}
-use Rattle.pmf_event.specs.Section.{Trace}
 use Rattle.pmf_event.specs.declared.event.Event.{Event}
 use Rattle.pmf_event.specs.declared.section.TheConstants.{EVENT_LIMIT}
+use Rattle.pmf_event.specs.Prelude.{Trace}
 use Rattle.pmf_storelog.specs.declared.fault.TheConstants.{LOG_LIMIT, SECTION_LIMIT}
 use Rattle.pmf_storelog.specs.declared.fault.Cause.{Cause}
 use Rattle.pmf_storelog.specs.declared.fault.Cause.TheVariants.{TooManySections, TooManyEvents, TooLong, OutOfMemory, Spent}

@@ -1,11 +1,10 @@
 -- What one record says: an event, a section's number, nothing for this checker, or why it is refused. Defined here.
-use Rattle.std.specs.Prelude.{ℕ, Bool, nat_eq, ◌==◌, List, [], ◌∷◌, Option, Some, None, Result, Ok, Err, if◌then◌else◌, codes}
+use Rattle.std.specs.Prelude.{ℕ, Bool, nat_eq, ◌==◌, List, [], ◌∷◌, Option, Some, None, Result, Ok, Err, if◌then◌else◌, codes, bytes_eq}
 use Rattle.std.specs.List.{slice_split, starts_with}
-use Rattle.std.specs.Str.{bytes_eq}
-use Rattle.pmf_event.specs.Span.{Extent, extent_of}
-use Rattle.pmf_event.specs.declared.span.SpanFault.{SpanFault}
 use Rattle.pmf_event.specs.declared.event.Event.{Event}
 use Rattle.pmf_event.specs.declared.event.Event.TheVariants.{Store, Flush, Fence, Persist, Ordered, Exclude, Include, TxBegin, TxAdd, TxEnd, CheckStart, CheckEnd}
+use Rattle.pmf_event.specs.declared.span.SpanFault.{SpanFault}
+use Rattle.pmf_event.specs.Prelude.{Extent, extent_of}
 use Rattle.pmf_storelog.specs.declared.record.Saying.{Saying}
 use Rattle.pmf_storelog.specs.declared.record.Saying.TheVariants.{Happens, Enters, Skipped}
 use Rattle.pmf_storelog.specs.declared.fault.Cause.{Cause}

@@ -3,8 +3,8 @@
 use Rattle.std.specs.Prelude.{◌≡◌, ℕ, ◌<◌, List, [], ◌++◌, ◌∷◌, ◌==◌, if◌then◌else◌, length, slice_index_or, Some, None, Option}
 use Rattle.std.specs.Ordering.{nat_cmp}
 use Rattle.std.specs.BTreeMap.{get, keys, insert_entry, IsOrdered, Updates}
-use Rattle.pmf_event.specs.Section.{Trace}
 use Rattle.pmf_event.specs.declared.event.Event.{Event}
+use Rattle.pmf_event.specs.Prelude.{Trace}
 use Rattle.pmf_storelog.specs.declared.fault.TheConstants.{SECTION_LIMIT}
 use Rattle.pmf_storelog.specs.LogText.{section_named}
 use Rattle.pmf_storelog.specs.declared.sections.OpenSections.{OpenSections}

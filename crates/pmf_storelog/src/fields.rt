@@ -1,7 +1,6 @@
 //! The fields of a record.
 
-ghost use Rattle.std.specs.Prelude.{◌≡◌, ◌+◌, ◌<◌, [], ◌∷◌, length, take, drop, MatchResult, MatchOption, IfSome};
-ghost use Rattle.std.specs.Option.{option_copied};
+ghost use Rattle.std.specs.Prelude.{◌≡◌, ◌+◌, ◌<◌, [], ◌∷◌, length, take, drop, MatchResult, MatchOption, IfSome, option_copied};
 ghost use Rattle.pmf_storelog.specs.Fields.{fields_left};
 ghost use Rattle.pmf_storelog.specs.Records.{fields_of};
 ghost use Rattle.pmf_storelog.specs.declared.fault.Cause.TheVariants.{TooFewFields};
@@ -17,8 +16,7 @@ pub(crate) struct Fields<'a> {
 }
 
 impl<'a> Model for Fields<'a> {
-    ghost use Rattle.std.specs.Prelude.{ℕ, List};
-    ghost use Rattle.std.specs.Option.{option_copied};
+    ghost use Rattle.std.specs.Prelude.{ℕ, List, option_copied};
     ghost use Rattle.pmf_storelog.specs.Fields.{fields_left};
 
     ghost Value = { List (List ℕ) };

@@ -3,12 +3,8 @@ use Rattle.std.specs.Prelude.{◌≡◌, ◌≢◌, ◌<◌, ◌≤◌, ◌⊎�
 use Rattle.std.specs.Io.KnownBytes.{IsAtEnd}
 use Rattle.pmf_storelog.specs.declared.fault.LogFault.{LogFault}
 use Rattle.pmf_storelog.specs.declared.fault.TheConstants.{LOG_LIMIT}
-use Rattle.pmf_storelog.specs.LogValue.{LogValue}
-use Rattle.pmf_storelog.specs.LogText.{log_of, shown_fault, IsFaultOfAll, out_of_memory}
-use Rattle.pmf_ledger.specs.Gathered.{IsLedgerOf}
-use Rattle.pmf_ledger.specs.LedgerText.{text_of_ledger}
-use Rattle.pmf_ledger.specs.LedgerValue.{LedgerValue}
-use Rattle.pmf_ledger.specs.Report.{report_of, totals_of}
+use Rattle.pmf_storelog.specs.Prelude.{LogValue, log_of, shown_fault, IsFaultOfAll, out_of_memory}
+use Rattle.pmf_ledger.specs.Prelude.{IsLedgerOf, text_of_ledger, LedgerValue, report_of, totals_of}
 use Rattle.pmf_farm.specs.declared.fault.FarmFault.{FarmFault}
 use Rattle.pmf_farm.specs.declared.fault.FarmFault.TheVariants as farm
 use Rattle.pmf_board.specs.declared.board.TheConstants.{MOST_WORKERS}

@@ -1,15 +1,11 @@
 -- What the texts of ledgers give that are joined, text after text. Defined here.
-use Rattle.std.specs.Prelude.{◌≡◌, ◌≢◌, ℕ, zero, suc, ◌<◌, ◌≤◌, Bool, List, [], length, take, slice_index_or, None}
-use Rattle.std.specs.List.{All, flat_map}
+use Rattle.std.specs.Prelude.{◌≡◌, ◌≢◌, ℕ, zero, suc, ◌<◌, ◌≤◌, Bool, List, [], length, take, slice_index_or, None, All, flat_map}
 use Rattle.pmf_event.specs.declared.profile.Profile.{Profile}
 use Rattle.pmf_event.specs.declared.profile.Profile.TheVariants.{One}
-use Rattle.pmf_event.specs.Section.{Trace}
+use Rattle.pmf_event.specs.Prelude.{Trace}
 use Rattle.pmf_ledger.specs.declared.joining.JoinFault.{JoinFault}
+use Rattle.pmf_ledger.specs.Prelude.{GathersBoth, IsLeastClash, IsLedgerOf, Unites, LedgerValue, IsRefusedWith, LoadsAs, fault_of, reading_of, totals_of}
 use Rattle.pmf_ledger.specs.declared.joining.JoinFault.TheVariants as join
-use Rattle.pmf_ledger.specs.Gathered.{GathersBoth, IsLeastClash, IsLedgerOf, Unites}
-use Rattle.pmf_ledger.specs.LedgerValue.{LedgerValue}
-use Rattle.pmf_ledger.specs.Loading.{IsRefusedWith, LoadsAs, fault_of, reading_of}
-use Rattle.pmf_ledger.specs.Report.{totals_of}
 use Rattle.pmf_stream.specs.declared.joining.Joined.{Joined}
 use Rattle.pmf_stream.specs.declared.joining.JoinTextFault.{JoinTextFault}
 use Rattle.pmf_stream.specs.declared.joining.JoinTextFault.TheVariants as fault

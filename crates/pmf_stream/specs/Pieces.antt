@@ -2,8 +2,7 @@
 use Rattle.std.specs.Prelude.{◌≡◌, ◌≢◌, ℕ, List, ◌++◌, None}
 use Rattle.pmf_storelog.specs.declared.fault.LogFault.{LogFault}
 use Rattle.pmf_storelog.specs.declared.reader.LogReader.{LogReader}
-use Rattle.pmf_storelog.specs.LogText.{shown_fault, IsFaultOfAll, out_of_memory}
-use Rattle.pmf_storelog.specs.Reader.{HasRead}
+use Rattle.pmf_storelog.specs.Prelude.{shown_fault, IsFaultOfAll, out_of_memory, HasRead}
 
 -- the reader stands for these bytes of the run, which show no fault yet
 abbrev pub StandsFor : ℕ → List ℕ → LogReader → Type 0

@@ -1,12 +1,10 @@
 //! From a stream of bytes to its report, or its ledger text.
 
 ghost use Rattle.std.specs.Prelude.{◌≡◌, ◌≢◌, ◌++◌, ◌+◌, ℕ, List, [], Option, None, IfOk, IfErr, MatchResult};
-ghost use Rattle.pmf_storelog.specs.LogText.{out_of_memory, shown_fault};
 ghost use Rattle.pmf_storelog.specs.declared.fault.TheConstants.{LOG_LIMIT};
-ghost use Rattle.pmf_storelog.specs.Reader.{HasRead};
+ghost use Rattle.pmf_storelog.specs.Prelude.{out_of_memory, shown_fault, HasRead};
 ghost use Rattle.pmf_farm.specs.Running.{IsTaken};
-ghost use Rattle.pmf_ledger.specs.Gathered.{IsLedgerOf};
-ghost use Rattle.pmf_ledger.specs.Report.{totals_of};
+ghost use Rattle.pmf_ledger.specs.Prelude.{IsLedgerOf, totals_of};
 ghost use Rattle.pmf_stream.specs.Answering.{Answers, RefusesReading, TellsFaults, failed_reads};
 ghost use Rattle.pmf_stream.specs.Checking.{IsCheckFaultOf, IsLogOf, IsReportOf, Reports, text_asked};
 ghost use Rattle.pmf_stream.specs.Failures.{CanCountOneMore};

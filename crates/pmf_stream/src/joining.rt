@@ -1,8 +1,7 @@
 //! From the texts of ledgers to the text of the ledger of them all.
 
 ghost use Rattle.std.specs.Prelude.{◌≡◌, ◌+◌, ◌≤◌, ℕ, List, map, IfOk, IfErr, MatchResult};
-ghost use Rattle.pmf_ledger.specs.LedgerValue.{LedgerValue};
-ghost use Rattle.pmf_ledger.specs.Loading.{IsOfText, IsRefusedWith, LoadsAs};
+ghost use Rattle.pmf_ledger.specs.Prelude.{LedgerValue, IsOfText, IsRefusedWith, LoadsAs};
 ghost use Rattle.pmf_stream.specs.Answering.{Answers, TellsFaults};
 ghost use Rattle.pmf_stream.specs.Failures.{CanCountOneMore};
 ghost use Rattle.pmf_stream.specs.Joining.{IsFirstRefusal, IsJoinFaultOf, IsJoinOf, IsJoinOfTwo, IsJoinedAt, IsJoinedText, IsRefusalOfTexts, IsRefusedAt};

@@ -1,16 +1,9 @@
 -- The two walks of the transaction checker: none so far, and the first from here.
-use Rattle.std.proofs.Common.{◌≡◌, ℕ, ◌+◌, ◌-◌, ◌<◌, ◌≤◌, Bool, true, false, not, ◌&&◌, List, refl, sym, ◌∙◌, ap, arith, inl, inr}
-use Rattle.std.specs.Prelude.{Option, Some, None, unwrap_or}
+use Rattle.pmf_event.proofs.Common.{◌≡◌, ℕ, ◌+◌, ◌-◌, ◌<◌, ◌≤◌, Bool, true, false, not, ◌&&◌, List, refl, sym, ◌∙◌, ap, arith, inl, inr, Option, Some, None, unwrap_or, and-false}
 use Rattle.std.proofs.lemmas.Bool.{cases_lt, cases_eq, both_ways, not-true, not-false, and_from, lt-ltb}
-use Rattle.std.proofs.Math.Bool.{and-false}
 use Rattle.pmf_event.specs.declared.event.Event.{Event}
 use Rattle.pmf_event.specs.declared.span.TheConstants.{ADDRESS_LIMIT}
-use Rattle.pmf_event.specs.Ranges.{first_from}
-use Rattle.pmf_event.specs.Exclusion.{is_excluded, is_included}
-use Rattle.pmf_event.specs.Interval.{interval_at, is_open}
-use Rattle.pmf_event.specs.Store.{last_store}
-use Rattle.pmf_event.specs.Persist.{is_checked, is_exposed}
-use Rattle.pmf_event.specs.Transactions.{in_transaction, is_backed, in_scope, is_scoped}
+use Rattle.pmf_event.specs.Prelude.{first_from, is_excluded, is_included, interval_at, is_open, last_store, is_checked, is_exposed, in_transaction, is_backed, in_scope, is_scoped}
 use Rattle.pmf_event.proofs.RangeLemmas.{IsFirst, first_from-none, first_from-some, none-passes, first-passes}
 use Rattle.pmf_runs.specs.declared.members.Members.{Members}
 use Rattle.pmf_runs.specs.declared.runs.RunMap.{RunMap}

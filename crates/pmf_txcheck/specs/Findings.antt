@@ -6,11 +6,7 @@ use Rattle.pmf_event.specs.declared.event.Event.{Event}
 use Rattle.pmf_event.specs.declared.finding.Finding.{Finding}
 use Rattle.pmf_event.specs.declared.finding.Finding.TheVariants.{TxStillOpen, Unopened}
 use Rattle.pmf_event.specs.declared.span.TheConstants.{ADDRESS_LIMIT}
-use Rattle.pmf_event.specs.Span.{Extent}
-use Rattle.pmf_event.specs.Ranges.{first_from, first_byte}
-use Rattle.pmf_event.specs.Interval.{interval_at, is_open}
-use Rattle.pmf_event.specs.Exclusion.{is_included}
-use Rattle.pmf_event.specs.Transactions.{depth_at, in_transaction, is_backed, in_scope, is_scoped, nobackup_with, scope_passes_unless}
+use Rattle.pmf_event.specs.Prelude.{Extent, first_from, first_byte, interval_at, is_open, is_included, depth_at, in_transaction, is_backed, in_scope, is_scoped, nobackup_with, scope_passes_unless}
 use Rattle.pmf_shadow.specs.declared.shadow.Shadow.{Shadow}
 use Rattle.pmf_shadow.specs.Shadow.{StandsFor}
 use Rattle.pmf_txcheck.specs.declared.state.TxState.{TxState}

@@ -2,9 +2,7 @@
 use Rattle.std.specs.Prelude.{◌≡◌, ℕ, suc, Bool, true, false, List, Some}
 use Rattle.pmf_event.specs.declared.event.Event.{Event}
 use Rattle.pmf_event.specs.declared.event.Event.TheVariants.{Store, TxBegin, TxAdd, TxEnd, CheckStart, CheckEnd}
-use Rattle.pmf_event.specs.Span.{Extent}
-use Rattle.pmf_event.specs.Store.{event_at}
-use Rattle.pmf_event.specs.Transactions.{store_finding, check_finding}
+use Rattle.pmf_event.specs.Prelude.{Extent, event_at, store_finding, check_finding}
 use Rattle.pmf_shadow.specs.Laws.{SameEvents, SamePlaces}
 use Rattle.pmf_txcheck.specs.declared.state.TxState.{TxState}
 use Rattle.pmf_txcheck.specs.Tracking.{Tracks, FollowsAt, Follows}

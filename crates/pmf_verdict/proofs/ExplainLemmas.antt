@@ -1,22 +1,12 @@
 -- Where a certificate comes from, and that its image is allowed and contradicts the assertion.
-use Rattle.std.proofs.Common.{◌≡◌, ℕ, zero, suc, ◌-◌, Bool, true, false, not, ◌&&◌, if◌then◌else◌, List, refl, sym, ◌∙◌, ap, arith, subst}
-use Rattle.std.specs.Prelude.{Option, Some, None, is_none, Contains}
-use Rattle.std.proofs.lemmas.Bool.{and_parts}
+use Rattle.pmf_event.proofs.Common.{◌≡◌, ℕ, zero, suc, ◌-◌, Bool, true, false, not, ◌&&◌, if◌then◌else◌, List, refl, sym, ◌∙◌, ap, arith, subst, Option, Some, None, is_none, Contains, and_parts}
 use Rattle.pmf_event.specs.declared.event.Event.{Event}
 use Rattle.pmf_event.specs.declared.event.Event.TheVariants.{CheckEnd}
 use Rattle.pmf_event.specs.declared.finding.Finding.{Finding}
 use Rattle.pmf_event.specs.declared.finding.Finding.TheVariants.{PersistPass, PersistFail, PersistEmpty, OrderedPass, OrderedFail, OrderedSameLine, OrderedEmpty, CheckPass, CheckFail, TxStillOpen, Unopened}
 use Rattle.pmf_event.specs.declared.profile.Profile.{Profile}
 use Rattle.pmf_event.specs.declared.span.TheConstants.{ADDRESS_LIMIT}
-use Rattle.pmf_event.specs.Span.{Extent}
-use Rattle.pmf_event.specs.Line.{line_of_byte}
-use Rattle.pmf_event.specs.Store.{event_at, last_store}
-use Rattle.pmf_event.specs.Interval.{interval_at, is_open}
-use Rattle.pmf_event.specs.Exclusion.{is_included}
-use Rattle.pmf_event.specs.Ranges.{first_from, first_byte}
-use Rattle.pmf_event.specs.Persist.{is_checked, is_exposed, pass_unless, persist_finding}
-use Rattle.pmf_event.specs.Order.{is_unordered, is_certified, least_pair, finding_of_pairs, ordered_finding}
-use Rattle.pmf_event.specs.Transactions.{in_transaction, depth_at, in_scope, is_scoped, is_left_open, scope_passes_unless, check_finding}
+use Rattle.pmf_event.specs.Prelude.{Extent, line_of_byte, event_at, last_store, interval_at, is_open, is_included, first_from, first_byte, is_checked, is_exposed, pass_unless, persist_finding, is_unordered, is_certified, least_pair, finding_of_pairs, ordered_finding, in_transaction, depth_at, in_scope, is_scoped, is_left_open, scope_passes_unless, check_finding}
 use Rattle.pmf_event.proofs.RangeLemmas.{first-passes}
 use Rattle.pmf_event.proofs.LeastPairLemmas.{pair-from, certified-unordered}
 use Rattle.pmf_event.proofs.LineLemmas.{bounds-cover}

@@ -1,8 +1,5 @@
 -- Which assertions hold, by their rows.
-use Rattle.std.proofs.Common.{◌≡◌, ℕ, zero, suc, ◌-◌, ◌<◌, ◌≤◌, Bool, true, false, not, ◌&&◌, nat_lt, if◌then◌else◌, List, [], ◌∷◌, map, length, refl, sym, ◌∙◌, ap, subst, arith, inl, inr}
-use Rattle.std.specs.Prelude.{◌↔◌, ◌⊎◌, ◌||◌, Option, Some, None, Contains, is_none}
-use Rattle.std.proofs.lemmas.List.Elements.{Contains-append_left, Contains-append_right}
-use Rattle.std.proofs.lemmas.Bool.{cases_eq, and_parts, ltb-false, not-true, not-false}
+use Rattle.pmf_event.proofs.Common.{◌≡◌, ℕ, zero, suc, ◌-◌, ◌<◌, ◌≤◌, Bool, true, false, not, ◌&&◌, nat_lt, if◌then◌else◌, List, [], ◌∷◌, map, length, refl, sym, ◌∙◌, ap, subst, arith, inl, inr, ◌↔◌, ◌⊎◌, ◌||◌, Option, Some, None, Contains, is_none, Contains-append_left, Contains-append_right, cases_eq, and_parts, ltb-false, not-true, not-false}
 use Rattle.pmf_event.specs.declared.event.Event.{Event}
 use Rattle.pmf_event.specs.declared.event.Event.TheVariants.{Persist, Ordered, CheckEnd}
 use Rattle.pmf_event.specs.declared.finding.Finding.{Finding}
@@ -10,14 +7,7 @@ use Rattle.pmf_event.specs.declared.finding.Finding.TheVariants.{PersistPass, Pe
 use Rattle.pmf_event.specs.declared.profile.Profile.{Profile}
 use Rattle.pmf_event.specs.declared.profile.Profile.TheVariants.{One, Two}
 use Rattle.pmf_event.specs.declared.span.TheConstants.{ADDRESS_LIMIT}
-use Rattle.pmf_event.specs.Line.{line_of_byte}
-use Rattle.pmf_event.specs.Span.{Extent, covers_byte}
-use Rattle.pmf_event.specs.Store.{event_at, last_store}
-use Rattle.pmf_event.specs.Ranges.{first_from, first_byte}
-use Rattle.pmf_event.specs.Persist.{is_checked, is_exposed, pass_unless, persist_finding}
-use Rattle.pmf_event.specs.Interval.{interval_at}
-use Rattle.pmf_event.specs.Order.{precedes, share_line, is_stored_before, is_ordered, is_unordered, is_certified, least_pair, finding_of_pairs, ordered_finding}
-use Rattle.pmf_event.specs.Transactions.{in_transaction, depth_at, in_scope, is_left_open, scope_passes_unless, check_finding}
+use Rattle.pmf_event.specs.Prelude.{line_of_byte, Extent, covers_byte, event_at, last_store, first_from, first_byte, is_checked, is_exposed, pass_unless, persist_finding, interval_at, precedes, share_line, is_stored_before, is_ordered, is_unordered, is_certified, least_pair, finding_of_pairs, ordered_finding, in_transaction, depth_at, in_scope, is_left_open, scope_passes_unless, check_finding}
 use Rattle.pmf_event.proofs.RangeLemmas.{none-passes}
 use Rattle.pmf_event.proofs.LeastPairLemmas.{pair-from, unpaired}
 use Rattle.pmf_event.proofs.LineLemmas.{covers-bounds}

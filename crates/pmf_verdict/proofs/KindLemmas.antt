@@ -1,7 +1,5 @@
 -- Of which events the findings among the rows are.
-use Rattle.std.proofs.Common.{◌≡◌, ℕ, zero, suc, ◌-◌, ◌<◌, Bool, true, false, not, ◌&&◌, if◌then◌else◌, List, map, length, refl, sym, ◌∙◌, ap, arith, inl, inr}
-use Rattle.std.specs.Prelude.{◌⊎◌, Option, Some, None, Contains, is_none}
-use Rattle.std.proofs.lemmas.List.Elements.{Contains-append_cases}
+use Rattle.pmf_event.proofs.Common.{◌≡◌, ℕ, zero, suc, ◌-◌, ◌<◌, Bool, true, false, not, ◌&&◌, if◌then◌else◌, List, map, length, refl, sym, ◌∙◌, ap, arith, inl, inr, ◌⊎◌, Option, Some, None, Contains, is_none, Contains-append_cases}
 use Rattle.pmf_event.specs.declared.event.Event.{Event}
 use Rattle.pmf_event.specs.declared.event.Event.TheVariants.{Store, Flush, Persist, Ordered, TxAdd, TxEnd, CheckStart, CheckEnd}
 use Rattle.pmf_event.specs.declared.finding.Finding.{Finding}
@@ -9,13 +7,7 @@ use Rattle.pmf_event.specs.declared.finding.Finding.TheVariants.{PersistPass, Pe
 use Rattle.pmf_event.specs.declared.lines.Lines.{Lines}
 use Rattle.pmf_event.specs.declared.profile.Profile.{Profile}
 use Rattle.pmf_event.specs.declared.span.TheConstants.{ADDRESS_LIMIT}
-use Rattle.pmf_event.specs.Span.{Extent}
-use Rattle.pmf_event.specs.Store.{event_at}
-use Rattle.pmf_event.specs.Ranges.{first_from, first_byte}
-use Rattle.pmf_event.specs.Persist.{is_checked, is_exposed, pass_unless, persist_finding}
-use Rattle.pmf_event.specs.Order.{is_unordered, is_certified, least_pair, finding_of_pairs, ordered_finding}
-use Rattle.pmf_event.specs.FlushWarnings.{is_clean, is_pending, lines_where, doubled_finding, needless_finding, if_any, flush_findings}
-use Rattle.pmf_event.specs.Transactions.{in_transaction, depth_at, is_outside, is_backed, in_scope, scope_at, lacks_backup, is_left_open, nobackup_with, duplog_with, scope_passes_unless, store_finding, add_finding, end_finding, start_finding, check_finding, close_finding}
+use Rattle.pmf_event.specs.Prelude.{Extent, event_at, first_from, first_byte, is_checked, is_exposed, pass_unless, persist_finding, is_unordered, is_certified, least_pair, finding_of_pairs, ordered_finding, is_clean, is_pending, lines_where, doubled_finding, needless_finding, if_any, flush_findings, in_transaction, depth_at, is_outside, is_backed, in_scope, scope_at, lacks_backup, is_left_open, nobackup_with, duplog_with, scope_passes_unless, store_finding, add_finding, end_finding, start_finding, check_finding, close_finding}
 use Rattle.pmf_verdict.specs.Rows.{row_at, findings_of, rows_upto, rows_at_end, rows_of}
 use Rattle.pmf_verdict.proofs.RowsLemmas.{finding-from_rows, place-of_row}
 

@@ -1,20 +1,11 @@
 -- What a PASS row says of its checked bytes, and that the assertion holds.
-use Rattle.std.proofs.Common.{◌≡◌, ℕ, zero, suc, ◌-◌, ◌<◌, Bool, true, false, not, ◌&&◌, if◌then◌else◌, List, refl, sym, ◌∙◌, ap, arith, subst}
-use Rattle.std.specs.Prelude.{Option, Some, None, is_none}
-use Rattle.std.proofs.lemmas.Bool.{lt-ltb}
+use Rattle.std.proofs.Common.{◌≡◌, ℕ, zero, suc, ◌-◌, ◌<◌, Bool, true, false, not, ◌&&◌, if◌then◌else◌, List, refl, sym, ◌∙◌, ap, arith, subst, Option, Some, None, is_none, lt-ltb}
 use Rattle.pmf_event.specs.declared.event.Event.{Event}
 use Rattle.pmf_event.specs.declared.event.Event.TheVariants.{CheckEnd}
 use Rattle.pmf_event.specs.declared.finding.Finding.TheVariants.{PersistPass, PersistFail, PersistEmpty, OrderedPass, OrderedFail, OrderedSameLine, OrderedEmpty, CheckPass, CheckFail, TxStillOpen, Unopened}
 use Rattle.pmf_event.specs.declared.profile.Profile.{Profile}
 use Rattle.pmf_event.specs.declared.span.TheConstants.{ADDRESS_LIMIT}
-use Rattle.pmf_event.specs.Span.{Extent, covers_byte}
-use Rattle.pmf_event.specs.Store.{event_at, last_store}
-use Rattle.pmf_event.specs.Interval.{interval_at, is_open}
-use Rattle.pmf_event.specs.Exclusion.{is_included}
-use Rattle.pmf_event.specs.Ranges.{first_from, first_byte}
-use Rattle.pmf_event.specs.Persist.{is_checked, is_exposed, pass_unless, persist_finding}
-use Rattle.pmf_event.specs.Order.{is_ordered, is_unordered, is_certified, least_pair, finding_of_pairs, ordered_finding}
-use Rattle.pmf_event.specs.Transactions.{in_transaction, depth_at, in_scope, is_scoped, is_left_open, scope_passes_unless, check_finding}
+use Rattle.pmf_event.specs.Prelude.{Extent, covers_byte, event_at, last_store, interval_at, is_open, is_included, first_from, first_byte, is_checked, is_exposed, pass_unless, persist_finding, is_ordered, is_unordered, is_certified, least_pair, finding_of_pairs, ordered_finding, in_transaction, depth_at, in_scope, is_scoped, is_left_open, scope_passes_unless, check_finding}
 use Rattle.pmf_event.proofs.RangeLemmas.{none-passes}
 use Rattle.pmf_event.proofs.LeastPairLemmas.{unpaired}
 use Rattle.pmf_event.proofs.LineLemmas.{covers-bounds, bounds-cover}

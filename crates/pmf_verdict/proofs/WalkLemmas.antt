@@ -1,17 +1,12 @@
 -- One more event of a walk: the shadow and the transactions stand for it, and the rows are those of its
 -- findings.
-use Rattle.std.proofs.Common.{◌≡◌, ℕ, suc, ◌-◌, true, List, [], ◌∷◌, ◌++◌, map, refl, sym, ◌∙◌, ap, arith, subst}
-use Rattle.std.specs.Prelude.{Option, Some, None, option_map}
-use Rattle.std.proofs.lemmas.List.{append-nil}
+use Rattle.std.proofs.Common.{◌≡◌, ℕ, suc, ◌-◌, true, List, [], ◌∷◌, ◌++◌, map, refl, sym, ◌∙◌, ap, arith, subst, Option, Some, None, option_map, append-nil}
 use Rattle.pmf_event.specs.declared.event.Event.{Event}
 use Rattle.pmf_event.specs.declared.event.Event.TheVariants.{Store, TxAdd, TxEnd, CheckStart, CheckEnd}
 use Rattle.pmf_event.specs.declared.finding.Finding.{Finding}
 use Rattle.pmf_event.specs.declared.finding.Finding.TheVariants.{OrderedFail, Unclosed}
 use Rattle.pmf_event.specs.declared.profile.Profile.{Profile}
-use Rattle.pmf_event.specs.Span.{Extent}
-use Rattle.pmf_event.specs.Store.{event_at}
-use Rattle.pmf_event.specs.FlushWarnings.{if_any}
-use Rattle.pmf_event.specs.Transactions.{store_finding, add_finding, end_finding, start_finding, check_finding}
+use Rattle.pmf_event.specs.Prelude.{Extent, event_at, if_any, store_finding, add_finding, end_finding, start_finding, check_finding}
 use Rattle.pmf_shadow.specs.declared.shadow.Shadow.{Shadow}
 use Rattle.pmf_shadow.specs.Shadow.{StandsFor, FollowsAt}
 use Rattle.pmf_shadow.specs.Told.{finding_as_told}

@@ -7,11 +7,7 @@ use Rattle.pmf_event.specs.declared.finding.Finding.TheVariants.{PersistPass, Pe
 use Rattle.pmf_event.specs.declared.profile.Profile.{Profile}
 use Rattle.pmf_event.specs.declared.profile.Profile.TheVariants.{One, Two}
 use Rattle.pmf_event.specs.declared.row.Row.{Row}
-use Rattle.pmf_event.specs.Span.{Extent, covers_byte}
-use Rattle.pmf_event.specs.Store.{event_at, last_store}
-use Rattle.pmf_event.specs.Persist.{is_checked}
-use Rattle.pmf_event.specs.Order.{is_unordered}
-use Rattle.pmf_event.specs.Transactions.{in_scope, in_transaction}
+use Rattle.pmf_event.specs.Prelude.{Extent, covers_byte, event_at, last_store, is_checked, is_unordered, in_scope, in_transaction}
 use Rattle.pmf_image.specs.Holds.{PersistHolds, OrderedHolds, ScopeHolds}
 use Rattle.pmf_image.specs.Laws.{PairsAreOneByte}
 use Rattle.pmf_verdict.specs.Rows.{row_at}

@@ -4,7 +4,7 @@ use Rattle.pmf_event.specs.declared.event.Event.{Event}
 use Rattle.pmf_event.specs.declared.finding.Finding.{Finding}
 use Rattle.pmf_event.specs.declared.finding.Finding.TheVariants.{PersistFail, OrderedFail, CheckFail}
 use Rattle.pmf_event.specs.declared.row.Row.{Row}
-use Rattle.pmf_event.specs.Line.{line_of_byte}
+use Rattle.pmf_event.specs.Prelude.{line_of_byte}
 use Rattle.pmf_image.specs.declared.certificate.Certificate.{Certificate}
 use Rattle.pmf_image.specs.Image.{IsAllowed}
 use Rattle.pmf_image.specs.Certificate.{Fits, image_of}

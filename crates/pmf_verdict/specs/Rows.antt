@@ -6,11 +6,7 @@ use Rattle.pmf_event.specs.declared.event.Event.TheVariants.{Store, Flush, Persi
 use Rattle.pmf_event.specs.declared.finding.Finding.{Finding}
 use Rattle.pmf_event.specs.declared.profile.Profile.{Profile}
 use Rattle.pmf_event.specs.declared.row.Row.{Row}
-use Rattle.pmf_event.specs.Store.{event_at}
-use Rattle.pmf_event.specs.Persist.{persist_finding}
-use Rattle.pmf_event.specs.Order.{ordered_finding}
-use Rattle.pmf_event.specs.FlushWarnings.{flush_findings, if_any}
-use Rattle.pmf_event.specs.Transactions.{store_finding, add_finding, end_finding, start_finding, check_finding, close_finding}
+use Rattle.pmf_event.specs.Prelude.{event_at, persist_finding, ordered_finding, flush_findings, if_any, store_finding, add_finding, end_finding, start_finding, check_finding, close_finding}
 
 -- what is found of the event at place p; a write-back is judged before it takes effect, and so is what
 -- the event does to transactions and their scope

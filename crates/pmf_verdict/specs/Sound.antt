@@ -4,8 +4,7 @@ use Rattle.pmf_event.specs.declared.event.Event.{Event}
 use Rattle.pmf_event.specs.declared.event.Event.TheVariants.{Persist, Ordered, CheckEnd}
 use Rattle.pmf_event.specs.declared.finding.Finding.TheVariants.{PersistPass, OrderedPass, CheckPass}
 use Rattle.pmf_event.specs.declared.row.Row.{Row}
-use Rattle.pmf_event.specs.Span.{Extent}
-use Rattle.pmf_event.specs.Store.{event_at}
+use Rattle.pmf_event.specs.Prelude.{Extent, event_at}
 use Rattle.pmf_image.specs.Holds.{PersistHolds, OrderedHolds, ScopeHolds}
 use Rattle.pmf_verdict.specs.Rows.{row_at}
 

@@ -1,7 +1,7 @@
 -- What the walk over a section keeps. No public clause cites this.
 use Rattle.std.specs.Prelude.{◌≡◌, ℕ, suc, List, Some}
 use Rattle.pmf_event.specs.declared.event.Event.{Event}
-use Rattle.pmf_event.specs.Store.{event_at}
+use Rattle.pmf_event.specs.Prelude.{event_at}
 use Rattle.pmf_shadow.specs.Shadow.{StandsFor}
 use Rattle.pmf_txcheck.specs.Tracking.{Tracks}
 use Rattle.pmf_verdict.specs.declared.checking.Walk.{Walk}

@@ -2,7 +2,7 @@
 
 ghost use Rattle.std.specs.Prelude.{◌≡◌, ℕ, suc, ◌≤◌, ◌<◌, [], ◌∷◌, ◌++◌, List, Some, length, map, OnOk, IfOk, IfErr};
 ghost use Rattle.pmf_event.specs.declared.event.Event.{Event};
-ghost use Rattle.pmf_event.specs.FlushWarnings.{if_any};
+ghost use Rattle.pmf_event.specs.Prelude.{if_any};
 ghost use Rattle.pmf_verdict.specs.Walks.{Walks, Follows};
 ghost use Rattle.pmf_verdict.specs.Rows.{row_at, rows_of};
 

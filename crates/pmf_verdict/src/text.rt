@@ -1,7 +1,6 @@
 //! The text of rows.
 
-ghost use Rattle.std.specs.Prelude.{◌≡◌, ◌++◌, OnOk, IfOk};
-ghost use Rattle.std.specs.String.{string_bytes};
+ghost use Rattle.std.specs.Prelude.{◌≡◌, ◌++◌, OnOk, IfOk, string_bytes};
 ghost use Rattle.pmf_verdict.specs.Checked.{rows_in};
 ghost use Rattle.pmf_verdict.specs.Text.{text_of_pair, text_of_finding, text_of_row, text_of_rows, rows_at};
 

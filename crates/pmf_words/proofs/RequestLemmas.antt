@@ -1,12 +1,7 @@
 -- What the matches of a command say of its options, and what the parts of a command have to do with its words.
-use Rattle.std.proofs.Common.{◌≡◌, ℕ, ◌<◌, ◌^◌, Bool, List, [], ◌∷◌, ◌||◌, refl, ◌∙◌, ap, subst, Option, Some, None, Result, Ok, Err, option_map, map, codes, true, false, Bor}
-use Rattle.std.specs.Prelude.{unwrap_or, IfOk}
+use Rattle.pmf_event.proofs.Common.{◌≡◌, ℕ, ◌<◌, ◌^◌, Bool, List, [], ◌∷◌, ◌||◌, refl, ◌∙◌, ap, subst, Option, Some, None, Result, Ok, Err, option_map, map, codes, true, false, Bor, unwrap_or, IfOk, decimal, list_any, ParsesUnsigned, ExplainsUnsignedError, HasUnsignedDigitsIfOk, parse-decimal}
 use Rattle.std.specs.declared.alloc.AllocError.{AllocError}
 use Rattle.std.specs.declared.num.ParseIntError.{ParseIntError}
-use Rattle.std.specs.List.{list_any}
-use Rattle.std.specs.Fmt.{decimal}
-use Rattle.std.specs.Str.Parse.{ParsesUnsigned, ExplainsUnsignedError, HasUnsignedDigitsIfOk}
-use Rattle.std.proofs.lemmas.Fmt.{parse-decimal}
 use Rattle.clap.specs.Matches.{ReadsOne}
 use Rattle.clap.specs.declared.parser.matches.Found.{Found}
 use Rattle.clap.specs.Words.{Text, one_text, rows_of, rule_of, with_rule, with_subcommand, app_of, AddsArg, AddsSubcommand, App, Rule, is_simple}

@@ -1,8 +1,7 @@
 -- What the floor of a world keeps, beside the farm that it shows. Defined here.
-use Rattle.std.specs.Prelude.{◌≡◌, ◌≢◌, ℕ, ◌+◌, ◌<◌, ◌≤◌, List, length, sum_by, slice_get, Some, None, Result, Ok, Err}
-use Rattle.std.specs.List.{All}
+use Rattle.std.specs.Prelude.{◌≡◌, ◌≢◌, ℕ, ◌+◌, ◌<◌, ◌≤◌, List, length, sum_by, slice_get, Some, None, Result, Ok, Err, All}
 use Rattle.pmf_event.specs.declared.profile.Profile.{Profile}
-use Rattle.pmf_event.specs.Section.{Trace}
+use Rattle.pmf_event.specs.Prelude.{Trace}
 use Rattle.pmf_verdict.specs.Checked.{Checked, checked_by}
 use Rattle.pmf_board.specs.declared.entry.Entry.{Entry}
 use Rattle.pmf_ledger.specs.Repeats.{section_at}

@@ -1,10 +1,8 @@
 -- What holds after every list of steps: gathered sections, tasks, and what was sent. Defined here.
-use Rattle.std.specs.Prelude.{◌≡◌, ◌≢◌, ◌⊎◌, ◌↔◌, ℕ, ◌<◌, true, List, [], ◌∷◌, ◌++◌, length, slice_get, Some, Ok, IsOk, Contains}
-use Rattle.std.specs.List.{AllPairs}
+use Rattle.std.specs.Prelude.{◌≡◌, ◌≢◌, ◌⊎◌, ◌↔◌, ℕ, ◌<◌, true, List, [], ◌∷◌, ◌++◌, length, slice_get, Some, Ok, IsOk, Contains, AllPairs}
 use Rattle.pmf_event.specs.Section.{Trace}
-use Rattle.pmf_ledger.specs.Gathered.{Holds}
+use Rattle.pmf_ledger.specs.Prelude.{Holds, section_at}
 use Rattle.pmf_board.specs.Machine.{entry_at}
-use Rattle.pmf_ledger.specs.Repeats.{section_at}
 use Rattle.pmf_world.specs.declared.step.WorldStep.{WorldStep}
 use Rattle.pmf_world.specs.declared.step.WorldStep.TheVariants as step
 use Rattle.pmf_world.specs.declared.step.WorldAnswer.TheVariants as answer

@@ -1,8 +1,6 @@
 -- The text lines of a simulation: one for each step, and a report for each ledger. Defined here.
-use Rattle.std.specs.Prelude.{ℕ, suc, ◌+◌, List, [], ◌∷◌, ◌++◌, length, Result, Ok, Err, codes}
-use Rattle.std.specs.Fmt.{decimal}
-use Rattle.pmf_ledger.specs.LedgerValue.{LedgerValue}
-use Rattle.pmf_ledger.specs.Report.{report_of}
+use Rattle.std.specs.Prelude.{ℕ, suc, ◌+◌, List, [], ◌∷◌, ◌++◌, length, Result, Ok, Err, codes, decimal}
+use Rattle.pmf_ledger.specs.Prelude.{LedgerValue, report_of}
 use Rattle.pmf_world.specs.declared.step.WorldAnswer.{WorldAnswer}
 use Rattle.pmf_world.specs.declared.step.WorldAnswer.TheVariants as answer
 use Rattle.pmf_world.specs.declared.step.WorldFault.{WorldFault}

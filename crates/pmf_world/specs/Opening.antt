@@ -1,7 +1,7 @@
 -- What a world is made of, and what is refused. Defined here.
 use Rattle.std.specs.Prelude.{◌≡◌, ℕ, ◌<◌, ◌≤◌, List, length}
 use Rattle.pmf_event.specs.declared.profile.Profile.{Profile}
-use Rattle.pmf_event.specs.Section.{Trace}
+use Rattle.pmf_event.specs.Prelude.{Trace}
 use Rattle.pmf_board.specs.declared.board.TheConstants.{MOST_SECTIONS, MOST_WORKERS}
 use Rattle.pmf_ledger.specs.Repeats.{HaveOwnNames, IsLeastTwice}
 use Rattle.pmf_board.specs.Workers.{AreWorkers}

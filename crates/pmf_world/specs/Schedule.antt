@@ -1,7 +1,6 @@
 -- A schedule: its text, and the steps that it tells. Defined here.
-use Rattle.std.specs.Prelude.{ℕ, suc, ◌^◌, Bool, nat_lt, ◌==◌, ◌&&◌, List, [], ◌∷◌, Option, None, Some, Result, Ok, Err, if◌then◌else◌, codes}
+use Rattle.std.specs.Prelude.{ℕ, suc, ◌^◌, Bool, nat_lt, ◌==◌, ◌&&◌, List, [], ◌∷◌, Option, None, Some, Result, Ok, Err, if◌then◌else◌, codes, bytes_eq}
 use Rattle.std.specs.List.{slice_split}
-use Rattle.std.specs.Str.{bytes_eq}
 use Rattle.std.specs.Str.Parse.{digits_value}
 use Rattle.pmf_storelog.specs.Numbers.{is_numeral}
 use Rattle.pmf_world.specs.declared.step.WorldStep.{WorldStep}

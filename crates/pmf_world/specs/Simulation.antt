@@ -1,9 +1,8 @@
 -- What a simulation writes of a log and a schedule, and what it refuses. Defined here.
 use Rattle.std.specs.Prelude.{◌≡◌, ◌≢◌, ℕ, ◌<◌, ◌≤◌, List, [], ◌++◌, length, reverse, Ok, Err}
 use Rattle.pmf_event.specs.declared.profile.Profile.TheVariants.{One}
-use Rattle.pmf_event.specs.Section.{Trace}
-use Rattle.pmf_storelog.specs.LogText.{log_of, out_of_memory}
-use Rattle.pmf_storelog.specs.LogValue.{LogValue}
+use Rattle.pmf_event.specs.Prelude.{Trace}
+use Rattle.pmf_storelog.specs.Prelude.{log_of, out_of_memory, LogValue}
 use Rattle.pmf_board.specs.declared.board.TheConstants.{MOST_WORKERS}
 use Rattle.pmf_board.specs.Workers.{AreWorkers}
 use Rattle.pmf_world.specs.declared.fault.TheConstants.{MOST_LEDGERS}

@@ -1,11 +1,8 @@
 -- A world as contracts see it, and what it stands for. Defined here.
-use Rattle.std.specs.Prelude.{◌≡◌, ℕ, ◌<◌, List, [], length, map, get_or, Contains, Ok, Err}
-use Rattle.std.specs.List.{All}
+use Rattle.std.specs.Prelude.{◌≡◌, ℕ, ◌<◌, List, [], length, map, get_or, Contains, Ok, Err, All}
 use Rattle.pmf_event.specs.declared.profile.Profile.{Profile}
-use Rattle.pmf_event.specs.Section.{Trace}
-use Rattle.pmf_ledger.specs.Gathered.{Holds, IsLedgerOf}
-use Rattle.pmf_ledger.specs.LedgerValue.{LedgerValue}
-use Rattle.pmf_ledger.specs.Repeats.{section_at}
+use Rattle.pmf_event.specs.Prelude.{Trace}
+use Rattle.pmf_ledger.specs.Prelude.{Holds, IsLedgerOf, LedgerValue, section_at}
 use Rattle.pmf_world.specs.declared.step.WorldStep.{WorldStep}
 use Rattle.pmf_world.specs.declared.step.WorldStep.TheVariants as step
 use Rattle.pmf_world.specs.declared.step.WorldAnswer.{WorldAnswer}

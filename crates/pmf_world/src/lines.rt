@@ -1,7 +1,6 @@
 //! The text lines of a simulation: one for each step, and a report for each ledger.
 
-ghost use Rattle.std.specs.Prelude.{◌≡◌, ◌++◌, ◌∷◌, [], codes, OnOk};
-ghost use Rattle.std.specs.String.{string_bytes};
+ghost use Rattle.std.specs.Prelude.{◌≡◌, ◌++◌, ◌∷◌, [], codes, OnOk, string_bytes};
 ghost use Rattle.pmf_world.specs.Lines.{text_of_answer, text_of_fault, text_of_ledgers, text_of_outcome, text_of_step};
 
 use crate::step::{WorldAnswer, WorldFault};

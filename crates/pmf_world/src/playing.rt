@@ -1,7 +1,6 @@
 //! The steps of a schedule, played in a world, and the reports of its ledgers.
 
-ghost use Rattle.std.specs.Prelude.{◌≡◌, ◌<◌, ◌^◌, ◌++◌, length, take, IfOk, OnOk};
-ghost use Rattle.std.specs.String.{string_bytes};
+ghost use Rattle.std.specs.Prelude.{◌≡◌, ◌<◌, ◌^◌, ◌++◌, length, take, IfOk, OnOk, string_bytes};
 ghost use Rattle.pmf_world.specs.Lines.{text_of_ledgers};
 ghost use Rattle.pmf_world.specs.Playing.{PlaysAll, PlaysStep};
 

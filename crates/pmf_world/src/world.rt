@@ -1,7 +1,6 @@
 //! A world: the floor of a farm, and the ledgers.
 
-ghost use Rattle.std.specs.Prelude.{◌≡◌, ◌<◌, [], map, length, replicate, slice_get, Some, None, IfOk, IfErr, OnErr, MatchOption};
-ghost use Rattle.std.specs.List.{All};
+ghost use Rattle.std.specs.Prelude.{◌≡◌, ◌<◌, [], map, length, replicate, slice_get, Some, None, IfOk, IfErr, OnErr, MatchOption, All};
 ghost use Rattle.pmf_board.specs.Machine.{entry_at};
 ghost use Rattle.pmf_ledger.specs.Repeats.{HaveOwnNames};
 ghost use Rattle.pmf_world.specs.Floors.{IsSent};

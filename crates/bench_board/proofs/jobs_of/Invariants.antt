@@ -1,5 +1,4 @@
-use Rattle.std.proofs.Common.{◌≡◌, ◌≤◌, All, length}
-use Rattle.std.specs.Prelude.{vec_capacity}
+use Rattle.std.proofs.Common.{◌≡◌, ◌≤◌, All, length, vec_capacity}
 use Rattle.bench_board.proofs.jobs_of.Given as goal
 
 abbrev pub invariant-loop-worker : goal.invariant-loop-worker

@@ -7,7 +7,7 @@ use Rattle.pmf_board.specs.declared.view.View.{View}
 use Rattle.pmf_board.specs.Machine.{entry}
 use Rattle.pmf_board.specs.Views.{task, both, most_seen, seen, took, marked, HasSeenDone, HasSeenClosed, NeverFalls}
 use Rattle.pmf_board.specs.Rule.{Agrees, entry_of}
-use Rattle.pmf_board.specs.Calls.{Stays, Marks, Takes, round_from}
+use Rattle.pmf_board.specs.Calls.{Stays, Takes, round_from}
 use Rattle.pmf_board.proofs.lemmas.KeepLemmas.{bit, times-took, dones-both}
 use Rattle.pmf_board.proofs.lemmas.SightLemmas.{most-append_left, most-append_right, most-more, most-here, dones-more, dones-here, dones-cons}
 
@@ -18,23 +18,11 @@ NeverFalls-step v w s e is = subst (λ saw. NeverFalls v (record { took = w.took
 pub NeverFalls-both : (u v w : View) → NeverFalls u v → NeverFalls v w → NeverFalls u w
 NeverFalls-both u v w a b = record { most = λ s. omega (arith, a.most s, b.most s); done = λ s d. b.done s (a.done s d) }
 
-pub Stays-none : (v : View) → Stays v v
-Stays-none v = record { took = refl; marked = refl; shares = refl; never_falls = record { most = λ s. omega arith; done = λ s d. d } }
-
 pub Stays-seen : (v w : View) (s : ℕ) (e : Entry) → w ≡ seen v s e → Stays v w
 Stays-seen v w s e is = record { took = ap (λ u. u.took) is; marked = ap (λ u. u.marked) is; shares = ap (λ u. u.shares) is; never_falls = NeverFalls-step v w s e (ap (λ u. u.saw) is) }
 
 pub Stays-both : (u v w : View) → Stays u v → Stays v w → Stays u w
 Stays-both u v w a b = record { took = b.took ∙ a.took; marked = b.marked ∙ a.marked; shares = b.shares ∙ a.shares; never_falls = NeverFalls-both u v w a.never_falls b.never_falls }
-
-pub Marks-marked : (v w : View) (s h : ℕ) → w ≡ marked v s h → Marks v s w
-Marks-marked v w s h is = subst (Marks v s) (sym is) (record {
-  took = refl;
-  marked = refl;
-  shares = refl;
-  done = dones-here s (entry h true) v.saw refl;
-  never_falls = NeverFalls-step v (marked v s h) s (entry h true) refl;
-})
 
 -- a section that was seen done
 pub seen-done : (v w : View) (s : ℕ) (e : Entry) → w ≡ seen v s e → e.done ≡ true → HasSeenDone w s
@@ -85,13 +73,6 @@ Known-seen v w s word is agrees = record {
   done = λ high. seen-done v w s (entry_of word) is (le-leb 16 word high);
 }
 
--- a word other than expected is greater
-pub rises : (v : View) (s word other : ℕ) → word < 8 → Known v s word → Agrees v s (entry_of other) → (other ≡ word → ⊥) → word < other
-rises v s word other low known agrees differ =
-    let same : word % 16 ≡ word = omega (arith, low) in
-    let down : other % 16 ≤ other = omega arith in
-    omega (arith, known.most, agrees.most, same, down, differ)
-
 -- a word that is not below the limit is of a section that isn't on offer
 pub closed-known : (limit : ℕ) (v : View) (s word : ℕ) → limit ≤ 8 → Known v s word → limit ≤ word → HasSeenClosed limit v s
 closed-known limit v s word few known high = by (cases_lt word 16)
@@ -112,10 +93,6 @@ closed-more limit first section v w falls before here s from below = by (cases_l
     by : (s < section) ⊎ (section ≤ s) → HasSeenClosed limit w s
     by (inl less) = closed-later limit v w s falls (before s from less)
     by (inr more) = let same : section ≡ s = omega (arith, more, below) in subst (HasSeenClosed limit w) same here
-
--- how far a section lies from the first
-pub round-up : (n first s : ℕ) → first ≤ s → round_from n first s ≡ s - first
-round-up n first s le = ap (λ b. cond b (s - first) (s + n - first)) (le-leb first s le)
 
 pub round-round : (n first s : ℕ) → s < first → round_from n first s ≡ s + n - first
 round-round n first s lt = ap (λ b. cond b (s - first) (s + n - first)) (lt-leb first s lt)

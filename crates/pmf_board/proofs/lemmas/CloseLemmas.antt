@@ -37,8 +37,3 @@ module _ (sections id : ℕ) (v : View) (words : List ℕ) (slots : List (Unit {
       let r = final.1.0 in
       let same : map entry_of words ≡ r.board = ap (map entry_of) (sym final.2 ∙ r.words_are) ∙ read-board r.board r.is_kept.few in
       subst (IsTallied v) (sym same) (record { once = alone-times r.board final.0.views id v r.is_kept final.1.1 all; done = alone-done r.board final.0.views id v r.is_kept final.1.1 all })
-
-  pub closed-length : length (map entry_of words) ≡ sections
-  closed-length =
-      let r = final.1.0 in
-      ap (λ ws. length (map entry_of ws)) (sym final.2 ∙ r.words_are) ∙ ap length (read-board r.board r.is_kept.few) ∙ r.as_many

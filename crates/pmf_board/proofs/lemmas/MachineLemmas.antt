@@ -1,41 +1,19 @@
 -- The board machine, and the words and views of a board.
-use Rattle.std.proofs.Common.{◌≡◌, ℕ, ◌+◌, ◌<◌, ◌≤◌, Bool, true, false, not, cond, ◌&&◌, ltb, if◌then◌else◌, Some, None, map, set, slice_get, refl, sym, ◌∙◌, ap, subst, arith}
-use Rattle.std.proofs.lemmas.Bool.{lt-ltb, le-ltb, ltb-true, not-true, and_parts}
+use Rattle.std.proofs.Common.{◌≡◌, ◌+◌, Bool, true, false, not, ltb, if◌then◌else◌, Some, None, map, set, refl, sym, ◌∙◌, ap, subst, arith}
+use Rattle.std.proofs.lemmas.Bool.{ltb-true, not-true, and_parts}
 use Rattle.std.proofs.lemmas.List.{map-set}
 use Rattle.std.proofs.lemmas.Option.{same_Some, none-some, slice_get-get_or}
 use Rattle.pmf_board.specs.declared.entry.Entry.{Entry}
 use Rattle.pmf_board.specs.Machine.{untouched, entry_at, is_on_offer, handed_out, finished, hand_out, mark, taken}
 use Rattle.pmf_board.specs.Views.{task, took, marked}
 use Rattle.pmf_board.specs.Rule.{IsKept, word_of}
-use Rattle.pmf_board.specs.Laws.{TakesAreToldByWords, ChangesAreStepsOnWords, ChangesKeepTheRule}
+use Rattle.pmf_board.specs.Laws.{ChangesAreStepsOnWords, ChangesKeepTheRule}
 use Rattle.pmf_board.proofs.lemmas.WordLemmas.{word-handed_out, word-finished}
 use Rattle.pmf_board.proofs.lemmas.KeepLemmas.{IsKept-moves, Moves-took, Moves-marked}
-
--- below the limit an entry is not done, and its word is its hand-outs
-open_below : (limit h : ℕ) (d : Bool) → limit ≤ 8 → h + cond d 16 0 < limit → ((not d && ltb h limit) ≡ true) × (h ≡ h + cond d 16 0)
-open_below limit h true few below = absurd (omega (arith, few, below))
-open_below limit h false few below = (lt-ltb h limit (omega (arith, below)), omega arith)
-
-closed_from : (limit h : ℕ) (d : Bool) → limit ≤ h + cond d 16 0 → (not d && ltb h limit) ≡ false
-closed_from limit h true from = refl
-closed_from limit h false from = le-ltb h limit (omega (arith, from))
 
 if_some : {X : Type 0} (b : Bool) (x y : X) → (if b then Some x else None) ≡ Some y → (b ≡ true) × (x ≡ y)
 if_some true x y same = (refl, same_Some x y same)
 if_some false x y same = absurd (none-some y same)
-
-pub told_by_words : TakesAreToldByWords
-told_by_words limit board s few within = (
-  (λ below. let is = open_below limit e.handouts e.done few below in
-      here ∙ ap (λ b. if b then Some (e.handouts + 1, hand_out board s) else None) is.0 ∙ ap (λ n. Some (n + 1, hand_out board s)) is.1),
-  (λ from. here ∙ ap (λ b. if b then Some (e.handouts + 1, hand_out board s) else None) (closed_from limit e.handouts e.done from)),
-)
-  where
-    e : Entry
-    e = entry_at board s
-
-    here : taken limit board s (slice_get board s) ≡ taken limit board s (Some e)
-    here = ap (taken limit board s) (slice_get-get_or board s untouched within)
 
 pub steps_on_words : ChangesAreStepsOnWords
 steps_on_words board s = (

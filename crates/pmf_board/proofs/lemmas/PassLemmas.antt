@@ -2,8 +2,7 @@
 use Rattle.std.proofs.Common.{◌≡◌, ℕ, ◌+◌, ◌-◌, ◌<◌, ◌≤◌, Bool, true, false, ◌&&◌, eqb, ◌⊎◌, inl, inr, [], refl, sym, ap, subst, arith}
 use Rattle.std.proofs.lemmas.Bool.{eqb-true, cases_lt}
 use Rattle.pmf_board.specs.declared.entry.Entry.{Entry}
-use Rattle.pmf_board.specs.declared.view.View.{View}
-use Rattle.pmf_board.specs.Views.{task, times, seen, took, marked, kept, given, both}
+use Rattle.pmf_board.specs.Views.{task, times, seen, took, marked, kept, both}
 use Rattle.pmf_board.specs.Passes.{BoardId, IsSound}
 use Rattle.pmf_board.specs.Steps.{Mine}
 use Rattle.pmf_board.proofs.lemmas.KeepLemmas.{bit, times-took, times-both}
@@ -31,9 +30,6 @@ after-took shares z me s n there is = (is.0, is.1, record { some = is.2.some; al
 
 pub after-split : (shares : ℕ) (z : BoardId) (me : Mine) → 1 < shares → IsInside shares z me → IsInside (shares - 1) z (kept me.0, me.1)
 after-split shares z me two is = (ap (λ n. n - 1) is.0, is.1, record { some = omega (arith, two, is.0); all = omega (arith, is.2.all); within = is.2.within })
-
-pub after-given : (z : BoardId) (v : View) → IsInside 1 z (given v, [])
-after-given z v = (refl, refl, record { some = omega arith; all = omega arith; within = λ s k held. absurd (omega (arith, held)) })
 
 pub after-join : (a b : ℕ) (z : BoardId) (me me' : Mine) → IsInside a z me → IsInside b z me' → a + b ≤ 65 → IsInside (a + b) z (both me.0 me'.0, me.1)
 after-join a b z me me' is is' few = (

@@ -1,6 +1,5 @@
 -- The five kinds of step, as the table asks for them.
-use Rattle.std.proofs.Common.{◌≡◌, ℕ, ◌+◌, ◌<◌, false, eqb, bit_or, [], length, get_or, set, replicate, refl, sym, ◌∙◌, ap, subst, arith}
-use Rattle.std.proofs.lemmas.Bool.{eq-eqb, ne_eqb}
+use Rattle.std.proofs.Common.{◌≡◌, ℕ, ◌+◌, ◌<◌, false, eqb, bit_or, [], length, get_or, set, replicate, refl, sym, ◌∙◌, ap, subst, arith, eq-eqb, ne_eqb}
 use Rattle.std.proofs.lemmas.List.{map-set, set-get_or, length-set, length-replicate}
 use mathlib.Core.Logic.{dite}
 use mathlib.Core.Option.{none, some}

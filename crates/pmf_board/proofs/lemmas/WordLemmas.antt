@@ -16,14 +16,6 @@ by_done h false few = entry-is ((h + 0) % 16) h (leb 16 (h + 0)) false (omega ar
 pub entry_of-word : (e : Entry) → e.handouts ≤ 8 → entry_of (word_of e) ≡ e
 entry_of-word e few = by_done e.handouts e.done few
 
--- a word is at most 24
-pub word-le : (e : Entry) → e.handouts ≤ 8 → word_of e ≤ 24
-word-le e few = by e.done
-  where
-    by : (d : Bool) → e.handouts + cond d 16 0 ≤ 24
-    by true = omega arith
-    by false = omega arith
-
 -- one hand-out more is one more
 pub word-handed_out : (e : Entry) → word_of (handed_out e) ≡ word_of e + 1
 word-handed_out e = omega arith

@@ -1,9 +1,5 @@
 -- What a ledger holds after a section was put where its name belongs.
-use Rattle.std.proofs.Common.{◌≡◌, ℕ, List, [], ◌∷◌, take, drop, refl, sym, ◌∙◌, ap, subst, arith, inl, inr, get_or}
-use Rattle.std.specs.Prelude.{◌⊎◌, Contains}
-use Rattle.std.specs.List.{All, insert}
-use Rattle.std.proofs.lemmas.List.{take-append-drop}
-use Rattle.std.proofs.lemmas.List.Elements.{All-append, All-cons, All-take, All-drop, Contains-append_left, Contains-append_right, Contains-append_cases, Contains-push, Contains-push_cases, Contains-get_or}
+use Rattle.pmf_event.proofs.Common.{◌≡◌, ℕ, List, [], ◌∷◌, take, drop, refl, sym, ◌∙◌, ap, subst, arith, inl, inr, get_or, ◌⊎◌, Contains, All, insert, take-append-drop, All-append, All-cons, All-take, All-drop, Contains-append_left, Contains-append_right, Contains-append_cases, Contains-push, Contains-push_cases, Contains-get_or}
 use Rattle.pmf_event.specs.Section.{Trace}
 use Rattle.pmf_verdict.specs.Checked.{Checked, checked_by}
 use Rattle.pmf_ledger.specs.Gathered.{Gains, Gathers, Holds}

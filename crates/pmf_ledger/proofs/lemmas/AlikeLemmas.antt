@@ -1,7 +1,5 @@
 -- Gatherings that are alike: only the set counts, and how it was joined doesn't.
-use Rattle.std.proofs.Common.{◌≡◌, List, ◌++◌, sym, ap, subst, append_assoc, inl, inr}
-use Rattle.std.specs.Prelude.{Contains}
-use Rattle.std.proofs.lemmas.List.Elements.{Contains-append_cases, Contains-append_left, Contains-append_right}
+use Rattle.pmf_event.proofs.Common.{◌≡◌, List, ◌++◌, sym, ap, subst, append_assoc, inl, inr, Contains, Contains-append_cases, Contains-append_left, Contains-append_right}
 use Rattle.pmf_event.specs.declared.profile.Profile.{Profile}
 use Rattle.pmf_ledger.specs.Report.{report_of}
 use Rattle.pmf_ledger.specs.Gathered.{IsLedgerOf}

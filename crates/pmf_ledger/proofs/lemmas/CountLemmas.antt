@@ -1,12 +1,9 @@
 -- How rows count, one after another, and the sums of sections.
-use Rattle.std.proofs.Common.{◌≡◌, ℕ, ◌+◌, ◌*◌, ◌-◌, ◌^◌, ◌<◌, ◌≤◌, true, false, List, [], ◌∷◌, ◌++◌, length, take, get_or, sum_by, refl, sym, ◌∙◌, ap, arith}
-use Rattle.std.proofs.lemmas.List.{length-append, take_more}
-use Rattle.std.proofs.lemmas.List.Sums.{count_by_more_yes, count_by_more_no, sum_by-append}
+use Rattle.pmf_event.proofs.Common.{◌≡◌, ℕ, ◌+◌, ◌*◌, ◌-◌, ◌^◌, ◌<◌, ◌≤◌, true, false, List, [], ◌∷◌, ◌++◌, length, take, get_or, sum_by, refl, sym, ◌∙◌, ap, arith, length-append, take_more, count_by_more_yes, count_by_more_no, sum_by-append}
 use Rattle.pmf_event.specs.declared.row.Row.{Row}
-use Rattle.pmf_verdict.specs.Checked.{Checked, rows_in}
 use Rattle.pmf_verdict.specs.declared.outcome.Outcome.{Outcome}
 use Rattle.pmf_verdict.specs.declared.outcome.Outcome.TheVariants.{Pass, Fail, Warn, Empty}
-use Rattle.pmf_verdict.specs.Outcome.{outcome_of, is_same}
+use Rattle.pmf_verdict.specs.Prelude.{Checked, rows_in, outcome_of, is_same}
 use Rattle.pmf_ledger.specs.declared.totals.Totals.{Totals}
 use Rattle.pmf_ledger.specs.Report.{IsWithin, both, rows_with, rows_with_in, totals_of}
 

@@ -1,10 +1,8 @@
 -- What gatherings give.
-use Rattle.std.proofs.Common.{◌≡◌, List, [], ◌∷◌, ◌++◌, refl, sym, ◌∙◌, ap, subst, arith, inl, inr}
-use Rattle.std.specs.Prelude.{◌≢◌, Contains}
-use Rattle.std.proofs.lemmas.List.Elements.{Contains-append_left, Contains-append_right}
+use Rattle.pmf_event.proofs.Common.{◌≡◌, List, [], ◌∷◌, ◌++◌, refl, sym, ◌∙◌, ap, subst, arith, inl, inr, ◌≢◌, Contains, Contains-append_left, Contains-append_right}
 use Rattle.pmf_event.specs.declared.profile.Profile.{Profile}
 use Rattle.pmf_event.specs.declared.profile.Profile.TheVariants.{One, Two}
-use Rattle.pmf_event.specs.Section.{Trace}
+use Rattle.pmf_event.specs.Prelude.{Trace}
 use Rattle.pmf_ledger.specs.Gathered.{IsLedgerOf}
 use Rattle.pmf_ledger.specs.Gathering.{Agrees, Begun, Gathering, Gives, IsBy, IsRefused, Joined, WithVerdict, set_of}
 use Rattle.pmf_ledger.specs.LedgerValue.{LedgerValue}

@@ -1,8 +1,5 @@
 -- What two ledgers hold together, said of their lists.
-use Rattle.std.proofs.Common.{◌≡◌, List, sym, ◌∙◌, ap, subst, inl, inr, get_or}
-use Rattle.std.specs.Prelude.{Contains, MatchOption, Option, None, Some, IfOk, Result, Ok, Err}
-use Rattle.std.specs.List.{All}
-use Rattle.std.proofs.lemmas.List.Elements.{All-contains, Contains-append_cases, Contains-append_left, Contains-append_right, Contains-get_or}
+use Rattle.pmf_event.proofs.Common.{◌≡◌, List, sym, ◌∙◌, ap, subst, inl, inr, get_or, Contains, MatchOption, Option, None, Some, IfOk, Result, Ok, Err, All, All-contains, Contains-append_cases, Contains-append_left, Contains-append_right, Contains-get_or}
 use Rattle.pmf_event.specs.declared.name.Name.{Name}
 use Rattle.pmf_event.specs.declared.profile.Profile.{Profile}
 use Rattle.pmf_verdict.specs.Checked.{Checked, checked_by}

@@ -1,28 +1,18 @@
 -- The text of a ledger loads as that ledger.
-use Rattle.std.proofs.Common.{◌≡◌, ℕ, zero, suc, ◌+◌, ◌-◌, ◌^◌, ◌<◌, ◌≤◌, ◌==◌, List, [], ◌∷◌, ◌++◌, length, map, Some, None, refl, sym, ◌∙◌, ap, subst, arith, rules, inl, inr, append_assoc, length-append}
-use Rattle.std.specs.Prelude.{codes, if◌then◌else◌, Contains}
-use Rattle.std.specs.Fmt.{decimal}
-use Rattle.std.specs.List.{All, flat_map, AllByRecursion}
-use Rattle.std.proofs.lemmas.Bool.{le-ltb}
-use Rattle.std.proofs.lemmas.List.{append-nil, length_push, length-map, take_at, drop_at}
-use Rattle.std.proofs.lemmas.List.Elements.{recursion_from_All}
-use Rattle.std.proofs.lemmas.Slice.Eq.{bytes_eq-Decides}
-use Rattle.pmf_event.specs.Section.{Trace}
+use Rattle.pmf_event.proofs.Common.{◌≡◌, ℕ, zero, suc, ◌+◌, ◌-◌, ◌^◌, ◌<◌, ◌≤◌, ◌==◌, List, [], ◌∷◌, ◌++◌, length, map, Some, None, refl, sym, ◌∙◌, ap, subst, arith, rules, inl, inr, append_assoc, length-append, codes, if◌then◌else◌, Contains, decimal, le-ltb, All, flat_map, AllByRecursion, append-nil, length_push, length-map, take_at, drop_at, recursion_from_All, bytes_eq-Decides}
 use Rattle.pmf_event.specs.declared.event.Event.{Event}
 use Rattle.pmf_event.specs.declared.name.Name.{Name}
 use Rattle.pmf_event.specs.declared.profile.Profile.{Profile}
 use Rattle.pmf_event.specs.declared.profile.Profile.TheVariants.{One, Two}
 use Rattle.pmf_event.specs.declared.row.Row.{Row}
 use Rattle.pmf_event.specs.declared.section.TheConstants.{EVENT_LIMIT}
-use Rattle.pmf_storelog.specs.Canonical.{line_of_event}
-use Rattle.pmf_storelog.specs.Spelling.{AllValid}
+use Rattle.pmf_event.specs.Prelude.{Trace}
+use Rattle.pmf_storelog.specs.Prelude.{line_of_event, AllValid}
 use Rattle.pmf_storelog.proofs.EventLineLemmas.{event_of_line-event}
 use Rattle.pmf_storelog.proofs.FrontLemmas.{BeginsWithNoDigit, number_in_front-decimal}
 use Rattle.pmf_storelog.proofs.PlainRecordLemmas.{text_of_lines}
 use Rattle.pmf_storelog.proofs.PlainLemmas.{text_of_event}
-use Rattle.pmf_verdict.specs.Checked.{Checked, checked_by, rows_in}
-use Rattle.pmf_verdict.specs.Rows.{rows_of}
-use Rattle.pmf_verdict.specs.Text.{text_of_row, text_of_rows}
+use Rattle.pmf_verdict.specs.Prelude.{Checked, checked_by, rows_in, rows_of, text_of_row, text_of_rows}
 use Rattle.pmf_ledger.specs.declared.head.Head.{Head}
 use Rattle.pmf_ledger.specs.declared.loading.LedgerFault.TheVariants.{FalseRows}
 use Rattle.pmf_ledger.specs.declared.loading.TheConstants.{LEDGER_LIMIT}

@@ -1,9 +1,7 @@
 -- A text loads as one ledger, or it is refused.
-use Rattle.std.proofs.Common.{◌≡◌, ℕ, List, ◌∷◌, refl, sym, ◌∙◌, subst, inl}
-use Rattle.std.specs.Prelude.{Contains, Option, Some, None}
-use Rattle.std.proofs.lemmas.List.Elements.{Contains-append_left, Contains-append_right}
+use Rattle.pmf_event.proofs.Common.{◌≡◌, ℕ, List, ◌∷◌, refl, sym, ◌∙◌, subst, inl, Contains, Option, Some, None, Contains-append_left, Contains-append_right}
 use Rattle.pmf_event.specs.declared.name.Name.{Name}
-use Rattle.pmf_event.specs.Section.{Trace}
+use Rattle.pmf_event.specs.Prelude.{Trace}
 use Rattle.pmf_ledger.specs.declared.loading.LedgerFault.{LedgerFault}
 use Rattle.pmf_ledger.specs.declared.loading.LedgerFault.TheVariants.{NotALedger, FalseRows, Conflict, Log, OutOfMemory}
 use Rattle.pmf_ledger.specs.LedgerValue.{LedgerValue}

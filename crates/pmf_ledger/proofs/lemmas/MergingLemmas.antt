@@ -1,14 +1,8 @@
 -- Two rising lists, while they are merged from their ends, and once they are.
-use Rattle.std.proofs.Common.{◌≡◌, ◌+◌, ◌-◌, ◌<◌, List, [], ◌∷◌, ◌++◌, length, reverse, refl, sym, ◌∙◌, ap, subst, arith, inl, inr, get_or}
-use Rattle.std.specs.Prelude.{◌⊎◌, Contains}
-use Rattle.std.specs.List.{AllPairs}
-use Rattle.std.proofs.lemmas.Bool.{cases_order}
-use Rattle.std.proofs.lemmas.List.{get_or_append_left, get_or_default, get_or_push, get_or-reverse, length-append, length-reverse, reverse-reverse}
-use Rattle.std.proofs.lemmas.List.Elements.{Contains-append_left, Contains-get_or, Contains-push, Contains-push_cases}
+use Rattle.pmf_event.proofs.Common.{◌≡◌, ◌+◌, ◌-◌, ◌<◌, List, [], ◌∷◌, ◌++◌, length, reverse, refl, sym, ◌∙◌, ap, subst, arith, inl, inr, get_or, ◌⊎◌, Contains, AllPairs, cases_order, get_or_append_left, get_or_default, get_or_push, get_or-reverse, length-append, length-reverse, reverse-reverse, Contains-append_left, Contains-get_or, Contains-push, Contains-push_cases, Contains-permutation, IsPermutation-reverse}
 use Rattle.std.proofs.lemmas.List.Quantifiers.{all_pairs_push}
-use Rattle.std.proofs.lemmas.List.Sorted.{Contains-permutation, IsPermutation-reverse}
 use Rattle.pmf_verdict.specs.Checked.{Checked}
-use Rattle.pmf_ledger.specs.Joining.{Agree, IsMerged, IsMerging}
+use Rattle.pmf_ledger.specs.Joining.{IsMerged, IsMerging}
 use Rattle.pmf_ledger.specs.Names.{ComesBefore, Rises}
 use Rattle.pmf_ledger.proofs.lemmas.NameLemmas.{before-trans}
 
@@ -77,17 +71,6 @@ all_before xs read x rises is before c found = elim (before_last xs read c rises
 
 pub read_is_held : (xs : List Checked) (read : Checked) → read ≡ get_or xs (length xs - 1) read → length xs - 1 < length xs → Contains xs read
 read_is_held xs read is inside = subst (Contains xs) (sym is) (Contains-get_or xs (length xs - 1) read inside)
-
-pub Merging-starts : (xs ys : List Checked) → Rises xs → Rises ys → Agree xs ys → IsMerging xs ys xs ys []
-Merging-starts xs ys first second agree = record {
-  kept = λ c. (λ has. inl has, λ has. elim has [ inl left ↦ left | inr none ↦ absurd (let n = none.1 in omega (arith, n)) ]);
-  left_rises = first;
-  right_rises = second;
-  agree = agree;
-  falls = λ i j d less inside. absurd (omega (arith, inside));
-  left_before = λ c d in_left none. absurd (let n = none.1 in omega (arith, n));
-  right_before = λ c d in_right none. absurd (let n = none.1 in omega (arith, n));
-}
 
 -- the two lists are on a par
 Merging-turned : (xs ys left right merged : List Checked) → IsMerging xs ys left right merged → IsMerging ys xs right left merged

@@ -1,13 +1,9 @@
 -- What is known of a name from the place where it belongs.
-use Rattle.std.proofs.Common.{◌≡◌, ℕ, ◌+◌, ◌<◌, ◌≤◌, List, [], length, sym, ◌∙◌, ap, subst, arith, inl, inr, get_or}
-use Rattle.std.specs.Prelude.{◌≢◌}
-use Rattle.std.proofs.lemmas.Bool.{cases_order}
-use Rattle.std.proofs.lemmas.List.{get_or_default}
-use Rattle.std.proofs.lemmas.List.Elements.{Contains-get_or}
+use Rattle.pmf_event.proofs.Common.{◌≡◌, ℕ, ◌+◌, ◌<◌, ◌≤◌, List, [], length, sym, ◌∙◌, ap, subst, arith, inl, inr, get_or, ◌≢◌, cases_order, get_or_default, Contains-get_or}
 use Rattle.pmf_event.specs.declared.name.Name.{Name}
+use Rattle.pmf_event.specs.declared.profile.Profile.TheVariants.{One}
 use Rattle.pmf_verdict.specs.Checked.{Checked}
 use Rattle.pmf_ledger.specs.Names.{IsBefore, Rises}
-use Rattle.pmf_event.specs.declared.profile.Profile.TheVariants.{One}
 use Rattle.pmf_ledger.specs.Places.{HasName, IsPlaceOf, LacksName, StandsAt}
 use Rattle.pmf_ledger.proofs.lemmas.NameLemmas.{before-trans, before-itself}
 
@@ -32,14 +28,6 @@ pub record Window (sections : List Checked) (name : Name) (low high : ℕ) : Typ
   pub within : high ≤ length sections
   pub before : (i : ℕ) (d : Checked) → i < low → IsBefore (get_or sections i d).section.name name
   pub from : (i : ℕ) (d : Checked) → high ≤ i → i < length sections → IsBefore (get_or sections i d).section.name name → ⊥
-
-pub Window-whole : (sections : List Checked) (name : Name) → Window sections name 0 (length sections)
-Window-whole sections name = record {
-  ordered = omega arith;
-  within = omega arith;
-  before = λ i d low. absurd (omega (arith, low));
-  from = λ i d high inside. absurd (omega (arith, high, inside));
-}
 
 -- all up to a section whose name comes before are before
 pub Window-up : (sections : List Checked) (name : Name) (low high m : ℕ) (x : Checked) → Rises sections → Window sections name low high → m < high →
@@ -79,15 +67,6 @@ Window-down sections name low high m x rises window reach inside is here = recor
         ]
       ];
 }
-
-pub IsPlaceOf-window : (sections : List Checked) (name : Name) (k high : ℕ) → high ≤ k → Window sections name k high → IsPlaceOf sections name k
-IsPlaceOf-window sections name k high met window =
-    let e : high ≡ k = let o = window.ordered in omega (arith, met, o) in
-    record {
-      within = let w = window.within in let o = window.ordered in omega (arith, w, o);
-      before = window.before;
-      from = λ i d far inside. window.from i d (omega (arith, far, e)) inside;
-    }
 
 -- a section that stands at a place is one of them
 pub HasName-from_place : (sections : List Checked) (name : Name) (k : ℕ) → StandsAt sections name k → HasName sections name

@@ -1,24 +1,16 @@
 -- A reading after one step, where what is kept stood for it.
-use Rattle.std.proofs.Common.{◌≡◌, ℕ, zero, suc, ◌+◌, ◌-◌, ◌<◌, ◌≤◌, true, false, ◌==◌, List, [], ◌∷◌, ◌++◌, length, drop, get_or, Some, refl, sym, ◌∙◌, ap, subst, arith, inl, inr}
-use Rattle.std.specs.Prelude.{Contains, Ok, codes}
-use Rattle.std.specs.Str.{bytes_eq}
-use Rattle.std.proofs.lemmas.List.{drop_more, length_push, append_cancel_right}
-use Rattle.std.proofs.lemmas.List.Elements.{Contains-append_left, Contains-push, Contains-push_cases}
-use Rattle.std.proofs.lemmas.Slice.Eq.{bytes_eq-Decides}
-use Rattle.std.proofs.lemmas.Bool.Decides.{Decides-eqb}
+use Rattle.pmf_event.proofs.Common.{◌≡◌, ℕ, zero, suc, ◌+◌, ◌-◌, ◌<◌, ◌≤◌, true, false, ◌==◌, List, [], ◌∷◌, ◌++◌, length, drop, get_or, Some, refl, sym, ◌∙◌, ap, subst, arith, inl, inr, Contains, Ok, codes, bytes_eq, drop_more, length_push, append_cancel_right, Contains-append_left, Contains-push, Contains-push_cases, bytes_eq-Decides, Decides-eqb}
 use Rattle.pmf_event.specs.declared.event.Event.{Event}
 use Rattle.pmf_event.specs.declared.name.Name.{Name}
 use Rattle.pmf_event.specs.declared.profile.Profile.{Profile}
 use Rattle.pmf_event.specs.declared.row.Row.{Row}
 use Rattle.pmf_event.specs.declared.section.TheConstants.{EVENT_LIMIT}
-use Rattle.pmf_event.specs.Section.{Trace}
+use Rattle.pmf_event.specs.Prelude.{Trace}
 use Rattle.pmf_storelog.specs.declared.fault.Cause.TheVariants.{TooManyEvents}
 use Rattle.pmf_storelog.specs.declared.line.LineFault.{LineFault}
 use Rattle.pmf_storelog.specs.declared.line.LineFault.TheVariants.{NoEvent, Refused}
-use Rattle.pmf_storelog.specs.Lines.{event_of_line}
-use Rattle.pmf_verdict.specs.Checked.{Checked, checked_by}
-use Rattle.pmf_verdict.specs.Rows.{rows_of}
-use Rattle.pmf_verdict.specs.Text.{text_of_row}
+use Rattle.pmf_storelog.specs.Prelude.{event_of_line}
+use Rattle.pmf_verdict.specs.Prelude.{Checked, checked_by, rows_of, text_of_row}
 use Rattle.pmf_ledger.specs.declared.blocks.Blocks.{Blocks}
 use Rattle.pmf_ledger.specs.declared.loading.LedgerFault.{LedgerFault}
 use Rattle.pmf_ledger.specs.declared.loading.LedgerFault.TheVariants.{NotALedger, FalseRows, Log}

@@ -1,15 +1,8 @@
 -- Names that stand twice in a list, which a sort has put in their order.
-use Rattle.std.proofs.Common.{◌≡◌, ℕ, zero, suc, ◌+◌, ◌-◌, ◌<◌, ◌≤◌, Bool, true, false, List, [], ◌∷◌, length, map, refl, sym, ◌∙◌, ap, subst, arith, inl, inr, get_or, eqb-true, eq-eqb}
-use Rattle.std.specs.Prelude.{◌⊎◌, ◌&&◌, eqb, count_by, cond, IsPermutation, MatchOption, Option, Some, None}
-use Rattle.std.proofs.Common.{is_lt, Less, Equal}
+use Rattle.pmf_event.proofs.Common.{◌≡◌, ℕ, zero, suc, ◌+◌, ◌-◌, ◌<◌, ◌≤◌, Bool, true, false, List, [], ◌∷◌, length, map, refl, sym, ◌∙◌, ap, subst, arith, inl, inr, get_or, eqb-true, eq-eqb, ◌⊎◌, ◌&&◌, eqb, count_by, cond, IsPermutation, MatchOption, Option, Some, None, is_lt, Less, Equal, nat_cmp_is, cases_order, cases_lt, cases_Bool, true≢false, sum_by-cons, sum_by-IsPermutation}
 use Rattle.std.specs.Ordering.{nat_cmp, ordering_then}
-use Rattle.std.specs.Cmp.{nat_cmp_is}
-use Rattle.std.proofs.lemmas.Bool.{cases_order, cases_lt, cases_Bool, true≢false}
-use Rattle.std.proofs.lemmas.List.{get_or_default}
-use Rattle.std.proofs.lemmas.List.Sums.{sum_by-cons}
-use Rattle.std.proofs.lemmas.List.Sorted.{sum_by-IsPermutation}
 use Rattle.pmf_event.specs.declared.name.Name.{Name}
-use Rattle.pmf_event.specs.Section.{Trace}
+use Rattle.pmf_event.specs.Prelude.{Trace}
 use Rattle.pmf_ledger.specs.Names.{IsBefore}
 use Rattle.pmf_ledger.specs.Repeats.{AreOwn, DoNotFall, IsLeastTwiceIn, StandsTwiceIn, is_name, names_of}
 use Rattle.pmf_ledger.proofs.lemmas.NameLemmas.{before-trans, before-itself}
@@ -74,17 +67,6 @@ module _ (names : List Name) (d : Name) where
   at_most_between i j sorted less inside =
       let k : i + (j - i) ≡ j = omega (arith, less) in
       subst (λ x. IsAtMost (name_at i) (name_at x)) k (at_most_by i (j - i) sorted (omega (arith, less, inside)))
-
-  -- one more name rises where it isn't the one before
-  pub rises-more : (k : ℕ) → DoNotFall names → RisesTo (k + 1) names → k + 1 < length names → (name_at k ≡ name_at (k + 1) → ⊥) → RisesTo (k + 1 + 1) names
-  rises-more k sorted rises inside other i e below = elim (cases_lt (i + 1) (k + 1)) [
-    | inl low ↦ rises i e low
-    | inr high ↦
-        let last : i ≡ k = omega (arith, high, below) in
-        let here : k < length names = omega (arith, inside) in
-        let step : IsBefore (name_at k) (name_at (k + 1)) = elim (at_most-unless_before (name_at k) (name_at (k + 1)) (sorted k d inside)) [ inl less ↦ less | inr same ↦ absurd (other same) ] in
-        subst (λ x. IsBefore (get_or names x e) (get_or names (x + 1) e)) (sym last) (rw (get_or_default names k e d here, get_or_default names (k + 1) e d inside) step)
-  ]
 
 module _ {X : Type 0} (p : X → Bool) where
   counted-yes : (x : X) (xs : List X) → p x ≡ true → count_by p (x ∷ xs) ≡ count_by p xs + 1

@@ -1,9 +1,5 @@
 -- Two rising lists that are scanned side by side for names that both have.
-use Rattle.std.proofs.Common.{◌≡◌, ℕ, ◌+◌, ◌<◌, ◌≤◌, List, length, sym, ◌∙◌, ap, subst, refl, arith, inl, inr, get_or}
-use Rattle.std.specs.Prelude.{Contains}
-use Rattle.std.proofs.lemmas.Bool.{cases_order}
-use Rattle.std.proofs.lemmas.List.{get_or_default}
-use Rattle.std.proofs.lemmas.List.Elements.{Contains-get_or}
+use Rattle.pmf_event.proofs.Common.{◌≡◌, ℕ, ◌+◌, ◌<◌, ◌≤◌, List, length, sym, ◌∙◌, ap, subst, refl, arith, inl, inr, get_or, Contains, cases_order, get_or_default, Contains-get_or}
 use Rattle.pmf_event.specs.Section.{Trace}
 use Rattle.pmf_verdict.specs.Checked.{Checked}
 use Rattle.pmf_ledger.specs.Joining.{AgreeInNames, IsLeastDiffering}
@@ -20,14 +16,6 @@ pub record Scanned (xs ys : List Checked) (i j : ℕ) : Type 0 where
   pub second_within : j ≤ length ys
   pub first : FrontAgrees xs ys i
   pub second : FrontAgrees ys xs j
-
-pub Scanned-starts : (xs ys : List Checked) → Scanned xs ys 0 0
-Scanned-starts xs ys = record {
-  first_within = omega arith;
-  second_within = omega arith;
-  first = λ k d y less. absurd (omega (arith, less));
-  second = λ k d y less. absurd (omega (arith, less));
-}
 
 pub Scanned-turned : (xs ys : List Checked) (i j : ℕ) → Scanned xs ys i j → Scanned ys xs j i
 Scanned-turned xs ys i j scanned = record {

@@ -1,25 +1,16 @@
 -- The text lines of what is spelled: where no line end stands in them, the text is split into them again.
-use Rattle.std.proofs.Common.{◌≡◌, ℕ, zero, suc, ◌+◌, ◌-◌, ◌%◌, ◌/◌, true, false, ◌==◌, List, [], ◌∷◌, ◌++◌, length, get_or, refl, sym, ◌∙◌, ap, arith, rules, inl, inr, append_assoc, length-append}
-use Rattle.std.specs.Prelude.{codes, nat_lt, if◌then◌else◌}
-use Rattle.std.specs.Fmt.{decimal, digits, digits_onto, digit_glyph}
-use Rattle.std.specs.List.{slice_split, AllByRecursion}
-use Rattle.std.proofs.lemmas.Bool.{cases_eq}
-use Rattle.std.proofs.lemmas.Bool.Decides.{Decides-eqb}
-use Rattle.std.proofs.lemmas.Grind.{flat_map-append}
-use Rattle.std.proofs.lemmas.List.{take_at}
-use Rattle.std.proofs.lemmas.List.Elements.{All-from_recursion, recursion_from_All}
-use Rattle.std.proofs.lemmas.List.Splits.{slice_split_at}
-use Rattle.pmf_event.specs.Address.{address}
+use Rattle.pmf_event.proofs.Common.{◌≡◌, ℕ, zero, suc, ◌+◌, ◌-◌, ◌%◌, ◌/◌, true, false, ◌==◌, List, [], ◌∷◌, ◌++◌, length, get_or, refl, sym, ◌∙◌, ap, arith, rules, inl, inr, append_assoc, length-append, codes, nat_lt, if◌then◌else◌, take_at, decimal, digits_onto, digit_glyph, slice_split, AllByRecursion, cases_eq, Decides-eqb, flat_map-append, All-from_recursion, recursion_from_All, slice_split_at}
+use Rattle.std.specs.Fmt.{digits}
 use Rattle.pmf_event.specs.declared.event.Event.{Event}
 use Rattle.pmf_event.specs.declared.finding.Finding.{Finding}
 use Rattle.pmf_event.specs.declared.finding.Finding.TheVariants.{PersistPass, PersistFail, PersistEmpty, OrderedPass, OrderedFail, OrderedSameLine, OrderedEmpty, FlushDoubled, FlushNeedless, NoBackup, DupLog, CheckPass, CheckFail, TxStillOpen, Unmatched, Outside, Nested, Unopened, Unclosed}
 use Rattle.pmf_event.specs.declared.row.Row.{Row}
-use Rattle.pmf_storelog.specs.Separators.{is_separator}
-use Rattle.pmf_storelog.specs.Spelling.{AllValid}
+use Rattle.pmf_event.specs.Prelude.{address}
+use Rattle.pmf_storelog.specs.Prelude.{is_separator, AllValid}
 use Rattle.pmf_storelog.proofs.EventLineLemmas.{text-one_line}
 use Rattle.pmf_storelog.proofs.PlainRecordLemmas.{text_of_lines}
 use Rattle.pmf_storelog.proofs.PlainLemmas.{text_of_event}
-use Rattle.pmf_verdict.specs.Text.{text_of_pair, text_of_finding, text_of_row}
+use Rattle.pmf_verdict.specs.Text.{text_of_pair, text_of_finding}
 use Rattle.pmf_ledger.specs.Loading.{is_line_end, parts_of, lines_of, left_of}
 
 -- no line end stands in the text
@@ -91,9 +82,6 @@ finding-one k (Unclosed start) = one-append (codes " SECTION UNCLOSED start=") (
 
 pub row-one : (row : Row) → OneLine (text_without_end row)
 row-one row = one-append (decimal row.place) (text_of_finding row.place row.finding) (decimal-one row.place) (finding-one row.place row.finding)
-
-pub row-ended : (row : Row) → text_of_row row ≡ text_without_end row ++ 10 ∷ []
-row-ended row = refl
 
 -- an event's text line
 not_separator : (c : ℕ) → is_separator c ≡ false → is_line_end c ≡ false

@@ -1,8 +1,5 @@
 -- A section stands to a ledger in one way alone.
-use Rattle.std.proofs.Common.{◌≡◌, ℕ, ◌<◌, List, length, refl, sym, ◌∙◌, ap, subst, inl, inr, get_or}
-use Rattle.std.specs.Prelude.{Contains, Result, Ok, Err, IfErr, IfOk, OnOk}
-use Rattle.std.proofs.lemmas.Bool.{cases_order}
-use Rattle.std.proofs.lemmas.List.{get_or_default}
+use Rattle.pmf_event.proofs.Common.{◌≡◌, ℕ, ◌<◌, List, length, refl, sym, ◌∙◌, ap, subst, inl, inr, get_or, Contains, Result, Ok, Err, IfErr, IfOk, OnOk, cases_order, get_or_default}
 use Rattle.pmf_event.specs.Section.{Trace}
 use Rattle.pmf_verdict.specs.Checked.{Checked, checked_by}
 use Rattle.pmf_ledger.specs.Gathered.{Holds, HoldsOther}

@@ -1,6 +1,5 @@
 -- The rows of every checked section are true, by the laws of verdicts.
-use Rattle.std.proofs.Common.{List}
-use Rattle.std.specs.List.{All}
+use Rattle.std.proofs.Common.{List, All}
 use Rattle.pmf_verdict.specs.Checked.{Checked}
 use Rattle.pmf_verdict.proofs.HoldingLemmas.{rows_exact, same_lines}
 use Rattle.pmf_verdict.proofs.FitLemmas.{failures_real}

@@ -1,10 +1,5 @@
 -- The sections of a ledger, checked by profile Two.
-use Rattle.std.proofs.Common.{◌≡◌, ◌<◌, List, length, map, refl, sym, ◌∙◌, ap, subst, arith, get_or}
-use Rattle.std.specs.Prelude.{Contains}
-use Rattle.std.specs.List.{All}
-use Rattle.std.proofs.lemmas.List.{get_or-map, length-map}
-use Rattle.std.proofs.lemmas.List.Elements.{All-map, All-contains, All-weaker, Contains-get_or}
-use Rattle.std.proofs.lemmas.List.Folds.{map_fixed}
+use Rattle.pmf_event.proofs.Common.{◌≡◌, ◌<◌, List, length, map, refl, sym, ◌∙◌, ap, subst, arith, get_or, Contains, All, get_or-map, length-map, All-map, All-contains, All-weaker, Contains-get_or, map_fixed}
 use Rattle.pmf_event.specs.declared.profile.Profile.TheVariants.{Two}
 use Rattle.pmf_verdict.specs.Checked.{Checked, checked_by}
 use Rattle.pmf_ledger.specs.Gathered.{IsUpgradeOf, upgraded}

@@ -1,6 +1,5 @@
 -- What the writing of a command's text says of its answer.
-use Rattle.std.proofs.Common.{List, ℕ, subst, sym}
-use Rattle.std.specs.Prelude.{Option, Result, Ok, Err}
+use Rattle.std.proofs.Common.{List, ℕ, subst, sym, Option, Result, Ok, Err}
 use Rattle.pmf_stream.specs.declared.fault.StreamFault.{StreamFault}
 use Rattle.pmf_stream.specs.declared.fault.StreamFault.TheVariants as fault
 use Rattle.pmf_stream.specs.Answering.{Answers, Writes}

@@ -1,15 +1,9 @@
 -- A log that is read piece by piece, and what its end or its fault says.
-use Rattle.std.proofs.Common.{◌≡◌, ℕ, ◌≤◌, Bool, true, false, nat_lt, if◌then◌else◌, List, [], ◌++◌, length, refl, sym, ◌∙◌, ap, arith, inl, inr}
-use Rattle.std.specs.Prelude.{◌≢◌, Option, Some, None, Ok, Err}
-use Rattle.std.proofs.lemmas.Bool.{ltb-false}
-use Rattle.std.proofs.lemmas.List.{append-nil}
+use Rattle.std.proofs.Common.{◌≡◌, ℕ, ◌≤◌, Bool, true, false, nat_lt, if◌then◌else◌, List, [], ◌++◌, length, refl, sym, ◌∙◌, ap, arith, inl, inr, ◌≢◌, Option, Some, None, Ok, Err, ltb-false, append-nil}
 use Rattle.pmf_storelog.specs.declared.fault.LogFault.{LogFault}
 use Rattle.pmf_storelog.specs.declared.fault.TheConstants.{LOG_LIMIT}
 use Rattle.pmf_storelog.specs.declared.reader.LogReader.{LogReader}
-use Rattle.pmf_storelog.specs.LogText.{log_of, shown_fault, shown_within, too_long, or_else, first_fault, first_fault_among, out_of_memory}
-use Rattle.pmf_storelog.specs.Separators.{records_in, parts_of, ended_parts}
-use Rattle.pmf_storelog.specs.LogValue.{LogValue}
-use Rattle.pmf_storelog.specs.Reader.{HasRead}
+use Rattle.pmf_storelog.specs.Prelude.{log_of, shown_fault, shown_within, too_long, or_else, first_fault, first_fault_among, out_of_memory, records_in, parts_of, ended_parts, LogValue, HasRead}
 use Rattle.pmf_storelog.proofs.CallerLemmas.{log_of-all}
 use Rattle.pmf_stream.specs.Checking.{IsLogOf, IsLogFaultOf}
 use Rattle.pmf_stream.specs.Reading.{HasReadAll, HasReadTo}

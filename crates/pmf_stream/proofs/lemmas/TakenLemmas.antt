@@ -1,7 +1,6 @@
 -- A farm never refuses the sections of a log: they are few enough, and have names of their own.
 use Rattle.std.proofs.Common.{◌≡◌, ℕ, List, Ok, arith}
-use Rattle.pmf_storelog.specs.LogText.{log_of}
-use Rattle.pmf_storelog.specs.LogValue.{LogValue}
+use Rattle.pmf_storelog.specs.Prelude.{log_of, LogValue}
 use Rattle.pmf_ledger.proofs.lemmas.OwnNamesLemmas.{few_sections, own_names}
 use Rattle.pmf_farm.specs.declared.fault.FarmFault.{FarmFault}
 use Rattle.pmf_farm.specs.declared.fault.FarmFault.TheVariants as fault

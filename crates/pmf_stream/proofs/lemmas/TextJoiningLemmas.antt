@@ -1,18 +1,11 @@
 -- Ledger texts joined one after another.
-use Rattle.std.proofs.Common.{◌≡◌, ℕ, List, [], ◌∷◌, ◌++◌, length, flat_map, refl, sym, ◌∙◌, ap, subst}
-use Rattle.std.specs.Prelude.{◌≢◌, ◌↔◌}
-use Rattle.std.specs.List.{All}
-use Rattle.std.proofs.lemmas.Grind.{flat_map-append}
-use Rattle.std.proofs.lemmas.List.{append-nil}
-use Rattle.std.proofs.lemmas.List.Elements.{All-cons, All-nil, All-push}
+use Rattle.pmf_event.proofs.Common.{◌≡◌, ℕ, List, [], ◌∷◌, ◌++◌, length, flat_map, refl, sym, ◌∙◌, ap, subst, ◌≢◌, ◌↔◌, All, append-nil, flat_map-append, All-cons, All-nil, All-push}
+use Rattle.pmf_event.specs.declared.name.Name.{Name}
 use Rattle.pmf_event.specs.declared.profile.Profile.{Profile}
 use Rattle.pmf_event.specs.declared.profile.Profile.TheVariants.{One, Two}
-use Rattle.pmf_event.specs.declared.name.Name.{Name}
 use Rattle.pmf_ledger.specs.declared.joining.JoinFault.{JoinFault}
 use Rattle.pmf_ledger.specs.declared.joining.JoinFault.TheVariants.{ProfileMismatch, Conflict, OutOfMemory}
-use Rattle.pmf_ledger.specs.Gathered.{IsLeastClash, IsLedgerOf}
-use Rattle.pmf_ledger.specs.LedgerValue.{LedgerValue}
-use Rattle.pmf_ledger.specs.Loading.{LoadsAs, reading_of}
+use Rattle.pmf_ledger.specs.Prelude.{IsLeastClash, IsLedgerOf, LedgerValue, LoadsAs, reading_of}
 use Rattle.pmf_stream.specs.Joining.{IsJoinFaultOf, IsJoinOf, IsJoinedAt, IsOfProfile, blocks_of}
 
 -- profiles that don't differ are the same
@@ -53,13 +46,6 @@ IsJoinOf-more (first ∷ texts) before new text is (after, loads, joined) =
           (subst (λ set. IsLedgerOf before.profile set new) (sym (blocks_of-push (first ∷ texts) text)) both);
       of_none = λ e. cc;
     }
-
-pub IsJoinOf-none : (ledger : LedgerValue) → ledger ≡ record { profile = One; sections = [] } → IsLedgerOf One [] ledger → IsJoinOf [] ledger
-IsJoinOf-none ledger is gathered = record {
-  by_one = All-nil (IsOfProfile ledger.profile);
-  gathered = subst (λ p. IsLedgerOf p [] ledger) (sym gathered.profile_is) gathered;
-  of_none = λ _. gathered.profile_is;
-}
 
 -- why two ledgers were refused, from what `join` says of each cause
 pub IsJoinFaultOf-refused : (a b : LedgerValue) (found : JoinFault) → ((found ≡ ProfileMismatch) ↔ (a.profile ≢ b.profile)) →

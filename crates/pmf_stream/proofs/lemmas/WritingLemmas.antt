@@ -1,8 +1,6 @@
 -- What several writes of one text append together.
-use Rattle.std.proofs.Common.{ℕ, ◌+◌, ◌-◌, List, Option, length, take, drop, ap, subst}
+use Rattle.pmf_event.proofs.Common.{ℕ, ◌+◌, ◌-◌, List, Option, length, take, drop, ap, subst, take-add, take_rest}
 use Rattle.std.proofs.KnownBytes.{Appends-trans}
-use Rattle.std.proofs.Math.Seq.{take-add}
-use Rattle.std.proofs.lemmas.List.{take_rest}
 use Rattle.std.specs.Io.KnownBytes.{Appends}
 
 -- the front of a text, and then some of what is left of it, make a longer front

@@ -1,13 +1,7 @@
 -- What the floor of a world keeps, after each change of it.
-use Rattle.std.proofs.Common.{◌≡◌, ℕ, zero, suc, ◌<◌, ◌≤◌, List, [], ◌∷◌, ◌++◌, length, map, set, get_or, slice_get, refl, sym, ◌∙◌, ap, subst, Some, None, arith}
-use Rattle.std.specs.Prelude.{replicate, Option}
-use Rattle.std.specs.Option.{option_map}
-use Rattle.std.proofs.lemmas.List.{get_or-map, get_or_default, map-set, length-map, length-set, length-append}
-use Rattle.std.proofs.lemmas.List.Elements.{All-get_or, All-push, All-set}
-use Rattle.std.proofs.lemmas.List.Sums.{sum_by-le, sum_by-set}
-use Rattle.std.proofs.lemmas.Option.{get_or_from_slice_get, none-some, same_Some, slice_get-map, slice_get_within}
+use Rattle.pmf_event.proofs.Common.{◌≡◌, ℕ, zero, suc, ◌<◌, ◌≤◌, List, [], ◌∷◌, ◌++◌, length, map, set, get_or, slice_get, refl, sym, ◌∙◌, ap, subst, Some, None, arith, replicate, Option, option_map, get_or-map, get_or_default, map-set, length-map, length-set, length-append, All-get_or, All-push, All-set, sum_by-le, sum_by-set, get_or_from_slice_get, none-some, same_Some, slice_get-map, slice_get_within}
 use Rattle.pmf_event.specs.declared.profile.Profile.{Profile}
-use Rattle.pmf_event.specs.Section.{Trace}
+use Rattle.pmf_event.specs.Prelude.{Trace}
 use Rattle.pmf_verdict.specs.Checked.{Checked}
 use Rattle.pmf_board.specs.declared.entry.Entry.{Entry}
 use Rattle.pmf_board.specs.Machine.{entry_at, finished, opening, untouched}

@@ -1,9 +1,5 @@
 -- What is kept of a ledger, and what was gathered there.
-use Rattle.std.proofs.Common.{◌≡◌, ℕ, zero, suc, List, [], ◌∷◌, ◌++◌, map, get_or, set, replicate, Some, None, refl, sym, ◌∙◌, ap, subst, inl, inr}
-use Rattle.std.specs.Prelude.{◌⊎◌, ◌↔◌, slice_get, Contains, Option, Ok, Err, IsOk}
-use Rattle.std.proofs.lemmas.List.{get_or-set_same}
-use Rattle.std.proofs.lemmas.List.Elements.{Contains-append_left, Contains-append_right, Contains-append_cases}
-use Rattle.std.proofs.lemmas.Option.{same_Some, slice_get_within, get_or_from_slice_get}
+use Rattle.pmf_event.proofs.Common.{◌≡◌, ℕ, zero, suc, List, [], ◌∷◌, ◌++◌, map, get_or, set, replicate, Some, None, refl, sym, ◌∙◌, ap, subst, inl, inr, ◌⊎◌, ◌↔◌, slice_get, Contains, Option, Ok, Err, IsOk, get_or-set_same, Contains-append_left, Contains-append_right, Contains-append_cases, same_Some, slice_get_within, get_or_from_slice_get}
 use Rattle.pmf_ledger.proofs.lemmas.AddingLemmas.{Contains-cons, Contains-cons_cases}
 use Rattle.pmf_ledger.proofs.lemmas.MergingLemmas.{none_of_empty}
 use Rattle.pmf_ledger.specs.Repeats.{section_at}

@@ -1,11 +1,6 @@
 -- The reports of ledgers, one by one; and how many ledgers there are.
-use Rattle.std.proofs.Common.{◌≡◌, ◌≤◌, ℕ, suc, ◌+◌, List, [], ◌∷◌, ◌++◌, inl, inr, length, take, slice_get, Option, Some, None, codes, refl, sym, ap, ◌∙◌, append_assoc, arith}
-use Rattle.std.specs.Prelude.{Ok, Err}
-use Rattle.std.specs.Fmt.{decimal}
-use Rattle.std.proofs.lemmas.List.{append-nil, length-set, length-take-le, take_more, take_all}
-use Rattle.std.proofs.lemmas.Option.{slice_get_within, slice_get_cases, get_or_from_slice_get}
-use Rattle.pmf_ledger.specs.LedgerValue.{LedgerValue}
-use Rattle.pmf_ledger.specs.Report.{report_of}
+use Rattle.pmf_event.proofs.Common.{◌≡◌, ◌≤◌, ℕ, suc, ◌+◌, List, [], ◌∷◌, ◌++◌, inl, inr, length, take, slice_get, Option, Some, None, codes, refl, sym, ap, ◌∙◌, append_assoc, arith, Ok, Err, decimal, append-nil, length-set, length-take-le, take_more, take_all, slice_get_within, slice_get_cases, get_or_from_slice_get}
+use Rattle.pmf_ledger.specs.Prelude.{LedgerValue, report_of}
 use Rattle.pmf_world.specs.declared.step.WorldStep.{WorldStep}
 use Rattle.pmf_world.specs.declared.step.WorldStep.TheVariants as step
 use Rattle.pmf_world.specs.Turns.{Turned, take_turn, check_where, send_where, mark_where, lose_where}

@@ -1,13 +1,6 @@
 -- A word is a number where the decimal digits at its front are all of it.
-use Rattle.std.proofs.Common.{◌≡◌, ℕ, ◌^◌, ◌<◌, ◌≤◌, Bool, true, false, cond, ◌&&◌, nat_lt, nat_le, List, [], inl, inr, length, take, drop, Option, Some, None, refl, sym, ap, ◌∙◌, arith}
-use Rattle.std.specs.List.{list_all}
-use Rattle.std.specs.Str.Parse.{digits_value}
-use Rattle.std.specs.Prelude.{Result, Ok, Err}
+use Rattle.pmf_event.proofs.Common.{◌≡◌, ℕ, ◌^◌, ◌<◌, ◌≤◌, Bool, true, false, cond, ◌&&◌, nat_lt, nat_le, List, [], inl, inr, length, take, drop, Option, Some, None, refl, sym, ap, ◌∙◌, arith, Result, Ok, Err, list_all, digits_value, cases_lt, lt-ltb, le-ltb, lt-leb, le-leb, take_all, drop_all, length-drop, list_all_at, prefix_len_stops}
 use Rattle.std.specs.Result.{OkIff, result_ok}
-use Rattle.std.proofs.lemmas.Bool.{cases_lt, lt-ltb, le-ltb, lt-leb, le-leb}
-use Rattle.std.proofs.lemmas.List.{take_all, drop_all, length-drop}
-use Rattle.std.proofs.lemmas.List.Folds.{list_all_at}
-use Rattle.std.proofs.lemmas.List.Sums.{prefix_len_stops}
 use Rattle.pmf_storelog.specs.Numbers.{is_digit_in, is_numeral, numeral_of, digits_in_front, number_before, number_in_front}
 use Rattle.pmf_world.specs.Schedule.{number_of}
 

@@ -1,8 +1,5 @@
 -- A schedule read text line by text line.
-use Rattle.std.proofs.Common.{◌≡◌, ℕ, suc, ◌+◌, ◌<◌, ◌≤◌, List, [], ◌∷◌, ◌++◌, length, drop, get_or, Some, None, refl, sym, ap, ◌∙◌, append_assoc, arith}
-use Rattle.std.specs.Prelude.{Result, Ok, Err}
-use Rattle.std.specs.List.{slice_split}
-use Rattle.std.proofs.lemmas.List.{append-nil, drop_more, drop_all}
+use Rattle.pmf_event.proofs.Common.{◌≡◌, ℕ, suc, ◌+◌, ◌<◌, ◌≤◌, List, [], ◌∷◌, ◌++◌, length, drop, get_or, Some, None, refl, sym, ap, ◌∙◌, append_assoc, arith, Result, Ok, Err, slice_split, append-nil, drop_more, drop_all}
 use Rattle.pmf_world.specs.declared.step.WorldStep.{WorldStep}
 use Rattle.pmf_world.specs.Schedule.{is_line_end, step_of_line, step_before, line_before, steps_of_lines, schedule_of}
 

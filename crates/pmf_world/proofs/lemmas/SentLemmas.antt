@@ -1,9 +1,5 @@
 -- Of each section that is done, and of each whose verdict a worker has just sent, a message was sent.
-use Rattle.std.proofs.Common.{◌≡◌, ℕ, true, List, [], ◌∷◌, ◌++◌, set, Some, None, refl, sym, ◌∙◌, ap, subst, inl, inr}
-use Rattle.std.specs.Prelude.{slice_get, Contains, Option, Ok}
-use Rattle.std.specs.List.{All}
-use Rattle.std.proofs.lemmas.List.Elements.{All-replicate, All-set, All-weaker, Contains-append_left, Contains-push}
-use Rattle.std.proofs.lemmas.Option.{slice_get_within, get_or_from_slice_get}
+use Rattle.pmf_event.proofs.Common.{◌≡◌, ℕ, true, List, [], ◌∷◌, ◌++◌, set, Some, None, refl, sym, ◌∙◌, ap, subst, inl, inr, slice_get, Contains, Option, Ok, All, All-replicate, All-set, All-weaker, Contains-append_left, Contains-push, slice_get_within, get_or_from_slice_get}
 use Rattle.pmf_board.specs.declared.entry.Entry.{Entry}
 use Rattle.pmf_board.specs.Machine.{untouched, entry_at, handed_out, finished}
 use Rattle.pmf_world.specs.declared.doing.Doing.{Doing}

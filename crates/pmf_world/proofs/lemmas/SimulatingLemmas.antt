@@ -1,14 +1,8 @@
 -- From a log and a schedule to the text of the simulation.
-use Rattle.std.proofs.Common.{◌≡◌, ◌≤◌, ◌<◌, ℕ, suc, ◌+◌, ◌^◌, List, [], ◌∷◌, ◌++◌, length, take, reverse, Option, Some, None, ap, subst, ◌∙◌, arith}
-use Rattle.std.specs.Prelude.{Result, Ok, Err}
-use Rattle.std.specs.List.{slice_split}
-use Rattle.std.proofs.lemmas.List.{length-replicate, take_all}
-use Rattle.std.proofs.lemmas.List.Splits.{length-slice_split}
-use Rattle.std.proofs.lemmas.List.Sums.{count_by-le-length}
-use Rattle.pmf_event.specs.Section.{Trace}
+use Rattle.pmf_event.proofs.Common.{◌≡◌, ◌≤◌, ◌<◌, ℕ, suc, ◌+◌, ◌^◌, List, [], ◌∷◌, ◌++◌, length, take, reverse, Option, Some, None, ap, subst, ◌∙◌, arith, Result, Ok, Err, slice_split, length-replicate, take_all, length-slice_split, count_by-le-length}
 use Rattle.pmf_event.specs.declared.profile.Profile.TheVariants.{One}
-use Rattle.pmf_storelog.specs.LogText.{log_of}
-use Rattle.pmf_storelog.specs.LogValue.{LogValue}
+use Rattle.pmf_event.specs.Prelude.{Trace}
+use Rattle.pmf_storelog.specs.Prelude.{log_of, LogValue}
 use Rattle.pmf_ledger.specs.Repeats.{StandsTwice}
 use Rattle.pmf_ledger.proofs.lemmas.OwnNamesLemmas.{own_names, few_sections}
 use Rattle.pmf_world.specs.declared.fault.WorldNewFault.{WorldNewFault}

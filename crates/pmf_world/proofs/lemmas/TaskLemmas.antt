@@ -1,11 +1,6 @@
 -- The numbers of tasks: a task's number is one above the hand-outs that its section had before, and hand-outs never fall.
-use Rattle.std.proofs.Common.{◌≡◌, ℕ, ◌+◌, ◌<◌, ◌≤◌, true, false, if◌then◌else◌, List, [], ◌∷◌, ◌++◌, set, Some, None, refl, sym, ap, subst, arith, inl, inr}
-use Rattle.std.specs.Prelude.{◌≢◌, slice_get, eqb, Option, Ok}
-use Rattle.std.specs.List.{All, AllPairs, list_any}
-use Rattle.std.proofs.lemmas.List.{get_or-set_same}
-use Rattle.std.proofs.lemmas.List.Elements.{All-nil, All-cons, All-weaker}
+use Rattle.pmf_event.proofs.Common.{◌≡◌, ℕ, ◌+◌, ◌<◌, ◌≤◌, true, false, if◌then◌else◌, List, [], ◌∷◌, ◌++◌, set, Some, None, refl, sym, ap, subst, arith, inl, inr, ◌≢◌, slice_get, eqb, Option, Ok, get_or-set_same, All, AllPairs, list_any, All-nil, All-cons, All-weaker, slice_get_within, get_or_from_slice_get}
 use Rattle.std.proofs.lemmas.List.Kept.{AllPairs-cons}
-use Rattle.std.proofs.lemmas.Option.{slice_get_within, get_or_from_slice_get}
 use Rattle.pmf_board.specs.declared.entry.Entry.{Entry}
 use Rattle.pmf_board.specs.Machine.{untouched, entry_at, is_on_offer, handed_out, finished, hand_out, take_below, taken}
 use Rattle.pmf_world.specs.declared.doing.Doing.{Doing}

@@ -1,14 +1,10 @@
 -- A turn of a worker, on the floor of a world, as a step of the world.
-use Rattle.std.proofs.Common.{◌≡◌, ℕ, List, [], refl, sym, subst, Ok, Err, rules}
-use Rattle.std.specs.Prelude.{IfOk, Result, replicate}
-use Rattle.std.specs.List.{All}
-use Rattle.std.proofs.lemmas.List.Elements.{All-replicate}
+use Rattle.pmf_event.proofs.Common.{◌≡◌, ℕ, List, [], refl, sym, subst, Ok, Err, rules, IfOk, Result, replicate, All, All-replicate}
 use Rattle.pmf_event.specs.declared.profile.Profile.{Profile}
-use Rattle.pmf_event.specs.Section.{Trace}
+use Rattle.pmf_event.specs.Prelude.{Trace}
 use Rattle.pmf_verdict.specs.Checked.{checked_by}
-use Rattle.pmf_ledger.specs.LedgerValue.{LedgerValue}
+use Rattle.pmf_ledger.specs.Prelude.{LedgerValue, HaveOwnNames}
 use Rattle.pmf_ledger.proofs.lemmas.MergingLemmas.{none_of_empty}
-use Rattle.pmf_ledger.specs.Repeats.{HaveOwnNames}
 use Rattle.pmf_world.specs.declared.step.WorldAnswer.{WorldAnswer}
 use Rattle.pmf_world.specs.declared.step.WorldFault.{WorldFault}
 use Rattle.pmf_world.specs.declared.step.WorldFault.TheVariants as fault

@@ -1,24 +1,14 @@
 -- What one ledger of a world takes or is joined with, and the world after it.
-use Rattle.std.proofs.Common.{rules, ◌≡◌, ℕ, zero, suc, ◌+◌, ◌<◌, ◌≤◌, true, List, [], ◌∷◌, ◌++◌, length, set, get_or, slice_get, refl, sym, ◌∙◌, ap, subst, Some, Ok, inl, inr, arith, if◌then◌else◌, eqb, eqb-true}
-use Rattle.std.specs.Prelude.{◌↔◌, cond, count_by, Contains, IfOk, OnOk, OnErr, Result, Err}
-use Rattle.std.specs.List.{All, list_any}
-use Rattle.std.proofs.lemmas.Bool.{cases_Bool, eq-eqb}
-use Rattle.std.proofs.lemmas.List.{get_or_default, map-append, set-get_or}
-use Rattle.std.proofs.lemmas.List.Elements.{All-append, All-cons, All-get_or, Contains-append_cases, Contains-append_left, Contains-get_or}
-use Rattle.std.proofs.lemmas.List.Folds.{Any-from_list_any, list_any_at}
-use Rattle.std.proofs.lemmas.List.Sums.{get_or-le-sum_by, sum_by-cons}
-use Rattle.std.proofs.lemmas.Option.{slice_get-get_or}
+use Rattle.pmf_event.proofs.Common.{rules, ◌≡◌, ℕ, zero, suc, ◌+◌, ◌<◌, ◌≤◌, true, List, [], ◌∷◌, ◌++◌, length, set, get_or, slice_get, refl, sym, ◌∙◌, ap, subst, Some, Ok, inl, inr, arith, if◌then◌else◌, eqb, eqb-true, ◌↔◌, cond, count_by, Contains, IfOk, OnOk, OnErr, Result, Err, All, list_any, cases_Bool, eq-eqb, get_or_default, map-append, set-get_or, All-append, All-cons, All-get_or, Contains-append_cases, Contains-append_left, Contains-get_or, Any-from_list_any, list_any_at, get_or-le-sum_by, sum_by-cons, slice_get-get_or}
 use Rattle.pmf_event.specs.declared.name.Name.{Name}
 use Rattle.pmf_event.specs.declared.profile.Profile.{Profile}
-use Rattle.pmf_event.specs.Section.{Trace}
-use Rattle.pmf_ledger.specs.Gathered.{ClashesAt, Gains, Gathers, GathersBoth, Holds, HoldsOther, IsLedgerOf, Unites}
-use Rattle.pmf_ledger.specs.LedgerValue.{LedgerValue}
+use Rattle.pmf_event.specs.Prelude.{Trace}
 use Rattle.pmf_ledger.specs.declared.taking.Taken.{Taken}
+use Rattle.pmf_ledger.specs.Prelude.{ClashesAt, Gains, Gathers, GathersBoth, Holds, HoldsOther, IsLedgerOf, Unites, LedgerValue, HaveOwnNames, is_name, names_of, no_section, section_at}
 use Rattle.pmf_ledger.specs.declared.taking.Taken.TheVariants as taken
 use Rattle.pmf_ledger.proofs.lemmas.AddingLemmas.{Contains-cons_cases}
 use Rattle.pmf_ledger.proofs.lemmas.MergingLemmas.{none_of_empty}
 use Rattle.pmf_verdict.specs.Checked.{Checked}
-use Rattle.pmf_ledger.specs.Repeats.{HaveOwnNames, is_name, names_of, no_section, section_at}
 use Rattle.pmf_world.specs.declared.step.WorldAnswer.TheVariants as answer
 use Rattle.pmf_world.specs.declared.step.WorldStep.TheVariants as step
 use Rattle.pmf_world.specs.Floors.{IsSent}

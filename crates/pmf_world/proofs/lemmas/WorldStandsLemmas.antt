@@ -1,18 +1,12 @@
 -- What a world stands for, after a turn of a worker and after a change of one ledger.
-use Rattle.std.proofs.Common.{◌≡◌, ◌≢◌, ℕ, ◌<◌, List, [], length, set, get_or, refl, sym, ◌∙◌, ap, subst, Ok, Err, inl, inr}
-use Rattle.std.proofs.lemmas.Bool.{cases_eq}
-use Rattle.std.specs.List.{All}
-use Rattle.std.proofs.lemmas.List.{get_or-set_same, get_or-set_other, length-set}
-use Rattle.std.proofs.lemmas.List.Elements.{All-set}
-use Rattle.pmf_ledger.specs.Gathered.{IsLedgerOf}
-use Rattle.pmf_ledger.specs.LedgerValue.{LedgerValue}
+use Rattle.pmf_event.proofs.Common.{◌≡◌, ℕ, ◌<◌, List, [], length, set, get_or, sym, ◌∙◌, ap, subst, Ok, inl, inr, All, get_or-set_same, get_or-set_other, length-set, cases_eq, All-set}
+use Rattle.pmf_ledger.specs.Prelude.{IsLedgerOf, LedgerValue}
 use Rattle.pmf_world.specs.declared.step.WorldAnswer.{WorldAnswer}
-use Rattle.pmf_world.specs.declared.step.WorldFault.{WorldFault}
 use Rattle.pmf_world.specs.declared.step.WorldFault.TheVariants as fault
 use Rattle.pmf_world.specs.declared.step.WorldStep.{WorldStep}
 use Rattle.pmf_world.specs.Turns.{FarmState, Turned}
 use Rattle.pmf_world.specs.Steps.{WorldState, stepped, turned, with_set, set_at}
-use Rattle.pmf_world.specs.Worlds.{WorldValue, StandsFor, Steps, Refuses, sections_at}
+use Rattle.pmf_world.specs.Worlds.{WorldValue, StandsFor, Steps, sections_at}
 
 -- the worlds differ in the farm alone
 pub StandsFor-turned : (old new : WorldValue) (state : WorldState) (farm : FarmState) → new.profile ≡ old.profile → new.sections ≡ old.sections → new.farm ≡ farm → new.ledgers ≡ old.ledgers →
@@ -41,22 +35,6 @@ steps-turned old new newest told turn farm by is profile sections farms ledgers 
     StandsFor-turned old new state farm profile sections farms ledgers stands,
   );
 }
-
--- a refusal that isn't want of memory
-pub refuses : (world : WorldValue) (newest : WorldStep) (f : WorldFault) → f ≢ fault.OutOfMemory → ((state : WorldState) → StandsFor world state → stepped state newest ≡ Err f) → Refuses world newest f
-refuses world newest fault.NoSuchWorker other is = is
-refuses world newest fault.NoSuchSection other is = is
-refuses world newest fault.NoSuchMessage other is = is
-refuses world newest fault.NoSuchLedger other is = is
-refuses world newest fault.Gone other is = is
-refuses world newest fault.Misplaced other is = is
-refuses world newest fault.OutOfMemory other is = absurd (other refl)
-
--- a turn that is refused is the step's refusal
-pub refuses-turned : (world : WorldValue) (newest : WorldStep) (f : WorldFault) (turn : FarmState → Turned) →
-    ((state : WorldState) → stepped state newest ≡ turned state (turn state.farm)) → turn world.farm ≡ Err f → f ≢ fault.OutOfMemory → Refuses world newest f
-refuses-turned world newest f turn by is other =
-    refuses world newest f other (λ state stands. by state ∙ ap (λ farm. turned state (turn farm)) (sym stands.farm) ∙ ap (turned state) is)
 
 -- a change of one ledger
 pub StandsFor-set : (old : WorldValue) (state : WorldState) (k : ℕ) (ledger : LedgerValue) (gathered : List ℕ) → k < length old.ledgers →

@@ -1,5 +1,4 @@
-use Rattle.std.proofs.Common.{sym, ◌∙◌}
-use Rattle.std.specs.Prelude.{Some, None}
+use Rattle.std.proofs.Common.{sym, ◌∙◌, Some, None}
 use Rattle.pmf_asserts.proofs.FindingLemmas.{persist-empty, persist-found}
 use Rattle.pmf_asserts.proofs.persisting.check_persist.Goals as goal
 

@@ -1,8 +1,5 @@
-use Rattle.pmf_board.proofs.lemmas.MachineLemmas.{told_by_words, steps_on_words, keep_the_rule}
+use Rattle.pmf_board.proofs.lemmas.MachineLemmas.{steps_on_words, keep_the_rule}
 use Rattle.pmf_board.proofs.laws.words_follow_the_machine.Goals as goal
-
-pub returns-clause-takes : goal.returns-clause-takes
-returns-clause-takes c = told_by_words
 
 pub returns-clause-words : goal.returns-clause-words
 returns-clause-words c = steps_on_words

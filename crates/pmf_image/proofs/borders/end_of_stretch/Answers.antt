@@ -1,5 +1,4 @@
-use Rattle.std.proofs.Common.{◌≡◌, suc, arith, add-one}
-use Rattle.std.specs.Prelude.{Some}
+use Rattle.std.proofs.Common.{◌≡◌, suc, arith, add-one, Some}
 use Rattle.pmf_event.specs.Store.{event_at}
 use Rattle.pmf_image.proofs.BorderLemmas.{event-read, stretch-start, stretch-span, stretch-other, stretch-alike}
 use Rattle.pmf_image.proofs.borders.end_of_stretch.Goals.{in_default, in-Store2}

@@ -1,7 +1,5 @@
-use Rattle.std.proofs.Common.{◌≡◌, suc, arith, add-one, sym, ◌∙◌, ap, if◌then◌else◌}
-use Rattle.std.specs.Prelude.{Some}
-use Rattle.std.proofs.lemmas.List.{length-take-le}
-use Rattle.pmf_event.specs.Store.{event_at, stores, last_store}
+use Rattle.std.proofs.Common.{◌≡◌, suc, add-one, sym, ◌∙◌, ap, if◌then◌else◌, Some}
+use Rattle.pmf_event.specs.Store.{event_at, stores}
 use Rattle.pmf_event.proofs.EventLemmas.{last-none}
 use Rattle.pmf_image.proofs.CertificateLemmas.{event-taken, last_store-next, stores-is, stores-other}
 use Rattle.pmf_image.proofs.certificate.last_store.Goals.{in-Store+then-covers, in-Store+else-covers, in_default}
@@ -27,9 +25,3 @@ loop-index-preserved c =
           ∙ ap (λ v. if v then suc i else before) (sym w.if-covers.false ∙ w.covers.ensures ∙ sym (stores-is b e w.in-Store.span w.in-Store.is))
       | in_default w ↦ w.last-is ∙ ap (λ v. if v then suc i else before) (sym (stores-other b e w.in_default.not-Store))
     ]))
-
-pub returns : goal.returns
-returns c =
-    let size = length-take-le c.args.place c.args.events.now c.requires in
-    let end : c.loop-index.index ≡ c.args.place = omega arith in
-    c.loop-index.invariant ∙ ap (λ k. last_store c.args.events.now k c.args.byte) end

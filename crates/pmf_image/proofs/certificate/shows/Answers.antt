@@ -1,11 +1,5 @@
-use Rattle.std.proofs.Common.{◌≡◌, ◌-◌, suc, arith, add-one, sym, ◌∙◌, ap, if◌then◌else◌}
-use Rattle.std.specs.Prelude.{Some, nat_eq}
-use Rattle.std.specs.Option.{option_eq}
-use Rattle.std.proofs.lemmas.List.{length-take-le}
-use Rattle.pmf_event.specs.Line.{line_of_byte, meets_line}
-use Rattle.pmf_event.specs.Places.{greatest}
-use Rattle.pmf_event.specs.Span.{Extent}
-use Rattle.pmf_event.specs.Store.{event_at, stores, last_store}
+use Rattle.pmf_event.proofs.Common.{◌≡◌, ◌-◌, suc, arith, add-one, sym, ◌∙◌, ap, if◌then◌else◌, Some, nat_eq, length-take-le, option_eq}
+use Rattle.pmf_event.specs.Prelude.{line_of_byte, meets_line, greatest, Extent, event_at, stores, last_store}
 use Rattle.pmf_event.proofs.EventLemmas.{last-none}
 use Rattle.pmf_image.specs.Image.{is_fenced}
 use Rattle.pmf_image.proofs.CertificateLemmas.{event-taken, Carried-none, Carried-store, Carried-flush, Carried-fence, Carried-other, last_store-next, last_store-kept, stores-is, no_store-flush, no_store-fence, shows-is}

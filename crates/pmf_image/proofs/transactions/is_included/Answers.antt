@@ -1,8 +1,5 @@
-use Rattle.std.proofs.Common.{◌≡◌, suc, arith, add-one, sym, ◌∙◌, ap, true, false, if◌then◌else◌}
-use Rattle.std.specs.Prelude.{Some}
-use Rattle.std.proofs.lemmas.List.{length-take-le}
-use Rattle.pmf_event.specs.Store.{event_at}
-use Rattle.pmf_event.specs.Exclusion.{is_included}
+use Rattle.std.proofs.Common.{◌≡◌, suc, add-one, sym, ◌∙◌, ap, true, false, if◌then◌else◌, Some}
+use Rattle.pmf_event.specs.Prelude.{event_at, is_included}
 use Rattle.pmf_image.proofs.CertificateLemmas.{event-taken}
 use Rattle.pmf_image.proofs.ScopeLemmas.{included-start, included-excluded, included-included, included-kept}
 use Rattle.pmf_image.proofs.transactions.is_included.Goals.{in-Exclude+then-covers, in-Exclude+else-covers, in-Include+then-covers-2, in-Include+else-covers-2, in_default}
@@ -34,9 +31,3 @@ loop-event-preserved c =
           ∙ sym (included-included es b i e here w.in-Include.span w.in-Include.is)
       | in_default w ↦ w.included-is ∙ before ∙ sym (included-kept es b i e here w.in_default.not-Exclude w.in_default.not-Include)
     ])
-
-pub returns : goal.returns
-returns c =
-    let size = length-take-le c.args.place c.args.events.now c.requires in
-    let end : c.loop-event.event-index ≡ c.args.place = omega arith in
-    c.loop-event.invariant ∙ ap (λ k. is_included c.args.events.now k c.args.byte) end

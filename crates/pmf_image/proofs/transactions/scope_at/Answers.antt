@@ -1,8 +1,5 @@
-use Rattle.std.proofs.Common.{◌≡◌, suc, arith, add-one, sym, ◌∙◌, ap, length}
-use Rattle.std.specs.Prelude.{Some, take}
-use Rattle.std.proofs.lemmas.List.{length-take-le}
-use Rattle.pmf_event.specs.Store.{event_at}
-use Rattle.pmf_event.specs.Transactions.{depth_at, in_scope, is_scoped}
+use Rattle.std.proofs.Common.{◌≡◌, suc, arith, add-one, sym, ◌∙◌, length, Some, take, length-take-le}
+use Rattle.pmf_event.specs.Prelude.{event_at}
 use Rattle.pmf_event.proofs.TransactionLemmas.{depth-bound}
 use Rattle.pmf_image.proofs.CertificateLemmas.{event-taken}
 use Rattle.pmf_image.proofs.ScopeLemmas.{tracked-none, tracked-begun, tracked-ended, tracked-opened, tracked-closed, tracked-stored, tracked-uncovered, tracked-outside, tracked-unscoped, tracked-other}
@@ -48,14 +45,3 @@ loop-event-preserved c =
           tracked-other es b i _ _ _ _ _ _ e before here w.in_default.not-Store w.in_default.not-TxBegin w.in_default.not-TxEnd w.in_default.not-CheckStart w.in_default.not-CheckEnd
           w.depth-is w.is_open-is w.has_byte-is
     ])
-
-pub returns : goal.returns
-returns c =
-    let es = c.args.events.now in
-    let size = length-take-le c.args.place es c.requires in
-    let end : c.loop-event.event-index ≡ c.args.place = omega arith in
-    let all = c.loop-event.invariant in record {
-      depth = all.depth_is ∙ ap (depth_at es) end;
-      scope = all.opened_is ∙ ap (in_scope es) end;
-      byte = all.has_is ∙ ap (λ k. is_scoped es k c.args.byte) end;
-    }

@@ -1,5 +1,4 @@
-use Rattle.std.proofs.Common.{rules, ◌≡◌, sym, ◌∙◌, subst, arith}
-use Rattle.std.specs.Prelude.{IsTrue, false}
+use Rattle.std.proofs.Common.{rules, ◌≡◌, sym, ◌∙◌, subst, arith, IsTrue, false}
 use Rattle.pmf_ledger.specs.Joining.{IsLeastDiffering}
 use Rattle.pmf_ledger.specs.Names.{ComesBefore, IsBefore}
 use Rattle.pmf_ledger.proofs.lemmas.ScanLemmas.{AreRead, Scanned-first, Scanned-second, Scanned-both, Scanned-ends, least_here}

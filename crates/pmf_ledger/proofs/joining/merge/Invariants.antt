@@ -1,5 +1,4 @@
-use Rattle.std.proofs.Common.{◌+◌, ◌≤◌}
-use Rattle.std.specs.Vec.{vec_len, vec_capacity}
+use Rattle.std.proofs.Common.{◌+◌, ◌≤◌, vec_len, vec_capacity}
 use Rattle.pmf_ledger.specs.Joining.{IsMerging}
 use Rattle.pmf_ledger.proofs.joining.merge.Given as goal
 

@@ -1,7 +1,5 @@
-use Rattle.std.proofs.Common.{map, subst, IsPermutation}
-use Rattle.std.specs.Prelude.{MatchOption, Option, Some, None}
-use Rattle.pmf_event.specs.declared.name.Name.{Name}
-use Rattle.pmf_ledger.specs.Repeats.{AreOwn, HaveOwnNames, IsLeastTwice, IsLeastTwiceIn, names_of}
+use Rattle.std.proofs.Common.{map, subst, IsPermutation, MatchOption}
+use Rattle.pmf_ledger.specs.Repeats.{AreOwn, IsLeastTwiceIn, names_of}
 use Rattle.pmf_ledger.proofs.lemmas.RepeatLemmas.{names-values, repeats-permuted}
 use Rattle.pmf_ledger.proofs.repeats.least_repeat.Goals as goal
 

@@ -1,5 +1,4 @@
-use Rattle.std.proofs.Common.{rules, arith}
-use Rattle.std.proofs.lemmas.List.Sorted.{answers_always}
+use Rattle.pmf_event.proofs.Common.{rules, arith, answers_always}
 use Rattle.pmf_ledger.proofs.lemmas.RepeatLemmas.{before-compares}
 use Rattle.pmf_ledger.proofs.repeats.sorted.Goals as goal
 

@@ -1,8 +1,4 @@
-use Rattle.std.proofs.Common.{◌++◌, ◌∷◌, [], take, ◌∙◌, sym, ap, subst}
-use Rattle.std.specs.List.{flat_map}
-use Rattle.std.specs.String.{string_bytes}
-use Rattle.std.proofs.lemmas.List.{flat_map_more, take_more}
-use Rattle.std.proofs.lemmas.List.Elements.{All-more}
+use Rattle.pmf_event.proofs.Common.{◌++◌, ◌∷◌, [], take, ◌∙◌, sym, ap, subst, flat_map, string_bytes, flat_map_more, take_more, All-more}
 use Rattle.pmf_ledger.specs.LedgerText.{IsSpelled, text_of_block}
 use Rattle.pmf_ledger.proofs.writing.push_blocks.Goals as goal
 

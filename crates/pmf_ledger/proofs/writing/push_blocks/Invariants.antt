@@ -1,6 +1,4 @@
-use Rattle.std.proofs.Common.{◌≡◌, ◌++◌, take}
-use Rattle.std.specs.List.{All, flat_map}
-use Rattle.std.specs.String.{string_bytes}
+use Rattle.std.proofs.Common.{◌≡◌, ◌++◌, take, All, flat_map, string_bytes}
 use Rattle.pmf_ledger.specs.LedgerText.{IsSpelled, text_of_block}
 use Rattle.pmf_ledger.proofs.writing.push_blocks.Given as goal
 

@@ -1,8 +1,5 @@
-use Rattle.std.proofs.Common.{◌≡◌, ◌++◌, take}
-use Rattle.std.specs.List.{All, flat_map}
-use Rattle.std.specs.String.{string_bytes}
-use Rattle.pmf_storelog.specs.Canonical.{line_of_event}
-use Rattle.pmf_storelog.specs.Spelling.{AllValid}
+use Rattle.std.proofs.Common.{◌≡◌, ◌++◌, take, All, flat_map, string_bytes}
+use Rattle.pmf_storelog.specs.Prelude.{line_of_event, AllValid}
 use Rattle.pmf_ledger.proofs.writing.push_events.Given as goal
 
 abbrev pub invariant-loop-event : goal.invariant-loop-event

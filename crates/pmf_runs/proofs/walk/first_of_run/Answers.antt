@@ -1,5 +1,4 @@
-use Rattle.std.proofs.Common.{arith}
-use Rattle.std.specs.Prelude.{None}
+use Rattle.std.proofs.Common.{arith, None}
 use Rattle.pmf_runs.proofs.AskingLemmas.{first-law, run-none, run-first, run-first_none}
 use Rattle.pmf_runs.proofs.walk.first_of_run.Goals as goal
 

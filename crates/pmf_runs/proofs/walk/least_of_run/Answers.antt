@@ -1,5 +1,4 @@
-use Rattle.std.proofs.Common.{arith}
-use Rattle.std.specs.Prelude.{None}
+use Rattle.std.proofs.Common.{arith, None}
 use Rattle.pmf_runs.proofs.AskingLemmas.{least-law, run-none, run-least}
 use Rattle.pmf_runs.proofs.walk.least_of_run.Goals as goal
 

@@ -1,5 +1,4 @@
-use Rattle.std.proofs.Common.{◌≡◌, length, arith}
-use Rattle.std.proofs.lemmas.Bool.Decides.{nat_tests}
+use Rattle.pmf_event.proofs.Common.{◌≡◌, length, arith, nat_tests}
 use Rattle.pmf_runs.proofs.AskingLemmas.{rank-front}
 use Rattle.pmf_runs.proofs.walk.start_of.Goals as goal
 

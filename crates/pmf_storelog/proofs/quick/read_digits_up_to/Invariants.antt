@@ -1,5 +1,4 @@
-use Rattle.std.proofs.Common.{◌-◌, ◌≡◌, ◌≤◌, take}
-use Rattle.std.specs.Str.Parse.{AllDigits, digits_value}
+use Rattle.pmf_event.proofs.Common.{◌-◌, ◌≡◌, ◌≤◌, take, AllDigits, digits_value}
 use Rattle.pmf_storelog.proofs.quick.read_digits_up_to.Given as goal
 
 abbrev pub invariant-loop-count : goal.invariant-loop-count

@@ -1,5 +1,4 @@
-use Rattle.std.proofs.Common.{sym, ◌∙◌}
-use Rattle.std.specs.Prelude.{codes}
+use Rattle.std.proofs.Common.{sym, ◌∙◌, codes}
 use Rattle.pmf_storelog.proofs.QuickLemmas.{begins_with, store_found, flush_found, fence_found, persist_found, ordered_found, addition_found}
 use Rattle.pmf_storelog.proofs.quick.read_event.Goals as goal
 

@@ -1,5 +1,4 @@
-use Rattle.std.proofs.Common.{◌-◌, length, take, drop, sym, ◌∙◌}
-use Rattle.std.specs.Prelude.{codes}
+use Rattle.std.proofs.Common.{◌-◌, length, take, drop, sym, ◌∙◌, codes}
 use Rattle.pmf_storelog.proofs.QuickLemmas.{begins_with, cut_at, number_found}
 use Rattle.pmf_storelog.proofs.quick.read_number.Goals as goal
 

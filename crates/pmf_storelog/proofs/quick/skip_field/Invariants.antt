@@ -1,5 +1,4 @@
-use Rattle.std.proofs.Common.{length, ◌-◌, ◌≤◌, take}
-use Rattle.std.specs.Str.Parse.{AllDigits}
+use Rattle.pmf_event.proofs.Common.{length, ◌-◌, ◌≤◌, take, AllDigits}
 use Rattle.pmf_storelog.proofs.quick.skip_field.Given as goal
 
 abbrev pub invariant-loop-end : goal.invariant-loop-end

@@ -1,5 +1,4 @@
-use Rattle.std.proofs.Common.{length, ◌-◌, ◌+◌, ◌≡◌, ◌≤◌, drop}
-use Rattle.std.specs.List.{prefix_len}
+use Rattle.pmf_event.proofs.Common.{length, ◌-◌, ◌+◌, ◌≡◌, ◌≤◌, drop, prefix_len}
 use Rattle.pmf_storelog.specs.Separators.{is_blank}
 use Rattle.pmf_storelog.proofs.trimming.trim_front.Given as goal
 

@@ -1,15 +1,7 @@
 -- One more line, and what the text reads as.
 use Rattle.std.proofs.Common.{◌<◌, ◌^◌, ap, ◌∙◌}
-use Rattle.std.specs.String.{string_bytes}
-use Rattle.pmf_storelog.specs.Canonical.{line_of_marker}
-use Rattle.pmf_storelog.proofs.ReadBackLemmas.{next_line, read_back}
+use Rattle.pmf_storelog.proofs.ReadBackLemmas.{read_back}
 use Rattle.pmf_storelog.proofs.writing.write_section.Goals as goal
-
-pub loop-event-preserved : goal.loop-event-preserved
-loop-event-preserved c =
-    next_line c.events-event-items.result.now c.loop-event.event-index c.event-item.result (line_of_marker c.args.section.now.name.number)
-    (string_bytes c.loop-event.text) (string_bytes c.push_event.new.text) c.loop-event-test.true c.event-item.is
-    c.loop-event.invariant.0 c.loop-event.invariant.1 c.in_ok-push_event.ensures.valid c.in_ok-push_event.ensures.text
 
 pub returns-clause-reads_back : goal.returns-clause-reads_back
 returns-clause-reads_back c =

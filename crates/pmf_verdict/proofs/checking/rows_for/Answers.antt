@@ -1,9 +1,5 @@
-use Rattle.std.proofs.Common.{◌≡◌, suc, ◌+◌, length, ◌++◌, map, refl, ◌∙◌, ap, arith, add-one}
-use Rattle.std.specs.Prelude.{Some}
-use Rattle.std.proofs.lemmas.Option.{slice_get_read}
-use Rattle.pmf_event.specs.FlushWarnings.{if_any}
-use Rattle.pmf_event.specs.Store.{event_at}
-use Rattle.pmf_event.specs.Transactions.{close_finding}
+use Rattle.pmf_event.proofs.Common.{◌≡◌, suc, ◌+◌, length, ◌++◌, map, refl, ◌∙◌, ap, arith, add-one, Some, slice_get_read}
+use Rattle.pmf_event.specs.Prelude.{if_any, event_at, close_finding}
 use Rattle.pmf_verdict.specs.declared.checking.Walk.{Walk}
 use Rattle.pmf_verdict.specs.Rows.{row_at, rows_upto, rows_at_end, rows_of}
 use Rattle.pmf_verdict.proofs.WalkLemmas.{if_any-as_told-same}
@@ -11,9 +7,6 @@ use Rattle.pmf_verdict.proofs.checking.rows_for.Goals as goal
 
 pub loop-index-init : goal.loop-index-init
 loop-index-init c = (c.new-walk.ensures.walks c.args.events.now, c.new-walk.ensures.profile)
-
-pub follow-requires : goal.follow-requires
-follow-requires c = (c.args.events.now, c.loop-index.index, c.loop-index.invariant.0, omega arith)
 
 pub loop-index-preserved : goal.loop-index-preserved
 unfolding event_at

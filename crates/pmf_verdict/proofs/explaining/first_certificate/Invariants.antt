@@ -1,5 +1,4 @@
-use Rattle.std.proofs.Common.{take}
-use Rattle.std.specs.Prelude.{None}
+use Rattle.std.proofs.Common.{take, None}
 use Rattle.pmf_verdict.specs.Explained.{Explains}
 use Rattle.pmf_verdict.proofs.explaining.first_certificate.Given as goal
 

@@ -1,5 +1,4 @@
-use Rattle.std.proofs.Common.{◌≡◌, take}
-use Rattle.std.specs.String.{string_bytes}
+use Rattle.std.proofs.Common.{◌≡◌, take, string_bytes}
 use Rattle.pmf_verdict.specs.Text.{text_of_rows}
 use Rattle.pmf_verdict.proofs.text.write_rows.Given as goal
 

@@ -1,5 +1,4 @@
-use Rattle.std.proofs.Common.{[], ◌∙◌, ap}
-use Rattle.std.specs.String.{string_bytes}
+use Rattle.std.proofs.Common.{[], ◌∙◌, ap, string_bytes}
 use Rattle.pmf_verdict.specs.Text.{text_of_row}
 use Rattle.pmf_verdict.proofs.TextLemmas.{text-here, text-elsewhere}
 use Rattle.pmf_verdict.proofs.text.write_rows_at.Goals as goal

@@ -1,7 +1,4 @@
-use Rattle.std.proofs.Common.{◌≡◌, ◌∙◌, ap, subst, codes}
-use Rattle.std.specs.Prelude.{map}
-use Rattle.std.specs.Str.{bytes_eq}
-use Rattle.std.specs.String.{string_bytes}
+use Rattle.std.proofs.Common.{◌≡◌, ◌∙◌, ap, subst, codes, map, bytes_eq, string_bytes}
 use Rattle.clap.specs.Words.{is_simple, subcommand_of}
 use Rattle.pmf_words.specs.Words.{IsRequestBy, names_all, pmfarm_words}
 use Rattle.pmf_words.proofs.RequestLemmas.{is_simple-words, any-map}

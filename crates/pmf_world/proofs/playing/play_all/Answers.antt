@@ -1,5 +1,4 @@
-use Rattle.std.proofs.Common.{[], sym, subst}
-use Rattle.std.specs.String.{string_bytes}
+use Rattle.std.proofs.Common.{[], sym, subst, string_bytes}
 use Rattle.pmf_world.specs.Playing.{PlaysAll}
 use Rattle.pmf_world.proofs.lemmas.PlayingLemmas.{PlaysAll-start, PlaysAll-at}
 use Rattle.pmf_world.proofs.playing.play_all.Goals as goal

@@ -1,5 +1,4 @@
-use Rattle.std.proofs.Common.{take}
-use Rattle.std.specs.String.{string_bytes}
+use Rattle.std.proofs.Common.{take, string_bytes}
 use Rattle.pmf_world.specs.Playing.{PlaysAll}
 use Rattle.pmf_world.proofs.playing.play_all.Given as goal
 

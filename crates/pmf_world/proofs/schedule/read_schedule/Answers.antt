@@ -1,9 +1,6 @@
 -- The text lines are those of the definition, read one by one.
-use Rattle.std.proofs.Common.{◌≡◌, ◌<◌, length, sym, ap, subst, ◌∙◌, arith, rules, tests}
-use Rattle.std.specs.List.{slice_split}
-use Rattle.std.proofs.lemmas.Bool.Decides.{nat_tests}
+use Rattle.pmf_event.proofs.Common.{◌≡◌, ◌<◌, length, sym, ap, subst, ◌∙◌, arith, rules, tests, slice_split, nat_tests, length_push}
 use Rattle.std.proofs.lemmas.Iterator.Splits.{YieldsList-from_slice_split}
-use Rattle.std.proofs.lemmas.List.{length_push}
 use Rattle.pmf_world.specs.Schedule.{is_line_end}
 use Rattle.pmf_world.proofs.lemmas.ScheduleLineLemmas.{turned, ended}
 use Rattle.pmf_world.proofs.lemmas.ScheduleLemmas.{IsAt, IsAt-start, at_empty, at_step, at_bad, at_end, told}

@@ -1,5 +1,4 @@
-use Rattle.std.proofs.Common.{length}
-use Rattle.std.specs.List.{slice_split}
+use Rattle.pmf_event.proofs.Common.{length, slice_split}
 use Rattle.pmf_world.specs.Schedule.{is_line_end}
 use Rattle.pmf_world.proofs.lemmas.ScheduleLemmas.{IsAt}
 use Rattle.pmf_world.proofs.schedule.read_schedule.Given as goal

@@ -1,5 +1,4 @@
-use Rattle.std.proofs.Common.{◌≡◌, ◌<◌, ◌++◌, length, take, sym, subst, rules}
-use Rattle.std.specs.String.{string_bytes}
+use Rattle.std.proofs.Common.{◌≡◌, ◌<◌, ◌++◌, length, take, sym, subst, rules, string_bytes}
 use Rattle.pmf_world.specs.Lines.{text_of_ledgers}
 use Rattle.pmf_world.specs.Playing.{PlaysAll}
 use Rattle.pmf_world.proofs.lemmas.SimulatingLemmas.{few_steps, refuses-numbers, simulated}

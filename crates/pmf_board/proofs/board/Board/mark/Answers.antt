@@ -1,9 +1,7 @@
-use Rattle.std.proofs.Common.{rules, ◌≡◌, ◌<◌, subst, sym, ap}
-use Rattle.pmf_board.specs.Calls.{Marks}
+use Rattle.std.proofs.Common.{rules, ◌≡◌, ◌<◌, subst, sym}
 use Rattle.pmf_board.specs.Passes.{PassValue, BoardId}
 use Rattle.pmf_board.specs.Rule.{entry_of}
 use Rattle.pmf_board.specs.Views.{HasTaken}
-use Rattle.pmf_board.proofs.lemmas.CallLemmas.{Marks-marked}
 use Rattle.pmf_board.proofs.lemmas.StepLemmas.{raises}
 use Rattle.pmf_board.proofs.lemmas.PassLemmas.{at-equal, after-marked}
 use Rattle.pmf_board.proofs.board.Board.mark.Goals as goal
@@ -19,8 +17,3 @@ fetch_or-requires c =
 
 pub invariant_of-pass : goal.invariant_of-pass
 invariant_of-pass c = at-equal _ _ _ _ _ c.fetch_or.ensures.0 c.fetch_or.ensures.2.1 (after-marked _ _ c.pass.inside.seat.me c.args.task.section (entry_of c.fetch_or.result).handouts c.pass.invariant)
-
-pub returns-clause-marks : goal.returns-clause-marks
-returns-clause-marks c =
-    let is = Marks-marked c.pass.inside.seat.me.0 c.fetch_or.new.seat.me.0 c.args.task.section (entry_of c.fetch_or.result).handouts (ap (λ m. m.0) c.fetch_or.ensures.2.1) in
-    subst (λ (p : PassValue). Marks p.view c.args.task.section c.fetch_or.new.seat.me.0) c.pass.view_is is

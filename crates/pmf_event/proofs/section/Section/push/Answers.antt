@@ -1,6 +1,4 @@
-use Rattle.std.proofs.Common.{[], ◌∷◌, ◌≤◌, length, arith, length-append, sym, ◌∙◌, ap, subst}
-use Rattle.std.specs.List.{All}
-use Rattle.std.proofs.lemmas.List.Elements.{All-append, All-cons, All-nil}
+use Rattle.pmf_event.proofs.Common.{[], ◌∷◌, ◌≤◌, length, arith, length-append, sym, ◌∙◌, ap, subst, All, All-append, All-cons, All-nil}
 use Rattle.pmf_event.specs.Section.{IsValidEvent}
 use Rattle.pmf_event.specs.declared.section.TheConstants.{EVENT_LIMIT}
 use Rattle.pmf_event.proofs.section.Section.push.Goals as goal

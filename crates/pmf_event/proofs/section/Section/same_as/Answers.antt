@@ -1,8 +1,5 @@
 -- Equal names and equal events are equal sections, and the other way round.
-use Rattle.std.proofs.Common.{rules, ◌≡◌, ap, sym, ◌∙◌, List}
-use Rattle.std.specs.Bool.{Decides}
-use Rattle.std.proofs.lemmas.Bool.Decides.{Decides-eqb, Decides-and}
-use Rattle.std.proofs.lemmas.Slice.Eq.{slice_eq-Decides}
+use Rattle.pmf_event.proofs.Common.{rules, ◌≡◌, ap, sym, ◌∙◌, List, Decides, Decides-eqb, Decides-and, slice_eq-Decides}
 use Rattle.pmf_event.specs.declared.name.Name.{Name}
 use Rattle.pmf_event.specs.declared.event.Event.{Event}
 use Rattle.pmf_event.specs.contracts.event.EventPartialEq.TheImpl.{eq-value}

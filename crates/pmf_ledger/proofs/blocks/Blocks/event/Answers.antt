@@ -1,5 +1,4 @@
-use Rattle.std.proofs.Common.{sym, ◌∙◌, ap, subst}
-use Rattle.std.specs.Prelude.{Err}
+use Rattle.std.proofs.Common.{sym, ◌∙◌, ap, subst, Err}
 use Rattle.pmf_storelog.specs.Lines.{event_of_line}
 use Rattle.pmf_ledger.specs.Following.{IsStoppedBy}
 use Rattle.pmf_ledger.specs.Loading.{after_event}

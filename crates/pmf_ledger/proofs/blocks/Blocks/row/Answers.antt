@@ -1,10 +1,7 @@
-use Rattle.std.proofs.Common.{◌≡◌, ◌++◌, true, false, get_or, List, sym, ◌∙◌, ap, subst}
-use Rattle.std.specs.Prelude.{codes}
-use Rattle.std.specs.Str.{bytes_eq}
+use Rattle.std.proofs.Common.{◌≡◌, ◌++◌, true, false, get_or, List, sym, ◌∙◌, ap, subst, codes, bytes_eq}
 use Rattle.pmf_event.specs.declared.finding.Finding.TheVariants.{PersistPass}
 use Rattle.pmf_event.specs.declared.row.Row.{Row}
-use Rattle.pmf_verdict.specs.Checked.{rows_in}
-use Rattle.pmf_verdict.specs.Text.{text_of_row}
+use Rattle.pmf_verdict.specs.Prelude.{rows_in, text_of_row}
 use Rattle.pmf_ledger.specs.Following.{Reaches}
 use Rattle.pmf_ledger.proofs.lemmas.ReadingLemmas.{HasRead-same, stopped, row-same, row-other}
 use Rattle.pmf_ledger.proofs.blocks.Blocks.row.Goals as goal

@@ -1,6 +1,5 @@
-use Rattle.std.proofs.Common.{◌<◌, length, refl, ◌∙◌, subst}
+use Rattle.std.proofs.Common.{◌<◌, length, refl, ◌∙◌, subst, List}
 use Rattle.pmf_event.specs.declared.row.Row.{Row}
-use Rattle.std.specs.Prelude.{List}
 use Rattle.pmf_verdict.specs.Checked.{rows_in}
 use Rattle.pmf_ledger.proofs.lemmas.ReadingLemmas.{HasRead-at, rows-more}
 use Rattle.pmf_ledger.proofs.blocks.Blocks.with_rows.Goals as goal

@@ -1,7 +1,6 @@
 use Rattle.std.proofs.Common.{◌≡◌, length, sym, ◌∙◌, ap, subst, List}
 use Rattle.pmf_event.specs.declared.row.Row.{Row}
-use Rattle.pmf_verdict.specs.Checked.{Checked, rows_in}
-use Rattle.pmf_verdict.specs.Rows.{rows_of}
+use Rattle.pmf_verdict.specs.Prelude.{Checked, rows_in, rows_of}
 use Rattle.pmf_ledger.specs.Following.{Reaches}
 use Rattle.pmf_ledger.specs.Loading.{with_rows}
 use Rattle.pmf_ledger.proofs.lemmas.ReadingLemmas.{stopped, rows-told, rows-false, verdict_is}

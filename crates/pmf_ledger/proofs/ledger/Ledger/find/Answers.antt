@@ -1,6 +1,4 @@
-use Rattle.std.proofs.Common.{◌≡◌, sym, ◌∙◌, ap, subst, get_or}
-use Rattle.std.specs.Prelude.{IsTrue, false}
-use Rattle.std.proofs.lemmas.List.{get_or_default}
+use Rattle.pmf_event.proofs.Common.{◌≡◌, sym, ◌∙◌, ap, subst, get_or, IsTrue, false, get_or_default}
 use Rattle.pmf_verdict.specs.Checked.{Checked}
 use Rattle.pmf_ledger.specs.LedgerValue.{LedgerValue}
 use Rattle.pmf_ledger.specs.Names.{Rises}

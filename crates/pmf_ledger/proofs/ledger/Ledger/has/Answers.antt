@@ -1,5 +1,4 @@
-use Rattle.std.proofs.Common.{refl}
-use Rattle.std.specs.Prelude.{IsTrue, false}
+use Rattle.std.proofs.Common.{refl, IsTrue, false}
 use Rattle.pmf_ledger.proofs.lemmas.PlaceLemmas.{HasName-from_place}
 use Rattle.pmf_ledger.proofs.ledger.Ledger.has.Goals as goal
 

@@ -1,5 +1,4 @@
-use Rattle.std.proofs.Common.{◌≡◌, ◌∙◌, ap, subst}
-use Rattle.std.specs.Prelude.{MatchOption}
+use Rattle.std.proofs.Common.{◌≡◌, ◌∙◌, ap, subst, MatchOption}
 use Rattle.pmf_ledger.specs.Joining.{AgreeInNames, IsLeastDiffering}
 use Rattle.pmf_ledger.specs.LedgerValue.{LedgerValue}
 use Rattle.pmf_ledger.proofs.lemmas.JoiningLemmas.{AreBy, clash_found}

@@ -1,6 +1,4 @@
-use Rattle.std.proofs.Common.{◌+◌, ◌<◌, ◌^◌, ◌++◌, ◌∷◌, [], take, sym, ◌∙◌, ap, subst, rules}
-use Rattle.std.specs.List.{flat_map}
-use Rattle.std.proofs.lemmas.List.{flat_map_more, take_more}
+use Rattle.pmf_event.proofs.Common.{◌+◌, ◌<◌, ◌^◌, ◌++◌, ◌∷◌, [], take, sym, ◌∙◌, ap, subst, rules, flat_map, flat_map_more, take_more}
 use Rattle.pmf_ledger.specs.Report.{IsWithin, both, text_of_section}
 use Rattle.pmf_ledger.proofs.lemmas.CountLemmas.{IsWithin-all, Sums, Sums-more, Sums-none}
 use Rattle.pmf_ledger.proofs.ledger.Ledger.report.Goals as goal

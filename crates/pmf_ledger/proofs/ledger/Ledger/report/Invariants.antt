@@ -1,6 +1,4 @@
-use Rattle.std.proofs.Common.{◌≡◌, take}
-use Rattle.std.specs.List.{flat_map}
-use Rattle.std.specs.String.{string_bytes}
+use Rattle.std.proofs.Common.{◌≡◌, take, flat_map, string_bytes}
 use Rattle.pmf_ledger.specs.Report.{text_of_section}
 use Rattle.pmf_ledger.proofs.lemmas.CountLemmas.{Sums}
 use Rattle.pmf_ledger.proofs.ledger.Ledger.report.Given as goal

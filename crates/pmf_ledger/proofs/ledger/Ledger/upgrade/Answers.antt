@@ -1,5 +1,4 @@
-use Rattle.std.proofs.Common.{◌≡◌, map, refl, sym, ◌∙◌, ap, subst}
-use Rattle.std.specs.List.{All}
+use Rattle.std.proofs.Common.{◌≡◌, map, refl, sym, ◌∙◌, ap, subst, All}
 use Rattle.pmf_event.specs.declared.profile.Profile.TheVariants.{Two}
 use Rattle.pmf_verdict.specs.Checked.{Checked}
 use Rattle.pmf_ledger.specs.Gathered.{upgraded}

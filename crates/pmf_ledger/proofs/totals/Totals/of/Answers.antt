@@ -1,5 +1,4 @@
-use Rattle.std.proofs.Common.{◌≡◌, take, sym, ◌∙◌, arith}
-use Rattle.std.proofs.lemmas.List.{take_all}
+use Rattle.std.proofs.Common.{◌≡◌, take, sym, ◌∙◌, arith, take_all}
 use Rattle.pmf_ledger.proofs.lemmas.CountLemmas.{Counted-none, Counted-pass, Counted-fail, Counted-warn, Counted-empty, totals_of-one}
 use Rattle.pmf_ledger.proofs.totals.Totals.of.Goals as goal
 use Rattle.pmf_ledger.proofs.totals.Totals.of.Goals.{in-Pass, in-Fail, in-Warn, in-Empty}

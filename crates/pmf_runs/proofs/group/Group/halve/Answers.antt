@@ -1,5 +1,4 @@
-use Rattle.std.proofs.Common.{sym, subst}
-use Rattle.std.specs.Prelude.{None}
+use Rattle.std.proofs.Common.{sym, subst, None}
 use Rattle.pmf_runs.specs.Pages.{pages_state, pages_joined}
 use Rattle.pmf_runs.proofs.ChangingLemmas.{covers-same, splits-same}
 use Rattle.pmf_runs.proofs.group.Group.halve.Goals as goal

@@ -2,7 +2,7 @@ use Rattle.std.proofs.Common.{refl, ◌∙◌, ap, subst, arith}
 use Rattle.pmf_runs.specs.Ranks.{rank, IsStop}
 use Rattle.pmf_runs.specs.Leaves.{leaf_state}
 use Rattle.pmf_runs.proofs.LeafLemmas.{rank-bound}
-use Rattle.pmf_runs.proofs.ChangingLemmas.{run-is, leaf-run, alters-none, alters-more, alters-upto, sees-low, sees-upto}
+use Rattle.pmf_runs.proofs.ChangingLemmas.{run-is, leaf-run, alters-none, alters-more, sees-low, sees-upto}
 use Rattle.pmf_runs.proofs.leaf.Leaf.altered.Goals as goal
 
 pub loop-start-init : goal.loop-start-init
@@ -52,9 +52,3 @@ loop-start-preserved g c =
           (leaf-run c.args.self.now c.index.result.now c.loop-start.start c.args.end c.loop-start.index c.stop_of-stop.result runs c.index.ensures)
           c.loop-start.invariant.found c.after-altered.ensures;
     }
-
-pub returns : goal.returns
-returns g c =
-    let found = c.loop-start.invariant.found in
-    alters-upto (leaf_state c.args.self.now) (g.C.Change.changed c.args.change.now) c.args.first c.loop-start.start c.args.end c.loop-start.altered.first c.loop-start.altered.end
-    c.loop-start-test.false found c.loop-start.invariant.upto

@@ -1,5 +1,4 @@
-use Rattle.std.proofs.Common.{◌≡◌, length, arith, refl, ap, subst, ◌∙◌, sym}
-use Rattle.std.proofs.lemmas.List.{with_items_is}
+use Rattle.pmf_event.proofs.Common.{◌≡◌, length, arith, refl, ap, subst, ◌∙◌, sym, with_items_is}
 use Rattle.pmf_runs.specs.Ranks.{low_rank, high_rank, ChangesItems}
 use Rattle.pmf_runs.proofs.RankLemmas.{high_rank-bound}
 use Rattle.pmf_runs.proofs.LeafLemmas.{leaf-counted, changes-rewritten}

@@ -1,5 +1,4 @@
-use Rattle.std.proofs.Common.{refl}
-use Rattle.std.specs.Prelude.{None, Some}
+use Rattle.std.proofs.Common.{refl, None, Some}
 use Rattle.pmf_runs.specs.Leaves.{leaf_state}
 use Rattle.pmf_runs.proofs.LeafLemmas.{same-items, same-both}
 use Rattle.pmf_runs.proofs.ChangingLemmas.{changes-after}
@@ -22,6 +21,3 @@ returns-clause-ok g c = (
       c.change_all.ensures.0,
   λ joined. c.change_all.ensures.1 (c.in_ok-begin-2.ensures.joined (Some c.args.first) (joined-swap _ _ _ (c.in_ok-begin.ensures.joined None (joined-same c.args.self.now _ None None refl refl joined)))),
 )
-
-pub change_all-requires-clause-order : goal.change_all-requires-clause-order
-change_all-requires-clause-order g c = c.requires

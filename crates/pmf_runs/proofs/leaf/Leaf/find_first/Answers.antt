@@ -1,5 +1,4 @@
-use Rattle.std.proofs.Common.{sym, ◌∙◌, ap, subst, arith}
-use Rattle.std.specs.Prelude.{None}
+use Rattle.std.proofs.Common.{sym, ◌∙◌, ap, subst, arith, None}
 use Rattle.pmf_runs.specs.Ranks.{rank, IsBeyond}
 use Rattle.pmf_runs.specs.Walks.{end_of}
 use Rattle.pmf_runs.specs.Leaves.{leaf_state}

@@ -1,5 +1,4 @@
-use Rattle.std.proofs.Common.{◌-◌}
-use Rattle.std.specs.Prelude.{None}
+use Rattle.std.proofs.Common.{◌-◌, None}
 use Rattle.pmf_event.specs.Ranges.{first_from}
 use Rattle.pmf_runs.specs.Leaves.{leaf_state}
 use Rattle.pmf_runs.proofs.AskingLemmas.{Asked, first_found}

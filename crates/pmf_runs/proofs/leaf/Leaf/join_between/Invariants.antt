@@ -1,5 +1,4 @@
-use Rattle.std.proofs.Common.{◌≤◌}
-use Rattle.std.specs.Prelude.{vec_len}
+use Rattle.std.proofs.Common.{◌≤◌, vec_len}
 use Rattle.pmf_runs.specs.Ranks.{SameStates}
 use Rattle.pmf_runs.specs.Leaves.{leaf_state}
 use Rattle.pmf_runs.specs.Joined.{JoinedBeside}

@@ -1,5 +1,4 @@
-use Rattle.std.proofs.Common.{◌∙◌, ap, arith, length}
-use Rattle.std.proofs.lemmas.List.{get_or_read}
+use Rattle.pmf_event.proofs.Common.{◌∙◌, ap, arith, length, get_or_read}
 use Rattle.pmf_runs.specs.Ranks.{parting}
 use Rattle.pmf_runs.proofs.LeafLemmas.{middle-is}
 use Rattle.pmf_runs.proofs.leaf.Leaf.middle_key.Goals as goal

@@ -1,6 +1,4 @@
-use Rattle.std.proofs.Common.{◌+◌, refl, sym, ◌∙◌, ap, subst, arith}
-use Rattle.std.specs.Prelude.{vec_len, if◌then◌else◌}
-use Rattle.std.specs.List.{insert}
+use Rattle.std.proofs.Common.{◌+◌, refl, sym, ◌∙◌, ap, subst, arith, vec_len, if◌then◌else◌, insert}
 use Rattle.pmf_runs.specs.Ranks.{Rises}
 use Rattle.pmf_runs.proofs.RankLemmas.{rank-is, insert-fresh}
 use Rattle.pmf_runs.proofs.LeafLemmas.{rank-bound, same-items, begins-kept, begins-put, begins-put_kept, same-put}
@@ -26,12 +24,6 @@ pub insert-requires : goal.insert-requires
 insert-requires g c =
     let at_p = rank-is c.args.self.now.keys.items c.args.place in
     let bound = at_p.bound in omega (arith, c.requires.rank, c.args.self.now.keys.ok.0, c.make_room-2.ensures.len)
-
-pub returns-in_err-insert-clause-kept : goal.returns-in_err-insert-clause-kept
-returns-in_err-insert-clause-kept g c = begins-kept c.args.self.now _ (c.in_err-insert.ensures.items ∙ c.make_room-2.ensures.items)
-
-pub returns-in_err-insert-clause-same : goal.returns-in_err-insert-clause-same
-returns-in_err-insert-clause-same g c = same-items c.args.self.now _ (c.in_err-insert.ensures.items ∙ c.make_room-2.ensures.items) c.make_room.ensures.items
 
 pub overflow_add-index : goal.overflow_add-index
 overflow_add-index g c =

@@ -1,8 +1,7 @@
-use Rattle.std.proofs.Common.{◌+◌, ◌∙◌, arith, refl, sym, subst}
-use Rattle.std.specs.Prelude.{None}
+use Rattle.std.proofs.Common.{◌∙◌, arith, refl, sym, subst, None}
 use Rattle.pmf_runs.specs.Ranks.{ChangesWithin, bound_at}
-use Rattle.pmf_runs.proofs.LevelLemmas.{begins-bound, rewrites-end, rewrites-more, rest-more}
-use Rattle.pmf_runs.proofs.JoinedLevelLemmas.{order-bound, joins-more, joins-end}
+use Rattle.pmf_runs.proofs.LevelLemmas.{begins-bound, rewrites-more, rest-more}
+use Rattle.pmf_runs.proofs.JoinedLevelLemmas.{order-bound, joins-more}
 use Rattle.pmf_runs.proofs.level.Level.change_parts.Goals as goal
 
 pub rewrite-requires-clause-from : goal.rewrite-requires-clause-from
@@ -40,16 +39,6 @@ loop-i-preserved g c =
           c.loop-i.auto.i (omega (arith, c.args.self.now.parts.ok.0)) c.index_mut.ensures.value law refl c.loop-i.invariant.joins;
     }
 
-pub returns-clause-parts : goal.returns-clause-parts
-returns-clause-parts g c =
-    rewrites-end g.P.Part.state (g.C.Change.changed c.args.change.now) c.args.low c.args.high c.args.from c.args.end (c.args.high + 1) c.loop-i.i c.args.self.now.parts.items c.loop-i.self.parts.items
-    c.loop-i.auto.i c.loop-i-test.false c.loop-i.invariant.upto c.loop-i.invariant.parts
-
 pub rewrite-requires-clause-order : goal.rewrite-requires-clause-order
 rewrite-requires-clause-order g c =
     order-bound c.args.low c.args.high c.loop-i.i c.args.from c.args.end c.bound_at-first.result c.bound_at-last.result c.bound_at-first.ensures c.bound_at-last.ensures c.requires.order
-
-pub returns-clause-joins : goal.returns-clause-joins
-returns-clause-joins g c =
-    joins-end g.P.Part.joined c.args.low c.args.high c.args.from c.args.end (c.args.high + 1) c.loop-i.i c.args.self.now.parts.items c.loop-i.self.parts.items
-    c.loop-i.auto.i c.loop-i-test.false c.loop-i.invariant.upto c.loop-i.invariant.joins

@@ -1,5 +1,4 @@
-use Rattle.std.proofs.Common.{refl, sym, ◌∙◌, ap, arith}
-use Rattle.std.proofs.lemmas.List.{get_or_read}
+use Rattle.pmf_event.proofs.Common.{refl, sym, ◌∙◌, ap, arith, get_or_read}
 use Rattle.pmf_runs.specs.Ranks.{rank}
 use Rattle.pmf_runs.specs.Walks.{end_of}
 use Rattle.pmf_runs.specs.Levels.{level_state}

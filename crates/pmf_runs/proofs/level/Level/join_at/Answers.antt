@@ -1,8 +1,7 @@
-use Rattle.std.proofs.Common.{◌+◌, ◌<◌, length, sym, arith, subst}
+use Rattle.std.proofs.Common.{◌<◌, length, sym, arith, subst}
 use Rattle.pmf_runs.specs.Ranks.{Rises}
 use Rattle.pmf_runs.proofs.RankLemmas.{remove-rises}
 use Rattle.pmf_runs.proofs.LevelLemmas.{level-joined}
-use Rattle.pmf_runs.proofs.JoinedLevelLemmas.{parts-taken}
 use Rattle.pmf_runs.proofs.level.Level.join_at.Goals as goal
 
 pub invariant_of-self : goal.invariant_of-self
@@ -18,7 +17,3 @@ pub returns-clause-same : goal.returns-clause-same
 returns-clause-same g c =
     let within : c.args.key < length c.args.self.now.keys.items = omega (arith, c.args.self.now.keys.ok.0, c.requires.within) in
     level-joined g.P.Part.state c.args.self.now _ c.remove-2.result c.args.key within c.requires.goes_on c.remove.ensures.items c.remove-2.ensures.items
-
-pub returns-clause-joined : goal.returns-clause-joined
-returns-clause-joined g c =
-    parts-taken g.P.Part.joined c.args.self.now _ (c.args.key + 1) (omega (arith, c.args.self.now.parts.ok.0, c.args.self.now.counted, c.requires.within)) c.remove-2.ensures.items

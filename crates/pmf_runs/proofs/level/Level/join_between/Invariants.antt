@@ -1,5 +1,4 @@
-use Rattle.std.proofs.Common.{◌≤◌}
-use Rattle.std.specs.Prelude.{vec_len, None}
+use Rattle.std.proofs.Common.{◌≤◌, vec_len, None}
 use Rattle.pmf_runs.specs.Ranks.{SameStates}
 use Rattle.pmf_runs.specs.Levels.{level_state}
 use Rattle.pmf_runs.specs.Joined.{PartsJoined}

@@ -1,11 +1,7 @@
 use Rattle.std.proofs.Common.{◌++◌, ◌∷◌, [], ◌∙◌, ap}
 use Rattle.pmf_runs.proofs.LevelLemmas.{level-single}
-use Rattle.pmf_runs.proofs.JoinedLevelLemmas.{parts-single}
 use Rattle.pmf_runs.proofs.level.Level.new.Goals as goal
 
 pub returns-clause-same : goal.returns-clause-same
 returns-clause-same g c =
     level-single (g.P.Part.state) _ c.args.part c.new.ensures.items (c.in_ok-push.ensures.items ∙ ap (λ xs. xs ++ c.args.part ∷ []) c.new-parts.ensures.items)
-
-pub returns-clause-joined : goal.returns-clause-joined
-returns-clause-joined g c = parts-single g.P.Part.joined _ c.args.part (c.in_ok-push.ensures.items ∙ ap (λ xs. xs ++ c.args.part ∷ []) c.new-parts.ensures.items)

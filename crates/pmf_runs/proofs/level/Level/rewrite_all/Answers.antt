@@ -2,7 +2,7 @@ use Rattle.std.proofs.Common.{◌≡◌, ◌+◌, ◌-◌, ◌∙◌, ap, arith,
 use Rattle.pmf_runs.specs.Ranks.{low_rank, high_rank, IsInner}
 use Rattle.pmf_runs.proofs.RankLemmas.{low-law, high-law_none, high-law_is, none-is, inner-within, high-some, high_rank-bound, at-low, at-high}
 use Rattle.pmf_runs.proofs.LevelLemmas.{inner-begins, level-rewritten}
-use Rattle.pmf_runs.proofs.JoinedLevelLemmas.{order-inner, parts-rewritten_some, parts-rewritten_none}
+use Rattle.pmf_runs.proofs.JoinedLevelLemmas.{parts-rewritten_some, parts-rewritten_none}
 use Rattle.pmf_runs.proofs.level.Level.rewrite_all.Goals as goal
 
 pub change_parts-requires-clause-high : goal.change_parts-requires-clause-high
@@ -83,17 +83,3 @@ returns-else-high-gt0 g c =
     let none = none-is c.inner_bound-last.result (sym c.is_some.ensures ∙ c.if-is_some.false) in
     let some = high-some keys c.args.end c.inner_bound-last.result c.args.self.now.ordered none last in
     absurd (omega arith)
-
-pub change_parts-requires-clause-order : goal.change_parts-requires-clause-order
-change_parts-requires-clause-order g c =
-    let keys = c.args.self.now.keys.items in
-    let first = subst (λ ks. IsInner ks c.args.from c.inner_bound-first.result) c.deref-2.ensures.value c.inner_bound-first.ensures in
-    let last = subst (λ ks. IsInner ks c.args.end c.inner_bound-last.result) c.deref-4.ensures.value c.inner_bound-last.ensures in
-    order-inner keys c.args.from c.args.end c.inner_bound-first.result c.inner_bound-last.result first last c.requires.order
-
-pub change_parts-requires-then-high-gt0-clause-order : goal.change_parts-requires-then-high-gt0-clause-order
-change_parts-requires-then-high-gt0-clause-order g c =
-    let keys = c.args.self.now.keys.items in
-    let first = subst (λ ks. IsInner ks c.args.from c.inner_bound-first.result) c.deref-2.ensures.value c.inner_bound-first.ensures in
-    let last = subst (λ ks. IsInner ks c.args.end c.inner_bound-last.result) c.deref-4.ensures.value c.inner_bound-last.ensures in
-    order-inner keys c.args.from c.args.end c.inner_bound-first.result c.inner_bound-last.result first last c.requires.order

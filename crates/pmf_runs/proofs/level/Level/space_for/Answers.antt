@@ -1,8 +1,6 @@
 use Rattle.std.proofs.Common.{ap, arith, refl}
 use Rattle.pmf_runs.specs.Ranks.{rank}
 use Rattle.pmf_runs.proofs.LevelLemmas.{level-bound, level-set, same-both}
-use Rattle.pmf_runs.proofs.ChangingLemmas.{on-ok}
-use Rattle.pmf_runs.proofs.JoinedLevelLemmas.{parts-kept}
 use Rattle.pmf_runs.proofs.level.Level.space_for.Goals as goal
 
 pub split_full-requires : goal.split_full-requires
@@ -23,11 +21,3 @@ returns-clause-same g c =
     let is = ap (λ ks. rank ks c.args.place) c.deref-2.ensures.value in
     same-both _ _ _ c.split_full.ensures.same
     (level-set g.P.Part.state c.split_full.new.self _ c.index_mut.result.now c.make_space.new.self c.rank_of-index.result (omega (arith, c.rank_of-index.ensures)) c.index_mut.ensures.value c.make_space.ensures.same refl refl)
-
-pub returns-clause-joined : goal.returns-clause-joined
-returns-clause-joined g c =
-    let bound = level-bound c.split_full.new.self c.args.place in
-    let is = ap (λ ks. rank ks c.args.place) c.deref-2.ensures.value in
-    on-ok c.make_space.result (λ law whole.
-    parts-kept g.P.Part.joined c.split_full.new.self _ c.index_mut.result.now c.make_space.new.self c.rank_of-index.result (omega (arith, c.rank_of-index.ensures)) c.index_mut.ensures.value refl refl law
-    (c.in_ok-split_full.ensures.joined whole)) c.make_space.ensures.joined

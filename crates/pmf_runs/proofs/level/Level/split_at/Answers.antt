@@ -1,10 +1,7 @@
-use Rattle.std.proofs.Common.{◌≡◌, ◌+◌, ◌∙◌, get_or, set, ap, arith, refl, sym, subst}
-use Rattle.std.specs.Prelude.{vec_len, if◌then◌else◌}
-use Rattle.std.specs.List.{insert}
+use Rattle.std.proofs.Common.{◌≡◌, ◌+◌, ◌∙◌, get_or, set, ap, arith, refl, sym, subst, vec_len, if◌then◌else◌, insert}
 use Rattle.pmf_runs.specs.Ranks.{Rises, Splits}
 use Rattle.pmf_runs.proofs.RankLemmas.{insert-fresh}
 use Rattle.pmf_runs.proofs.LevelLemmas.{level-same, level-set, level-split}
-use Rattle.pmf_runs.proofs.JoinedLevelLemmas.{parts-split}
 use Rattle.pmf_runs.proofs.level.Level.split_at.Goals as goal
 
 pub returns-in_err-make_room-clause-same : goal.returns-in_err-make_room-clause-same
@@ -38,9 +35,3 @@ returns-clause-same g c =
     level-split g.P.Part.state c.args.self.now _ c.index_mut.result.now c.split.new.self c.in_ok-part.part c.args.middle c.args.index c.requires.rank read splits
     (c.in-Ok.ensures.items ∙ ap (λ ks. insert ks c.args.index c.args.middle) c.make_room.ensures.items)
     (c.in-Ok-insert.ensures.items ∙ ap (λ ps. insert (set ps c.args.index c.split.new.self) (c.args.index + 1) c.in_ok-part.part) c.make_room-2.ensures.items)
-
-pub returns-clause-joined : goal.returns-clause-joined
-returns-clause-joined g c =
-    let read = subst (λ ps. c.index_mut.result.now ≡ get_or ps c.args.index c.index_mut.result.now) c.make_room-2.ensures.items c.index_mut.ensures.value in
-    parts-split g.P.Part.joined c.args.self.now _ c.index_mut.result.now c.split.new.self c.in_ok-part.part c.args.index (omega (arith, c.requires.full.within, c.args.self.now.parts.ok.0)) read
-    (c.in-Ok-insert.ensures.items ∙ ap (λ ps. insert (set ps c.args.index c.split.new.self) (c.args.index + 1) c.in_ok-part.part) c.make_room-2.ensures.items) (λ whole. (c.in_ok-part.ensures.ok.1 whole).0) (λ whole. (c.in_ok-part.ensures.ok.1 whole).1)

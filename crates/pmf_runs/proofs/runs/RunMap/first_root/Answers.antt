@@ -1,5 +1,4 @@
-use Rattle.std.proofs.Common.{sym, ◌∙◌, subst}
-use Rattle.std.specs.Prelude.{None}
+use Rattle.std.proofs.Common.{sym, ◌∙◌, subst, None}
 use Rattle.pmf_runs.specs.Joined.{JoinedBut}
 use Rattle.pmf_runs.specs.Pages.{pages_joined}
 use Rattle.pmf_runs.proofs.runs.RunMap.first_root.Goals as goal

@@ -1,5 +1,4 @@
-use Rattle.std.proofs.Common.{◌≡◌, ℕ, ◌+◌, ◌-◌, min, max, sym, ◌∙◌, ap}
-use Rattle.std.specs.Prelude.{Option, is_some}
+use Rattle.std.proofs.Common.{◌≡◌, ℕ, ◌+◌, ◌-◌, min, max, sym, ◌∙◌, ap, Option, is_some}
 use Rattle.pmf_event.specs.Ranges.{first_from}
 use Rattle.pmf_runs.specs.Runs.{passing}
 use Rattle.pmf_shadow.proofs.PieceLemmas.{piece-before, piece-within, piece-after}

@@ -1,7 +1,7 @@
 use Rattle.std.proofs.Common.{◌≡◌, true, refl, sym, subst}
 use Rattle.pmf_event.specs.declared.event.Event.{Event}
 use Rattle.pmf_event.specs.declared.event.Event.TheVariants.{Store, Flush, Fence, Persist, Ordered, Exclude, Include, TxBegin, TxAdd, TxEnd, CheckStart, CheckEnd}
-use Rattle.pmf_event.specs.Span.{Extent}
+use Rattle.pmf_event.specs.Prelude.{Extent}
 use Rattle.pmf_shadow.specs.Laws.{is_unseen}
 use Rattle.pmf_shadow.specs.Shadow.{FollowsAt}
 use Rattle.pmf_shadow.proofs.StandsLemmas.{unseen-follows}

@@ -1,5 +1,4 @@
-use Rattle.std.proofs.Common.{sym, ◌∙◌, ap}
-use Rattle.std.specs.Prelude.{Some}
+use Rattle.std.proofs.Common.{sym, ◌∙◌, ap, Some}
 use Rattle.pmf_shadow.specs.States.{stored_of}
 use Rattle.pmf_shadow.proofs.QuestionLemmas.{interval-same-some, interval-same-none}
 use Rattle.pmf_shadow.proofs.shadow.Shadow.interval_at.Goals as goal

@@ -1,5 +1,4 @@
-use Rattle.std.proofs.Common.{◌≡◌, refl, sym, ◌∙◌, ap}
-use Rattle.std.specs.Prelude.{Some, None}
+use Rattle.std.proofs.Common.{◌≡◌, refl, sym, ◌∙◌, ap, Some, None}
 use Rattle.pmf_event.specs.Order.{paired, with_partner}
 use Rattle.pmf_event.proofs.RangeLemmas.{first-passes}
 use Rattle.pmf_runs.specs.Runs.{passing, keyed}

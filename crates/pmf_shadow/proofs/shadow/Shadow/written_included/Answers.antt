@@ -1,5 +1,4 @@
-use Rattle.std.proofs.Common.{◌∙◌, ap, ℕ}
-use Rattle.std.specs.Prelude.{Option, is_some}
+use Rattle.std.proofs.Common.{◌∙◌, ap, ℕ, Option, is_some}
 use Rattle.pmf_shadow.proofs.QuestionLemmas.{checked-same}
 use Rattle.pmf_shadow.proofs.shadow.Shadow.written_included.Goals as goal
 

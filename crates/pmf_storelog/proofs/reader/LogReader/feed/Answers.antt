@@ -1,5 +1,4 @@
-use Rattle.std.proofs.Common.{◌++◌, refl}
-use Rattle.std.proofs.lemmas.Result.{err_from_is_err_and}
+use Rattle.pmf_event.proofs.Common.{◌++◌, refl, err_from_is_err_and}
 use Rattle.pmf_storelog.proofs.LogLemmas.{shown_of_all}
 use Rattle.pmf_storelog.proofs.ReaderLemmas.{fed_faulty, fed_long, fed_whole, fed_length, fed_none}
 use Rattle.pmf_storelog.proofs.reader.LogReader.feed.Goals as goal

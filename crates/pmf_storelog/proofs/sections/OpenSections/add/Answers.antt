@@ -1,5 +1,4 @@
-use Rattle.std.proofs.Common.{◌≡◌, length, arith}
-use Rattle.std.proofs.lemmas.Grind.{common_steps}
+use Rattle.pmf_event.proofs.Common.{◌≡◌, length, arith, common_steps}
 use Rattle.pmf_storelog.specs.Sections.{Opens}
 use Rattle.pmf_storelog.proofs.SectionLemmas.{first_begun, first_ok}
 use Rattle.pmf_storelog.proofs.sections.OpenSections.add.Goals.{then-is_empty+in_ok-open, else-is_empty}

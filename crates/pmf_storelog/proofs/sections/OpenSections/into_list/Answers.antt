@@ -1,5 +1,4 @@
-use Rattle.std.proofs.Common.{length, map, ap, arith}
-use Rattle.std.proofs.lemmas.List.{length-map}
+use Rattle.pmf_event.proofs.Common.{length, map, ap, arith, length-map}
 use Rattle.pmf_storelog.proofs.SectionLemmas.{listed_ok}
 use Rattle.pmf_storelog.proofs.sections.OpenSections.into_list.Goals as goal
 

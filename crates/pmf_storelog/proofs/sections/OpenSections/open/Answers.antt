@@ -1,6 +1,4 @@
-use Rattle.std.proofs.Common.{length, sym, ap, ◌∙◌, arith}
-use Rattle.std.proofs.lemmas.Grind.{common_steps}
-use Rattle.std.specs.Ordering.{nat_cmp}
+use Rattle.pmf_event.proofs.Common.{length, sym, ap, ◌∙◌, arith, nat_cmp, common_steps}
 use Rattle.std.specs.Map.{lookup}
 use Rattle.std.specs.BTreeMap.{is_at, get}
 use Rattle.pmf_storelog.proofs.SectionLemmas.{one_longer, inside_either}

@@ -4,11 +4,6 @@ use Rattle.pmf_storelog.specs.Records.{record_of}
 use Rattle.pmf_storelog.proofs.TallyLemmas.{entered_ok, entered_err, taken_nothing, shown_cause}
 use Rattle.pmf_storelog.proofs.tally.Tally.take_record.Goals as goal
 
-pub returns-in-Ok-Happens-clause-ok : goal.returns-in-Ok-Happens-clause-ok
-returns-in-Ok-Happens-clause-ok c = λ run records taken.
-    let says : record_of c.args.text.now ≡ Ok (Happens c.in-Ok-Happens.event) = cc in
-    c.take_event.ensures.ok run records c.args.text.now taken says
-
 pub returns-in-Ok-Happens-clause-err : goal.returns-in-Ok-Happens-clause-err
 returns-in-Ok-Happens-clause-err c = λ run records taken.
     let says : record_of c.args.text.now ≡ Ok (Happens c.in-Ok-Happens.event) = cc in

@@ -1,5 +1,4 @@
-use Rattle.std.proofs.Common.{refl}
-use Rattle.std.specs.Prelude.{None}
+use Rattle.std.proofs.Common.{refl, None}
 use Rattle.pmf_txcheck.proofs.TrackLemmas.{tracks-closed, follows-from}
 use Rattle.pmf_txcheck.proofs.state.TxState.check_end.Goals as goal
 

@@ -1,5 +1,4 @@
-use Rattle.std.proofs.Common.{sym, ◌∙◌, ap, arith}
-use Rattle.std.specs.Prelude.{Some, None, not}
+use Rattle.std.proofs.Common.{sym, ◌∙◌, ap, arith, Some, None, not}
 use Rattle.pmf_event.proofs.RangeLemmas.{none-from}
 use Rattle.pmf_txcheck.proofs.TrackLemmas.{in_scope-by_some, check-unopened, check-inside, check-found}
 use Rattle.pmf_txcheck.proofs.state.TxState.found_at_end.Goals as goal

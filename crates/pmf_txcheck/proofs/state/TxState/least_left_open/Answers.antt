@@ -1,8 +1,6 @@
 use Rattle.std.proofs.Common.{◌≡◌, ◌+◌, ◌-◌, min, sym, ◌∙◌, ap, arith}
 use Rattle.pmf_event.specs.declared.span.TheConstants.{ADDRESS_LIMIT, SPAN_LIMIT}
-use Rattle.pmf_event.specs.Span.{Extent}
-use Rattle.pmf_event.specs.Ranges.{first_byte}
-use Rattle.pmf_event.specs.Persist.{is_exposed}
+use Rattle.pmf_event.specs.Prelude.{Extent, first_byte, is_exposed}
 use Rattle.pmf_txcheck.specs.Findings.{is_left_open_by}
 use Rattle.pmf_event.proofs.RangeLemmas.{none-passes, first-passes}
 use Rattle.pmf_txcheck.proofs.SearchLemmas.{run-of_members, no-members, none-from_none_up_to, first-from_none_up_to, open-over_others, open-over_closed, open-here}

@@ -1,7 +1,6 @@
-use Rattle.std.proofs.Common.{suc, [], ◌∷◌, refl, sym, ◌∙◌, ap, arith}
-use Rattle.std.specs.Prelude.{Some}
+use Rattle.std.proofs.Common.{suc, [], ◌∷◌, refl, sym, ◌∙◌, ap, arith, Some}
 use Rattle.pmf_event.specs.declared.event.Event.TheVariants.{Fence, TxBegin, TxEnd, CheckStart, CheckEnd}
-use Rattle.pmf_event.specs.FlushWarnings.{if_any}
+use Rattle.pmf_event.specs.Prelude.{if_any}
 use Rattle.pmf_event.proofs.TransactionLemmas.{depth-bound}
 use Rattle.pmf_shadow.specs.Laws.{is_unseen}
 use Rattle.pmf_shadow.proofs.StandsLemmas.{stands-fences}

@@ -1,7 +1,6 @@
-use Rattle.std.proofs.Common.{◌≡◌, suc, ◌++◌, map, sym, ◌∙◌, ap, subst, refl}
-use Rattle.std.specs.Prelude.{Option}
+use Rattle.std.proofs.Common.{◌≡◌, suc, ◌++◌, map, sym, ◌∙◌, ap, subst, refl, Option}
 use Rattle.pmf_event.specs.declared.finding.Finding.{Finding}
-use Rattle.pmf_event.specs.FlushWarnings.{is_pending, lines_where, doubled_finding, if_any, flush_findings}
+use Rattle.pmf_event.specs.Prelude.{is_pending, lines_where, doubled_finding, if_any, flush_findings}
 use Rattle.pmf_shadow.specs.Shadow.{StandsFor}
 use Rattle.pmf_txcheck.specs.Laws.{is_untracked}
 use Rattle.pmf_txcheck.specs.Tracking.{Tracks}

@@ -8,38 +8,17 @@ use Rattle.pmf_verdict.proofs.FitLemmas.{failures_real}
 use Rattle.pmf_verdict.proofs.SoundLemmas.{passes_hold, orders_hold, scopes_hold}
 use Rattle.pmf_verdict.proofs.verdict.Verdict.rows.Goals as goal
 
-pub returns-clause-sound : goal.returns-clause-sound
-returns-clause-sound c =
-    subst (λ rows. PersistsHold c.args.self.now.section.events rows)
-    (sym (c.as_slice.ensures ∙ c.self.invariant ∙ ap (λ (v : Checked). rows_in v) c.self.view_is))
-    (passes_hold c.args.self.now.profile c.args.self.now.section.events)
-
-pub returns-clause-sound_orders : goal.returns-clause-sound_orders
-returns-clause-sound_orders c =
-    subst (λ rows. OrdersHold c.args.self.now.section.events rows)
-    (sym (c.as_slice.ensures ∙ c.self.invariant ∙ ap (λ (v : Checked). rows_in v) c.self.view_is))
-    (orders_hold c.args.self.now.profile c.args.self.now.section.events)
-
-pub returns-clause-sound_scopes : goal.returns-clause-sound_scopes
-returns-clause-sound_scopes c =
-    subst (λ rows. ScopesHold c.args.self.now.section.events rows)
-    (sym (c.as_slice.ensures ∙ c.self.invariant ∙ ap (λ (v : Checked). rows_in v) c.self.view_is))
-    (scopes_hold c.args.self.now.profile c.args.self.now.section.events)
-
-pub returns-clause-real : goal.returns-clause-real
-returns-clause-real c =
-    subst (λ rows. FailuresAreReal c.args.self.now.section.events rows)
-    (sym (c.as_slice.ensures ∙ c.self.invariant ∙ ap (λ (v : Checked). rows_in v) c.self.view_is))
-    (failures_real c.args.self.now.profile c.args.self.now.section.events)
-
-pub returns-clause-exact : goal.returns-clause-exact
-returns-clause-exact c =
-    subst (λ rows. IsExact c.args.self.now.profile c.args.self.now.section.events rows)
-    (sym (c.as_slice.ensures ∙ c.self.invariant ∙ ap (λ (v : Checked). rows_in v) c.self.view_is))
-    (rows_exact c.args.self.now.profile c.args.self.now.section.events)
-
-pub returns-clause-same_lines : goal.returns-clause-same_lines
-returns-clause-same_lines c =
-    subst (λ rows. SameLinesAreOneStore c.args.self.now.profile c.args.self.now.section.events rows)
-    (sym (c.as_slice.ensures ∙ c.self.invariant ∙ ap (λ (v : Checked). rows_in v) c.self.view_is))
-    (same_lines c.args.self.now.profile c.args.self.now.section.events)
+pub returns : goal.returns
+returns c =
+    let es = c.args.self.now.section.events in
+    let profile = c.args.self.now.profile in
+    let is = c.as_slice.ensures ∙ c.self.invariant ∙ ap (λ (v : Checked). rows_in v) c.self.view_is in
+    record {
+      value = is;
+      sound = subst (λ rows. PersistsHold es rows) (sym is) (passes_hold profile es);
+      sound_orders = subst (λ rows. OrdersHold es rows) (sym is) (orders_hold profile es);
+      sound_scopes = subst (λ rows. ScopesHold es rows) (sym is) (scopes_hold profile es);
+      real = subst (λ rows. FailuresAreReal es rows) (sym is) (failures_real profile es);
+      exact = subst (λ rows. IsExact profile es rows) (sym is) (rows_exact profile es);
+      same_lines = subst (λ rows. SameLinesAreOneStore profile es rows) (sym is) (same_lines profile es);
+    }

@@ -1,5 +1,4 @@
-use Rattle.std.proofs.Common.{rules, ◌≡◌, ◌<◌, length, map, ap, subst, sym, ◌∙◌}
-use Rattle.std.proofs.lemmas.List.{length-map}
+use Rattle.pmf_event.proofs.Common.{rules, ◌≡◌, ◌<◌, length, map, ap, subst, sym, ◌∙◌, length-map}
 use Rattle.pmf_verdict.specs.Checked.{checked_by}
 use Rattle.pmf_world.specs.declared.doing.Doing.TheVariants as doing
 use Rattle.pmf_world.specs.Floors.{FloorValue, verdict_at}

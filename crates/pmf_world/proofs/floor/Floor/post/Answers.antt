@@ -1,6 +1,4 @@
-use Rattle.std.proofs.Common.{rules, ◌≡◌, ◌<◌, ◌++◌, [], ◌∷◌, map, set, ap, refl, subst, sym, ◌∙◌}
-use Rattle.std.proofs.lemmas.List.{map-append}
-use Rattle.std.proofs.lemmas.Option.{none-some, same_Some}
+use Rattle.pmf_event.proofs.Common.{rules, ◌≡◌, ◌<◌, ◌++◌, [], ◌∷◌, map, set, ap, refl, subst, sym, ◌∙◌, map-append, none-some, same_Some}
 use Rattle.pmf_world.specs.declared.doing.Doing.TheVariants as doing
 use Rattle.pmf_world.specs.Floors.{IsFloor}
 use Rattle.pmf_world.proofs.lemmas.FloorLemmas.{IsFloor-posted, alike, becomes, doing-set, few-messages, has-verdict, worker-within}

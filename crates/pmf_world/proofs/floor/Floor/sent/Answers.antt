@@ -1,5 +1,4 @@
-use Rattle.std.proofs.Common.{rules, ◌≡◌, ◌<◌, length, get_or, refl, subst}
-use Rattle.std.proofs.lemmas.Option.{slice_get_read}
+use Rattle.pmf_event.proofs.Common.{rules, ◌≡◌, ◌<◌, length, get_or, refl, subst, slice_get_read}
 use Rattle.pmf_world.specs.Floors.{FloorValue, IsSent}
 use Rattle.pmf_world.proofs.lemmas.FloorLemmas.{is-sent}
 use Rattle.pmf_world.proofs.floor.Floor.sent.Goals as goal

@@ -1,7 +1,4 @@
-use Rattle.std.proofs.Common.{rules, ◌≡◌, ◌<◌, length, set, ap, subst, sym, ◌∙◌}
-use Rattle.std.specs.List.{All}
-use Rattle.std.proofs.lemmas.List.{set-get_or}
-use Rattle.std.proofs.lemmas.List.Elements.{All-set}
+use Rattle.pmf_event.proofs.Common.{rules, ◌≡◌, ◌<◌, length, set, ap, subst, sym, ◌∙◌, All, set-get_or, All-set}
 use Rattle.pmf_world.specs.Worlds.{IsOfWorld}
 use Rattle.pmf_world.proofs.lemmas.WorldLedgerLemmas.{clash_nowhere, is_ours-joined, joins-at, ledger-is, ledger-ours, set-again}
 use Rattle.pmf_world.proofs.world.World.join_at.Goals as goal

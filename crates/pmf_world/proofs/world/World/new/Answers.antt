@@ -1,6 +1,4 @@
-use Rattle.std.proofs.Common.{rules, ◌≡◌, map, [], subst, sym}
-use Rattle.std.specs.Prelude.{replicate}
-use Rattle.std.specs.List.{All}
+use Rattle.std.proofs.Common.{rules, ◌≡◌, map, [], subst, sym, replicate, All}
 use Rattle.pmf_ledger.specs.Repeats.{HaveOwnNames}
 use Rattle.pmf_world.specs.Worlds.{IsOfWorld}
 use Rattle.pmf_world.proofs.lemmas.TurningLemmas.{empties-ours}
