@@ -1,11 +1,10 @@
 -- Each finding behind a cut, from what holds of the whole and of its part there.
-use Rattle.std.proofs.Common.{◌≡◌, ℕ, zero, suc, ◌+◌, ◌-◌, ◌*◌, ◌%◌, ◌<◌, ◌≤◌, Bool, true, false, not, ◌&&◌, if◌then◌else◌, List, [], ◌∷◌, ◌++◌, length, slice_get, refl, sym, ◌∙◌, ap, subst, arith, inl, inr}
-use Rattle.std.specs.Prelude.{◌↔◌, Option, Some, None}
+use Rattle.std.proofs.Common.{◌≡◌, ℕ, zero, suc, ◌+◌, ◌-◌, ◌*◌, ◌%◌, ◌≤◌, Bool, true, false, not, ◌&&◌, if◌then◌else◌, List, [], ◌∷◌, ◌++◌, slice_get, refl, sym, ◌∙◌, ap, subst, arith, inl, inr}
+use Rattle.std.specs.Prelude.{Option, Some, None}
 use Rattle.std.specs.Cmp.{both_ways}
 use Rattle.std.proofs.lemmas.Option.{slice_get_past, slice_get_cases}
 use Rattle.pmf_event.specs.declared.event.Event.{Event}
 use Rattle.pmf_event.specs.declared.event.Event.TheVariants.{Store, Flush, Fence, Persist, Ordered, Exclude, Include, TxBegin, TxAdd, TxEnd, CheckStart, CheckEnd}
-use Rattle.pmf_event.specs.declared.finding.Finding.{Finding}
 use Rattle.pmf_event.specs.declared.finding.Finding.TheVariants.{Unmatched, Outside, Nested, Unopened, TxStillOpen, Unclosed}
 use Rattle.pmf_event.specs.declared.profile.Profile.{Profile}
 use Rattle.pmf_event.specs.declared.span.TheConstants.{ADDRESS_LIMIT, LINE_SIZE}
@@ -16,11 +15,11 @@ use Rattle.pmf_event.specs.Interval.{interval_at, is_open}
 use Rattle.pmf_event.specs.Exclusion.{is_excluded, is_included}
 use Rattle.pmf_event.specs.Persist.{is_exposed}
 use Rattle.pmf_event.specs.FlushWarnings.{is_clean, is_pending, numbered, first_line, line_count, lines_from, lines_where, doubled_finding, needless_finding, if_any, flush_findings}
-use Rattle.pmf_event.specs.LineBytes.{is_undurable, is_unwritten, HasBytes, SomeByteOf, NoByteOf}
+use Rattle.pmf_event.specs.LineBytes.{is_undurable, is_unwritten, HasBytes}
 use Rattle.pmf_event.specs.Transactions.{in_transaction, is_outside, in_scope, is_scoped, is_backed, depth_at, lacks_backup, store_finding, duplog_with, nobackup_with, add_finding, end_finding, start_finding, is_left_open, scope_passes_unless, check_finding, scope_at, close_finding}
 use Rattle.pmf_event.proofs.LineBytesLemmas.{lines_follow_from_their_bytes}
 use Rattle.pmf_event.proofs.RangeLemmas.{first_from-same, count_from-same}
-use Rattle.pmf_event.proofs.TransactionLemmas.{left_open-exposed, left_open-none}
+use Rattle.pmf_event.proofs.TransactionLemmas.{left_open-exposed}
 use Rattle.pmf_verdict.specs.Rows.{findings_of}
 use Rattle.pmf_cut.specs.Alike.{IsCut, GoesOn}
 use Rattle.pmf_cut.specs.Behind.{SameBytes, IsBehind}
@@ -70,6 +69,10 @@ flush-stays es n fs m span sized sized_too same =
     ∙ ap (λ l. if_any (doubled_finding (lines_where (is_pending es n) span)) ++ if_any (needless_finding l)) clean
 
 -- ---- transactions
+
+left_open-none : (es : List Event) (p b : ℕ) → is_scoped es p b ≡ false → is_left_open es p b ≡ false
+unfolding is_left_open
+left_open-none es p b other = ap (λ v. v && is_included es (suc p) b && is_open (interval_at es (suc p) b)) other
 
 module _ (es : List Event) (p n : ℕ) (fs : List Event) (q m : ℕ) (behind : IsBehind es p n fs q m) (after : IsBehind es p (suc n) fs q (suc m)) where
   inside : in_transaction fs m ≡ in_transaction es n

@@ -1,6 +1,6 @@
 -- What is asked of the past of a part, run by run.
-use Rattle.std.proofs.Common.{◌≡◌, ◌⊎◌, ℕ, ◌+◌, ◌-◌, ◌<◌, ◌≤◌, Bool, true, false, not, ◌&&◌, nat_le, if◌then◌else◌, List, refl, sym, ◌∙◌, ap, arith, inl, inr}
-use Rattle.std.specs.Prelude.{Option, Some, None, is_some, is_none}
+use Rattle.std.proofs.Common.{◌≡◌, ℕ, ◌+◌, ◌-◌, ◌<◌, ◌≤◌, Bool, true, false, not, ◌&&◌, nat_le, if◌then◌else◌, List, refl, sym, ◌∙◌, ap, arith, inl, inr}
+use Rattle.std.specs.Prelude.{Some, None, is_some, is_none}
 use Rattle.std.proofs.lemmas.Bool.{cases_lt, and_from, le-leb, lt-ltb}
 use Rattle.pmf_event.specs.declared.event.Event.{Event}
 use Rattle.pmf_event.specs.Span.{Extent, covers_byte}
@@ -16,9 +16,8 @@ use Rattle.pmf_shadow.specs.Shadow.{StandsFor, ForEachList}
 use Rattle.pmf_shadow.specs.Standing.{place_as_told, AllStandSo}
 use Rattle.pmf_runs.specs.Runs.{state_at, passing, is_between, ChangesBetween}
 use Rattle.pmf_cut.specs.declared.lost.Past.{Past}
-use Rattle.pmf_cut.specs.Behind.{SameBytes, SamePairs}
-use Rattle.pmf_cut.specs.Laws.{KnowsPairs}
-use Rattle.pmf_cut.specs.Lost.{HasOld, IsOld, NoneOld, NoneTold, Knows, is_unknown, is_within, is_told_again}
+use Rattle.pmf_cut.specs.Behind.{SameBytes}
+use Rattle.pmf_cut.specs.Lost.{HasOld, NoneOld, NoneTold, Knows, is_unknown, is_within, is_told_again}
 use Rattle.pmf_cut.proofs.ComparingLemmas.{place-is, place-none}
 use Rattle.pmf_cut.proofs.RowLemmas.{checked-parts, checked-from}
 

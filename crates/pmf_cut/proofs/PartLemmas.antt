@@ -2,7 +2,7 @@
 use mathlib.Core.Logic.{∥∥₁_elim, ∥∥₁_map}
 use Rattle.std.proofs.Props.{props}
 use Rattle.std.proofs.lemmas.List.{length-append}
-use Rattle.std.proofs.Common.{◌≡◌, ℕ, suc, ◌+◌, ◌-◌, ◌<◌, ◌≤◌, Bool, true, false, ◌&&◌, nat_le, nat_lt, if◌then◌else◌, List, [], ◌∷◌, ◌++◌, length, refl, sym, ◌∙◌, ap, subst, arith, inl, inr}
+use Rattle.std.proofs.Common.{◌≡◌, ℕ, suc, ◌+◌, ◌-◌, ◌<◌, ◌≤◌, true, false, ◌&&◌, nat_le, if◌then◌else◌, List, [], ◌∷◌, ◌++◌, length, refl, sym, ◌∙◌, ap, subst, arith, inl, inr}
 use Rattle.std.specs.Prelude.{Some}
 use Rattle.std.proofs.Math.Bool.{and-false}
 use Rattle.std.proofs.lemmas.Bool.{cases_lt, le-ltb}
@@ -25,7 +25,7 @@ use Rattle.pmf_shadow.specs.declared.shadow.Shadow.{Shadow}
 use Rattle.pmf_shadow.specs.Shadow.{FollowsAt, StandsFor, Keeps}
 use Rattle.pmf_shadow.proofs.StandsLemmas.{follows-within, stands-fences}
 use Rattle.pmf_cut.specs.declared.part.Part.{Part}
-use Rattle.pmf_cut.specs.Alike.{IsAlike, IsOutside}
+use Rattle.pmf_cut.specs.Alike.{IsAlike}
 use Rattle.pmf_cut.specs.Comparing.{IsAlikeBelow}
 use Rattle.pmf_cut.specs.Parts.{LiesLow, Stands, Follows, BeginsWith, Renews}
 use Rattle.pmf_cut.proofs.StepLemmas.{excluded-step}

@@ -2,16 +2,16 @@
 use Rattle.std.proofs.Common.{◌≡◌, ℕ, suc, ◌+◌, ◌-◌, ◌<◌, ◌≤◌, Bool, true, false, not, ◌&&◌, ◌==◌, nat_lt, nat_le, if◌then◌else◌, List, refl, sym, ◌∙◌, ap, arith, inl, inr}
 use Rattle.std.specs.Prelude.{Option, Some, None}
 use Rattle.std.specs.Cmp.{both_ways}
-use Rattle.std.proofs.lemmas.Bool.{cases_lt, cases_eq, lt-ltb, ltb-true, le-ltb, le-leb, leb-true, and_parts, and_from, ne_eqb, false_from_ne_true}
+use Rattle.std.proofs.lemmas.Bool.{cases_lt, lt-ltb, ltb-true, le-ltb, le-leb, leb-true, and_parts, and_from, ne_eqb, false_from_ne_true}
 use Rattle.std.proofs.lemmas.Bool.Decides.{Decides-eqb}
 use Rattle.pmf_event.specs.declared.event.Event.{Event}
 use Rattle.pmf_event.specs.declared.interval.Interval.{Interval}
 use Rattle.pmf_event.specs.Line.{line_of_byte}
-use Rattle.pmf_event.specs.Places.{greatest, least, count, some_between}
+use Rattle.pmf_event.specs.Places.{greatest, least, some_between}
 use Rattle.pmf_event.specs.Store.{event_at, at, stores, flushes, is_fence, last, last_store, epoch_of}
 use Rattle.pmf_event.specs.Interval.{writes_back, first_write_back, closes, closing_fence, epoch_after, interval_at}
 use Rattle.pmf_event.specs.Exclusion.{excludes, marks, is_excluded}
-use Rattle.pmf_event.specs.Order.{precedes, is_closed_by, is_stored_before}
+use Rattle.pmf_event.specs.Order.{precedes, is_closed_by}
 use Rattle.pmf_event.specs.LineBytes.{is_undurable, is_unwritten}
 use Rattle.pmf_event.proofs.PlacesLemmas.{greatest-above, greatest-bound, greatest-passes, least-step, least-bound, least-passes, least-none_behind, least-below, count-mono, count-here, some_between-found}
 use Rattle.pmf_event.proofs.EventLemmas.{at-is, last-step, last-other, last-here}

@@ -1,16 +1,13 @@
 -- A part of a whole goes on with it, and another one begins where it is cut.
-use Rattle.std.proofs.Common.{◌≡◌, ℕ, zero, suc, ◌+◌, ◌-◌, ◌<◌, ◌≤◌, Bool, true, false, List, [], ◌∷◌, ◌++◌, length, drop, slice_get, refl, sym, ◌∙◌, ap, subst, arith}
+use Rattle.std.proofs.Common.{◌≡◌, ℕ, zero, suc, ◌+◌, ◌-◌, ◌<◌, true, false, List, [], ◌∷◌, ◌++◌, length, drop, slice_get, refl, sym, ◌∙◌, ap, subst, arith}
 use Rattle.std.specs.Prelude.{Some}
 use Rattle.pmf_event.specs.declared.event.Event.{Event}
-use Rattle.pmf_event.specs.Store.{event_at, stores, last_store}
-use Rattle.pmf_event.specs.Order.{share_line}
+use Rattle.pmf_event.specs.Store.{event_at, stores}
 use Rattle.pmf_event.specs.LineBytes.{is_undurable}
-use Rattle.pmf_event.specs.Transactions.{depth_at, in_transaction, in_scope}
 use Rattle.pmf_event.proofs.EventLemmas.{last-none}
 use Rattle.pmf_event.proofs.TransactionLemmas.{depth-start, scope-start, outside-from, unscoped-from}
 use Rattle.pmf_cut.specs.declared.part.Part.{Part}
-use Rattle.pmf_cut.specs.Alike.{IsAlike, IsOutside, IsCut}
-use Rattle.pmf_cut.specs.Behind.{IsBehind}
+use Rattle.pmf_cut.specs.Alike.{IsOutside, IsCut}
 use Rattle.pmf_cut.specs.Parts.{Stands, Follows, BeginsWith, Renews, part_of, IsPartOf, GoesOnWith, BeginsAt}
 use Rattle.pmf_cut.proofs.StepLemmas.{undurable-stored_to}
 use Rattle.pmf_cut.proofs.BehindLemmas.{behind-cut, behind-step}

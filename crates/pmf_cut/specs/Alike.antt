@@ -1,6 +1,6 @@
 -- What is kept where a section is cut: of two lists, each at a place of its own, what is open in the one is open in the
 -- other. Defined here.
-use Rattle.std.specs.Prelude.{◌≡◌, ℕ, suc, ◌+◌, ◌<◌, Bool, true, false, List}
+use Rattle.std.specs.Prelude.{◌≡◌, ℕ, suc, ◌+◌, ◌<◌, true, false, List}
 use Rattle.pmf_event.specs.declared.event.Event.{Event}
 use Rattle.pmf_event.specs.Store.{event_at, last_store}
 use Rattle.pmf_event.specs.Exclusion.{is_excluded}

@@ -1,5 +1,5 @@
 -- What holds of the whole and of its part from the cut on, event by event. No public clause cites this.
-use Rattle.std.specs.Prelude.{◌≡◌, ℕ, ◌+◌, ◌<◌, ◌≤◌, Bool, true, List}
+use Rattle.std.specs.Prelude.{◌≡◌, ℕ, ◌+◌, ◌<◌, true, List}
 use Rattle.pmf_event.specs.declared.event.Event.{Event}
 use Rattle.pmf_event.specs.Store.{last_store}
 use Rattle.pmf_event.specs.Interval.{interval_at}

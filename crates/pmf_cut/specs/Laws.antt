@@ -1,5 +1,5 @@
 -- Which rows of a part are those of the whole. Laws, which the crate's empty public functions prove.
-use Rattle.std.specs.Prelude.{◌≡◌, ◌⊎◌, ℕ, suc, ◌+◌, ◌<◌, Bool, true, List, length, Option, Some}
+use Rattle.std.specs.Prelude.{◌≡◌, ◌⊎◌, ℕ, suc, ◌+◌, ◌<◌, true, List, length, Option, Some}
 use Rattle.pmf_event.specs.declared.event.Event.{Event}
 use Rattle.pmf_event.specs.declared.event.Event.TheVariants.{Persist, Ordered}
 use Rattle.pmf_event.specs.declared.finding.Finding.{Finding}

@@ -1,5 +1,7 @@
 //! Logs that are cut, written out, and what is said of the cuts.
 
+ghost use Rattle.std.specs.Prelude.{◌<◌};
+
 use crate::{CutFault, Cutter};
 use pmf_storelog::{Cause, LogFault};
 use std::alloc::Global;
@@ -12,14 +14,13 @@ fn cut(
     events: u32,
     step: u64,
     piece: usize,
-) -> Result<(Vec<u8>, Vec<String>), CutFault> {
+) -> Result<(Vec<u8>, Vec<String>), CutFault>
+    requires { 0 < piece }
+{
     let mut cutter = Cutter::new(alloc, events, step);
-    let mut rest = log;
-    while rest.len() > piece {
-        cutter.take(&rest[..piece])?;
-        rest = &rest[piece..];
+    for bytes in log.chunks(piece) {
+        cutter.take(bytes)?;
     }
-    cutter.take(rest)?;
     cutter.finish()?;
     Ok(cutter.drain())
 }

@@ -1,4 +1,4 @@
-use Rattle.std.proofs.Common.{◌≡◌, ◌∙◌, ◌≤◌, true, sym, ap, subst, arith}
+use Rattle.std.proofs.Common.{◌∙◌, sym, subst, arith}
 use Rattle.pmf_cut.specs.Comparing.{Compared, Extends}
 use Rattle.pmf_cut.proofs.ComparingLemmas.{compared-more}
 use Rattle.pmf_cut.proofs.comparing.are_alike.Goals as goal

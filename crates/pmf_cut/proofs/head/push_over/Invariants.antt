@@ -1,4 +1,4 @@
-use Rattle.std.proofs.Common.{◌-◌, ℕ, ◌≤◌}
+use Rattle.std.proofs.Common.{◌-◌, ◌≤◌}
 use Rattle.pmf_cut.proofs.head.push_over.Given as goal
 
 abbrev pub invariant-loop-first : goal.invariant-loop-first

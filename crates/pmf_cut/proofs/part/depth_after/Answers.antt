@@ -1,6 +1,5 @@
-use Rattle.std.proofs.Common.{◌≡◌, sym, ◌∙◌, ap, arith}
+use Rattle.std.proofs.Common.{◌∙◌, ap, arith}
 use Rattle.std.specs.Prelude.{Some}
-use Rattle.pmf_event.specs.Store.{event_at}
 use Rattle.pmf_cut.proofs.PartLemmas.{depth-begin, depth-end, depth-other}
 use Rattle.pmf_cut.proofs.part.depth_after.Goals as goal
 

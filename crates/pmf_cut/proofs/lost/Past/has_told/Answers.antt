@@ -1,5 +1,4 @@
-use Rattle.std.proofs.Common.{◌≡◌, ◌+◌, sym, ◌∙◌, subst, arith}
-use Rattle.pmf_cut.specs.Lost.{NoneTold}
+use Rattle.std.proofs.Common.{sym, ◌∙◌}
 use Rattle.pmf_cut.proofs.LostLemmas.{none-told-run}
 use Rattle.pmf_cut.proofs.lost.Past.has_told.Goals as goal
 

@@ -1,4 +1,4 @@
-use Rattle.std.proofs.Common.{◌≡◌, sym, ◌∙◌}
+use Rattle.std.proofs.Common.{sym, ◌∙◌}
 use Rattle.pmf_cut.proofs.LostLemmas.{knows-unchecked, knows-all, knows-late}
 use Rattle.pmf_cut.proofs.lost.Past.may_lose.Goals as goal
 

@@ -1,5 +1,4 @@
-use Rattle.std.proofs.Common.{◌≡◌, ℕ, List, refl, sym, arith}
-use Rattle.pmf_event.specs.declared.event.Event.{Event}
+use Rattle.std.proofs.Common.{refl, arith}
 use Rattle.pmf_cut.proofs.PartLemmas.{list-none, stands-none}
 use Rattle.pmf_cut.proofs.WholeLemmas.{part-first}
 use Rattle.pmf_cut.proofs.part.Part.new.Goals as goal

@@ -1,4 +1,4 @@
-use Rattle.std.proofs.Common.{◌≡◌, ◌∙◌, List, length, refl, subst}
+use Rattle.std.proofs.Common.{List, length, subst}
 use Rattle.std.specs.Prelude.{Option, Some, IfSome}
 use Rattle.pmf_event.specs.declared.event.Event.{Event}
 use Rattle.pmf_cut.specs.declared.part.Part.{Part}

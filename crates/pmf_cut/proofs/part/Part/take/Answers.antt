@@ -1,5 +1,4 @@
-use Rattle.std.proofs.Common.{◌≡◌, ◌+◌, ◌<◌, refl, ap, sym, ◌∙◌, arith}
-use Rattle.pmf_event.specs.declared.section.TheConstants.{EVENT_LIMIT}
+use Rattle.std.proofs.Common.{◌+◌, refl, arith}
 use Rattle.pmf_cut.proofs.PartLemmas.{room-from, list-kept, list-next, follows-part}
 use Rattle.pmf_cut.proofs.WholeLemmas.{part-next}
 use Rattle.pmf_cut.proofs.part.Part.take.Goals as goal
