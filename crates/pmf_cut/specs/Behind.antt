@@ -1,4 +1,4 @@
--- What holds of the whole and of its part from the cut on, event by event. No public clause cites this.
+-- What holds of the whole and of its part from the cut on, event by event. It follows from the cut, and `IsPartOf` keeps it.
 use Rattle.std.specs.Prelude.{◌≡◌, ℕ, ◌+◌, ◌<◌, true, List}
 use Rattle.pmf_event.specs.declared.event.Event.{Event}
 use Rattle.pmf_event.specs.Store.{last_store}
@@ -14,9 +14,9 @@ pub record SameBytes (es : List Event) (n : ℕ) (fs : List Event) (m : ℕ) : T
   pub undurable : (b : ℕ) → is_undurable fs m b ≡ is_undurable es n b
   pub unwritten : (b : ℕ) → is_unwritten fs m b ≡ is_unwritten es n b
 
--- of each byte that the part knows a store of, the whole does, and the part of each that was stored to behind the cut at p, which is
--- behind the part's head of q events; each
--- pair that the part knows is ordered alike, and what it does not know is durable before what was stored to behind the cut
+-- of each byte that the part knows a store of, the whole does; the part does of each that was stored to behind the cut at p, which is
+-- behind the part's head of q events; each pair that the part knows is ordered alike; and what it does not know is durable before
+-- what was stored to behind the cut
 pub record SamePairs (es : List Event) (p n : ℕ) (fs : List Event) (q m : ℕ) : Type 0 where
   pub known : (b : ℕ) → 0 < last_store fs m b → 0 < last_store es n b
   pub fresh : (b : ℕ) → p < last_store es n b → 0 < last_store fs m b
