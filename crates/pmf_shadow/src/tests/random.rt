@@ -52,10 +52,10 @@ fn assert_of_pair(
     Ok(())
 }
 
-/// 250 lists of 6 to 18 events.
+/// 80 lists of 6 to 18 events.
 fn compare(rt: &impl Abort, alloc: Global, seed: u64) -> Result<(), Fail> {
     let mut numbers = Numbers::of(seed);
-    for _list in 0..250 {
+    for _list in 0..80 {
         let mut events = Vec::new(alloc);
         for _event in 0..numbers.below(13) + 6 {
             events.push(event(&mut numbers)?)?;
