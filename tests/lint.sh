@@ -69,9 +69,10 @@ lint_lists_32_names() {
     ended 1 $? && same "$scratch/wanted" "$scratch/report"
 }
 
-# The program itself: nothing is asserted, and names are not text, whatever else lint warns of.
+# The program's own bytes, without a marker: nothing is asserted, and names are not text, whatever else lint warns of.
 lint_of_the_program() {
-    "$program" lint <"$program" >"$scratch/report" 2>"$scratch/diagnostics"
+    LC_ALL=C tr P Q <"$program" >"$scratch/bytes"
+    "$program" lint <"$scratch/bytes" >"$scratch/report" 2>"$scratch/diagnostics"
     ended 1 $? && same /dev/null "$scratch/diagnostics" && sed '1,/^stores=/d' "$scratch/report" | grep -v ' near ' >"$scratch/warned" &&
         said "$(warnings nt)" "$scratch/warned"
 }

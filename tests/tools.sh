@@ -310,10 +310,6 @@ try_tools() {
     check 'a stamped program tells its commit and its kit, and is the same but for that' stamped
     check 'tools/install installs what is there, and removes it' installs
     check 'tools/install builds the program first' installs_what_it_builds
-    check 'a cut log has the rows of the whole one' tests/try-cut "$program" some_examples random_logs
-    check 'what `cut` puts in, says and refuses' tests/try-cut "$program" worked_examples numbers_that_meet \
-        faulty_logs streams_that_fail
-    check 'a section of more than 2^20 events is checked once it is cut' tests/try-cut "$program" a_long_section
     check 'large logs within their limits of time and memory' tests/try-speed "$program"
     check 'inputs at the limits, and one past them' tests/limits "$program"
     check 'the gate: edits in batches, stamps, what runs beside what, and whole runs that are played' tests/try-gate

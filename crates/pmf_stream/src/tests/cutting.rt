@@ -17,6 +17,7 @@ const TEXT: &[u8] =
 const LENGTHS: Lengths = Lengths { events: 4, step: 9 };
 
 // How many lines were said.
+#[derive(Drop)]
 struct Lines {
     count: u64,
 }
