@@ -14,7 +14,7 @@ use Rattle.pmf_event.specs.LineBytes.{is_undurable, is_unwritten}
 use Rattle.pmf_event.specs.Transactions.{begins, ends, depth_at, in_transaction, is_outside, adds, is_backed, opens_scope, closes_scope, scope_at, in_scope, stores_inside, is_scoped}
 use Rattle.pmf_event.proofs.EventLemmas.{at-is, last-other, last-here, not_fence_and_store}
 use Rattle.pmf_event.proofs.LineBytesLemmas.{lacks-parts, lacks-not}
-use Rattle.pmf_event.proofs.TransactionLemmas.{depth-begun, depth-ended, depth-kept, inside-kept, outside-here, backed-added, backed-kept, scope-some, scope-none, unscoped-from, scoped-from, scope-stays, scope-opened, scope-kept, scope-closed, in_scope-same, scoped-opened, scoped-kept, scoped-stored}
+use Rattle.pmf_event.proofs.TransactionLemmas.{depth-begun, depth-ended, depth-kept, inside-kept, outside-here, backed-added, backed-kept, scope-some, scope-none, unscoped-from, scoped-from, scope-stays, scope-opened, scope-kept, scope-closed, in_scope-same, scoped-opened, scoped-kept, scoped-stored, not_scoped}
 use Rattle.pmf_event.proofs.WriteBackLemmas.{last-bound}
 use Rattle.pmf_cut.specs.Alike.{IsCut}
 use Rattle.pmf_cut.specs.Behind.{SameBytes, SamePairs, SameTransactions, IsBehind}
@@ -36,10 +36,6 @@ backed-outside es p b outside =
     let here = outside-here es p outside in
     let bound = last-bound (adds b) es p in
     le-ltb (greatest (is_outside es) p) (last (adds b) es p - 1) (omega arith)
-
-scoped-outside : (es : List Event) (p b : ℕ) → in_scope es p ≡ false → is_scoped es p b ≡ false
-unfolding is_scoped
-scoped-outside es p b none = ap (λ v. v && nat_lt (scope_at es p) (greatest (stores_inside es b) p)) none
 
 depth-outside : (es : List Event) (p : ℕ) → in_transaction es p ≡ false → depth_at es p ≡ 0
 unfolding in_transaction
@@ -68,7 +64,7 @@ behind-cut es p fs q cut =
         backed = λ b. backed-outside fs q b cut.part.transaction ∙ sym (backed-outside es p b cut.whole.transaction);
         scope = cut.part.scope ∙ sym cut.whole.scope;
         opened = λ is. let bad : false ≡ true = sym cut.whole.scope ∙ is in cc;
-        scoped = λ b. scoped-outside fs q b cut.part.scope ∙ sym (scoped-outside es p b cut.whole.scope);
+        scoped = λ b. not_scoped fs q b cut.part.scope ∙ sym (not_scoped es p b cut.whole.scope);
       };
     }
 
@@ -249,7 +245,7 @@ module _ (es fs : List Event) (n m : ℕ) (e : Event) (here : event_at es (suc n
               backed = backed;
               scope = none_there ∙ sym none;
               opened = λ some. let bad : false ≡ true = sym none ∙ some in cc;
-              scoped = λ b. scoped-outside fs (suc m) b none_there ∙ sym (scoped-outside es (suc n) b none);
+              scoped = λ b. not_scoped fs (suc m) b none_there ∙ sym (not_scoped es (suc n) b none);
             }
         | false ↦ λ other. elim (in_scope es n) as (λ v. in_scope es n ≡ v → SameTransactions es p (suc n) fs q (suc m)) [
           | true ↦ λ some.
@@ -288,7 +284,7 @@ module _ (es fs : List Event) (n m : ℕ) (e : Event) (here : event_at es (suc n
                       backed = backed;
                       scope = kept_there ∙ sym kept;
                       opened = λ some. let bad : false ≡ true = sym kept ∙ some in cc;
-                      scoped = λ b. scoped-outside fs (suc m) b kept_there ∙ sym (scoped-outside es (suc n) b kept);
+                      scoped = λ b. not_scoped fs (suc m) b kept_there ∙ sym (not_scoped es (suc n) b kept);
                     }
               ] refl
         ] refl

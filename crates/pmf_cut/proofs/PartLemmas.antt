@@ -20,7 +20,7 @@ use Rattle.pmf_event.specs.Exclusion.{excludes, marks, is_excluded}
 use Rattle.pmf_event.specs.Transactions.{begins, ends, opens_scope, closes_scope, depth_at, in_scope}
 use Rattle.pmf_event.proofs.EventLemmas.{last-none, last-other}
 use Rattle.pmf_event.proofs.LineBytesLemmas.{lacks-not}
-use Rattle.pmf_event.proofs.TransactionLemmas.{outside-from, depth-start, scope-start as first-scope, depth-begun, depth-ended, depth-kept, scope-some, scope-none, scoped-from, unscoped-from, scope-stays, scope-opened, scope-kept, scope-closed, in_scope-same}
+use Rattle.pmf_event.proofs.TransactionLemmas.{outside-from, depth-start, scope-start as first-scope, depth-begun, depth-ended, depth-kept, scope-some, scope-none, scoped-from, unscoped-from, scope-stays, scope-opened, scope-kept, scope-closed, in_scope-same, begins-other, ends-other, opens-other, closes-other}
 use Rattle.pmf_shadow.specs.declared.shadow.Shadow.{Shadow}
 use Rattle.pmf_shadow.specs.Shadow.{FollowsAt, StandsFor, Keeps}
 use Rattle.pmf_shadow.proofs.StandsLemmas.{follows-within, stands-fences}
@@ -74,26 +74,6 @@ stands-none part fs events depth scope shadow = record {
 
 -- ---- depth and scope
 
-begins-not : (e : Event) → (e ≡ TxBegin → ⊥) → begins e ≡ false
-unfolding begins
-begins-not TxBegin not_so = absurd (not_so refl)
-begins-not _ not_so = refl
-
-ends-not : (e : Event) → (e ≡ TxEnd → ⊥) → ends e ≡ false
-unfolding ends
-ends-not TxEnd not_so = absurd (not_so refl)
-ends-not _ not_so = refl
-
-opens-not : (e : Event) → (e ≡ CheckStart → ⊥) → opens_scope e ≡ false
-unfolding opens_scope
-opens-not CheckStart not_so = absurd (not_so refl)
-opens-not _ not_so = refl
-
-closes-not : (e : Event) → (e ≡ CheckEnd → ⊥) → closes_scope e ≡ false
-unfolding closes_scope
-closes-not CheckEnd not_so = absurd (not_so refl)
-closes-not _ not_so = refl
-
 module _ (fs : List Event) (m : ℕ) where
   pub depth-begin : event_at fs (suc m) ≡ Some TxBegin → depth_at fs (suc m) ≡ suc (depth_at fs m)
   unfolding begins ends
@@ -104,7 +84,7 @@ module _ (fs : List Event) (m : ℕ) where
   depth-end here = depth-ended fs m TxEnd here refl refl
 
   pub depth-other : (e : Event) → event_at fs (suc m) ≡ Some e → (e ≡ TxBegin → ⊥) → (e ≡ TxEnd → ⊥) → depth_at fs (suc m) ≡ depth_at fs m
-  depth-other e here no_begin no_end = depth-kept fs m e here (begins-not e no_begin) (ends-not e no_end)
+  depth-other e here no_begin no_end = depth-kept fs m e here (begins-other e no_begin) (ends-other e no_end)
 
   pub scope-start : event_at fs (suc m) ≡ Some CheckStart → in_scope fs (suc m) ≡ true
   unfolding opens_scope closes_scope
@@ -118,7 +98,7 @@ module _ (fs : List Event) (m : ℕ) where
   scope-end here = unscoped-from fs (suc m) (scope-closed fs m CheckEnd here refl)
 
   pub scope-other : (e : Event) → event_at fs (suc m) ≡ Some e → (e ≡ CheckStart → ⊥) → (e ≡ CheckEnd → ⊥) → in_scope fs (suc m) ≡ in_scope fs m
-  scope-other e here no_start no_end = in_scope-same fs m (suc m) (scope-kept fs m e here (closes-not e no_end) (opens-not e no_start))
+  scope-other e here no_start no_end = in_scope-same fs m (suc m) (scope-kept fs m e here (closes-other e no_end) (opens-other e no_start))
 
 -- ---- some list is there
 

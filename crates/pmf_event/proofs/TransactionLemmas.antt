@@ -2,6 +2,7 @@
 -- place that opened the scope, and its bytes.
 use Rattle.pmf_event.proofs.Common.{◌≡◌, ℕ, zero, suc, ◌-◌, ◌<◌, ◌≤◌, Bool, true, false, not, ◌&&◌, nat_lt, if◌then◌else◌, List, refl, sym, ◌∙◌, ap, arith, inl, inr, Some, cases_lt, cases_eq, le-ltb, ltb-false, lt-ltb, and_parts, and_from, ltb-true, and-false}
 use Rattle.pmf_event.specs.declared.event.Event.{Event}
+use Rattle.pmf_event.specs.declared.event.Event.TheVariants.{TxBegin, TxEnd, CheckStart, CheckEnd}
 use Rattle.pmf_event.specs.Places.{greatest, least, count, highest}
 use Rattle.pmf_event.specs.Store.{event_at, at, stores, last, last_store}
 use Rattle.pmf_event.specs.Exclusion.{is_included}
@@ -143,6 +144,28 @@ module _ (es : List Event) (p : ℕ) (e : Event) (here : event_at es (suc p) ≡
       ])
       (let within = top.within in omega arith) (step top.place ∙ top.is)
 
+-- ---- the events that mark neither a transaction nor the scope
+
+pub begins-other : (e : Event) → (e ≡ TxBegin → ⊥) → begins e ≡ false
+unfolding begins
+begins-other TxBegin other = absurd (other refl)
+begins-other _ other = refl
+
+pub ends-other : (e : Event) → (e ≡ TxEnd → ⊥) → ends e ≡ false
+unfolding ends
+ends-other TxEnd other = absurd (other refl)
+ends-other _ other = refl
+
+pub opens-other : (e : Event) → (e ≡ CheckStart → ⊥) → opens_scope e ≡ false
+unfolding opens_scope
+opens-other CheckStart other = absurd (other refl)
+opens-other _ other = refl
+
+pub closes-other : (e : Event) → (e ≡ CheckEnd → ⊥) → closes_scope e ≡ false
+unfolding closes_scope
+closes-other CheckEnd other = absurd (other refl)
+closes-other _ other = refl
+
 -- ---- whether a transaction runs
 
 pub inside-from : (es : List Event) (p : ℕ) → 0 < depth_at es p → in_transaction es p ≡ true
@@ -272,6 +295,11 @@ module _ (es : List Event) (p : ℕ) (e : Event) (here : event_at es (suc p) ≡
       ap (λ k. least (opens_after es k) (suc p)) (last-here closes_scope es p e here is) ∙ none
 
 -- ---- the scope's bytes
+
+-- without a scope no byte is one of its
+pub not_scoped : (es : List Event) (p b : ℕ) → in_scope es p ≡ false → is_scoped es p b ≡ false
+unfolding is_scoped
+not_scoped es p b none = ap (λ v. v && nat_lt (scope_at es p) (greatest (stores_inside es b) p)) none
 
 -- a scope that was opened just now has no bytes
 pub scoped-opened : (es : List Event) (p b : ℕ) → scope_at es p ≡ p → is_scoped es p b ≡ false

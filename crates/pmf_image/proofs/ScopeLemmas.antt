@@ -5,7 +5,7 @@ use Rattle.pmf_event.specs.declared.event.Event.TheVariants.{Store, Exclude, Inc
 use Rattle.pmf_event.specs.Prelude.{Extent, covers_byte, greatest, event_at, at, stores, last, excludes, marks, is_excluded, is_included, begins, ends, depth_at, in_transaction, opens_scope, closes_scope, scope_at, in_scope, stores_inside, is_scoped}
 use Rattle.pmf_image.proofs.CertificateLemmas.{stores-other}
 use Rattle.pmf_event.proofs.EventLemmas.{at-is, last-step, last-none}
-use Rattle.pmf_event.proofs.TransactionLemmas.{depth-start, depth-begun, depth-ended, depth-kept, inside-from, scope-start, scope-none, scope-some, scoped-from, unscoped-from, in_scope-same, scope-stays, scope-opened, scope-kept, scope-closed, scoped-opened, scoped-kept, scoped-stored}
+use Rattle.pmf_event.proofs.TransactionLemmas.{depth-start, depth-begun, depth-ended, depth-kept, inside-from, scope-start, scope-none, scope-some, scoped-from, unscoped-from, in_scope-same, scope-stays, scope-opened, scope-kept, scope-closed, scoped-opened, scoped-kept, scoped-stored, not_scoped, begins-other, ends-other, opens-other, closes-other}
 
 -- ---- whether a byte is included
 
@@ -55,10 +55,6 @@ pub record Tracked (es : List Event) (b i depth : ℕ) (opened has : Bool) : Typ
   pub opened_is : opened ≡ in_scope es i
   pub has_is : has ≡ is_scoped es i b
 
-not_scoped : (es : List Event) (p b : ℕ) → in_scope es p ≡ false → is_scoped es p b ≡ false
-unfolding is_scoped
-not_scoped es p b none = ap (λ v. v && nat_lt (scope_at es p) (greatest (stores_inside es b) p)) none
-
 pub tracked-none : (es : List Event) (b : ℕ) → Tracked es b 0 0 false false
 tracked-none es b =
     let none = unscoped-from es 0 (scope-start es) in record {
@@ -66,26 +62,6 @@ tracked-none es b =
       opened_is = sym none;
       has_is = sym (not_scoped es 0 b none);
     }
-
-begins-other : (e : Event) → (e ≡ TxBegin → ⊥) → begins e ≡ false
-unfolding begins
-begins-other TxBegin other = absurd (other refl)
-begins-other _ other = refl
-
-ends-other : (e : Event) → (e ≡ TxEnd → ⊥) → ends e ≡ false
-unfolding ends
-ends-other TxEnd other = absurd (other refl)
-ends-other _ other = refl
-
-opens-other : (e : Event) → (e ≡ CheckStart → ⊥) → opens_scope e ≡ false
-unfolding opens_scope
-opens-other CheckStart other = absurd (other refl)
-opens-other _ other = refl
-
-closes-other : (e : Event) → (e ≡ CheckEnd → ⊥) → closes_scope e ≡ false
-unfolding closes_scope
-closes-other CheckEnd other = absurd (other refl)
-closes-other _ other = refl
 
 third-false : (u v w deep : Bool) → (u && v && w) ≡ false → v ≡ true → u ≡ deep → (w && deep) ≡ false
 third-false true true true deep none is same = let bad : true ≡ false = none in cc
