@@ -1,12 +1,6 @@
 -- A finding by its parts.
-use Rattle.pmf_event.proofs.Common.{◌≡◌, ℕ, ◌<◌, Bool, true, false, not, ◌&&◌, if◌then◌else◌, List, refl, sym, ◌∙◌, ap, arith, Option, Some, None, is_some, is_none, and_parts, ltb-true, ne_eqb, eq-eqb}
-use Rattle.pmf_event.specs.declared.event.Event.{Event}
-use Rattle.pmf_event.specs.declared.finding.Finding.{Finding}
-use Rattle.pmf_event.specs.declared.finding.Finding.TheVariants.{PersistEmpty, OrderedEmpty}
-use Rattle.pmf_event.specs.declared.interval.Interval.{Interval}
-use Rattle.pmf_event.specs.declared.profile.Profile.{Profile}
-use Rattle.pmf_event.specs.Prelude.{line_of_byte, last_store, epoch_of, stores, interval_at, closing_fence, epoch_after, Extent, first_byte, is_checked, is_exposed, pass_unless, persist_finding, is_ordered, is_unordered, is_certified, least_pair, finding_of_pairs, ordered_finding}
-use Rattle.pmf_event.proofs.LeastPairLemmas.{pair-from, certified-unordered}
+use Rattle.std.proofs.{Common.{◌≡◌, ℕ, ◌<◌, Bool, true, false, not, ◌&&◌, if◌then◌else◌, List, refl, sym, ◌∙◌, ap, arith, Option, Some, None, is_some, is_none, ne_eqb, eq-eqb}, lemmas.Bool.{and_parts, ltb-true}}
+use Rattle.pmf_event.{specs.declared.event.Event.{Event}, specs.declared.finding.Finding.{Finding}, specs.declared.finding.Finding.TheVariants.{PersistEmpty, OrderedEmpty}, specs.declared.interval.Interval.{Interval}, specs.declared.profile.Profile.{Profile}, specs.Line.{line_of_byte}, specs.Store.{last_store, epoch_of, stores}, specs.Interval.{interval_at, closing_fence, epoch_after}, specs.Span.{Extent}, specs.Ranges.{first_byte}, specs.Persist.{is_checked, is_exposed, pass_unless, persist_finding}, specs.Order.{is_ordered, is_unordered, is_certified, least_pair, finding_of_pairs, ordered_finding}, proofs.LeastPairLemmas.{pair-from, certified-unordered}}
 use Rattle.pmf_shadow.specs.Told.{interval_as_told}
 
 is_none-by : (o : Option ℕ) (v : Bool) → is_some o ≡ v → is_none o ≡ (if v then false else true)

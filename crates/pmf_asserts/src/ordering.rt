@@ -1,9 +1,8 @@
 //! What an order assertion finds.
 
 ghost use Rattle.std.specs.Prelude.{◌≡◌, ◌<◌};
-ghost use Rattle.pmf_event.specs.Prelude.{last_store, ordered_finding};
-ghost use Rattle.pmf_shadow.specs.Shadow.{ForEachList};
-ghost use Rattle.pmf_shadow.specs.Told.{KeepsOrder, finding_as_told};
+ghost use Rattle.pmf_event.specs.{Store.{last_store}, Order.{ordered_finding}};
+ghost use Rattle.pmf_shadow.specs.{Shadow.{ForEachList}, Told.{KeepsOrder, finding_as_told}};
 
 use pmf_event::{Finding, Profile, Span};
 use pmf_shadow::Shadow;

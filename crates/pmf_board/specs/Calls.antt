@@ -1,11 +1,6 @@
 -- What a call on a board does to what its pass knows. Defined here.
 use Rattle.std.specs.Prelude.{◌≡◌, ℕ, ◌+◌, ◌-◌, ◌%◌, ◌<◌, ◌≤◌, ◌↔◌, true, leb, if◌then◌else◌, List, [], ◌∷◌, ◌++◌}
-use Rattle.pmf_board.specs.declared.entry.Entry.{Entry}
-use Rattle.pmf_board.specs.declared.task.Task.{Task}
-use Rattle.pmf_board.specs.declared.view.View.{View}
-use Rattle.pmf_board.specs.Machine.{entry_at}
-use Rattle.pmf_board.specs.Rule.{due}
-use Rattle.pmf_board.specs.Views.{times, most_seen, HasMarked, HasTaken, HasSeenDone, HasSeenClosed, NeverFalls}
+use Rattle.pmf_board.specs.{declared.entry.Entry.{Entry}, declared.task.Task.{Task}, declared.view.View.{View}, Machine.{entry_at}, Rule.{due}, Views.{times, most_seen, HasMarked, HasTaken, HasSeenDone, HasSeenClosed, NeverFalls}}
 
 -- the pass took and marked nothing more, its shares are the same, and what it saw never falls
 pub record Stays (old new : View) : Type 0 where

@@ -1,12 +1,8 @@
 -- The board machine, told by the words and the views of a board. Defined here.
 use Rattle.std.specs.Prelude.{◌≡◌, ℕ, ◌+◌, ◌<◌, ◌≤◌, List, map, length, set, bit_or, Some, None}
+use Rattle.pmf_board.specs.{declared.entry.Entry.{Entry}, declared.view.View.{View}, Machine.{entry_at, hand_out, mark, take_below}, Rule.{IsKept, word_of}, Views.{task, took, marked}}
 use mathlib.Core.Option.{some}
 use lib.ListN.{get_elem?}
-use Rattle.pmf_board.specs.declared.entry.Entry.{Entry}
-use Rattle.pmf_board.specs.declared.view.View.{View}
-use Rattle.pmf_board.specs.Machine.{entry_at, hand_out, mark, take_below}
-use Rattle.pmf_board.specs.Rule.{IsKept, word_of}
-use Rattle.pmf_board.specs.Views.{task, took, marked}
 
 -- what a take of the machine gives is told by the section's word: where it is below the limit, the number one above it; else nothing
 abbrev pub TakesAreToldByWords : Type 0

@@ -1,8 +1,7 @@
 -- A board and a pass as contracts see them. Defined here.
 use Rattle.std.specs.Prelude.{ℕ, ◌<◌, ◌≤◌}
 use Rattle.atomic_table.specs.Seated.{TableId}
-use Rattle.pmf_board.specs.declared.view.View.{View}
-use Rattle.pmf_board.specs.Views.{times}
+use Rattle.pmf_board.specs.{declared.view.View.{View}, Views.{times}}
 
 -- which board it is: no other has the same. Its words are its sections
 abbrev pub BoardId : Type 0

@@ -1,11 +1,8 @@
 -- The board's rule on its words and on the views of all passes. Defined here.
 use Rattle.std.specs.Prelude.{◌≡◌, ℕ, ◌+◌, ◌%◌, ◌<◌, ◌≤◌, true, cond, ◌&&◌, leb, List, map, length, sum_by, ◌↔◌}
+use Rattle.pmf_board.specs.{declared.entry.Entry.{Entry}, declared.view.View.{View}, Machine.{entry, entry_at}, Views.{times, marks, most_seen, spent, HasSeenDone, HasMarked}}
 use mathlib.Core.Option.{some}
 use lib.ListN.{get_elem?}
-use Rattle.pmf_board.specs.declared.entry.Entry.{Entry}
-use Rattle.pmf_board.specs.declared.view.View.{View}
-use Rattle.pmf_board.specs.Machine.{entry, entry_at}
-use Rattle.pmf_board.specs.Views.{times, marks, most_seen, spent, HasSeenDone, HasMarked}
 
 -- an entry as a number: the hand-outs, and 16 more where it is done
 abbrev pub word_of : Entry → ℕ

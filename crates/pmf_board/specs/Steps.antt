@@ -1,9 +1,7 @@
 -- What one step on the board's table tells its pass. Defined here.
 use Rattle.std.specs.Prelude.{◌≡◌, ◌≢◌, ℕ, ◌+◌, ◌≤◌}
 use Rattle.atomic_table.specs.Table.{Step, Me}
-use Rattle.pmf_board.specs.declared.view.View.{View}
-use Rattle.pmf_board.specs.Views.{task, times, seen, took, marked}
-use Rattle.pmf_board.specs.Rule.{Agrees, entry_of}
+use Rattle.pmf_board.specs.{declared.view.View.{View}, Views.{task, times, seen, took, marked}, Rule.{Agrees, entry_of}}
 
 -- what a seat knows, and the slots it holds
 abbrev pub Mine : Type 0

@@ -1,10 +1,6 @@
 -- What a pass took, marked and saw, told by looking back over its lists. Defined here.
 use Rattle.std.specs.Prelude.{ℕ, ◌+◌, ◌-◌, ◌<◌, ◌≤◌, max, Bool, true, false, cond, ◌&&◌, eqb, ◌⊎◌, List, [], ◌∷◌, ◌++◌, count_by}
-use Rattle.pmf_board.specs.declared.entry.Entry.{Entry}
-use Rattle.pmf_board.specs.declared.task.Task.{Task}
-use Rattle.pmf_board.specs.declared.view.Sight.{Sight}
-use Rattle.pmf_board.specs.declared.view.View.{View}
-use Rattle.pmf_board.specs.Machine.{entry}
+use Rattle.pmf_board.specs.{declared.entry.Entry.{Entry}, declared.task.Task.{Task}, declared.view.Sight.{Sight}, declared.view.View.{View}, Machine.{entry}}
 
 -- the task of the section with this number
 abbrev pub task : ℕ → ℕ → Task

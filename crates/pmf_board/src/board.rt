@@ -1,8 +1,7 @@
 //! A board, and how it is made.
 
 ghost use Rattle.std.specs.Prelude.{◌≡◌, ◌<◌, ◌≤◌, ◌↔◌, [], vec_capacity, Err, IfErr, IfOk, ◌≢◌};
-ghost use Rattle.pmf_board.specs.Passes.{BoardId, PassValue};
-ghost use Rattle.pmf_board.specs.Views.{first_view};
+ghost use Rattle.pmf_board.specs.{Passes.{BoardId, PassValue}, Views.{first_view}};
 
 use crate::entry::Entry;
 use crate::fault::BoardFault;

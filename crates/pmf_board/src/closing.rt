@@ -1,9 +1,7 @@
 //! A board is closed, and what stands of its sections is told.
 
-ghost use Rattle.std.specs.Prelude.{◌≡◌, ◌↔◌, ◌≤◌, [], length, map, vec_capacity, IfErr, IfOk, IsOk};
-ghost use Rattle.std.specs.Mem.Slots.{slots_items, slots_len, IsFull};
-ghost use Rattle.pmf_board.specs.Calls.{IsTallied};
-ghost use Rattle.pmf_board.specs.Rule.{entry_of};
+ghost use Rattle.std.specs.{Prelude.{◌≡◌, ◌↔◌, ◌≤◌, [], length, map, vec_capacity, IfErr, IfOk, IsOk}, Mem.Slots.{slots_items, slots_len, IsFull}};
+ghost use Rattle.pmf_board.specs.{Calls.{IsTallied}, Rule.{entry_of}};
 
 use crate::board::Board;
 use crate::entry::Entry;

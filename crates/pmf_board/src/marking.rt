@@ -1,8 +1,7 @@
 //! Sections are marked as done, and asked for.
 
 ghost use Rattle.std.specs.Prelude.{◌≡◌, ◌⊎◌, ◌<◌, true};
-ghost use Rattle.pmf_board.specs.Calls.{Marks, Stays};
-ghost use Rattle.pmf_board.specs.Views.{HasMarked, HasSeenDone, HasTaken};
+ghost use Rattle.pmf_board.specs.{Calls.{Marks, Stays}, Views.{HasMarked, HasSeenDone, HasTaken}};
 
 use crate::board::Board;
 use crate::pass::Pass;

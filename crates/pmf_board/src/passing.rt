@@ -1,8 +1,7 @@
 //! Passes are split and joined.
 
 ghost use Rattle.std.specs.Prelude.{◌≡◌, ◌↔◌, ◌+◌, ◌≤◌, ℕ, Err, IfErr, IfOk, OnErr, OnOk};
-ghost use Rattle.pmf_board.specs.Passes.{PassValue};
-ghost use Rattle.pmf_board.specs.Views.{both, given, kept, times, NeverFalls};
+ghost use Rattle.pmf_board.specs.{Passes.{PassValue}, Views.{both, given, kept, times, NeverFalls}};
 
 use crate::board::Board;
 use crate::fault::BoardFault;

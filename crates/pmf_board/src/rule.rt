@@ -1,8 +1,6 @@
 //! The rule that the board's table keeps, and what its steps tell.
 
-ghost use Rattle.pmf_board.specs.Rule.{Rules};
-ghost use Rattle.pmf_board.specs.Steps.{counted, exchanged, looked, raised};
-ghost use Rattle.pmf_board.specs.Views.{both, first_view, given, kept, spent};
+ghost use Rattle.pmf_board.specs.{Rule.{Rules}, Steps.{counted, exchanged, looked, raised}, Views.{both, first_view, given, kept, spent}};
 
 use crate::view::View;
 use atomic_table::{Join, Play, Split, TableRule};

@@ -1,8 +1,7 @@
 //! The single steps of a pass on the board's words.
 
 ghost use Rattle.std.specs.Prelude.{◌≡◌, ◌≢◌, ◌+◌, ◌<◌, ◌≤◌, false};
-ghost use Rattle.pmf_board.specs.Rule.{Agrees, entry_of};
-ghost use Rattle.pmf_board.specs.Views.{seen, task, took};
+ghost use Rattle.pmf_board.specs.{Rule.{Agrees, entry_of}, Views.{seen, task, took}};
 
 use crate::board::Board;
 use crate::pass::Pass;

@@ -1,8 +1,7 @@
 //! Sections are taken.
 
 ghost use Rattle.std.specs.Prelude.{◌≡◌, ◌<◌, ◌≤◌, ℕ, IfNone, IfSome};
-ghost use Rattle.pmf_board.specs.Calls.{PassesOver, PassesOverAll, Stays, Takes};
-ghost use Rattle.pmf_board.specs.Views.{HasSeenClosed};
+ghost use Rattle.pmf_board.specs.{Calls.{PassesOver, PassesOverAll, Stays, Takes}, Views.{HasSeenClosed}};
 
 use crate::board::Board;
 use crate::pass::Pass;

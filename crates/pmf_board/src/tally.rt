@@ -1,8 +1,7 @@
 //! What a closed board tells.
 
 ghost use Rattle.std.specs.Prelude.{◌≡◌, ◌<◌, List, length};
-ghost use Rattle.pmf_board.specs.declared.entry.Entry.{Entry};
-ghost use Rattle.pmf_board.specs.Machine.{entry_at};
+ghost use Rattle.pmf_board.specs.{declared.entry.Entry.{Entry}, Machine.{entry_at}};
 
 use crate::entry::Entry;
 use std::marker::Model;

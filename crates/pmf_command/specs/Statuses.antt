@@ -1,39 +1,26 @@
 -- The exit statuses (defined here).
 use Rattle.std.specs.Prelude.{◌≡◌, ◌⊎◌, ℕ, ◌==◌, Result, Ok, Err, if◌then◌else◌}
-use Rattle.clap.specs.declared.error.kind.ErrorKind.{ErrorKind}
-use Rattle.clap.specs.declared.error.kind.ErrorKind.TheVariants.{DisplayHelp, DisplayVersion, OutOfMemory}
-use Rattle.pmf_storelog.specs.declared.fault.Cause.{Cause}
-use Rattle.pmf_storelog.specs.declared.fault.LogFault.{LogFault}
+use Rattle.clap.specs.declared.error.kind.{ErrorKind.{ErrorKind}, ErrorKind.TheVariants.{DisplayHelp, DisplayVersion, OutOfMemory}}
+use Rattle.pmf_storelog.specs.declared.fault.{Cause.{Cause}, LogFault.{LogFault}}
 use Rattle.pmf_cut.specs.declared.fault.CutFault.{CutFault}
+use Rattle.pmf_ledger.specs.declared.{joining.JoinFault.{JoinFault}, loading.LedgerFault.{LedgerFault}}
+use Rattle.pmf_farm.specs.declared.fault.FarmFault.{FarmFault}
+use Rattle.pmf_stream.specs.declared.{checking.CheckLogFault.{CheckLogFault}, checking.Done.{Done}, cutting.Pieces.{Pieces}, joining.Joined.{Joined}, joining.JoinTextFault.{JoinTextFault}, fault.StreamFault.{StreamFault}}
+use Rattle.pmf_query.specs.declared.{lint.Linted.{Linted}, refusal.EventFault.{EventFault}, refusal.EventRefusal.{EventRefusal}, refusal.LogRefusal.{LogRefusal}}
+use Rattle.pmf_world.specs.declared.{fault.WorldNewFault.{WorldNewFault}, simulating.SimFault.{SimFault}}
+use Rattle.pmf_command.specs.declared.status.{Status.{Status}, Status.TheVariants.{NoFail, SomeFail, Refused, NoMemory, DeviceFault}}
 use Rattle.pmf_cut.specs.declared.fault.CutFault.TheVariants as cutting
 use Rattle.pmf_storelog.specs.declared.fault.Cause.TheVariants as log
-use Rattle.pmf_ledger.specs.declared.joining.JoinFault.{JoinFault}
-use Rattle.pmf_ledger.specs.declared.loading.LedgerFault.{LedgerFault}
 use Rattle.pmf_ledger.specs.declared.joining.JoinFault.TheVariants as joining
 use Rattle.pmf_ledger.specs.declared.loading.LedgerFault.TheVariants as loading
-use Rattle.pmf_farm.specs.declared.fault.FarmFault.{FarmFault}
 use Rattle.pmf_farm.specs.declared.fault.FarmFault.TheVariants as farm
-use Rattle.pmf_stream.specs.declared.checking.CheckLogFault.{CheckLogFault}
 use Rattle.pmf_stream.specs.declared.checking.CheckLogFault.TheVariants as checking
-use Rattle.pmf_stream.specs.declared.checking.Done.{Done}
-use Rattle.pmf_query.specs.declared.lint.Linted.{Linted}
-use Rattle.pmf_query.specs.declared.refusal.EventFault.{EventFault}
 use Rattle.pmf_query.specs.declared.refusal.EventFault.TheVariants as event
-use Rattle.pmf_query.specs.declared.refusal.EventRefusal.{EventRefusal}
-use Rattle.pmf_query.specs.declared.refusal.LogRefusal.{LogRefusal}
 use Rattle.pmf_query.specs.declared.refusal.LogRefusal.TheVariants as whole
-use Rattle.pmf_stream.specs.declared.cutting.Pieces.{Pieces}
-use Rattle.pmf_stream.specs.declared.joining.Joined.{Joined}
-use Rattle.pmf_stream.specs.declared.joining.JoinTextFault.{JoinTextFault}
 use Rattle.pmf_stream.specs.declared.joining.JoinTextFault.TheVariants as texts
-use Rattle.pmf_stream.specs.declared.fault.StreamFault.{StreamFault}
 use Rattle.pmf_stream.specs.declared.fault.StreamFault.TheVariants as stream
-use Rattle.pmf_world.specs.declared.fault.WorldNewFault.{WorldNewFault}
 use Rattle.pmf_world.specs.declared.fault.WorldNewFault.TheVariants as new
-use Rattle.pmf_world.specs.declared.simulating.SimFault.{SimFault}
 use Rattle.pmf_world.specs.declared.simulating.SimFault.TheVariants as sim
-use Rattle.pmf_command.specs.declared.status.Status.{Status}
-use Rattle.pmf_command.specs.declared.status.Status.TheVariants.{NoFail, SomeFail, Refused, NoMemory, DeviceFault}
 
 -- the number that the program exits with
 abbrev pub exit_code_of : Status → ℕ

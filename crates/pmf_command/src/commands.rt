@@ -1,21 +1,9 @@
 //! What the program does.
 
-ghost use Rattle.std.specs.Prelude.{◌≡◌, ◌⊎◌, ◌↔◌, ◌<◌, ◌+◌, ◌^◌, map, Result};
-ghost use Rattle.std.specs.Io.KnownBytes.{Appends};
+ghost use Rattle.std.specs.{Prelude.{◌≡◌, ◌⊎◌, ◌↔◌, ◌<◌, ◌+◌, ◌^◌, map, Result}, Io.KnownBytes.{Appends}};
 ghost use Rattle.clap.specs.Words.{kind_of};
-ghost use Rattle.pmf_stream.specs.Simulated.{IsSimRefusalOf, IsSimulationOf};
+ghost use Rattle.pmf_stream.specs.{Simulated.{IsSimRefusalOf, IsSimulationOf}, Answering.{Answers, TellsFaults, failed_reads, failed_writes}, Asked.{IsAnswerOf, IsRefusalOf}, Checking.{IsCheckFaultOf, IsReportOf}, Failures.{CanCountOneMore}, Joining.{IsJoinedText, IsRefusalOfTexts}, declared.checking.CheckLogFault.{CheckLogFault}, declared.checking.Done.{Done}, declared.cutting.Pieces.{Pieces}, declared.fault.StreamFault.{StreamFault}, declared.joining.Joined.{Joined}, declared.joining.JoinTextFault.{JoinTextFault}};
 ghost use Rattle.pmf_cut.specs.declared.fault.CutFault.{CutFault};
-ghost use Rattle.pmf_stream.specs.Answering.{Answers, TellsFaults, failed_reads, failed_writes};
-ghost use Rattle.pmf_stream.specs.Asked.{IsAnswerOf, IsRefusalOf};
-ghost use Rattle.pmf_stream.specs.Checking.{IsCheckFaultOf, IsReportOf};
-ghost use Rattle.pmf_stream.specs.Failures.{CanCountOneMore};
-ghost use Rattle.pmf_stream.specs.Joining.{IsJoinedText, IsRefusalOfTexts};
-ghost use Rattle.pmf_stream.specs.declared.checking.CheckLogFault.{CheckLogFault};
-ghost use Rattle.pmf_stream.specs.declared.checking.Done.{Done};
-ghost use Rattle.pmf_stream.specs.declared.cutting.Pieces.{Pieces};
-ghost use Rattle.pmf_stream.specs.declared.fault.StreamFault.{StreamFault};
-ghost use Rattle.pmf_stream.specs.declared.joining.Joined.{Joined};
-ghost use Rattle.pmf_stream.specs.declared.joining.JoinTextFault.{JoinTextFault};
 ghost use Rattle.pmf_command.specs.Statuses.{IsAnswerTo, status_of, status_of_asked, status_of_check_fault, status_of_cut_fault, status_of_done, status_of_joined, status_of_pieces, status_of_sim_fault, status_of_text_fault};
 
 use crate::diagnostics::{

@@ -1,8 +1,7 @@
 //! The status of each answer of a command.
 
 ghost use Rattle.std.specs.Prelude.{◌≡◌};
-ghost use Rattle.pmf_command.specs.Statuses.{status_of_asked, status_of_check_fault, status_of_cut_fault, status_of_done, status_of_event_refusal, status_of_farm_fault, status_of_fails, status_of_fault, status_of_join_fault, status_of_joined, status_of_ledger_fault, status_of_linted, status_of_log_fault, status_of_log_refusal, status_of_new_fault, status_of_pieces, status_of_sim_fault, status_of_text_fault};
-ghost use Rattle.pmf_command.specs.declared.status.Status.{Status};
+ghost use Rattle.pmf_command.specs.{Statuses.{status_of_asked, status_of_check_fault, status_of_cut_fault, status_of_done, status_of_event_refusal, status_of_farm_fault, status_of_fails, status_of_fault, status_of_join_fault, status_of_joined, status_of_ledger_fault, status_of_linted, status_of_log_fault, status_of_log_refusal, status_of_new_fault, status_of_pieces, status_of_sim_fault, status_of_text_fault}, declared.status.Status.{Status}};
 
 use crate::status::Status;
 use pmf_cut::CutFault;

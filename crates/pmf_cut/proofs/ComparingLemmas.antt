@@ -1,19 +1,7 @@
 -- A comparison goes on from run to run.
-use Rattle.std.proofs.Common.{◌≡◌, ℕ, ◌-◌, ◌/◌, ◌%◌, ◌<◌, ◌≤◌, true, false, not, ◌&&◌, ◌||◌, ◌==◌, nat_lt, if◌then◌else◌, List, [], ◌∷◌, ◌++◌, refl, sym, ◌∙◌, ap, arith, inl, inr}
-use Rattle.std.specs.Prelude.{Some, None, is_some, is_none}
-use Rattle.std.specs.Cmp.{booleans_Decides}
-use Rattle.std.proofs.Math.Bool.{beq}
-use Rattle.std.proofs.lemmas.Bool.{cases_lt, cases_eq, le-ltb, and_parts, and_from, ne_eqb}
-use Rattle.std.proofs.lemmas.Bool.Decides.{Decides-eqb}
-use Rattle.pmf_event.specs.declared.event.Event.{Event}
-use Rattle.pmf_event.specs.declared.span.TheConstants.{LINE_SIZE}
-use Rattle.pmf_event.specs.Line.{line_of_byte}
-use Rattle.pmf_event.specs.Store.{last_store}
-use Rattle.pmf_event.specs.Order.{is_stored_before}
-use Rattle.pmf_event.specs.LineBytes.{is_undurable}
-use Rattle.pmf_event.proofs.LineLemmas.{line-bounds, line-unique}
-use Rattle.pmf_shadow.specs.declared.standing.Standing.{Standing}
-use Rattle.pmf_shadow.specs.Standing.{place_as_told, AllStandSo}
+use Rattle.std.{proofs.Common.{◌≡◌, ℕ, ◌-◌, ◌/◌, ◌%◌, ◌<◌, ◌≤◌, true, false, not, ◌&&◌, ◌||◌, ◌==◌, nat_lt, if◌then◌else◌, List, [], ◌∷◌, ◌++◌, refl, sym, ◌∙◌, ap, arith, inl, inr, Some, None, is_some, is_none, le-ltb, ne_eqb}, specs.Cmp.{booleans_Decides}, proofs.Math.Bool.{beq}, proofs.lemmas.Bool.{cases_lt, cases_eq, and_parts, and_from}, proofs.lemmas.Bool.Decides.{Decides-eqb}}
+use Rattle.pmf_event.{specs.declared.event.Event.{Event}, specs.declared.span.TheConstants.{LINE_SIZE}, specs.Line.{line_of_byte}, specs.Store.{last_store}, specs.Order.{is_stored_before}, specs.LineBytes.{is_undurable}, proofs.LineLemmas.{line-bounds, line-unique}}
+use Rattle.pmf_shadow.specs.{declared.standing.Standing.{Standing}, Standing.{place_as_told, AllStandSo}}
 use Rattle.pmf_cut.specs.Comparing.{is_same_order, agrees, SameByte, standings_agree, both_places, places_of, seen_at, seen_behind, Extends, Compared}
 
 agrees-front : (xs : List (ℕ × ℕ)) (pair : ℕ × ℕ) (u v : ℕ) → agrees (xs ++ pair ∷ []) u v ≡ true → agrees xs u v ≡ true

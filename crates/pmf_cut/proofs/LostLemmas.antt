@@ -1,25 +1,9 @@
 -- What is asked of the past of a part, run by run.
-use Rattle.std.proofs.Common.{◌≡◌, ℕ, ◌+◌, ◌-◌, ◌<◌, ◌≤◌, Bool, true, false, not, ◌&&◌, nat_le, if◌then◌else◌, List, refl, sym, ◌∙◌, ap, arith, inl, inr}
-use Rattle.std.specs.Prelude.{Some, None, is_some, is_none}
-use Rattle.std.proofs.lemmas.Bool.{cases_lt, and_from, le-leb, lt-ltb}
-use Rattle.pmf_event.specs.declared.event.Event.{Event}
-use Rattle.pmf_event.specs.Span.{Extent, covers_byte}
-use Rattle.pmf_event.specs.Ranges.{first_from, first_byte}
-use Rattle.pmf_event.specs.Store.{last_store}
-use Rattle.pmf_event.specs.Exclusion.{is_excluded}
-use Rattle.pmf_event.specs.Persist.{is_checked}
-use Rattle.pmf_event.proofs.LineLemmas.{covers-bounds}
-use Rattle.pmf_event.proofs.RangeLemmas.{none-from, none-passes, first-passes}
-use Rattle.pmf_shadow.specs.declared.shadow.Shadow.{Shadow}
-use Rattle.pmf_shadow.specs.declared.standing.Standing.{Standing}
-use Rattle.pmf_shadow.specs.Shadow.{StandsFor, ForEachList}
-use Rattle.pmf_shadow.specs.Standing.{place_as_told, AllStandSo}
+use Rattle.std.proofs.{Common.{◌≡◌, ℕ, ◌+◌, ◌-◌, ◌<◌, ◌≤◌, Bool, true, false, not, ◌&&◌, nat_le, if◌then◌else◌, List, refl, sym, ◌∙◌, ap, arith, inl, inr, Some, None, is_some, is_none, le-leb, lt-ltb}, lemmas.Bool.{cases_lt, and_from}}
+use Rattle.pmf_event.{specs.declared.event.Event.{Event}, specs.Span.{Extent, covers_byte}, specs.Ranges.{first_from, first_byte}, specs.Store.{last_store}, specs.Exclusion.{is_excluded}, specs.Persist.{is_checked}, proofs.LineLemmas.{covers-bounds}, proofs.RangeLemmas.{none-from, none-passes, first-passes}}
+use Rattle.pmf_shadow.specs.{declared.shadow.Shadow.{Shadow}, declared.standing.Standing.{Standing}, Shadow.{StandsFor, ForEachList}, Standing.{place_as_told, AllStandSo}}
 use Rattle.pmf_runs.specs.Runs.{state_at, passing, is_between, ChangesBetween}
-use Rattle.pmf_cut.specs.declared.lost.Past.{Past}
-use Rattle.pmf_cut.specs.Behind.{SameBytes}
-use Rattle.pmf_cut.specs.Lost.{HasOld, NoneOld, NoneTold, Knows, is_unknown, is_within, is_told_again}
-use Rattle.pmf_cut.proofs.ComparingLemmas.{place-is, place-none}
-use Rattle.pmf_cut.proofs.RowLemmas.{checked-parts, checked-from}
+use Rattle.pmf_cut.{specs.declared.lost.Past.{Past}, specs.Behind.{SameBytes}, specs.Lost.{HasOld, NoneOld, NoneTold, Knows, is_unknown, is_within, is_told_again}, proofs.ComparingLemmas.{place-is, place-none}, proofs.RowLemmas.{checked-parts, checked-from}}
 
 -- the state of a byte as a test of the runs
 member-is : (past : Past) (first n : ℕ) → first_from (passing (λ (v : Bool). v) past.bytes) first n ≡ None → (b : ℕ) → first ≤ b → b < first + n → state_at past.bytes b ≡ false

@@ -1,34 +1,9 @@
 -- A part takes one event more.
 use mathlib.Core.Logic.{∥∥₁_elim, ∥∥₁_map}
-use Rattle.std.proofs.Props.{props}
-use Rattle.std.proofs.lemmas.List.{length-append}
-use Rattle.std.proofs.Common.{◌≡◌, ℕ, suc, ◌+◌, ◌-◌, ◌<◌, ◌≤◌, true, false, ◌&&◌, nat_le, if◌then◌else◌, List, [], ◌∷◌, ◌++◌, length, refl, sym, ◌∙◌, ap, subst, arith, inl, inr}
-use Rattle.std.specs.Prelude.{Some}
-use Rattle.std.proofs.Math.Bool.{and-false}
-use Rattle.std.proofs.lemmas.Bool.{cases_lt, le-ltb}
-use Rattle.pmf_event.specs.declared.event.Event.{Event}
-use Rattle.pmf_event.specs.declared.event.Event.TheVariants.{Store, Exclude, Include, TxBegin, TxEnd, CheckStart, CheckEnd}
-use Rattle.pmf_event.specs.declared.section.TheConstants.{EVENT_LIMIT}
-use Rattle.pmf_event.specs.declared.span.TheConstants.{ADDRESS_LIMIT}
-use Rattle.pmf_event.specs.Span.{Extent, IsValidExtent, covers_byte}
-use Rattle.pmf_event.specs.Section.{IsValidEvent}
-use Rattle.pmf_event.specs.Line.{line_of_byte}
-use Rattle.pmf_event.specs.Store.{event_at, at, stores, last_store}
-use Rattle.pmf_event.specs.Interval.{first_write_back, closing_fence}
-use Rattle.pmf_event.specs.LineBytes.{is_undurable, is_unwritten}
-use Rattle.pmf_event.specs.Exclusion.{excludes, marks, is_excluded}
-use Rattle.pmf_event.specs.Transactions.{begins, ends, opens_scope, closes_scope, depth_at, in_scope}
-use Rattle.pmf_event.proofs.EventLemmas.{last-none, last-other}
-use Rattle.pmf_event.proofs.LineBytesLemmas.{lacks-not}
-use Rattle.pmf_event.proofs.TransactionLemmas.{outside-from, depth-start, scope-start as first-scope, depth-begun, depth-ended, depth-kept, scope-some, scope-none, scoped-from, unscoped-from, scope-stays, scope-opened, scope-kept, scope-closed, in_scope-same, begins-other, ends-other, opens-other, closes-other}
-use Rattle.pmf_shadow.specs.declared.shadow.Shadow.{Shadow}
-use Rattle.pmf_shadow.specs.Shadow.{FollowsAt, StandsFor, Keeps}
-use Rattle.pmf_shadow.proofs.StandsLemmas.{follows-within, stands-fences}
-use Rattle.pmf_cut.specs.declared.part.Part.{Part}
-use Rattle.pmf_cut.specs.Alike.{IsAlike}
-use Rattle.pmf_cut.specs.Comparing.{IsAlikeBelow}
-use Rattle.pmf_cut.specs.Parts.{LiesLow, Stands, Follows, BeginsWith, Renews}
-use Rattle.pmf_cut.proofs.StepLemmas.{excluded-step}
+use Rattle.std.proofs.{Props.{props}, Common.{length-append, ◌≡◌, ℕ, suc, ◌+◌, ◌-◌, ◌<◌, ◌≤◌, true, false, ◌&&◌, nat_le, if◌then◌else◌, List, [], ◌∷◌, ◌++◌, length, refl, sym, ◌∙◌, ap, subst, arith, inl, inr, Some, le-ltb}, Math.Bool.{and-false}, lemmas.Bool.{cases_lt}}
+use Rattle.pmf_event.{specs.declared.event.Event.{Event}, specs.declared.event.Event.TheVariants.{Store, Exclude, Include, TxBegin, TxEnd, CheckStart, CheckEnd}, specs.declared.section.TheConstants.{EVENT_LIMIT}, specs.declared.span.TheConstants.{ADDRESS_LIMIT}, specs.Span.{Extent, IsValidExtent, covers_byte}, specs.Section.{IsValidEvent}, specs.Line.{line_of_byte}, specs.Store.{event_at, at, stores, last_store}, specs.Interval.{first_write_back, closing_fence}, specs.LineBytes.{is_undurable, is_unwritten}, specs.Exclusion.{excludes, marks, is_excluded}, specs.Transactions.{begins, ends, opens_scope, closes_scope, depth_at, in_scope}, proofs.EventLemmas.{last-none, last-other}, proofs.LineBytesLemmas.{lacks-not}, proofs.TransactionLemmas.{outside-from, depth-start, scope-start as first-scope, depth-begun, depth-ended, depth-kept, scope-some, scope-none, scoped-from, unscoped-from, scope-stays, scope-opened, scope-kept, scope-closed, in_scope-same, begins-other, ends-other, opens-other, closes-other}}
+use Rattle.pmf_shadow.{specs.declared.shadow.Shadow.{Shadow}, specs.Shadow.{FollowsAt, StandsFor, Keeps}, proofs.StandsLemmas.{follows-within, stands-fences}}
+use Rattle.pmf_cut.{specs.declared.part.Part.{Part}, specs.Alike.{IsAlike}, specs.Comparing.{IsAlikeBelow}, specs.Parts.{LiesLow, Stands, Follows, BeginsWith, Renews}, proofs.StepLemmas.{excluded-step}}
 
 high-uncovered : (s : Extent) (b : ℕ) → IsValidExtent s.first s.size → ADDRESS_LIMIT ≤ b → covers_byte s b ≡ false
 high-uncovered s b valid high = let ends = valid.ends in ap (λ v. nat_le s.first b && v) (le-ltb b (s.first + s.size) (omega arith)) ∙ and-false (nat_le s.first b)

@@ -1,28 +1,7 @@
 -- What is found behind a cut: of the part as of the whole.
-use Rattle.std.proofs.Common.{◌≡◌, ◌⊎◌, ℕ, ◌<◌, Bool, true, false, not, ◌&&◌, ◌||◌, ◌==◌, nat_lt, if◌then◌else◌, List, refl, sym, ◌∙◌, ap, subst, arith, inl, inr}
-use Rattle.std.specs.Prelude.{Option, Some, None, is_some, is_none}
-use Rattle.std.specs.Cmp.{both_ways}
-use Rattle.std.proofs.lemmas.Bool.{cases_lt, lt-ltb, ltb-true, le-ltb, and_parts, and_from, not-true, not_from_false, false_from_ne_true, ne_eqb}
-use Rattle.std.proofs.lemmas.Bool.Decides.{Decides-eqb}
-use Rattle.pmf_event.specs.declared.event.Event.{Event}
-use Rattle.pmf_event.specs.declared.finding.Finding.{Finding}
-use Rattle.pmf_event.specs.declared.finding.Finding.TheVariants.{PersistEmpty, OrderedPass, OrderedEmpty}
-use Rattle.pmf_event.specs.declared.profile.Profile.{Profile}
-use Rattle.pmf_event.specs.declared.profile.Profile.TheVariants.{One, Two}
-use Rattle.pmf_event.specs.Span.{Extent, covers_byte}
-use Rattle.pmf_event.specs.Line.{line_of_byte}
-use Rattle.pmf_event.specs.Ranges.{first_byte}
-use Rattle.pmf_event.specs.Store.{stores, last_store}
-use Rattle.pmf_event.specs.Interval.{closing_fence, interval_at, is_open}
-use Rattle.pmf_event.specs.Exclusion.{is_excluded}
-use Rattle.pmf_event.specs.Persist.{is_checked, is_exposed, pass_unless, persist_finding}
-use Rattle.pmf_event.specs.Order.{precedes, share_line, is_stored_before, is_ordered, is_unordered, is_certified, has_partner, paired, with_partner, least_pair, finding_of_pairs, ordered_finding}
-use Rattle.pmf_event.specs.LineBytes.{is_undurable}
-use Rattle.pmf_event.proofs.IntervalLemmas.{is_open-interval_at}
-use Rattle.pmf_event.proofs.LineLemmas.{covers-bounds, bounds-cover}
-use Rattle.pmf_event.proofs.RangeLemmas.{some-or-none, first_from-same, first_from-none, none-passes, first-passes}
-use Rattle.pmf_cut.specs.Behind.{IsBehind}
-use Rattle.pmf_cut.specs.Laws.{IsSameOrEmpty, IsSameOrder, KnowsPairs}
+use Rattle.std.{proofs.Common.{◌≡◌, ◌⊎◌, ℕ, ◌<◌, Bool, true, false, not, ◌&&◌, ◌||◌, ◌==◌, nat_lt, if◌then◌else◌, List, refl, sym, ◌∙◌, ap, subst, arith, inl, inr, Option, Some, None, is_some, is_none, lt-ltb, le-ltb, ne_eqb}, specs.Cmp.{both_ways}, proofs.lemmas.Bool.{cases_lt, ltb-true, and_parts, and_from, not-true, not_from_false, false_from_ne_true}, proofs.lemmas.Bool.Decides.{Decides-eqb}}
+use Rattle.pmf_event.{specs.declared.event.Event.{Event}, specs.declared.finding.Finding.{Finding}, specs.declared.finding.Finding.TheVariants.{PersistEmpty, OrderedPass, OrderedEmpty}, specs.declared.profile.Profile.{Profile}, specs.declared.profile.Profile.TheVariants.{One, Two}, specs.Span.{Extent, covers_byte}, specs.Line.{line_of_byte}, specs.Ranges.{first_byte}, specs.Store.{stores, last_store}, specs.Interval.{closing_fence, interval_at, is_open}, specs.Exclusion.{is_excluded}, specs.Persist.{is_checked, is_exposed, pass_unless, persist_finding}, specs.Order.{precedes, share_line, is_stored_before, is_ordered, is_unordered, is_certified, has_partner, paired, with_partner, least_pair, finding_of_pairs, ordered_finding}, specs.LineBytes.{is_undurable}, proofs.IntervalLemmas.{is_open-interval_at}, proofs.LineLemmas.{covers-bounds, bounds-cover}, proofs.RangeLemmas.{some-or-none, first_from-same, first_from-none, none-passes, first-passes}}
+use Rattle.pmf_cut.specs.{Behind.{IsBehind}, Laws.{IsSameOrEmpty, IsSameOrder, KnowsPairs}}
 
 -- ---- persist assertions
 

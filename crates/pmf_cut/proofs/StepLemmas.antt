@@ -1,23 +1,6 @@
 -- One more event: which bytes are excluded, undurable and unwritten after it, and which pairs are ordered.
-use Rattle.std.proofs.Common.{◌≡◌, ℕ, suc, ◌+◌, ◌-◌, ◌<◌, ◌≤◌, Bool, true, false, not, ◌&&◌, ◌==◌, nat_lt, nat_le, if◌then◌else◌, List, refl, sym, ◌∙◌, ap, arith, inl, inr}
-use Rattle.std.specs.Prelude.{Option, Some, None}
-use Rattle.std.specs.Cmp.{both_ways}
-use Rattle.std.proofs.lemmas.Bool.{cases_lt, lt-ltb, ltb-true, le-ltb, le-leb, leb-true, and_parts, and_from, ne_eqb, false_from_ne_true}
-use Rattle.std.proofs.lemmas.Bool.Decides.{Decides-eqb}
-use Rattle.pmf_event.specs.declared.event.Event.{Event}
-use Rattle.pmf_event.specs.declared.interval.Interval.{Interval}
-use Rattle.pmf_event.specs.Line.{line_of_byte}
-use Rattle.pmf_event.specs.Places.{greatest, least, some_between}
-use Rattle.pmf_event.specs.Store.{event_at, at, stores, flushes, is_fence, last, last_store, epoch_of}
-use Rattle.pmf_event.specs.Interval.{writes_back, first_write_back, closes, closing_fence, epoch_after, interval_at}
-use Rattle.pmf_event.specs.Exclusion.{excludes, marks, is_excluded}
-use Rattle.pmf_event.specs.Order.{precedes, is_closed_by}
-use Rattle.pmf_event.specs.LineBytes.{is_undurable, is_unwritten}
-use Rattle.pmf_event.proofs.PlacesLemmas.{greatest-above, greatest-bound, greatest-passes, least-step, least-bound, least-passes, least-none_behind, least-below, count-mono, count-here, some_between-found}
-use Rattle.pmf_event.proofs.EventLemmas.{at-is, last-step, last-other, last-here}
-use Rattle.pmf_event.proofs.IntervalLemmas.{Closing-found, write_back-from_Closing}
-use Rattle.pmf_event.proofs.LineBytesLemmas.{lacks-parts, lacks-from, lacks-not}
-use Rattle.pmf_event.proofs.WriteBackLemmas.{or-zero, last-bound, epoch_after-none, epoch_after-some, first_write_back-next}
+use Rattle.std.{proofs.Common.{◌≡◌, ℕ, suc, ◌+◌, ◌-◌, ◌<◌, ◌≤◌, Bool, true, false, not, ◌&&◌, ◌==◌, nat_lt, nat_le, if◌then◌else◌, List, refl, sym, ◌∙◌, ap, arith, inl, inr, Option, Some, None, lt-ltb, le-ltb, le-leb, ne_eqb}, specs.Cmp.{both_ways}, proofs.lemmas.Bool.{cases_lt, ltb-true, leb-true, and_parts, and_from, false_from_ne_true}, proofs.lemmas.Bool.Decides.{Decides-eqb}}
+use Rattle.pmf_event.{specs.declared.event.Event.{Event}, specs.declared.interval.Interval.{Interval}, specs.Line.{line_of_byte}, specs.Places.{greatest, least, some_between}, specs.Store.{event_at, at, stores, flushes, is_fence, last, last_store, epoch_of}, specs.Interval.{writes_back, first_write_back, closes, closing_fence, epoch_after, interval_at}, specs.Exclusion.{excludes, marks, is_excluded}, specs.Order.{precedes, is_closed_by}, specs.LineBytes.{is_undurable, is_unwritten}, proofs.PlacesLemmas.{greatest-above, greatest-bound, greatest-passes, least-step, least-bound, least-passes, least-none_behind, least-below, count-mono, count-here, some_between-found}, proofs.EventLemmas.{at-is, last-step, last-other, last-here}, proofs.IntervalLemmas.{Closing-found, write_back-from_Closing}, proofs.LineBytesLemmas.{lacks-parts, lacks-from, lacks-not}, proofs.WriteBackLemmas.{or-zero, last-bound, epoch_after-none, epoch_after-some, first_write_back-next}}
 
 -- a write-back follows a place where the last write-back does
 first-follows : (es : List Event) (line k p : ℕ) → nat_lt 0 (least (writes_back es line k) p) ≡ nat_lt k (greatest (at (flushes line) es) p)

@@ -1,17 +1,7 @@
 -- A part of a whole goes on with it, and another one begins where it is cut.
-use Rattle.std.proofs.Common.{◌≡◌, ℕ, zero, suc, ◌+◌, ◌-◌, ◌<◌, true, false, List, [], ◌∷◌, ◌++◌, length, drop, slice_get, refl, sym, ◌∙◌, ap, subst, arith}
-use Rattle.std.specs.Prelude.{Some}
-use Rattle.pmf_event.specs.declared.event.Event.{Event}
-use Rattle.pmf_event.specs.Store.{event_at, stores}
-use Rattle.pmf_event.specs.LineBytes.{is_undurable}
-use Rattle.pmf_event.proofs.EventLemmas.{last-none}
-use Rattle.pmf_event.proofs.TransactionLemmas.{depth-start, scope-start, outside-from, unscoped-from}
-use Rattle.pmf_cut.specs.declared.part.Part.{Part}
-use Rattle.pmf_cut.specs.Alike.{IsOutside, IsCut}
-use Rattle.pmf_cut.specs.Parts.{Stands, Follows, BeginsWith, Renews, part_of, IsPartOf, GoesOnWith, BeginsAt}
-use Rattle.pmf_cut.proofs.StepLemmas.{undurable-stored_to}
-use Rattle.pmf_cut.proofs.BehindLemmas.{behind-cut, behind-step}
-use Rattle.pmf_cut.proofs.CutLemmas.{behind-there}
+use Rattle.std.proofs.Common.{◌≡◌, ℕ, zero, suc, ◌+◌, ◌-◌, ◌<◌, true, false, List, [], ◌∷◌, ◌++◌, length, drop, slice_get, refl, sym, ◌∙◌, ap, subst, arith, Some}
+use Rattle.pmf_event.{specs.declared.event.Event.{Event}, specs.Store.{event_at, stores}, specs.LineBytes.{is_undurable}, proofs.EventLemmas.{last-none}, proofs.TransactionLemmas.{depth-start, scope-start, outside-from, unscoped-from}}
+use Rattle.pmf_cut.{specs.declared.part.Part.{Part}, specs.Alike.{IsOutside, IsCut}, specs.Parts.{Stands, Follows, BeginsWith, Renews, part_of, IsPartOf, GoesOnWith, BeginsAt}, proofs.StepLemmas.{undurable-stored_to}, proofs.BehindLemmas.{behind-cut, behind-step}, proofs.CutLemmas.{behind-there}}
 
 get-behind : {X : Type 0} (xs ys : List X) (k : ℕ) → slice_get (xs ++ ys) (length xs + k) ≡ slice_get ys k
 get-behind [] ys k = ap (slice_get ys) (omega arith)

@@ -1,12 +1,7 @@
 -- What is kept where a section is cut: of two lists, each at a place of its own, what is open in the one is open in the
 -- other. Defined here.
 use Rattle.std.specs.Prelude.{◌≡◌, ℕ, suc, ◌+◌, ◌<◌, true, false, List}
-use Rattle.pmf_event.specs.declared.event.Event.{Event}
-use Rattle.pmf_event.specs.Store.{event_at, last_store}
-use Rattle.pmf_event.specs.Exclusion.{is_excluded}
-use Rattle.pmf_event.specs.Order.{share_line, is_stored_before}
-use Rattle.pmf_event.specs.LineBytes.{is_undurable, is_unwritten}
-use Rattle.pmf_event.specs.Transactions.{in_transaction, in_scope}
+use Rattle.pmf_event.specs.{declared.event.Event.{Event}, Store.{event_at, last_store}, Exclusion.{is_excluded}, Order.{share_line, is_stored_before}, LineBytes.{is_undurable, is_unwritten}, Transactions.{in_transaction, in_scope}}
 
 -- the first q events of the part are like the first p of the whole: the same bytes are excluded, undurable and unwritten,
 -- and of undurable bytes on one line the last stores stand in the same order

@@ -1,12 +1,6 @@
 -- What holds of the whole and of its part from the cut on, event by event. It follows from the cut, and `IsPartOf` keeps it.
 use Rattle.std.specs.Prelude.{◌≡◌, ℕ, ◌+◌, ◌<◌, true, List}
-use Rattle.pmf_event.specs.declared.event.Event.{Event}
-use Rattle.pmf_event.specs.Store.{last_store}
-use Rattle.pmf_event.specs.Interval.{interval_at}
-use Rattle.pmf_event.specs.Exclusion.{is_excluded}
-use Rattle.pmf_event.specs.Order.{precedes, share_line, is_stored_before}
-use Rattle.pmf_event.specs.LineBytes.{is_undurable, is_unwritten}
-use Rattle.pmf_event.specs.Transactions.{depth_at, is_backed, in_scope, scope_at, is_scoped}
+use Rattle.pmf_event.specs.{declared.event.Event.{Event}, Store.{last_store}, Interval.{interval_at}, Exclusion.{is_excluded}, Order.{precedes, share_line, is_stored_before}, LineBytes.{is_undurable, is_unwritten}, Transactions.{depth_at, is_backed, in_scope, scope_at, is_scoped}}
 
 -- the same bytes are excluded, undurable and unwritten at n of the whole and at m of the part
 pub record SameBytes (es : List Event) (n : ℕ) (fs : List Event) (m : ℕ) : Type 0 where

@@ -1,13 +1,6 @@
 -- Two lists byte by byte: what a comparison finds alike. No public clause cites this.
-use Rattle.std.specs.Prelude.{◌≡◌, ℕ, ◌-◌, ◌/◌, ◌%◌, ◌<◌, Bool, true, not, ◌&&◌, ◌||◌, ◌==◌, nat_lt, List, [], ◌∷◌, ◌++◌, Option, None, Some, is_some, is_none, if◌then◌else◌}
-use Rattle.std.proofs.Math.Bool.{beq}
-use Rattle.pmf_event.specs.declared.event.Event.{Event}
-use Rattle.pmf_event.specs.declared.span.TheConstants.{LINE_SIZE}
-use Rattle.pmf_event.specs.Line.{line_of_byte}
-use Rattle.pmf_event.specs.Store.{last_store}
-use Rattle.pmf_event.specs.Exclusion.{is_excluded}
-use Rattle.pmf_event.specs.Order.{share_line, is_stored_before}
-use Rattle.pmf_event.specs.LineBytes.{is_undurable, is_unwritten}
+use Rattle.std.{specs.Prelude.{◌≡◌, ℕ, ◌-◌, ◌/◌, ◌%◌, ◌<◌, Bool, true, not, ◌&&◌, ◌||◌, ◌==◌, nat_lt, List, [], ◌∷◌, ◌++◌, Option, None, Some, is_some, is_none, if◌then◌else◌}, proofs.Math.Bool.{beq}}
+use Rattle.pmf_event.specs.{declared.event.Event.{Event}, declared.span.TheConstants.{LINE_SIZE}, Line.{line_of_byte}, Store.{last_store}, Exclusion.{is_excluded}, Order.{share_line, is_stored_before}, LineBytes.{is_undurable, is_unwritten}}
 use Rattle.pmf_shadow.specs.declared.standing.Standing.{Standing}
 
 -- whether the first of two places comes before the second in the one list as in the other

@@ -1,16 +1,6 @@
 -- Which rows of a part are those of the whole. Laws, which the crate's empty public functions prove.
 use Rattle.std.specs.Prelude.{◌≡◌, ◌⊎◌, ℕ, suc, ◌+◌, ◌<◌, true, List, length, Option, Some}
-use Rattle.pmf_event.specs.declared.event.Event.{Event}
-use Rattle.pmf_event.specs.declared.event.Event.TheVariants.{Persist, Ordered}
-use Rattle.pmf_event.specs.declared.finding.Finding.{Finding}
-use Rattle.pmf_event.specs.declared.finding.Finding.TheVariants.{PersistPass, PersistEmpty, OrderedPass, OrderedEmpty, OrderedFail, Unclosed}
-use Rattle.pmf_event.specs.declared.profile.Profile.{Profile}
-use Rattle.pmf_event.specs.Span.{Extent, covers_byte}
-use Rattle.pmf_event.specs.Store.{event_at, last_store}
-use Rattle.pmf_event.specs.Persist.{is_checked, persist_finding}
-use Rattle.pmf_event.specs.Order.{ordered_finding}
-use Rattle.pmf_event.specs.LineBytes.{HasBytes}
-use Rattle.pmf_event.specs.Transactions.{close_finding}
+use Rattle.pmf_event.specs.{declared.event.Event.{Event}, declared.event.Event.TheVariants.{Persist, Ordered}, declared.finding.Finding.{Finding}, declared.finding.Finding.TheVariants.{PersistPass, PersistEmpty, OrderedPass, OrderedEmpty, OrderedFail, Unclosed}, declared.profile.Profile.{Profile}, Span.{Extent, covers_byte}, Store.{event_at, last_store}, Persist.{is_checked, persist_finding}, Order.{ordered_finding}, LineBytes.{HasBytes}, Transactions.{close_finding}}
 use Rattle.pmf_verdict.specs.Rows.{findings_of}
 use Rattle.pmf_cut.specs.Alike.{IsCut, GoesOn}
 

@@ -1,18 +1,9 @@
 -- What the parts before one know, and the order assertions whose findings a cut may change.
 use Rattle.std.specs.Prelude.{◌≡◌, ◌⊎◌, ℕ, ◌<◌, ◌≤◌, Bool, true, false, not, ◌&&◌, nat_le, List, Option, None, Some, is_none}
-use Rattle.pmf_event.specs.declared.event.Event.{Event}
-use Rattle.pmf_event.specs.Span.{Extent}
-use Rattle.pmf_event.specs.Store.{last_store}
-use Rattle.pmf_event.specs.Exclusion.{is_excluded}
-use Rattle.pmf_shadow.specs.declared.shadow.Shadow.{Shadow}
-use Rattle.pmf_shadow.specs.declared.standing.Standing.{Standing}
-use Rattle.pmf_shadow.specs.Shadow.{StandsFor}
+use Rattle.pmf_event.specs.{declared.event.Event.{Event}, Span.{Extent}, Store.{last_store}, Exclusion.{is_excluded}}
+use Rattle.pmf_shadow.specs.{declared.shadow.Shadow.{Shadow}, declared.standing.Standing.{Standing}, Shadow.{StandsFor}}
 use Rattle.pmf_runs.specs.Runs.{state_at}
-use Rattle.pmf_cut.specs.declared.lost.Past.{Past}
-use Rattle.pmf_cut.specs.declared.part.Part.{Part}
-use Rattle.pmf_cut.specs.Behind.{SameBytes, SamePairs}
-use Rattle.pmf_cut.specs.Laws.{KnowsPairs}
-use Rattle.pmf_cut.specs.Parts.{Stands}
+use Rattle.pmf_cut.specs.{declared.lost.Past.{Past}, declared.part.Part.{Part}, Behind.{SameBytes, SamePairs}, Laws.{KnowsPairs}, Parts.{Stands}}
 
 -- each byte that the whole knows a store of, and the part does not, is one of the past
 abbrev pub HasOld : Past → List Event → ℕ → List Event → ℕ → Type 0

@@ -1,15 +1,8 @@
 -- What a part of a section stands for. Defined here.
 use Rattle.std.specs.Prelude.{◌≡◌, ℕ, suc, ◌+◌, ◌-◌, ◌<◌, ◌≤◌, true, false, List, ◌++◌, length, drop, slice_get, Some}
-use Rattle.pmf_event.specs.declared.event.Event.{Event}
-use Rattle.pmf_event.specs.declared.span.TheConstants.{ADDRESS_LIMIT}
-use Rattle.pmf_event.specs.Store.{event_at, last_store}
-use Rattle.pmf_event.specs.Exclusion.{is_excluded}
-use Rattle.pmf_event.specs.LineBytes.{is_undurable}
-use Rattle.pmf_event.specs.Transactions.{depth_at, in_scope}
+use Rattle.pmf_event.specs.{declared.event.Event.{Event}, declared.span.TheConstants.{ADDRESS_LIMIT}, Store.{event_at, last_store}, Exclusion.{is_excluded}, LineBytes.{is_undurable}, Transactions.{depth_at, in_scope}}
 use Rattle.pmf_shadow.specs.Shadow.{StandsFor}
-use Rattle.pmf_cut.specs.declared.part.Part.{Part}
-use Rattle.pmf_cut.specs.Alike.{IsAlike, IsOutside, IsCut}
-use Rattle.pmf_cut.specs.Behind.{IsBehind}
+use Rattle.pmf_cut.specs.{declared.part.Part.{Part}, Alike.{IsAlike, IsOutside, IsCut}, Behind.{IsBehind}}
 
 -- no byte from the limit of addresses on was stored to, or is excluded
 abbrev pub LiesLow : List Event → ℕ → Type 0

@@ -1,8 +1,7 @@
 //! Whether what one shadow stands for leaves open what another does.
 
 ghost use Rattle.std.specs.Prelude.{◌≡◌, ◌<◌, ◌≤◌, ◌-◌, ◌/◌, ◌%◌, ℕ, List, true, IfOk};
-ghost use Rattle.pmf_event.specs.declared.event.Event.{Event};
-ghost use Rattle.pmf_event.specs.declared.span.TheConstants.{ADDRESS_LIMIT, LINE_SIZE};
+ghost use Rattle.pmf_event.specs.declared.{event.Event.{Event}, span.TheConstants.{ADDRESS_LIMIT, LINE_SIZE}};
 ghost use Rattle.pmf_shadow.specs.Shadow.{StandsFor};
 ghost use Rattle.pmf_cut.specs.Comparing.{IsAlikeBelow, Extends, agrees, is_same_order, places_of, standings_agree};
 

@@ -1,10 +1,7 @@
 //! A part of a section: what its events leave open.
 
 ghost use Rattle.std.specs.Prelude.{◌≡◌, ◌≤◌, ◌<◌, ℕ, suc, List, [], length, OnOk, IfErr, Some, true, false};
-ghost use Rattle.pmf_event.specs.declared.event.Event.{Event};
-ghost use Rattle.pmf_event.specs.declared.section.TheConstants.{EVENT_LIMIT};
-ghost use Rattle.pmf_event.specs.Store.{event_at};
-ghost use Rattle.pmf_event.specs.Transactions.{depth_at, in_scope};
+ghost use Rattle.pmf_event.specs.{declared.event.Event.{Event}, declared.section.TheConstants.{EVENT_LIMIT}, Store.{event_at}, Transactions.{depth_at, in_scope}};
 ghost use Rattle.pmf_shadow.specs.Shadow.{StandsFor};
 
 use pmf_event::{EVENT_LIMIT, Event};

@@ -1,11 +1,6 @@
 -- Laws of tests at a place of a list of events.
-use Rattle.std.proofs.Common.{◌≡◌, ℕ, suc, Bool, true, false, List, if◌then◌else◌, refl, ◌∙◌, ap, Option, Some, None}
-use Rattle.std.proofs.Math.Numerals.{sub-one}
-use Rattle.pmf_event.specs.declared.event.Event.{Event}
-use Rattle.pmf_event.specs.declared.event.Event.TheVariants.{Fence}
-use Rattle.pmf_event.specs.Places.{greatest, count}
-use Rattle.pmf_event.specs.Store.{event_at, passes, at, stores, flushes, is_fence, last, epoch_of}
-use Rattle.pmf_event.proofs.PlacesLemmas.{greatest-step, greatest-zero, count-step}
+use Rattle.std.proofs.{Common.{◌≡◌, ℕ, suc, Bool, true, false, List, if◌then◌else◌, refl, ◌∙◌, ap, Option, Some, None}, Math.Numerals.{sub-one}}
+use Rattle.pmf_event.{specs.declared.event.Event.{Event}, specs.declared.event.Event.TheVariants.{Fence}, specs.Places.{greatest, count}, specs.Store.{event_at, passes, at, stores, flushes, is_fence, last, epoch_of}, proofs.PlacesLemmas.{greatest-step, greatest-zero, count-step}}
 
 -- what a test says at a place whose event is known
 pub at-is : (test : Event → Bool) (es : List Event) (k : ℕ) (o : Option Event) → event_at es k ≡ o → at test es k ≡ passes test o

@@ -1,12 +1,6 @@
 -- An interval is closed exactly where its first write-back lies in an epoch that a fence has ended.
-use Rattle.pmf_event.proofs.Common.{◌≡◌, ℕ, ◌-◌, ◌<◌, ◌≤◌, Bool, true, false, not, ◌&&◌, ◌==◌, nat_lt, if◌then◌else◌, List, refl, sym, ◌∙◌, ap, arith, inl, inr, Some, None, cases_eq, lt-ltb, and_parts, and_from, ltb-true, Decides-eqb}
-use Rattle.pmf_event.specs.declared.event.Event.{Event}
-use Rattle.pmf_event.specs.Line.{line_of_byte}
-use Rattle.pmf_event.specs.Places.{least, count, some_between}
-use Rattle.pmf_event.specs.Store.{at, stores, flushes, is_fence, last_store, epoch_of}
-use Rattle.pmf_event.specs.Interval.{writes_back, closes, closing_fence, interval_at, is_open}
-use Rattle.pmf_event.proofs.PlacesLemmas.{least-bound, least-passes, least-below, count-mono, count-here, count-found, some_between-here, some_between-found}
-use Rattle.pmf_event.proofs.EventLemmas.{not_fence_and_flush}
+use Rattle.std.proofs.{Common.{◌≡◌, ℕ, ◌-◌, ◌<◌, ◌≤◌, Bool, true, false, not, ◌&&◌, ◌==◌, nat_lt, if◌then◌else◌, List, refl, sym, ◌∙◌, ap, arith, inl, inr, Some, None, lt-ltb}, lemmas.Bool.{cases_eq, and_parts, and_from, ltb-true}, lemmas.Bool.Decides.{Decides-eqb}}
+use Rattle.pmf_event.{specs.declared.event.Event.{Event}, specs.Line.{line_of_byte}, specs.Places.{least, count, some_between}, specs.Store.{at, stores, flushes, is_fence, last_store, epoch_of}, specs.Interval.{writes_back, closes, closing_fence, interval_at, is_open}, proofs.PlacesLemmas.{least-bound, least-passes, least-below, count-mono, count-here, count-found, some_between-here, some_between-found}, proofs.EventLemmas.{not_fence_and_flush}}
 
 pub not_zero : (n : ℕ) → 0 < n → not (n == 0) ≡ true
 not_zero n some = elim (n == 0) as (λ v. (n == 0) ≡ v → not v ≡ true) [ true ↦ λ is. let zero_is : n ≡ 0 = (Decides-eqb n 0).0 is in absurd (omega arith) | false ↦ λ is. refl ] refl

@@ -1,12 +1,6 @@
 -- Laws of the search for the least pair, whatever the test of pairs.
-use Rattle.pmf_event.proofs.Common.{◌≡◌, ℕ, ◌+◌, ◌<◌, ◌≤◌, Bool, true, false, List, refl, sym, ◌∙◌, ap, subst, inl, inr, Option, Some, None, is_some, and_parts, none-some}
-use Rattle.pmf_event.specs.declared.event.Event.{Event}
-use Rattle.pmf_event.specs.declared.profile.Profile.{Profile}
-use Rattle.pmf_event.specs.Span.{Extent, covers_byte}
-use Rattle.pmf_event.specs.Ranges.{first_from, first_byte}
-use Rattle.pmf_event.specs.Order.{has_partner, paired, with_partner, is_unordered, is_certified, least_pair}
-use Rattle.pmf_event.proofs.LineLemmas.{covers-bounds, bounds-cover}
-use Rattle.pmf_event.proofs.RangeLemmas.{some-or-none, none-from, first_from-none, none-passes, first-passes, first_from-same}
+use Rattle.std.proofs.{Common.{◌≡◌, ℕ, ◌+◌, ◌<◌, ◌≤◌, Bool, true, false, List, refl, sym, ◌∙◌, ap, subst, inl, inr, Option, Some, None, is_some}, lemmas.Bool.{and_parts}, lemmas.Option.{none-some}}
+use Rattle.pmf_event.{specs.declared.event.Event.{Event}, specs.declared.profile.Profile.{Profile}, specs.Span.{Extent, covers_byte}, specs.Ranges.{first_from, first_byte}, specs.Order.{has_partner, paired, with_partner, is_unordered, is_certified, least_pair}, proofs.LineLemmas.{covers-bounds, bounds-cover}, proofs.RangeLemmas.{some-or-none, none-from, first_from-none, none-passes, first-passes, first_from-same}}
 
 -- the n numbers from b on have one that passes
 pub record HasOne (test : ℕ → Bool) (b n : ℕ) : Type 0 where

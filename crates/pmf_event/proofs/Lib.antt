@@ -1,4 +1,3 @@
-pub mod Common
 pub mod PlacesLemmas
 pub mod EventLemmas
 pub mod LineLemmas

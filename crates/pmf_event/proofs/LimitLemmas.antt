@@ -1,14 +1,6 @@
 -- Where all spans are valid, written bytes lie below the limit of addresses.
-use Rattle.pmf_event.proofs.Common.{◌≡◌, ℕ, zero, suc, ◌<◌, true, List, refl, subst, arith, Option, Some, None, All, All-get_or, slice_get_within, get_or_from_slice_get}
-use Rattle.pmf_event.specs.declared.event.Event.{Event}
-use Rattle.pmf_event.specs.declared.event.Event.TheVariants.{Store}
-use Rattle.pmf_event.specs.declared.span.TheConstants.{ADDRESS_LIMIT}
-use Rattle.pmf_event.specs.Laws.{BytesLieBelowTheLimit}
-use Rattle.pmf_event.specs.Section.{IsValidEvent}
-use Rattle.pmf_event.specs.Store.{event_at, passes, at, stores, last, last_store}
-use Rattle.pmf_event.proofs.LineLemmas.{covers-bounds}
-use Rattle.pmf_event.proofs.PlacesLemmas.{greatest-passes}
-use Rattle.pmf_event.proofs.TransactionLemmas.{scoped-written}
+use Rattle.std.proofs.{Common.{◌≡◌, ℕ, zero, suc, ◌<◌, true, List, refl, subst, arith, Option, Some, None, All}, lemmas.List.Elements.{All-get_or}, lemmas.Option.{slice_get_within, get_or_from_slice_get}}
+use Rattle.pmf_event.{specs.declared.event.Event.{Event}, specs.declared.event.Event.TheVariants.{Store}, specs.declared.span.TheConstants.{ADDRESS_LIMIT}, specs.Laws.{BytesLieBelowTheLimit}, specs.Section.{IsValidEvent}, specs.Store.{event_at, passes, at, stores, last, last_store}, proofs.LineLemmas.{covers-bounds}, proofs.PlacesLemmas.{greatest-passes}, proofs.TransactionLemmas.{scoped-written}}
 
 -- an event of a list of valid ones
 valid-at : (es : List Event) (k : ℕ) (e : Event) → All IsValidEvent es → event_at es k ≡ Some e → IsValidEvent e

@@ -1,20 +1,7 @@
 -- The state of a line follows from its bytes: the last store that meets it is the last store of one of
 -- its bytes, and no byte of it has a later one.
-use Rattle.pmf_event.proofs.Common.{◌≡◌, ℕ, ◌%◌, ◌<◌, ◌≤◌, Bool, true, false, not, ◌&&◌, ◌||◌, ◌==◌, nat_lt, List, refl, sym, ◌∙◌, ap, arith, inl, inr, ◌↔◌, Option, Some, None, cases_eq, cases_lt, lt-ltb, ltb-true, le-ltb, ne_eqb, and_parts, and_from, or_left, or_right, or_from, not_from_false, not-true, false_from_ne_true, Decides-eqb}
-use Rattle.pmf_event.specs.declared.event.Event.{Event}
-use Rattle.pmf_event.specs.declared.event.Event.TheVariants.{Store}
-use Rattle.pmf_event.specs.declared.span.TheConstants.{LINE_SIZE}
-use Rattle.pmf_event.specs.Span.{Extent, covers_byte}
-use Rattle.pmf_event.specs.Line.{line_of_byte, meets_line}
-use Rattle.pmf_event.specs.Places.{least}
-use Rattle.pmf_event.specs.Store.{event_at, passes, at, stores, stores_line, flushes, last, last_store}
-use Rattle.pmf_event.specs.Interval.{writes_back, first_write_back, closes, closing_fence}
-use Rattle.pmf_event.specs.FlushWarnings.{is_clean, is_pending}
-use Rattle.pmf_event.specs.LineBytes.{is_undurable, is_unwritten, HasBytes, SomeByteOf, NoByteOf, LinesFollowFromTheirBytes}
-use Rattle.pmf_event.proofs.PlacesLemmas.{greatest-passes, greatest-above, least-bound, least-passes, least-below}
-use Rattle.pmf_event.proofs.IntervalLemmas.{Closing-found, Closing-closes}
-use Rattle.pmf_event.proofs.LineLemmas.{line-bounds, line-unique, meets_the_lines_of_its_bytes, stores-line}
-use Rattle.pmf_event.proofs.WriteBackLemmas.{last-bound}
+use Rattle.std.proofs.{Common.{◌≡◌, ℕ, ◌%◌, ◌<◌, ◌≤◌, Bool, true, false, not, ◌&&◌, ◌||◌, ◌==◌, nat_lt, List, refl, sym, ◌∙◌, ap, arith, inl, inr, ◌↔◌, Option, Some, None, lt-ltb, le-ltb, ne_eqb}, lemmas.Bool.{cases_eq, cases_lt, ltb-true, and_parts, and_from, or_left, or_right, or_from, not_from_false, not-true, false_from_ne_true}, lemmas.Bool.Decides.{Decides-eqb}}
+use Rattle.pmf_event.{specs.declared.event.Event.{Event}, specs.declared.event.Event.TheVariants.{Store}, specs.declared.span.TheConstants.{LINE_SIZE}, specs.Span.{Extent, covers_byte}, specs.Line.{line_of_byte, meets_line}, specs.Places.{least}, specs.Store.{event_at, passes, at, stores, stores_line, flushes, last, last_store}, specs.Interval.{writes_back, first_write_back, closes, closing_fence}, specs.FlushWarnings.{is_clean, is_pending}, specs.LineBytes.{is_undurable, is_unwritten, HasBytes, SomeByteOf, NoByteOf, LinesFollowFromTheirBytes}, proofs.PlacesLemmas.{greatest-passes, greatest-above, least-bound, least-passes, least-below}, proofs.IntervalLemmas.{Closing-found, Closing-closes}, proofs.LineLemmas.{line-bounds, line-unique, meets_the_lines_of_its_bytes, stores-line}, proofs.WriteBackLemmas.{last-bound}}
 
 -- the last of some stores: it passes, and it is at or behind each place that does
 pub last-passes : (test : Event → Bool) (es : List Event) (p : ℕ) → 0 < last test es p → at test es (last test es p) ≡ true

@@ -1,11 +1,6 @@
 -- The line of a byte, and the lines that a span meets.
-use Rattle.pmf_event.proofs.Common.{◌≡◌, ℕ, ◌+◌, ◌-◌, ◌*◌, ◌/◌, ◌%◌, ◌<◌, ◌≤◌, true, false, ◌&&◌, ◌==◌, nat_lt, nat_le, List, sym, ◌∙◌, ap, arith, inl, inr, Option, Some, None, cases_lt, leb-true, le-leb, lt-ltb, and_parts, and_from, ltb-true, Decides-eqb}
-use Rattle.pmf_event.specs.declared.event.Event.{Event}
-use Rattle.pmf_event.specs.declared.event.Event.TheVariants.{Store}
-use Rattle.pmf_event.specs.Span.{Extent, covers_byte}
-use Rattle.pmf_event.specs.Line.{line_of_byte, meets_line}
-use Rattle.pmf_event.specs.Store.{event_at, passes, at, stores, stores_line}
-use Rattle.pmf_event.specs.Laws.{MeetsTheLinesOfItsBytes, MeetsTheLinesOfItsNumbers, MeetsWhereAByteIsShared}
+use Rattle.std.proofs.{Common.{◌≡◌, ℕ, ◌+◌, ◌-◌, ◌*◌, ◌/◌, ◌%◌, ◌<◌, ◌≤◌, true, false, ◌&&◌, ◌==◌, nat_lt, nat_le, List, sym, ◌∙◌, ap, arith, inl, inr, Option, Some, None, le-leb, lt-ltb}, lemmas.Bool.{cases_lt, leb-true, and_parts, and_from, ltb-true}, lemmas.Bool.Decides.{Decides-eqb}}
+use Rattle.pmf_event.specs.{declared.event.Event.{Event}, declared.event.Event.TheVariants.{Store}, Span.{Extent, covers_byte}, Line.{line_of_byte, meets_line}, Store.{event_at, passes, at, stores, stores_line}, Laws.{MeetsTheLinesOfItsBytes, MeetsTheLinesOfItsNumbers, MeetsWhereAByteIsShared}}
 
 -- what a span covers, as bounds
 pub covers-bounds : (s : Extent) (b : ℕ) → covers_byte s b ≡ true → (s.first ≤ b) × (b < s.first + s.size)

@@ -1,6 +1,5 @@
 -- Laws of the searches over places.
-use Rattle.pmf_event.proofs.Common.{◌≡◌, ℕ, zero, suc, ◌-◌, ◌<◌, ◌≤◌, Bool, true, false, if◌then◌else◌, nat_lt, refl, ◌∙◌, inl, inr, arith, cases_lt, ltb-false, lt-ltb, ltb-true}
-use Rattle.std.proofs.Math.Numerals.{sub-one}
+use Rattle.std.proofs.{Common.{◌≡◌, ℕ, zero, suc, ◌-◌, ◌<◌, ◌≤◌, Bool, true, false, if◌then◌else◌, nat_lt, refl, ◌∙◌, inl, inr, arith, ltb-false, lt-ltb}, lemmas.Bool.{cases_lt, ltb-true}, Math.Numerals.{sub-one}}
 use Rattle.pmf_event.specs.Places.{greatest, least, count, some_between}
 
 -- the tests agree on the places from 1 to n

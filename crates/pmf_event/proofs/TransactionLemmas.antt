@@ -1,17 +1,7 @@
 -- Laws of transactions and of the scope, event by event: the depth, the bytes that are backed up, the
 -- place that opened the scope, and its bytes.
-use Rattle.pmf_event.proofs.Common.{◌≡◌, ℕ, zero, suc, ◌-◌, ◌<◌, ◌≤◌, Bool, true, false, not, ◌&&◌, nat_lt, if◌then◌else◌, List, refl, sym, ◌∙◌, ap, arith, inl, inr, Some, cases_lt, cases_eq, le-ltb, ltb-false, lt-ltb, and_parts, and_from, ltb-true, and-false}
-use Rattle.pmf_event.specs.declared.event.Event.{Event}
-use Rattle.pmf_event.specs.declared.event.Event.TheVariants.{TxBegin, TxEnd, CheckStart, CheckEnd}
-use Rattle.pmf_event.specs.Places.{greatest, least, count, highest}
-use Rattle.pmf_event.specs.Store.{event_at, at, stores, last, last_store}
-use Rattle.pmf_event.specs.Exclusion.{is_included}
-use Rattle.pmf_event.specs.Interval.{interval_at, is_open}
-use Rattle.pmf_event.specs.Persist.{is_checked, is_exposed}
-use Rattle.pmf_event.specs.Transactions.{begins, ends, rise, depth_at, in_transaction, is_outside, adds, is_backed, opens_scope, closes_scope, opens_after, scope_at, in_scope, stores_inside, is_scoped, is_left_open}
-use Rattle.pmf_event.proofs.PlacesLemmas.{greatest-step, greatest-zero, greatest-bound, greatest-passes, greatest-above, least-step, least-zero, least-bound, least-none_behind, count-step, count-mono, count-le}
-use Rattle.pmf_event.proofs.EventLemmas.{at-is, last-other, last-here}
-use Rattle.pmf_event.proofs.WriteBackLemmas.{last-bound}
+use Rattle.std.proofs.{Common.{◌≡◌, ℕ, zero, suc, ◌-◌, ◌<◌, ◌≤◌, Bool, true, false, not, ◌&&◌, nat_lt, if◌then◌else◌, List, refl, sym, ◌∙◌, ap, arith, inl, inr, Some, le-ltb, ltb-false, lt-ltb}, lemmas.Bool.{cases_lt, cases_eq, and_parts, and_from, ltb-true}, Math.Bool.{and-false}}
+use Rattle.pmf_event.{specs.declared.event.Event.{Event}, specs.declared.event.Event.TheVariants.{TxBegin, TxEnd, CheckStart, CheckEnd}, specs.Places.{greatest, least, count, highest}, specs.Store.{event_at, at, stores, last, last_store}, specs.Exclusion.{is_included}, specs.Interval.{interval_at, is_open}, specs.Persist.{is_checked, is_exposed}, specs.Transactions.{begins, ends, rise, depth_at, in_transaction, is_outside, adds, is_backed, opens_scope, closes_scope, opens_after, scope_at, in_scope, stores_inside, is_scoped, is_left_open}, proofs.PlacesLemmas.{greatest-step, greatest-zero, greatest-bound, greatest-passes, greatest-above, least-step, least-zero, least-bound, least-none_behind, count-step, count-mono, count-le}, proofs.EventLemmas.{at-is, last-other, last-here}, proofs.WriteBackLemmas.{last-bound}}
 
 -- ---- the highest value
 

@@ -1,24 +1,6 @@
 -- The worked examples, computed by the definitions alone.
 use Rattle.std.proofs.Common.{◌≡◌, ℕ, true, false, List, [], ◌∷◌, refl, ap, zero, suc, Bool, ◌<◌, ◌≤◌, arith, Some, None, Ok, Err}
-use Rattle.pmf_event.specs.Span.{Extent, extent_of, covers_byte}
-use Rattle.pmf_event.specs.Line.{line_of_byte, meets_span, meets_line}
-use Rattle.pmf_event.specs.declared.span.TheConstants.{ADDRESS_LIMIT}
-use Rattle.pmf_event.specs.declared.span.SpanFault.TheVariants.{ZeroSize, TooLarge, PastEnd}
-use Rattle.pmf_event.specs.declared.event.Event.{Event}
-use Rattle.pmf_event.specs.declared.event.Event.TheVariants.{Store, Flush, Fence, Persist, Exclude, Include, TxBegin, TxAdd, TxEnd, CheckStart, CheckEnd}
-use Rattle.pmf_event.specs.declared.finding.Finding.TheVariants.{PersistPass, PersistFail, PersistEmpty, OrderedPass, OrderedFail, OrderedSameLine, OrderedEmpty, FlushDoubled, FlushNeedless, NoBackup, DupLog, CheckPass, CheckFail, TxStillOpen, Unmatched, Outside, Nested, Unopened, Unclosed}
-use Rattle.pmf_event.specs.declared.profile.Profile.TheVariants.{One, Two}
-use Rattle.pmf_event.specs.Places.{greatest, least, count, some_between, highest}
-use Rattle.pmf_event.specs.Store.{event_at, at, stores, stores_line, flushes, is_fence, last, last_store, epoch_of}
-use Rattle.pmf_event.specs.Interval.{writes_back, first_write_back, closes, closing_fence, interval_at}
-use Rattle.pmf_event.specs.Exclusion.{excludes, marks, is_excluded, is_included}
-use Rattle.pmf_event.specs.Transactions.{begins, ends, rise, depth_at, in_transaction, is_outside, adds, is_backed, opens_scope, closes_scope, opens_after, scope_at, in_scope, stores_inside, is_scoped, end_finding, add_finding, lacks_backup, store_finding, start_finding, is_left_open, scope_passes_unless, check_finding, close_finding}
-use Rattle.pmf_event.specs.Ranges.{first_from, count_from}
-use Rattle.pmf_event.specs.Persist.{is_checked, is_exposed, persist_finding}
-use Rattle.pmf_event.specs.Order.{is_stored_before, is_ordered, is_unordered, is_certified, has_partner, least_pair, ordered_finding}
-use Rattle.pmf_event.specs.FlushWarnings.{is_clean, is_pending, numbered, lines_where, flush_findings}
-use Rattle.pmf_event.specs.LineBytes.{is_undurable, is_unwritten}
-use Rattle.pmf_event.proofs.RangeLemmas.{first_from-none, first_from-some}
+use Rattle.pmf_event.{specs.Span.{Extent, extent_of, covers_byte}, specs.Line.{line_of_byte, meets_span, meets_line}, specs.declared.span.TheConstants.{ADDRESS_LIMIT}, specs.declared.span.SpanFault.TheVariants.{ZeroSize, TooLarge, PastEnd}, specs.declared.event.Event.{Event}, specs.declared.event.Event.TheVariants.{Store, Flush, Fence, Persist, Exclude, Include, TxBegin, TxAdd, TxEnd, CheckStart, CheckEnd}, specs.declared.finding.Finding.TheVariants.{PersistPass, PersistFail, PersistEmpty, OrderedPass, OrderedFail, OrderedSameLine, OrderedEmpty, FlushDoubled, FlushNeedless, NoBackup, DupLog, CheckPass, CheckFail, TxStillOpen, Unmatched, Outside, Nested, Unopened, Unclosed}, specs.declared.profile.Profile.TheVariants.{One, Two}, specs.Places.{greatest, least, count, some_between, highest}, specs.Store.{event_at, at, stores, stores_line, flushes, is_fence, last, last_store, epoch_of}, specs.Interval.{writes_back, first_write_back, closes, closing_fence, interval_at}, specs.Exclusion.{excludes, marks, is_excluded, is_included}, specs.Transactions.{begins, ends, rise, depth_at, in_transaction, is_outside, adds, is_backed, opens_scope, closes_scope, opens_after, scope_at, in_scope, stores_inside, is_scoped, end_finding, add_finding, lacks_backup, store_finding, start_finding, is_left_open, scope_passes_unless, check_finding, close_finding}, specs.Ranges.{first_from, count_from}, specs.Persist.{is_checked, is_exposed, persist_finding}, specs.Order.{is_stored_before, is_ordered, is_unordered, is_certified, has_partner, least_pair, ordered_finding}, specs.FlushWarnings.{is_clean, is_pending, numbered, lines_where, flush_findings}, specs.LineBytes.{is_undurable, is_unwritten}, proofs.RangeLemmas.{first_from-none, first_from-some}}
 
 abbrev span : ℕ → ℕ → Extent
 span first size = record { first = first; size = size }

@@ -1,14 +1,7 @@
 -- The first write-back after the last of some stores, event by event, and the epoch in which it lies.
 -- The stores are those of a byte or those of a line: no such store is a write-back of the line.
-use Rattle.pmf_event.proofs.Common.{◌≡◌, ℕ, suc, ◌+◌, ◌-◌, ◌<◌, ◌≤◌, Bool, true, false, ◌&&◌, nat_lt, if◌then◌else◌, List, refl, sym, ◌∙◌, ap, arith, inl, inr, Option, Some, None, is_none, cases_lt, cases_eq, le-ltb, ltb-false, lt-ltb, and_parts, and_from, ne_eqb, ltb-true, Decides-eqb}
-use Rattle.pmf_event.specs.declared.event.Event.{Event}
-use Rattle.pmf_event.specs.Places.{least, count, some_between}
-use Rattle.pmf_event.specs.Store.{event_at, at, flushes, is_fence, last, epoch_of}
-use Rattle.pmf_event.specs.Interval.{writes_back, first_write_back, closes, closing_fence, epoch_after}
-use Rattle.pmf_event.specs.WriteBack.{epoch_unless, write_back_epoch}
-use Rattle.pmf_event.proofs.PlacesLemmas.{greatest-bound, least-step, least-bound, least-passes, least-none, least-none_behind, least-below, count-mono, count-found, some_between-here, some_between-found}
-use Rattle.pmf_event.proofs.EventLemmas.{at-is, last-other, last-here, epoch_of-next, not_fence_and_flush}
-use Rattle.pmf_event.proofs.IntervalLemmas.{Closing-found, Closing-closes, write_back-from_Closing, Closing-from_write_back}
+use Rattle.std.proofs.{Common.{◌≡◌, ℕ, suc, ◌+◌, ◌-◌, ◌<◌, ◌≤◌, Bool, true, false, ◌&&◌, nat_lt, if◌then◌else◌, List, refl, sym, ◌∙◌, ap, arith, inl, inr, Option, Some, None, is_none, le-ltb, ltb-false, lt-ltb, ne_eqb}, lemmas.Bool.{cases_lt, cases_eq, and_parts, and_from, ltb-true}, lemmas.Bool.Decides.{Decides-eqb}}
+use Rattle.pmf_event.{specs.declared.event.Event.{Event}, specs.Places.{least, count, some_between}, specs.Store.{event_at, at, flushes, is_fence, last, epoch_of}, specs.Interval.{writes_back, first_write_back, closes, closing_fence, epoch_after}, specs.WriteBack.{epoch_unless, write_back_epoch}, proofs.PlacesLemmas.{greatest-bound, least-step, least-bound, least-passes, least-none, least-none_behind, least-below, count-mono, count-found, some_between-here, some_between-found}, proofs.EventLemmas.{at-is, last-other, last-here, epoch_of-next, not_fence_and_flush}, proofs.IntervalLemmas.{Closing-found, Closing-closes, write_back-from_Closing, Closing-from_write_back}}
 
 pub or-zero : (n : ℕ) → (if nat_lt 0 n then n else 0) ≡ n
 or-zero n = elim (nat_lt 0 n) as (λ v. nat_lt 0 n ≡ v → (if v then n else 0) ≡ n) [

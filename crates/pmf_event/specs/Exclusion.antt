@@ -1,9 +1,6 @@
 -- Bytes that are taken out of the checks, and back in (PMTest, ASPLOS 2019: exclusion of ranges).
 use Rattle.std.specs.Prelude.{ℕ, Bool, false, not, List}
-use Rattle.pmf_event.specs.declared.event.Event.{Event}
-use Rattle.pmf_event.specs.declared.event.Event.TheVariants.{Exclude, Include}
-use Rattle.pmf_event.specs.Span.{covers_byte}
-use Rattle.pmf_event.specs.Store.{at, last}
+use Rattle.pmf_event.specs.{declared.event.Event.{Event}, declared.event.Event.TheVariants.{Exclude, Include}, Span.{covers_byte}, Store.{at, last}}
 
 -- whether the event is an exclusion that covers the byte
 unfoldable pub excludes : ℕ → Event → Bool

@@ -1,15 +1,7 @@
 -- Write-backs that cost time and do nothing (PMTest, ASPLOS 2019: WARN for performance). A write-back is
 -- judged line by line, at the place before it. Exclusion has no influence here. Defined here.
 use Rattle.std.specs.Prelude.{ℕ, ◌+◌, ◌-◌, ◌*◌, ◌/◌, Bool, not, ◌&&◌, ◌||◌, ◌==◌, nat_lt, List, [], ◌∷◌, ◌++◌, Option, None, Some}
-use Rattle.pmf_event.specs.declared.event.Event.{Event}
-use Rattle.pmf_event.specs.declared.finding.Finding.{Finding}
-use Rattle.pmf_event.specs.declared.finding.Finding.TheVariants.{FlushDoubled, FlushNeedless}
-use Rattle.pmf_event.specs.declared.lines.Lines.{Lines}
-use Rattle.pmf_event.specs.declared.span.TheConstants.{LINE_SIZE}
-use Rattle.pmf_event.specs.Span.{Extent}
-use Rattle.pmf_event.specs.Ranges.{first_from, count_from}
-use Rattle.pmf_event.specs.Store.{stores_line, last}
-use Rattle.pmf_event.specs.Interval.{first_write_back, closing_fence}
+use Rattle.pmf_event.specs.{declared.event.Event.{Event}, declared.finding.Finding.{Finding}, declared.finding.Finding.TheVariants.{FlushDoubled, FlushNeedless}, declared.lines.Lines.{Lines}, declared.span.TheConstants.{LINE_SIZE}, Span.{Extent}, Ranges.{first_from, count_from}, Store.{stores_line, last}, Interval.{first_write_back, closing_fence}}
 
 -- whether the line is clean at p: no store has met it, or a fence follows a write-back of it that
 -- follows the last store that met it

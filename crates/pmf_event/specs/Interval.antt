@@ -2,11 +2,7 @@
 -- the epoch in which a fence first completed a write-back of its line that was made after that store. A
 -- write-back that no fence follows closes nothing (Intel SDM, CLWB and SFENCE).
 use Rattle.std.specs.Prelude.{ℕ, ◌+◌, Bool, false, ◌&&◌, ◌==◌, nat_lt, List, Option, None, Some, is_none, if◌then◌else◌}
-use Rattle.pmf_event.specs.declared.event.Event.{Event}
-use Rattle.pmf_event.specs.declared.interval.Interval.{Interval}
-use Rattle.pmf_event.specs.Line.{line_of_byte}
-use Rattle.pmf_event.specs.Places.{least, some_between}
-use Rattle.pmf_event.specs.Store.{at, stores, flushes, is_fence, last, last_store, epoch_of}
+use Rattle.pmf_event.specs.{declared.event.Event.{Event}, declared.interval.Interval.{Interval}, Line.{line_of_byte}, Places.{least, some_between}, Store.{at, stores, flushes, is_fence, last, last_store, epoch_of}}
 
 -- whether place w is a write-back of the line, after place k
 unfoldable pub writes_back : List Event → ℕ → ℕ → ℕ → Bool

@@ -1,13 +1,6 @@
 -- Laws of this crate's definitions, which its empty public functions prove.
 use Rattle.std.specs.Prelude.{◌≡◌, ℕ, ◌+◌, ◌*◌, ◌<◌, ◌≤◌, ◌↔◌, true, List, All}
-use Rattle.pmf_event.specs.declared.event.Event.{Event}
-use Rattle.pmf_event.specs.Span.{Extent, covers_byte}
-use Rattle.pmf_event.specs.declared.span.TheConstants.{ADDRESS_LIMIT, LINE_SIZE}
-use Rattle.pmf_event.specs.Line.{line_of_byte, meets_line, meets_span}
-use Rattle.pmf_event.specs.FlushWarnings.{first_line, line_count}
-use Rattle.pmf_event.specs.Section.{IsValidEvent}
-use Rattle.pmf_event.specs.Store.{last_store}
-use Rattle.pmf_event.specs.Transactions.{is_scoped}
+use Rattle.pmf_event.specs.{declared.event.Event.{Event}, Span.{Extent, covers_byte}, declared.span.TheConstants.{ADDRESS_LIMIT, LINE_SIZE}, Line.{line_of_byte, meets_line, meets_span}, FlushWarnings.{first_line, line_count}, Section.{IsValidEvent}, Store.{last_store}, Transactions.{is_scoped}}
 
 -- a span meets exactly the lines of the bytes that it covers
 abbrev pub MeetsTheLinesOfItsBytes : Type 0

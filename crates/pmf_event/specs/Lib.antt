@@ -14,4 +14,3 @@ pub mod FlushWarnings
 pub mod LineBytes
 pub mod Transactions
 pub mod Laws
-pub mod Prelude

@@ -1,8 +1,7 @@
 -- Cache lines: 64 bytes each, named by the address of the first (Intel SDM, CLWB: a write-back acts on
 -- the whole line that holds the address; the size is the project's own).
 use Rattle.std.specs.Prelude.{ℕ, ◌+◌, ◌-◌, ◌%◌, Bool, nat_lt, ◌&&◌, ◌==◌}
-use Rattle.pmf_event.specs.declared.span.TheConstants.{LINE_SIZE}
-use Rattle.pmf_event.specs.Span.{Extent}
+use Rattle.pmf_event.specs.{declared.span.TheConstants.{LINE_SIZE}, Span.{Extent}}
 
 -- the line of a byte
 abbrev pub line_of_byte : ℕ → ℕ

@@ -1,14 +1,7 @@
 -- The state of a cache line from its bytes: a line is clean or pending by what its bytes are, so that no
 -- record of lines need be kept. Defined here; no definition cites this.
 use Rattle.std.specs.Prelude.{◌≡◌, ℕ, ◌+◌, ◌%◌, ◌<◌, ◌≤◌, ◌↔◌, Bool, true, false, ◌&&◌, ◌==◌, nat_lt, List, Some}
-use Rattle.pmf_event.specs.declared.event.Event.{Event}
-use Rattle.pmf_event.specs.declared.event.Event.TheVariants.{Store}
-use Rattle.pmf_event.specs.declared.span.TheConstants.{LINE_SIZE}
-use Rattle.pmf_event.specs.Span.{Extent}
-use Rattle.pmf_event.specs.Line.{line_of_byte}
-use Rattle.pmf_event.specs.Store.{event_at, stores, last_store}
-use Rattle.pmf_event.specs.Interval.{first_write_back, closing_fence}
-use Rattle.pmf_event.specs.FlushWarnings.{is_clean, is_pending}
+use Rattle.pmf_event.specs.{declared.event.Event.{Event}, declared.event.Event.TheVariants.{Store}, declared.span.TheConstants.{LINE_SIZE}, Span.{Extent}, Line.{line_of_byte}, Store.{event_at, stores, last_store}, Interval.{first_write_back, closing_fence}, FlushWarnings.{is_clean, is_pending}}
 
 -- whether byte b is undurable at p: it was stored to, and no fence follows a write-back of its line that
 -- follows its last store

@@ -2,18 +2,7 @@
 -- byte of the one span and a checked byte of the other. EMPTY, SAMELINE and the least pair are defined
 -- here; that a line's stores become durable in their order is x86 persistency (Raad et al., POPL 2020).
 use Rattle.std.specs.Prelude.{ℕ, Bool, false, not, ◌&&◌, ◌||◌, ◌==◌, nat_lt, nat_le, List, Option, None, Some, is_some, is_none, if◌then◌else◌}
-use Rattle.pmf_event.specs.declared.event.Event.{Event}
-use Rattle.pmf_event.specs.declared.finding.Finding.{Finding}
-use Rattle.pmf_event.specs.declared.finding.Finding.TheVariants.{OrderedPass, OrderedFail, OrderedSameLine, OrderedEmpty}
-use Rattle.pmf_event.specs.declared.interval.Interval.{Interval}
-use Rattle.pmf_event.specs.declared.profile.Profile.{Profile}
-use Rattle.pmf_event.specs.declared.profile.Profile.TheVariants.{One, Two}
-use Rattle.pmf_event.specs.Span.{Extent}
-use Rattle.pmf_event.specs.Line.{line_of_byte}
-use Rattle.pmf_event.specs.Ranges.{first_byte}
-use Rattle.pmf_event.specs.Store.{last_store}
-use Rattle.pmf_event.specs.Interval.{interval_at}
-use Rattle.pmf_event.specs.Persist.{is_checked}
+use Rattle.pmf_event.specs.{declared.event.Event.{Event}, declared.finding.Finding.{Finding}, declared.finding.Finding.TheVariants.{OrderedPass, OrderedFail, OrderedSameLine, OrderedEmpty}, declared.interval.Interval.{Interval}, declared.profile.Profile.{Profile}, declared.profile.Profile.TheVariants.{One, Two}, Span.{Extent}, Line.{line_of_byte}, Ranges.{first_byte}, Store.{last_store}, Interval.{interval_at}, Persist.{is_checked}}
 
 -- whether what closes then, if it does, is closed by this epoch
 abbrev pub is_closed_by : Option ℕ → ℕ → Bool

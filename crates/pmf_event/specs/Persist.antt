@@ -1,13 +1,6 @@
 -- What a persist assertion finds (PMTest, ASPLOS 2019: isPersist). EMPTY and the least byte are defined here.
 use Rattle.std.specs.Prelude.{ℕ, Bool, not, ◌&&◌, nat_lt, List, Option, None, Some, is_none, if◌then◌else◌}
-use Rattle.pmf_event.specs.declared.event.Event.{Event}
-use Rattle.pmf_event.specs.declared.finding.Finding.{Finding}
-use Rattle.pmf_event.specs.declared.finding.Finding.TheVariants.{PersistPass, PersistFail, PersistEmpty}
-use Rattle.pmf_event.specs.Span.{Extent}
-use Rattle.pmf_event.specs.Ranges.{first_byte}
-use Rattle.pmf_event.specs.Store.{last_store}
-use Rattle.pmf_event.specs.Interval.{interval_at, is_open}
-use Rattle.pmf_event.specs.Exclusion.{is_excluded}
+use Rattle.pmf_event.specs.{declared.event.Event.{Event}, declared.finding.Finding.{Finding}, declared.finding.Finding.TheVariants.{PersistPass, PersistFail, PersistEmpty}, Span.{Extent}, Ranges.{first_byte}, Store.{last_store}, Interval.{interval_at, is_open}, Exclusion.{is_excluded}}
 
 -- whether byte b is checked at p: a store up to p covers it, and it is not excluded
 unfoldable pub is_checked : List Event → ℕ → ℕ → Bool

@@ -1,9 +1,6 @@
 -- A section as a value.
 use Rattle.std.specs.Prelude.{ℕ, ◌<◌, List, length, get_or, All}
-use Rattle.pmf_event.specs.declared.name.Name.{Name}
-use Rattle.pmf_event.specs.declared.event.Event.{Event}
-use Rattle.pmf_event.specs.declared.event.Event.TheVariants.{Store, Flush, Persist, Ordered, Exclude, Include, TxAdd}
-use Rattle.pmf_event.specs.Span.{IsValidExtent}
+use Rattle.pmf_event.specs.{declared.name.Name.{Name}, declared.event.Event.{Event}, declared.event.Event.TheVariants.{Store, Flush, Persist, Ordered, Exclude, Include, TxAdd}, Span.{IsValidExtent}}
 
 -- the name of a section, and its events by their places
 pub record Trace : Type 0 where

@@ -1,8 +1,6 @@
 -- Spans of bytes: the first address and how many bytes. The limits are the project's own.
 use Rattle.std.specs.Prelude.{ℕ, ◌≡◌, length, get_or, ◌+◌, ◌<◌, ◌≤◌, Bool, nat_lt, nat_le, ◌&&◌, ◌==◌, List, codes, Result, Ok, Err, if◌then◌else◌}
-use Rattle.pmf_event.specs.declared.span.TheConstants.{SPAN_LIMIT, ADDRESS_LIMIT}
-use Rattle.pmf_event.specs.declared.span.SpanFault.{SpanFault}
-use Rattle.pmf_event.specs.declared.span.SpanFault.TheVariants.{ZeroSize, TooLarge, PastEnd}
+use Rattle.pmf_event.specs.declared.span.{TheConstants.{SPAN_LIMIT, ADDRESS_LIMIT}, SpanFault.{SpanFault}, SpanFault.TheVariants.{ZeroSize, TooLarge, PastEnd}}
 
 -- a span as a value: the address of its first byte, and how many bytes it has
 pub record Extent : Type 0 where

@@ -2,11 +2,7 @@
 -- epoch of a place (PMTest, ASPLOS 2019: an epoch ends with each fence). All speak of one list of events
 -- and of places in it; "at p" means after the first p events.
 use Rattle.std.specs.Prelude.{ℕ, zero, suc, ◌-◌, Bool, false, true, List, Option, None, Some, slice_get}
-use Rattle.pmf_event.specs.declared.event.Event.{Event}
-use Rattle.pmf_event.specs.declared.event.Event.TheVariants.{Store, Flush, Fence}
-use Rattle.pmf_event.specs.Span.{covers_byte}
-use Rattle.pmf_event.specs.Line.{meets_line}
-use Rattle.pmf_event.specs.Places.{greatest, count}
+use Rattle.pmf_event.specs.{declared.event.Event.{Event}, declared.event.Event.TheVariants.{Store, Flush, Fence}, Span.{covers_byte}, Line.{meets_line}, Places.{greatest, count}}
 
 -- the event at a place, if there is one
 unfoldable pub event_at : List Event → ℕ → Option Event

@@ -3,17 +3,7 @@
 -- markers are defined here. "At p" means after the first p events; what is found of an event is said of
 -- the place p before it.
 use Rattle.std.specs.Prelude.{ℕ, suc, ◌-◌, Bool, false, true, not, ◌&&◌, nat_lt, List, Option, None, Some, if◌then◌else◌}
-use Rattle.pmf_event.specs.declared.event.Event.{Event}
-use Rattle.pmf_event.specs.declared.event.Event.TheVariants.{TxBegin, TxAdd, TxEnd, CheckStart, CheckEnd}
-use Rattle.pmf_event.specs.declared.finding.Finding.{Finding}
-use Rattle.pmf_event.specs.declared.finding.Finding.TheVariants.{NoBackup, DupLog, CheckPass, CheckFail, TxStillOpen, Unmatched, Outside, Nested, Unopened, Unclosed}
-use Rattle.pmf_event.specs.declared.span.TheConstants.{ADDRESS_LIMIT}
-use Rattle.pmf_event.specs.Span.{Extent, covers_byte}
-use Rattle.pmf_event.specs.Places.{greatest, least, count, highest}
-use Rattle.pmf_event.specs.Ranges.{first_from, first_byte}
-use Rattle.pmf_event.specs.Store.{at, stores, last}
-use Rattle.pmf_event.specs.Interval.{interval_at, is_open}
-use Rattle.pmf_event.specs.Exclusion.{is_included}
+use Rattle.pmf_event.specs.{declared.event.Event.{Event}, declared.event.Event.TheVariants.{TxBegin, TxAdd, TxEnd, CheckStart, CheckEnd}, declared.finding.Finding.{Finding}, declared.finding.Finding.TheVariants.{NoBackup, DupLog, CheckPass, CheckFail, TxStillOpen, Unmatched, Outside, Nested, Unopened, Unclosed}, declared.span.TheConstants.{ADDRESS_LIMIT}, Span.{Extent, covers_byte}, Places.{greatest, least, count, highest}, Ranges.{first_from, first_byte}, Store.{at, stores, last}, Interval.{interval_at, is_open}, Exclusion.{is_included}}
 
 -- ---- depth
 

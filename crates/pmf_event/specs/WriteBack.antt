@@ -1,9 +1,7 @@
 -- The epoch of a write-back: what a shadow keeps in place of the closing fence. No definition above
 -- cites this.
 use Rattle.std.specs.Prelude.{ℕ, Bool, ◌==◌, List, Option, None, Some, if◌then◌else◌}
-use Rattle.pmf_event.specs.declared.event.Event.{Event}
-use Rattle.pmf_event.specs.Store.{epoch_of}
-use Rattle.pmf_event.specs.Interval.{first_write_back}
+use Rattle.pmf_event.specs.{declared.event.Event.{Event}, Store.{epoch_of}, Interval.{first_write_back}}
 
 -- the epoch of a place; none for no place
 abbrev pub epoch_unless : List Event → ℕ → Option ℕ

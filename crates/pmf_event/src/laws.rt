@@ -1,7 +1,6 @@
 //! Laws of the definitions, each the clause of an empty function.
 
-ghost use Rattle.pmf_event.specs.Laws.{BytesLieBelowTheLimit, MeetsTheLinesOfItsBytes, MeetsTheLinesOfItsNumbers, MeetsWhereAByteIsShared};
-ghost use Rattle.pmf_event.specs.LineBytes.{LinesFollowFromTheirBytes};
+ghost use Rattle.pmf_event.specs.{Laws.{BytesLieBelowTheLimit, MeetsTheLinesOfItsBytes, MeetsTheLinesOfItsNumbers, MeetsWhereAByteIsShared}, LineBytes.{LinesFollowFromTheirBytes}};
 
 /// A span meets exactly the cache lines of the bytes that it covers.
 pub fn span_meets_the_lines_of_its_bytes()

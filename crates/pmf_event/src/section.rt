@@ -1,8 +1,7 @@
 //! A section: its name and its events.
 
 ghost use Rattle.std.specs.Prelude.{◌≡◌, ◌↔◌, ◌≤◌, ◌<◌, [], ◌∷◌, ◌++◌, length, IsTrue, OnOk, OnErr, IsErrOf, All};
-ghost use Rattle.pmf_event.specs.Section.{Trace, IsValidEvent};
-ghost use Rattle.pmf_event.specs.declared.section.TheConstants.{EVENT_LIMIT};
+ghost use Rattle.pmf_event.specs.{Section.{Trace, IsValidEvent}, declared.section.TheConstants.{EVENT_LIMIT}};
 
 use crate::event::Event;
 use crate::name::Name;
@@ -26,8 +25,7 @@ pub struct Section {
 
 impl Model for Section {
     ghost use Rattle.std.specs.Prelude.{◌≤◌, length, All};
-    ghost use Rattle.pmf_event.specs.Section.{Trace, IsValidEvent};
-    ghost use Rattle.pmf_event.specs.declared.section.TheConstants.{EVENT_LIMIT};
+    ghost use Rattle.pmf_event.specs.{Section.{Trace, IsValidEvent}, declared.section.TheConstants.{EVENT_LIMIT}};
 
     ghost Value = { Trace };
 

@@ -1,9 +1,7 @@
 //! A valid range of bytes, and the cache lines that it meets.
 
 ghost use Rattle.std.specs.Prelude.{◌≡◌, ◌+◌, ◌-◌, ◌<◌, ◌≤◌, ◌^◌, ◌↔◌, min, IsTrue};
-ghost use Rattle.pmf_event.specs.Line.{line_of_byte, meets_span};
-ghost use Rattle.pmf_event.specs.Span.{Extent, IsValidExtent, covers_byte, extent_of};
-ghost use Rattle.pmf_event.specs.declared.span.TheConstants.{ADDRESS_LIMIT, SPAN_LIMIT};
+ghost use Rattle.pmf_event.specs.{Line.{line_of_byte, meets_span}, Span.{Extent, IsValidExtent, covers_byte, extent_of}, declared.span.TheConstants.{ADDRESS_LIMIT, SPAN_LIMIT}};
 
 use std::error::Error;
 use std::fmt;
@@ -31,11 +29,8 @@ pub struct Span {
 }
 
 impl Model for Span {
-    ghost use Rattle.std.specs.Prelude.{◌≡◌, ◌+◌, ◌-◌};
-    ghost use Rattle.std.specs.Int.{w32, w64, to_le_bytes, from_le_bytes};
+    ghost use Rattle.std.{specs.Prelude.{◌≡◌, ◌+◌, ◌-◌}, specs.Int.{w32, w64, to_le_bytes, from_le_bytes}, proofs.lemmas.Nat.{le_bytes_4, le_bytes_8}, proofs.Common.{arith}};
     ghost use Rattle.pmf_event.specs.Span.{Extent, IsNumeral, IsValidExtent};
-    ghost use Rattle.std.proofs.lemmas.Nat.{le_bytes_4, le_bytes_8};
-    ghost use Rattle.std.proofs.Common.{arith};
 
     ghost Value = { Extent };
 
@@ -53,10 +48,7 @@ impl Model for Span {
 }
 
 impl PartialEq for Span {
-    ghost use Rattle.std.proofs.Common.{rules};
-    ghost use Rattle.std.specs.Cmp.Rules.{comparing};
-    ghost use Rattle.std.specs.Ordering.{on, eq_of_both};
-    ghost use Rattle.std.specs.Prelude.{nat_eq};
+    ghost use Rattle.std.{proofs.Common.{rules}, specs.Cmp.Rules.{comparing}, specs.Ordering.{on, eq_of_both}, specs.Prelude.{nat_eq}};
     ghost use Rattle.pmf_event.specs.Span.{Extent};
 
     ghost eq = { eq_of_both (on (λ (s : Extent). s.first) nat_eq) (on (λ (s : Extent). s.size) nat_eq) };
@@ -69,8 +61,7 @@ impl PartialEq for Span {
 }
 
 impl Eq for Span {
-    ghost use Rattle.std.proofs.Common.{rules};
-    ghost use Rattle.std.specs.Cmp.Rules.{comparing};
+    ghost use Rattle.std.{proofs.Common.{rules}, specs.Cmp.Rules.{comparing}};
 
     ghost laws = { Prim.search (comparing, rules) };
 }

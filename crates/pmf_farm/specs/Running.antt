@@ -1,8 +1,7 @@
 -- What a farm takes, and what it refuses. Defined here.
 use Rattle.std.specs.Prelude.{◌≡◌, ℕ, ◌<◌, ◌≤◌, List, length}
 use Rattle.pmf_event.specs.Section.{Trace}
-use Rattle.pmf_board.specs.declared.board.TheConstants.{MOST_SECTIONS, MOST_WORKERS}
-use Rattle.pmf_board.specs.Workers.{AreWorkers}
+use Rattle.pmf_board.specs.{declared.board.TheConstants.{MOST_SECTIONS, MOST_WORKERS}, Workers.{AreWorkers}}
 use Rattle.pmf_ledger.specs.Repeats.{HaveOwnNames, IsLeastTwice}
 use Rattle.pmf_farm.specs.declared.fault.FarmFault.{FarmFault}
 use Rattle.pmf_farm.specs.declared.fault.FarmFault.TheVariants as fault

@@ -1,12 +1,9 @@
 -- What a worker did on a board: the tasks that it took, and the verdicts that it put. Defined here.
 use Rattle.std.specs.Prelude.{◌≡◌, ℕ, ◌≤◌, Bool, if◌then◌else◌, List, [], ◌∷◌, ◌++◌, length, map, get_or, Result, Ok, Err}
-use Rattle.pmf_event.specs.declared.profile.Profile.{Profile}
-use Rattle.pmf_event.specs.Prelude.{Trace}
+use Rattle.pmf_event.specs.{declared.profile.Profile.{Profile}, Section.{Trace}}
 use Rattle.pmf_verdict.specs.Checked.{Checked, checked_by}
 use Rattle.pmf_ledger.specs.Repeats.{section_at}
-use Rattle.pmf_board.specs.Calls.{Marks}
-use Rattle.pmf_board.specs.declared.task.Task.{Task}
-use Rattle.pmf_board.specs.declared.view.View.{View}
+use Rattle.pmf_board.specs.{Calls.{Marks}, declared.task.Task.{Task}, declared.view.View.{View}}
 use Rattle.pmf_farm.specs.declared.working.Ended.{Ended}
 use Rattle.pmf_farm.specs.declared.working.Ended.TheVariants as ended
 

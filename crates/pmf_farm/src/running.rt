@@ -1,9 +1,8 @@
 //! A farm: workers on threads of their own, and the ledger of what they and the caller's own thread checked.
 
 ghost use Rattle.std.specs.Prelude.{◌≡◌, ◌≤◌, map, length, vec_len, IfOk, IfErr, All};
-ghost use Rattle.pmf_ledger.specs.Prelude.{IsLedgerOf, HaveOwnNames};
-ghost use Rattle.pmf_farm.specs.Rolls.{IsRepeatOf, sections_of};
-ghost use Rattle.pmf_farm.specs.Running.{IsRefused, IsTaken};
+ghost use Rattle.pmf_ledger.specs.{Gathered.{IsLedgerOf}, Repeats.{HaveOwnNames}};
+ghost use Rattle.pmf_farm.specs.{Rolls.{IsRepeatOf, sections_of}, Running.{IsRefused, IsTaken}};
 
 use crate::fault::FarmFault;
 use crate::gate::Gate;

@@ -1,8 +1,7 @@
 //! What a worker does: it takes sections from a board, checks them, and puts their verdicts.
 
 ghost use Rattle.std.specs.Prelude.{◌≡◌, ◌≢◌, ◌<◌, length, map, IfOk, OnOk, OnErr, IfNone, IfSome, IfErr, Ok};
-ghost use Rattle.pmf_board.specs.Calls.{PassesOverAll, Stays, Takes};
-ghost use Rattle.pmf_board.specs.Views.{HasTaken};
+ghost use Rattle.pmf_board.specs.{Calls.{PassesOverAll, Stays, Takes}, Views.{HasTaken}};
 ghost use Rattle.pmf_verdict.specs.Checked.{checked_by};
 ghost use Rattle.pmf_ledger.specs.Repeats.{section_at};
 ghost use Rattle.pmf_farm.specs.Working.{HasWorked, Serves, limit_of, most_left};

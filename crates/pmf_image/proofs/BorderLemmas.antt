@@ -1,19 +1,7 @@
 -- Stretches of alike bytes: between two borders all bytes are alike, and alike bytes answer alike.
-use Rattle.pmf_event.proofs.Common.{◌≡◌, ℕ, zero, suc, ◌+◌, ◌-◌, ◌<◌, ◌≤◌, not, ◌&&◌, nat_lt, nat_le, if◌then◌else◌, List, length, refl, sym, ◌∙◌, ap, arith, inl, inr, subst, Some, None, nat_eq, get_or, ◌⊎◌, option_eq, cases_lt, cases_eq, slice_get_past, slice_get_read}
-use Rattle.std.proofs.Math.Path.{fun_ext}
-use Rattle.pmf_event.specs.declared.event.Event.{Event}
-use Rattle.pmf_event.specs.declared.event.Event.TheVariants.{Store, Flush, Exclude, Include}
-use Rattle.pmf_event.specs.Prelude.{Extent, covers_byte, line_of_byte, meets_line, greatest, count, some_between, event_at, at, stores, stores_line, flushes, is_fence, last, last_store, excludes, marks, is_excluded, is_included, is_checked, in_transaction, scope_at, in_scope, stores_inside, is_scoped}
-use Rattle.pmf_event.proofs.EventLemmas.{at-is}
-use Rattle.pmf_image.specs.declared.certificate.Certificate.{Certificate}
-use Rattle.pmf_image.specs.declared.questions.Question.{Question}
-use Rattle.pmf_image.specs.declared.questions.Question.TheVariants.{FallsShort, IsShown, IsLost, ScopeFallsShort}
-use Rattle.pmf_image.specs.Image.{count_of, is_fenced, floor_of, reach_of, reaches, shows}
-use Rattle.pmf_image.specs.Certificate.{image_of, cut_in, shows_in}
-use Rattle.pmf_image.specs.Borders.{AlikeAt, Alike}
-use Rattle.pmf_image.specs.Questions.{is_asked, compares, answer_of}
-use Rattle.pmf_image.proofs.ImageLemmas.{reach-untorn}
-use Rattle.pmf_image.proofs.CertificateLemmas.{cut-is}
+use Rattle.std.{proofs.Common.{◌≡◌, ℕ, zero, suc, ◌+◌, ◌-◌, ◌<◌, ◌≤◌, not, ◌&&◌, nat_lt, nat_le, if◌then◌else◌, List, length, refl, sym, ◌∙◌, ap, arith, inl, inr, subst, Some, None, nat_eq, get_or, ◌⊎◌}, specs.Option.{option_eq}, proofs.lemmas.Bool.{cases_lt, cases_eq}, proofs.lemmas.Option.{slice_get_past, slice_get_read}, proofs.Math.Path.{fun_ext}}
+use Rattle.pmf_event.{specs.declared.event.Event.{Event}, specs.declared.event.Event.TheVariants.{Store, Flush, Exclude, Include}, specs.Span.{Extent, covers_byte}, specs.Line.{line_of_byte, meets_line}, specs.Places.{greatest, count, some_between}, specs.Store.{event_at, at, stores, stores_line, flushes, is_fence, last, last_store}, specs.Exclusion.{excludes, marks, is_excluded, is_included}, specs.Persist.{is_checked}, specs.Transactions.{in_transaction, scope_at, in_scope, stores_inside, is_scoped}, proofs.EventLemmas.{at-is}}
+use Rattle.pmf_image.{specs.declared.certificate.Certificate.{Certificate}, specs.declared.questions.Question.{Question}, specs.declared.questions.Question.TheVariants.{FallsShort, IsShown, IsLost, ScopeFallsShort}, specs.Image.{count_of, is_fenced, floor_of, reach_of, reaches, shows}, specs.Certificate.{image_of, cut_in, shows_in}, specs.Borders.{AlikeAt, Alike}, specs.Questions.{is_asked, compares, answer_of}, proofs.ImageLemmas.{reach-untorn}, proofs.CertificateLemmas.{cut-is}}
 
 -- ---- bytes that an event doesn't tell apart
 

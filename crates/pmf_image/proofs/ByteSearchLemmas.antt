@@ -1,14 +1,7 @@
 -- The search for a byte that answers yes.
-use Rattle.pmf_event.proofs.Common.{◌≡◌, ℕ, ◌<◌, ◌≤◌, ◌-◌, Bool, true, false, not, ◌&&◌, nat_lt, List, refl, sym, ◌∙◌, ap, arith, inl, inr, and-false, cases_lt}
-use Rattle.pmf_event.specs.declared.event.Event.{Event}
-use Rattle.pmf_event.specs.Prelude.{last_store, is_excluded, is_included, is_checked, is_scoped}
-use Rattle.pmf_image.specs.declared.certificate.Certificate.{Certificate}
-use Rattle.pmf_image.specs.declared.questions.Question.{Question}
-use Rattle.pmf_image.specs.declared.questions.Question.TheVariants.{FallsShort, IsShown, IsLost, ScopeFallsShort}
-use Rattle.pmf_image.specs.Certificate.{shows_in}
-use Rattle.pmf_image.specs.Borders.{Alike}
-use Rattle.pmf_image.specs.Questions.{is_asked, compares, answer_of}
-use Rattle.pmf_image.proofs.BorderLemmas.{answer-alike}
+use Rattle.std.proofs.{Common.{◌≡◌, ℕ, ◌<◌, ◌≤◌, ◌-◌, Bool, true, false, not, ◌&&◌, nat_lt, List, refl, sym, ◌∙◌, ap, arith, inl, inr}, Math.Bool.{and-false}, lemmas.Bool.{cases_lt}}
+use Rattle.pmf_event.specs.{declared.event.Event.{Event}, Store.{last_store}, Exclusion.{is_excluded, is_included}, Persist.{is_checked}, Transactions.{is_scoped}}
+use Rattle.pmf_image.{specs.declared.certificate.Certificate.{Certificate}, specs.declared.questions.Question.{Question}, specs.declared.questions.Question.TheVariants.{FallsShort, IsShown, IsLost, ScopeFallsShort}, specs.Certificate.{shows_in}, specs.Borders.{Alike}, specs.Questions.{is_asked, compares, answer_of}, proofs.BorderLemmas.{answer-alike}}
 
 -- no byte from first on and below end passes the test
 pub record NoByte (test : ℕ → Bool) (first end : ℕ) : Type 0 where

@@ -1,15 +1,8 @@
 -- Certificates: what a pass over the events keeps of a line and of a byte, and what a certificate's image
 -- holds.
-use Rattle.pmf_event.proofs.Common.{◌≡◌, ℕ, zero, suc, ◌+◌, ◌-◌, ◌<◌, ◌≤◌, Bool, true, false, ◌&&◌, ◌==◌, nat_lt, if◌then◌else◌, List, [], length, refl, sym, ◌∙◌, ap, arith, inl, inr, Option, Some, None, unwrap_or, get_or, take, nat_eq, length-take-le, get_or-take, option_eq, cases_lt, cases_eq, ltb-true, Decides-eqb, slice_get_read}
-use Rattle.pmf_event.specs.declared.event.Event.{Event}
-use Rattle.pmf_event.specs.declared.event.Event.TheVariants.{Store, Flush, Fence}
-use Rattle.pmf_event.specs.Prelude.{Extent, covers_byte, line_of_byte, meets_line, greatest, count, some_between, event_at, at, stores, stores_line, flushes, is_fence, last, last_store}
-use Rattle.pmf_event.proofs.PlacesLemmas.{SameUpTo, greatest-step, greatest-zero, greatest-bound, count-step, count-zero, count-le, some_between-here}
-use Rattle.pmf_event.proofs.EventLemmas.{at-is, last-step, not_fence_and_flush}
-use Rattle.pmf_image.specs.declared.certificate.Certificate.{Certificate}
-use Rattle.pmf_image.specs.Certificate.{full_cuts, image_of, cut_in, shows_in}
-use Rattle.pmf_image.specs.Image.{Image, count_of, is_fenced, floor_of, value_of, cut_of, shows}
-use Rattle.pmf_image.proofs.ImageLemmas.{reach-untorn, reached-shown, shown-reaches, last_store-stores, last_store-bound, last_store-above, count_of-here, count_of-mono}
+use Rattle.std.{proofs.Common.{◌≡◌, ℕ, zero, suc, ◌+◌, ◌-◌, ◌<◌, ◌≤◌, Bool, true, false, ◌&&◌, ◌==◌, nat_lt, if◌then◌else◌, List, [], length, refl, sym, ◌∙◌, ap, arith, inl, inr, Option, Some, None, unwrap_or, get_or, take, nat_eq, length-take-le, get_or-take}, specs.Option.{option_eq}, proofs.lemmas.Bool.{cases_lt, cases_eq, ltb-true}, proofs.lemmas.Bool.Decides.{Decides-eqb}, proofs.lemmas.Option.{slice_get_read}}
+use Rattle.pmf_event.{specs.declared.event.Event.{Event}, specs.declared.event.Event.TheVariants.{Store, Flush, Fence}, specs.Span.{Extent, covers_byte}, specs.Line.{line_of_byte, meets_line}, specs.Places.{greatest, count, some_between}, specs.Store.{event_at, at, stores, stores_line, flushes, is_fence, last, last_store}, proofs.PlacesLemmas.{SameUpTo, greatest-step, greatest-zero, greatest-bound, count-step, count-zero, count-le, some_between-here}, proofs.EventLemmas.{at-is, last-step, not_fence_and_flush}}
+use Rattle.pmf_image.{specs.declared.certificate.Certificate.{Certificate}, specs.Certificate.{full_cuts, image_of, cut_in, shows_in}, specs.Image.{Image, count_of, is_fenced, floor_of, value_of, cut_of, shows}, proofs.ImageLemmas.{reach-untorn, reached-shown, shown-reaches, last_store-stores, last_store-bound, last_store-above, count_of-here, count_of-mono}}
 
 and-one : (x : Bool) → (x && true) ≡ x
 and-one true = refl

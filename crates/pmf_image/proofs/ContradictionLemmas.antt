@@ -1,17 +1,7 @@
 -- From the searches to the contradiction of an assertion, and back.
-use Rattle.pmf_event.proofs.Common.{◌≡◌, ℕ, zero, suc, ◌+◌, ◌-◌, ◌<◌, ◌≤◌, Bool, true, false, not, ◌&&◌, ◌==◌, nat_lt, ◌↔◌, List, length, refl, sym, ◌∙◌, ap, arith, subst, Some, get_or, Decides-eqb, slice_get-get_or}
-use Rattle.std.proofs.lemmas.Bool.{and_parts, and_from, both_ways, lt-ltb, ltb-true}
-use Rattle.pmf_event.specs.declared.event.Event.{Event}
-use Rattle.pmf_event.specs.declared.event.Event.TheVariants.{Persist, Ordered, CheckEnd}
-use Rattle.pmf_event.specs.declared.span.TheConstants.{ADDRESS_LIMIT}
-use Rattle.pmf_event.specs.Prelude.{Extent, event_at, last_store, is_included, is_checked, depth_at, in_transaction, in_scope, is_scoped}
-use Rattle.pmf_event.proofs.LineLemmas.{covers-bounds, bounds-cover}
-use Rattle.pmf_event.proofs.TransactionLemmas.{inside-from, outside-from}
-use Rattle.pmf_image.specs.declared.certificate.Certificate.{Certificate}
-use Rattle.pmf_image.specs.declared.questions.Question.TheVariants.{FallsShort, IsShown, IsLost, ScopeFallsShort}
-use Rattle.pmf_image.specs.Certificate.{shows_in}
-use Rattle.pmf_image.specs.Contradiction.{PersistContradicted, OrderedContradicted, ScopeContradicted, ContradictsEvent, Contradicts}
-use Rattle.pmf_image.specs.Questions.{is_asked, compares, answer_of, SomeByte}
+use Rattle.std.proofs.{Common.{◌≡◌, ℕ, zero, suc, ◌+◌, ◌-◌, ◌<◌, ◌≤◌, Bool, true, false, not, ◌&&◌, ◌==◌, nat_lt, ◌↔◌, List, length, refl, sym, ◌∙◌, ap, arith, subst, Some, get_or, lt-ltb}, lemmas.Bool.Decides.{Decides-eqb}, lemmas.Option.{slice_get-get_or}, lemmas.Bool.{and_parts, and_from, both_ways, ltb-true}}
+use Rattle.pmf_event.{specs.declared.event.Event.{Event}, specs.declared.event.Event.TheVariants.{Persist, Ordered, CheckEnd}, specs.declared.span.TheConstants.{ADDRESS_LIMIT}, specs.Span.{Extent}, specs.Store.{event_at, last_store}, specs.Exclusion.{is_included}, specs.Persist.{is_checked}, specs.Transactions.{depth_at, in_transaction, in_scope, is_scoped}, proofs.LineLemmas.{covers-bounds, bounds-cover}, proofs.TransactionLemmas.{inside-from, outside-from}}
+use Rattle.pmf_image.specs.{declared.certificate.Certificate.{Certificate}, declared.questions.Question.TheVariants.{FallsShort, IsShown, IsLost, ScopeFallsShort}, Certificate.{shows_in}, Contradiction.{PersistContradicted, OrderedContradicted, ScopeContradicted, ContradictsEvent, Contradicts}, Questions.{is_asked, compares, answer_of, SomeByte}}
 
 -- the event at the place, as it is read from the list
 event-placed : (es : List Event) (p : ℕ) (d : Event) → 0 < p → p ≤ length es → event_at es p ≡ Some (get_or es (p - 1) d)

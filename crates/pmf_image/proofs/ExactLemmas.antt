@@ -1,20 +1,7 @@
 -- What does not hold: contradicted assertions, certified pairs, and pairs of two bytes that one store wrote.
-use Rattle.pmf_event.proofs.Common.{◌≡◌, ℕ, ◌+◌, ◌-◌, ◌<◌, ◌≤◌, Bool, true, false, not, ◌&&◌, ◌||◌, if◌then◌else◌, List, length, refl, sym, ◌∙◌, ap, arith, inl, inr, subst, Option, Some, cases_lt, cases_eq, lt-ltb, and_from, and_parts, Decides-eqb}
-use Rattle.pmf_event.specs.declared.event.Event.{Event}
-use Rattle.pmf_event.specs.declared.event.Event.TheVariants.{Persist, Ordered, CheckEnd}
-use Rattle.pmf_event.specs.declared.profile.Profile.{Profile}
-use Rattle.pmf_event.specs.declared.profile.Profile.TheVariants.{Two}
-use Rattle.pmf_event.specs.Prelude.{line_of_byte, Extent, covers_byte, greatest, event_at, last_store, interval_at, is_checked, precedes, share_line, is_stored_before, is_ordered, is_unordered, is_certified}
-use Rattle.pmf_event.proofs.PlacesLemmas.{greatest-bound}
-use Rattle.pmf_image.specs.Image.{Image, count_of, is_fenced, floor_of, is_in, cut_of, reach_of, shows}
-use Rattle.pmf_image.specs.declared.certificate.Certificate.{Certificate}
-use Rattle.pmf_image.specs.Certificate.{image_of}
-use Rattle.pmf_image.specs.Contradiction.{ContradictsEvent}
-use Rattle.pmf_image.specs.Holds.{OrderedHolds, EventHolds}
-use Rattle.pmf_image.specs.Laws.{ContradictedDoNotHold, CertifiedPairsDoNotHold, PairsAreOneByte, ProfileTwoIsExact, at_store}
-use Rattle.pmf_image.proofs.ImageLemmas.{written-from_checked, last_store-stores, last_store-bound, shown-reaches, count_of-here, count_of-mono, reached-shown, allows_each_torn}
-use Rattle.pmf_image.proofs.OrderedLemmas.{shown-ordered}
-use Rattle.pmf_image.proofs.FailureLemmas.{certificates-allowed, pair-shown, unordered-parts, shows-bound}
+use Rattle.std.proofs.{Common.{◌≡◌, ℕ, ◌+◌, ◌-◌, ◌<◌, ◌≤◌, Bool, true, false, not, ◌&&◌, ◌||◌, if◌then◌else◌, List, length, refl, sym, ◌∙◌, ap, arith, inl, inr, subst, Option, Some, lt-ltb}, lemmas.Bool.{cases_lt, cases_eq, and_from, and_parts}, lemmas.Bool.Decides.{Decides-eqb}}
+use Rattle.pmf_event.{specs.declared.event.Event.{Event}, specs.declared.event.Event.TheVariants.{Persist, Ordered, CheckEnd}, specs.declared.profile.Profile.{Profile}, specs.declared.profile.Profile.TheVariants.{Two}, specs.Line.{line_of_byte}, specs.Span.{Extent, covers_byte}, specs.Places.{greatest}, specs.Store.{event_at, last_store}, specs.Interval.{interval_at}, specs.Persist.{is_checked}, specs.Order.{precedes, share_line, is_stored_before, is_ordered, is_unordered, is_certified}, proofs.PlacesLemmas.{greatest-bound}}
+use Rattle.pmf_image.{specs.Image.{Image, count_of, is_fenced, floor_of, is_in, cut_of, reach_of, shows}, specs.declared.certificate.Certificate.{Certificate}, specs.Certificate.{image_of}, specs.Contradiction.{ContradictsEvent}, specs.Holds.{OrderedHolds, EventHolds}, specs.Laws.{ContradictedDoNotHold, CertifiedPairsDoNotHold, PairsAreOneByte, ProfileTwoIsExact, at_store}, proofs.ImageLemmas.{written-from_checked, last_store-stores, last_store-bound, shown-reaches, count_of-here, count_of-mono, reached-shown, allows_each_torn}, proofs.OrderedLemmas.{shown-ordered}, proofs.FailureLemmas.{certificates-allowed, pair-shown, unordered-parts, shows-bound}}
 
 -- ---- contradicted assertions
 

@@ -1,19 +1,7 @@
 -- Failures are real: the image of a certificate that shows one.
-use Rattle.pmf_event.proofs.Common.{◌≡◌, ℕ, ◌+◌, ◌-◌, ◌<◌, ◌≤◌, Bool, true, false, not, ◌&&◌, ◌||◌, ◌==◌, nat_lt, if◌then◌else◌, List, [], refl, sym, ◌∙◌, ap, arith, inl, inr, subst, Some, None, nat_eq, option_eq, cases_lt, le-leb, ne_eqb, or_cases, and_parts, and_from, ltb-true, Decides-eqb}
-use Rattle.pmf_event.specs.declared.event.Event.{Event}
-use Rattle.pmf_event.specs.declared.interval.Interval.{Interval}
-use Rattle.pmf_event.specs.declared.profile.Profile.{Profile}
-use Rattle.pmf_event.specs.declared.profile.Profile.TheVariants.{One, Two}
-use Rattle.pmf_event.specs.Prelude.{line_of_byte, greatest, least, count, some_between, at, stores, flushes, is_fence, last_store, epoch_of, closes, closing_fence, epoch_after, interval_at, is_open, is_closed_by, precedes, share_line, is_stored_before, is_ordered, is_unordered, is_certified, is_checked, is_exposed}
-use Rattle.pmf_event.proofs.PlacesLemmas.{greatest-bound, least-below, least-passes, count-mono, count-here, some_between-here}
-use Rattle.pmf_event.proofs.EventLemmas.{not_fence_and_store}
-use Rattle.pmf_event.proofs.IntervalLemmas.{Closing, no_Closing-from_open}
-use Rattle.pmf_image.proofs.CertificateLemmas.{cut-is}
-use Rattle.pmf_image.specs.Image.{Image, count_of, is_fenced, floor_of, cut_of, reaches, shows}
-use Rattle.pmf_image.specs.declared.certificate.Certificate.{Certificate}
-use Rattle.pmf_image.specs.Certificate.{image_of, cut_in}
-use Rattle.pmf_image.specs.Laws.{CertificatesAreAllowed, OpenIntervalsAreShown, CertifiedPairsAreShown}
-use Rattle.pmf_image.proofs.ImageLemmas.{written-from_checked, last_store-stores, last_store-bound, shown-reaches, count_of-here, count_of-mono, reached-shown, reach-untorn, Closing-from_fenced, floor-below_count, is_in-empty}
+use Rattle.std.{proofs.Common.{◌≡◌, ℕ, ◌+◌, ◌-◌, ◌<◌, ◌≤◌, Bool, true, false, not, ◌&&◌, ◌||◌, ◌==◌, nat_lt, if◌then◌else◌, List, [], refl, sym, ◌∙◌, ap, arith, inl, inr, subst, Some, None, nat_eq, le-leb, ne_eqb}, specs.Option.{option_eq}, proofs.lemmas.Bool.{cases_lt, or_cases, and_parts, and_from, ltb-true}, proofs.lemmas.Bool.Decides.{Decides-eqb}}
+use Rattle.pmf_event.{specs.declared.event.Event.{Event}, specs.declared.interval.Interval.{Interval}, specs.declared.profile.Profile.{Profile}, specs.declared.profile.Profile.TheVariants.{One, Two}, specs.Line.{line_of_byte}, specs.Places.{greatest, least, count, some_between}, specs.Store.{at, stores, flushes, is_fence, last_store, epoch_of}, specs.Interval.{closes, closing_fence, epoch_after, interval_at, is_open}, specs.Order.{is_closed_by, precedes, share_line, is_stored_before, is_ordered, is_unordered, is_certified}, specs.Persist.{is_checked, is_exposed}, proofs.PlacesLemmas.{greatest-bound, least-below, least-passes, count-mono, count-here, some_between-here}, proofs.EventLemmas.{not_fence_and_store}, proofs.IntervalLemmas.{Closing, no_Closing-from_open}}
+use Rattle.pmf_image.{proofs.CertificateLemmas.{cut-is}, specs.Image.{Image, count_of, is_fenced, floor_of, cut_of, reaches, shows}, specs.declared.certificate.Certificate.{Certificate}, specs.Certificate.{image_of, cut_in}, specs.Laws.{CertificatesAreAllowed, OpenIntervalsAreShown, CertifiedPairsAreShown}, proofs.ImageLemmas.{written-from_checked, last_store-stores, last_store-bound, shown-reaches, count_of-here, count_of-mono, reached-shown, reach-untorn, Closing-from_fenced, floor-below_count, is_in-empty}}
 
 -- ---- the image of a certificate
 

@@ -1,13 +1,7 @@
 -- Soundness of closed intervals, the two images that are always there, and the image of an open interval.
-use Rattle.pmf_event.proofs.Common.{◌≡◌, ℕ, zero, suc, ◌+◌, ◌-◌, ◌<◌, ◌≤◌, true, false, ◌==◌, List, [], ◌∷◌, if◌then◌else◌, refl, sym, ◌∙◌, ap, subst, arith, inl, inr, ◌||◌, ◌⊎◌, Some, None, unwrap_or, slice_get, cases_lt, cases_eq, or_cases, leb-true, le-leb, ne_eqb, and_parts, and_from, ltb-true, Decides-eqb}
-use Rattle.pmf_event.specs.declared.event.Event.{Event}
-use Rattle.pmf_event.specs.declared.event.Event.TheVariants.{Store}
-use Rattle.pmf_event.specs.Prelude.{line_of_byte, greatest, count, some_between, event_at, passes, at, stores, stores_line, flushes, is_fence, last, last_store, interval_at, is_open, is_checked, is_exposed}
-use Rattle.pmf_event.proofs.PlacesLemmas.{greatest-bound, greatest-passes, greatest-above, count-zero, count-mono, count-here, count-found, some_between-here, some_between-found}
-use Rattle.pmf_event.proofs.LineLemmas.{stores-line, meets-bounds}
-use Rattle.pmf_event.proofs.IntervalLemmas.{Closing, Closing-from_closed, no_Closing-from_open}
-use Rattle.pmf_image.specs.Image.{count_of, is_fenced, floor_of, Image, IsAllowed, value_of, is_in, cut_of, reach_of, reaches, shows}
-use Rattle.pmf_image.specs.Laws.{EachCutIsAllowed, EachByteMayBeTorn, ClosedIntervalsHold, AllowsCuts, EveryPlaceHasImages, OpenIntervalsDoNotHold}
+use Rattle.std.proofs.{Common.{◌≡◌, ℕ, zero, suc, ◌+◌, ◌-◌, ◌<◌, ◌≤◌, true, false, ◌==◌, List, [], ◌∷◌, if◌then◌else◌, refl, sym, ◌∙◌, ap, subst, arith, inl, inr, ◌||◌, ◌⊎◌, Some, None, unwrap_or, slice_get, le-leb, ne_eqb}, lemmas.Bool.{cases_lt, cases_eq, or_cases, leb-true, and_parts, and_from, ltb-true}, lemmas.Bool.Decides.{Decides-eqb}}
+use Rattle.pmf_event.{specs.declared.event.Event.{Event}, specs.declared.event.Event.TheVariants.{Store}, specs.Line.{line_of_byte}, specs.Places.{greatest, count, some_between}, specs.Store.{event_at, passes, at, stores, stores_line, flushes, is_fence, last, last_store}, specs.Interval.{interval_at, is_open}, specs.Persist.{is_checked, is_exposed}, proofs.PlacesLemmas.{greatest-bound, greatest-passes, greatest-above, count-zero, count-mono, count-here, count-found, some_between-here, some_between-found}, proofs.LineLemmas.{stores-line, meets-bounds}, proofs.IntervalLemmas.{Closing, Closing-from_closed, no_Closing-from_open}}
+use Rattle.pmf_image.specs.{Image.{count_of, is_fenced, floor_of, Image, IsAllowed, value_of, is_in, cut_of, reach_of, reaches, shows}, Laws.{EachCutIsAllowed, EachByteMayBeTorn, ClosedIntervalsHold, AllowsCuts, EveryPlaceHasImages, OpenIntervalsDoNotHold}}
 
 -- ---- soundness
 

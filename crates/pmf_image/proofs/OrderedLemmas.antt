@@ -1,15 +1,7 @@
 -- Soundness of ordered pairs: what is durable before a store is shown wherever that store is.
-use Rattle.pmf_event.proofs.Common.{◌≡◌, ℕ, ◌+◌, ◌-◌, ◌<◌, ◌≤◌, Bool, true, false, ◌&&◌, ◌==◌, if◌then◌else◌, List, refl, sym, ◌∙◌, arith, inl, inr, subst, Some, None, cases_lt, cases_eq, leb-true, or_cases, and_parts, ltb-true, Decides-eqb}
-use Rattle.pmf_event.specs.declared.event.Event.{Event}
-use Rattle.pmf_event.specs.declared.interval.Interval.{Interval}
-use Rattle.pmf_event.specs.declared.profile.Profile.{Profile}
-use Rattle.pmf_event.specs.declared.profile.Profile.TheVariants.{One, Two}
-use Rattle.pmf_event.specs.Prelude.{line_of_byte, some_between, at, stores, flushes, is_fence, last_store, epoch_of, closes, closing_fence, epoch_after, interval_at, is_closed_by, precedes, share_line, is_stored_before, is_ordered}
-use Rattle.pmf_event.proofs.PlacesLemmas.{least-passes, count-mono, some_between-found}
-use Rattle.pmf_event.proofs.IntervalLemmas.{Closing}
-use Rattle.pmf_image.specs.Image.{Image, IsAllowed, count_of, cut_of, is_in, reach_of, shows}
-use Rattle.pmf_image.specs.Laws.{OrderedPairsHold}
-use Rattle.pmf_image.proofs.ImageLemmas.{below_the_floor, cut-reaches, reached-shown, written-from_checked, last_store-stores, shown-reaches, last_store-above, count_of-here, count_of-mono}
+use Rattle.std.proofs.{Common.{◌≡◌, ℕ, ◌+◌, ◌-◌, ◌<◌, ◌≤◌, Bool, true, false, ◌&&◌, ◌==◌, if◌then◌else◌, List, refl, sym, ◌∙◌, arith, inl, inr, subst, Some, None}, lemmas.Bool.{cases_lt, cases_eq, leb-true, or_cases, and_parts, ltb-true}, lemmas.Bool.Decides.{Decides-eqb}}
+use Rattle.pmf_event.{specs.declared.event.Event.{Event}, specs.declared.interval.Interval.{Interval}, specs.declared.profile.Profile.{Profile}, specs.declared.profile.Profile.TheVariants.{One, Two}, specs.Line.{line_of_byte}, specs.Places.{some_between}, specs.Store.{at, stores, flushes, is_fence, last_store, epoch_of}, specs.Interval.{closes, closing_fence, epoch_after, interval_at}, specs.Order.{is_closed_by, precedes, share_line, is_stored_before, is_ordered}, proofs.PlacesLemmas.{least-passes, count-mono, some_between-found}, proofs.IntervalLemmas.{Closing}}
+use Rattle.pmf_image.{specs.Image.{Image, IsAllowed, count_of, cut_of, is_in, reach_of, shows}, specs.Laws.{OrderedPairsHold}, proofs.ImageLemmas.{below_the_floor, cut-reaches, reached-shown, written-from_checked, last_store-stores, shown-reaches, last_store-above, count_of-here, count_of-mono}}
 
 -- ---- an interval that closes before a place
 

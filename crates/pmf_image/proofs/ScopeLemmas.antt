@@ -1,11 +1,7 @@
 -- Passes over the events, for what they say of transactions, of the scope and of one byte.
-use Rattle.pmf_event.proofs.Common.{◌≡◌, ℕ, suc, ◌-◌, ◌<◌, ◌≤◌, Bool, true, false, not, ◌&&◌, nat_lt, if◌then◌else◌, List, refl, sym, ◌∙◌, ap, arith, Some, and_from, le-ltb, and-false}
-use Rattle.pmf_event.specs.declared.event.Event.{Event}
-use Rattle.pmf_event.specs.declared.event.Event.TheVariants.{Store, Exclude, Include, TxBegin, TxEnd, CheckStart, CheckEnd}
-use Rattle.pmf_event.specs.Prelude.{Extent, covers_byte, greatest, event_at, at, stores, last, excludes, marks, is_excluded, is_included, begins, ends, depth_at, in_transaction, opens_scope, closes_scope, scope_at, in_scope, stores_inside, is_scoped}
+use Rattle.std.proofs.{Common.{◌≡◌, ℕ, suc, ◌-◌, ◌<◌, ◌≤◌, Bool, true, false, not, ◌&&◌, nat_lt, if◌then◌else◌, List, refl, sym, ◌∙◌, ap, arith, Some, le-ltb}, lemmas.Bool.{and_from}, Math.Bool.{and-false}}
+use Rattle.pmf_event.{specs.declared.event.Event.{Event}, specs.declared.event.Event.TheVariants.{Store, Exclude, Include, TxBegin, TxEnd, CheckStart, CheckEnd}, specs.Span.{Extent, covers_byte}, specs.Places.{greatest}, specs.Store.{event_at, at, stores, last}, specs.Exclusion.{excludes, marks, is_excluded, is_included}, specs.Transactions.{begins, ends, depth_at, in_transaction, opens_scope, closes_scope, scope_at, in_scope, stores_inside, is_scoped}, proofs.EventLemmas.{at-is, last-step, last-none}, proofs.TransactionLemmas.{depth-start, depth-begun, depth-ended, depth-kept, inside-from, scope-start, scope-none, scope-some, scoped-from, unscoped-from, in_scope-same, scope-stays, scope-opened, scope-kept, scope-closed, scoped-opened, scoped-kept, scoped-stored, not_scoped, begins-other, ends-other, opens-other, closes-other}}
 use Rattle.pmf_image.proofs.CertificateLemmas.{stores-other}
-use Rattle.pmf_event.proofs.EventLemmas.{at-is, last-step, last-none}
-use Rattle.pmf_event.proofs.TransactionLemmas.{depth-start, depth-begun, depth-ended, depth-kept, inside-from, scope-start, scope-none, scope-some, scoped-from, unscoped-from, in_scope-same, scope-stays, scope-opened, scope-kept, scope-closed, scoped-opened, scoped-kept, scoped-stored, not_scoped, begins-other, ends-other, opens-other, closes-other}
 
 -- ---- whether a byte is included
 

@@ -1,14 +1,7 @@
 -- The worked examples of crash images, computed by the definitions alone.
 use Rattle.std.proofs.Common.{◌≡◌, ℕ, List, [], ◌∷◌, ◌<◌, ◌≤◌, refl, arith, Some, None}
-use Rattle.pmf_event.specs.declared.event.Event.{Event}
-use Rattle.pmf_event.specs.declared.event.Event.TheVariants.{Store, Flush, Fence, Persist, Ordered, TxBegin, TxEnd, CheckStart, CheckEnd}
-use Rattle.pmf_event.specs.Prelude.{Extent, greatest, least, count, some_between, highest, event_at, at, last, stores, stores_line, flushes, is_fence, excludes, marks, is_excluded, is_included, is_checked, begins, ends, rise, depth_at, in_transaction, opens_scope, closes_scope, opens_after, scope_at, in_scope, stores_inside, is_scoped}
-use Rattle.pmf_image.specs.Image.{Image, IsAllowed, count_of, is_fenced, floor_of, value_of, is_in, cut_of, reach_of, reaches, shows}
-use Rattle.pmf_image.specs.declared.certificate.Certificate.{Certificate}
-use Rattle.pmf_image.specs.Certificate.{cut_in, shows_in}
-use Rattle.pmf_image.specs.Contradiction.{Contradicts}
-use Rattle.pmf_image.specs.Holds.{Holds}
-use Rattle.pmf_image.proofs.FailureLemmas.{certificates-allowed}
+use Rattle.pmf_event.specs.{declared.event.Event.{Event}, declared.event.Event.TheVariants.{Store, Flush, Fence, Persist, Ordered, TxBegin, TxEnd, CheckStart, CheckEnd}, Span.{Extent}, Places.{greatest, least, count, some_between, highest}, Store.{event_at, at, last, stores, stores_line, flushes, is_fence}, Exclusion.{excludes, marks, is_excluded, is_included}, Persist.{is_checked}, Transactions.{begins, ends, rise, depth_at, in_transaction, opens_scope, closes_scope, opens_after, scope_at, in_scope, stores_inside, is_scoped}}
+use Rattle.pmf_image.{specs.Image.{Image, IsAllowed, count_of, is_fenced, floor_of, value_of, is_in, cut_of, reach_of, reaches, shows}, specs.declared.certificate.Certificate.{Certificate}, specs.Certificate.{cut_in, shows_in}, specs.Contradiction.{Contradicts}, specs.Holds.{Holds}, proofs.FailureLemmas.{certificates-allowed}}
 
 abbrev span : ℕ → ℕ → Extent
 span first size = record { first = first; size = size }

@@ -1,8 +1,6 @@
 -- Bytes that are alike: nothing that a certificate is asked of a byte tells them apart. Defined here.
-use Rattle.std.specs.Prelude.{◌≡◌, ℕ, List, Some, nat_eq}
-use Rattle.std.specs.Option.{option_eq}
-use Rattle.pmf_event.specs.declared.event.Event.{Event}
-use Rattle.pmf_event.specs.Prelude.{line_of_byte, at, stores, stores_line, flushes, excludes, marks}
+use Rattle.std.specs.{Prelude.{◌≡◌, ℕ, List, Some, nat_eq}, Option.{option_eq}}
+use Rattle.pmf_event.specs.{declared.event.Event.{Event}, Line.{line_of_byte}, Store.{at, stores, stores_line, flushes}, Exclusion.{excludes, marks}}
 use Rattle.pmf_image.specs.declared.certificate.Certificate.{Certificate}
 
 -- the event at place k, if there is one, covers both bytes or neither, and meets the lines of both or of

@@ -1,10 +1,8 @@
 -- A certificate names one crash image: a crash place, and at most one line that is there in full. Defined
 -- here.
 use Rattle.std.specs.Prelude.{◌≡◌, ℕ, ◌≤◌, ◌%◌, List, [], ◌∷◌, Option, None, Some, length}
-use Rattle.pmf_event.specs.declared.event.Event.{Event}
-use Rattle.pmf_event.specs.declared.span.TheConstants.{LINE_SIZE}
-use Rattle.pmf_image.specs.declared.certificate.Certificate.{Certificate}
-use Rattle.pmf_image.specs.Image.{Image, count_of, cut_of, shows}
+use Rattle.pmf_event.specs.declared.{event.Event.{Event}, span.TheConstants.{LINE_SIZE}}
+use Rattle.pmf_image.specs.{declared.certificate.Certificate.{Certificate}, Image.{Image, count_of, cut_of, shows}}
 
 -- the cut of the full line is its count
 abbrev pub full_cuts : List Event → ℕ → Option ℕ → List (ℕ × ℕ)

@@ -1,12 +1,8 @@
 -- When the image of a certificate contradicts an assertion: its crash is one that the assertion speaks of,
 -- and it shows what the assertion rules out. An assertion that an allowed image contradicts does not hold.
 use Rattle.std.specs.Prelude.{◌≡◌, ◌≢◌, ℕ, ◌-◌, ◌<◌, ◌≤◌, true, false, List, Option, Some}
-use Rattle.pmf_event.specs.declared.event.Event.{Event}
-use Rattle.pmf_event.specs.declared.event.Event.TheVariants.{Persist, Ordered, CheckEnd}
-use Rattle.pmf_event.specs.declared.span.TheConstants.{ADDRESS_LIMIT}
-use Rattle.pmf_event.specs.Prelude.{Extent, covers_byte, event_at, last_store, is_included, is_checked, in_transaction, in_scope, is_scoped}
-use Rattle.pmf_image.specs.declared.certificate.Certificate.{Certificate}
-use Rattle.pmf_image.specs.Certificate.{shows_in}
+use Rattle.pmf_event.specs.{declared.event.Event.{Event}, declared.event.Event.TheVariants.{Persist, Ordered, CheckEnd}, declared.span.TheConstants.{ADDRESS_LIMIT}, Span.{Extent, covers_byte}, Store.{event_at, last_store}, Exclusion.{is_included}, Persist.{is_checked}, Transactions.{in_transaction, in_scope, is_scoped}}
+use Rattle.pmf_image.specs.{declared.certificate.Certificate.{Certificate}, Certificate.{shows_in}}
 
 -- a persist assertion over the span at p: the crash is at p or later, and a checked byte shows less than
 -- its last store at p

@@ -2,10 +2,7 @@
 -- The premises: the events are all of one thread's stores, write-backs and fences on its lines, from
 -- durable memory on, no other thread writes those lines meanwhile, and the hardware keeps the rules.
 use Rattle.std.specs.Prelude.{◌≡◌, ℕ, ◌-◌, ◌<◌, ◌≤◌, true, List, length, Option, Some}
-use Rattle.pmf_event.specs.declared.event.Event.{Event}
-use Rattle.pmf_event.specs.declared.event.Event.TheVariants.{Persist, Ordered, CheckEnd}
-use Rattle.pmf_event.specs.declared.span.TheConstants.{ADDRESS_LIMIT}
-use Rattle.pmf_event.specs.Prelude.{Extent, covers_byte, event_at, last_store, is_checked, is_included, is_scoped}
+use Rattle.pmf_event.specs.{declared.event.Event.{Event}, declared.event.Event.TheVariants.{Persist, Ordered, CheckEnd}, declared.span.TheConstants.{ADDRESS_LIMIT}, Span.{Extent, covers_byte}, Store.{event_at, last_store}, Persist.{is_checked}, Exclusion.{is_included}, Transactions.{is_scoped}}
 use Rattle.pmf_image.specs.Image.{Image, IsAllowed, shows}
 
 -- a persist assertion over the span holds at p: wherever a crash comes from p to the end of the section,

@@ -3,8 +3,7 @@
 -- between them). Defined here: that a written-back line is durable once a later fence has completed,
 -- and that the next store of a line may be torn byte by byte.
 use Rattle.std.specs.Prelude.{◌≡◌, ℕ, ◌+◌, ◌-◌, ◌<◌, ◌≤◌, Bool, true, false, ◌&&◌, ◌||◌, ◌==◌, nat_le, List, [], ◌∷◌, Option, None, Some, unwrap_or, if◌then◌else◌}
-use Rattle.pmf_event.specs.declared.event.Event.{Event}
-use Rattle.pmf_event.specs.Prelude.{line_of_byte, greatest, count, some_between, at, stores, stores_line, flushes, is_fence}
+use Rattle.pmf_event.specs.{declared.event.Event.{Event}, Line.{line_of_byte}, Places.{greatest, count, some_between}, Store.{at, stores, stores_line, flushes, is_fence}}
 
 -- how many of the first n events are stores that meet the line
 unfoldable pub count_of : List Event → ℕ → ℕ → ℕ

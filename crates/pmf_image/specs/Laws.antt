@@ -1,14 +1,7 @@
 -- Laws of this crate's definitions, which its empty public functions prove.
 use Rattle.std.specs.Prelude.{◌≡◌, ◌≢◌, ℕ, ◌-◌, ◌<◌, ◌≤◌, ◌↔◌, true, false, List, [], length, None, Some, All}
-use Rattle.pmf_event.specs.declared.event.Event.{Event}
-use Rattle.pmf_event.specs.declared.profile.Profile.{Profile}
-use Rattle.pmf_event.specs.declared.profile.Profile.TheVariants.{Two}
-use Rattle.pmf_event.specs.Prelude.{Extent, covers_byte, line_of_byte, interval_at, is_open, is_checked, is_exposed, IsValidEvent, is_included, is_scoped, is_ordered, is_unordered, is_certified, last_store}
-use Rattle.pmf_image.specs.Image.{Image, IsAllowed, count_of, floor_of, cut_of, is_in, shows}
-use Rattle.pmf_image.specs.declared.certificate.Certificate.{Certificate}
-use Rattle.pmf_image.specs.Certificate.{image_of, shows_in}
-use Rattle.pmf_image.specs.Contradiction.{Contradicts}
-use Rattle.pmf_image.specs.Holds.{PersistHolds, OrderedHolds, ScopeHolds, Holds}
+use Rattle.pmf_event.specs.{declared.event.Event.{Event}, declared.profile.Profile.{Profile}, declared.profile.Profile.TheVariants.{Two}, Span.{Extent, covers_byte}, Line.{line_of_byte}, Interval.{interval_at, is_open}, Persist.{is_checked, is_exposed}, Section.{IsValidEvent}, Exclusion.{is_included}, Transactions.{is_scoped}, Order.{is_ordered, is_unordered, is_certified}, Store.{last_store}}
+use Rattle.pmf_image.specs.{Image.{Image, IsAllowed, count_of, floor_of, cut_of, is_in, shows}, declared.certificate.Certificate.{Certificate}, Certificate.{image_of, shows_in}, Contradiction.{Contradicts}, Holds.{PersistHolds, OrderedHolds, ScopeHolds, Holds}}
 
 -- where the interval of each checked byte of the span is closed, the assertion holds
 abbrev pub ClosedIntervalsHold : Type 0

@@ -1,12 +1,8 @@
 -- What is asked of one byte, in order to say whether a certificate's image contradicts an assertion. Defined
 -- here.
 use Rattle.std.specs.Prelude.{◌≡◌, ℕ, ◌-◌, ◌<◌, ◌≤◌, Bool, true, not, ◌&&◌, ◌==◌, nat_lt, List}
-use Rattle.pmf_event.specs.declared.event.Event.{Event}
-use Rattle.pmf_event.specs.Prelude.{last_store, is_included, is_checked, is_scoped}
-use Rattle.pmf_image.specs.declared.certificate.Certificate.{Certificate}
-use Rattle.pmf_image.specs.declared.questions.Question.{Question}
-use Rattle.pmf_image.specs.declared.questions.Question.TheVariants.{FallsShort, IsShown, IsLost, ScopeFallsShort}
-use Rattle.pmf_image.specs.Certificate.{shows_in}
+use Rattle.pmf_event.specs.{declared.event.Event.{Event}, Store.{last_store}, Exclusion.{is_included}, Persist.{is_checked}, Transactions.{is_scoped}}
+use Rattle.pmf_image.specs.{declared.certificate.Certificate.{Certificate}, declared.questions.Question.{Question}, declared.questions.Question.TheVariants.{FallsShort, IsShown, IsLost, ScopeFallsShort}, Certificate.{shows_in}}
 
 -- whether byte b is one of those that are asked at p: a checked one, or an included one of the scope just
 -- before p

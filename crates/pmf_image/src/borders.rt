@@ -1,10 +1,8 @@
 //! Stretches of bytes that no event, and no certificate, tells apart.
 
-ghost use Rattle.std.specs.Prelude.{ℕ, ◌≡◌, ◌⊎◌, ◌<◌, ◌≤◌, Some, nat_eq};
-ghost use Rattle.std.specs.Option.{option_eq};
-ghost use Rattle.pmf_event.specs.Prelude.{line_of_byte, meets_line, covers_byte};
-ghost use Rattle.pmf_image.specs.Certificate.{Fits, IsLine};
-ghost use Rattle.pmf_image.specs.Borders.{Alike};
+ghost use Rattle.std.specs.{Prelude.{ℕ, ◌≡◌, ◌⊎◌, ◌<◌, ◌≤◌, Some, nat_eq}, Option.{option_eq}};
+ghost use Rattle.pmf_event.specs.{Line.{line_of_byte, meets_line}, Span.{covers_byte}};
+ghost use Rattle.pmf_image.specs.{Certificate.{Fits, IsLine}, Borders.{Alike}};
 
 use crate::certificate::Certificate;
 use pmf_event::{Event, LINE_SIZE, Span, line_of};

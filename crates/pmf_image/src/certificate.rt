@@ -1,7 +1,7 @@
 //! Certificates, and what their images hold.
 
 ghost use Rattle.std.specs.Prelude.{◌≡◌, ◌≤◌, ◌<◌, length};
-ghost use Rattle.pmf_event.specs.Prelude.{meets_line, last_store};
+ghost use Rattle.pmf_event.specs.{Line.{meets_line}, Store.{last_store}};
 ghost use Rattle.pmf_image.specs.Certificate.{Fits, IsLine, cut_in, shows_in};
 
 use pmf_event::{Event, LINE_SIZE, Span, line_of};

@@ -1,8 +1,7 @@
 //! Whether a certificate's image contradicts an assertion.
 
 ghost use Rattle.std.specs.Prelude.{◌≡◌, ◌<◌, ◌≤◌, ◌↔◌, true, length};
-ghost use Rattle.pmf_image.specs.Certificate.{Fits};
-ghost use Rattle.pmf_image.specs.Contradiction.{Contradicts, OrderedContradicted, PersistContradicted, ScopeContradicted};
+ghost use Rattle.pmf_image.specs.{Certificate.{Fits}, Contradiction.{Contradicts, OrderedContradicted, PersistContradicted, ScopeContradicted}};
 
 use crate::certificate::Certificate;
 use crate::questions::Question;

@@ -1,9 +1,8 @@
 //! What is asked of a byte in a certificate's image, and the search for a byte that answers yes.
 
 ghost use Rattle.std.specs.Prelude.{◌≡◌, ◌<◌, ◌≤◌, ◌↔◌, true, length};
-ghost use Rattle.pmf_image.specs.Certificate.{Fits};
+ghost use Rattle.pmf_image.specs.{Certificate.{Fits}, Questions.{SomeByte, answer_of, compares, is_asked}};
 ghost use Rattle.pmf_event.specs.Store.{last_store};
-ghost use Rattle.pmf_image.specs.Questions.{SomeByte, answer_of, compares, is_asked};
 
 use crate::borders::end_of_stretch;
 use crate::certificate::{Certificate, last_store, shows};

@@ -1,7 +1,7 @@
 //! What the events up to a place say of transactions, of the checker's scope, and of one byte.
 
 ghost use Rattle.std.specs.Prelude.{◌≡◌, ◌≤◌, length};
-ghost use Rattle.pmf_event.specs.Prelude.{is_included, depth_at, in_scope, is_scoped};
+ghost use Rattle.pmf_event.specs.{Exclusion.{is_included}, Transactions.{depth_at, in_scope, is_scoped}};
 
 use pmf_event::Event;
 

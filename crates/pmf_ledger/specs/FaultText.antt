@@ -1,9 +1,7 @@
 -- How the fault of a ledger text is told. ASCII. Defined here.
 use Rattle.std.specs.Prelude.{ℕ, List, ◌++◌, ◌==◌, if◌then◌else◌, codes, decimal}
-use Rattle.pmf_storelog.specs.declared.fault.LogFault.{LogFault}
-use Rattle.pmf_storelog.specs.Prelude.{words_of_cause}
-use Rattle.pmf_ledger.specs.declared.loading.LedgerFault.{LedgerFault}
-use Rattle.pmf_ledger.specs.declared.loading.LedgerFault.TheVariants.{NotALedger, FalseRows, Conflict, Log, OutOfMemory}
+use Rattle.pmf_storelog.specs.{declared.fault.LogFault.{LogFault}, FaultText.{words_of_cause}}
+use Rattle.pmf_ledger.specs.declared.loading.{LedgerFault.{LedgerFault}, LedgerFault.TheVariants.{NotALedger, FalseRows, Conflict, Log, OutOfMemory}}
 
 -- what is told of an event: its text line, if the fault is of one, and the words of the cause
 abbrev pub text_of_log : LogFault → List ℕ

@@ -1,14 +1,8 @@
 -- What the loader keeps stands for a reading of the text lines so far. Defined here.
 use Rattle.std.specs.Prelude.{◌≡◌, ◌==◌, Bool, false, ℕ, ◌<◌, List, [], length, drop, Result, Ok, Err}
-use Rattle.pmf_ledger.specs.declared.loading.LedgerFault.{LedgerFault}
-use Rattle.pmf_ledger.specs.declared.loading.LedgerFault.TheVariants.{Conflict}
-use Rattle.pmf_ledger.specs.declared.blocks.Blocks.{Blocks}
-use Rattle.pmf_ledger.specs.declared.blocks.Next.{Next}
-use Rattle.pmf_ledger.specs.declared.blocks.Next.TheVariants as next
+use Rattle.pmf_ledger.specs.{declared.loading.LedgerFault.{LedgerFault}, declared.loading.LedgerFault.TheVariants.{Conflict}, declared.blocks.Blocks.{Blocks}, declared.blocks.Next.{Next}, Gathered.{IsLedgerOf}, Gathering.{Agrees}, Loading.{Reading, AtVersion, AtBlock, AtEvents, AtRows, AtEnd, AtFault, IsFirstOther, IsOfText}}
 use Rattle.pmf_verdict.specs.Checked.{rows_in}
-use Rattle.pmf_ledger.specs.Gathered.{IsLedgerOf}
-use Rattle.pmf_ledger.specs.Gathering.{Agrees}
-use Rattle.pmf_ledger.specs.Loading.{Reading, AtVersion, AtBlock, AtEvents, AtRows, AtEnd, AtFault, IsFirstOther, IsOfText}
+use Rattle.pmf_ledger.specs.declared.blocks.Next.TheVariants as next
 
 -- the ledger is that of the reading's blocks, and so many were read
 pub record HasRead (reading : Reading) (blocks : Blocks) : Type 0 where

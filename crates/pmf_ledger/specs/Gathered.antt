@@ -1,12 +1,8 @@
 -- What a ledger holds, and the ledger of a set of sections. A set is a list in which only membership counts. Defined here.
 use Rattle.std.specs.Prelude.{◌≡◌, ◌≢◌, ◌⊎◌, ◌↔◌, List, ◌∷◌, ◌++◌, map, Contains, All}
-use Rattle.pmf_event.specs.declared.name.Name.{Name}
-use Rattle.pmf_event.specs.declared.profile.Profile.{Profile}
-use Rattle.pmf_event.specs.declared.profile.Profile.TheVariants.{Two}
-use Rattle.pmf_event.specs.Prelude.{Trace}
+use Rattle.pmf_event.specs.{declared.name.Name.{Name}, declared.profile.Profile.{Profile}, declared.profile.Profile.TheVariants.{Two}, Section.{Trace}}
 use Rattle.pmf_verdict.specs.Checked.{Checked, checked_by}
-use Rattle.pmf_ledger.specs.LedgerValue.{LedgerValue}
-use Rattle.pmf_ledger.specs.Names.{IsBefore, Rises}
+use Rattle.pmf_ledger.specs.{LedgerValue.{LedgerValue}, Names.{IsBefore, Rises}}
 
 -- the section is among those of the ledger
 abbrev pub Holds : LedgerValue → Trace → Type 0

@@ -1,11 +1,8 @@
 -- Gatherings: how a ledger comes to be, and what is said of all of them. Defined here.
 use Rattle.std.specs.Prelude.{◌≡◌, ◌≢◌, ◌⊎◌, ◌↔◌, List, [], ◌∷◌, ◌++◌, Contains}
-use Rattle.pmf_event.specs.declared.name.Name.{Name}
-use Rattle.pmf_event.specs.declared.profile.Profile.{Profile}
-use Rattle.pmf_event.specs.Prelude.{Trace}
+use Rattle.pmf_event.specs.{declared.name.Name.{Name}, declared.profile.Profile.{Profile}, Section.{Trace}}
 use Rattle.pmf_verdict.specs.Checked.{Checked}
-use Rattle.pmf_ledger.specs.Gathered.{ClashesAt, Gathers, GathersBoth, HoldsOther, IsLedgerOf}
-use Rattle.pmf_ledger.specs.LedgerValue.{LedgerValue}
+use Rattle.pmf_ledger.specs.{Gathered.{ClashesAt, Gathers, GathersBoth, HoldsOther, IsLedgerOf}, LedgerValue.{LedgerValue}}
 
 -- a set of sections agrees: equal names have equal events
 abbrev pub Agrees : List Trace → Type 0

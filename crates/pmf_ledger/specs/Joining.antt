@@ -1,12 +1,8 @@
 -- How two ledgers stand to each other, and how their lists become one. Defined here.
 use Rattle.std.specs.Prelude.{◌≡◌, ◌≢◌, ◌⊎◌, ◌↔◌, List, Contains, Result, Ok, Err, AllPairs}
-use Rattle.pmf_event.specs.declared.name.Name.{Name}
-use Rattle.pmf_event.specs.Prelude.{Trace}
-use Rattle.pmf_ledger.specs.declared.joining.JoinFault.{JoinFault}
+use Rattle.pmf_event.specs.{declared.name.Name.{Name}, Section.{Trace}}
+use Rattle.pmf_ledger.specs.{declared.joining.JoinFault.{JoinFault}, Gathered.{Holds}, LedgerValue.{LedgerValue}, Names.{ComesBefore, IsBefore, Rises}}
 use Rattle.pmf_verdict.specs.Checked.{Checked}
-use Rattle.pmf_ledger.specs.Gathered.{Holds}
-use Rattle.pmf_ledger.specs.LedgerValue.{LedgerValue}
-use Rattle.pmf_ledger.specs.Names.{ComesBefore, IsBefore, Rises}
 
 -- the two ledgers were refused with this fault
 abbrev pub AreRefusedAs : Result LedgerValue (JoinFault × LedgerValue × LedgerValue) → JoinFault → Type 0

@@ -1,14 +1,7 @@
 -- What is said of the ledgers of equal sets, and of one text.
 use Rattle.std.specs.Prelude.{◌≡◌, ℕ, List}
-use Rattle.pmf_event.specs.declared.profile.Profile.{Profile}
-use Rattle.pmf_event.specs.Prelude.{Trace}
-use Rattle.pmf_ledger.specs.Gathered.{IsLedgerOf}
-use Rattle.pmf_ledger.specs.Gathering.{HaveSameMembers}
-use Rattle.pmf_ledger.specs.LedgerText.{text_of_ledger}
-use Rattle.pmf_ledger.specs.LedgerValue.{LedgerValue}
-use Rattle.pmf_ledger.specs.declared.loading.LedgerFault.{LedgerFault}
-use Rattle.pmf_ledger.specs.Loading.{IsRefusedWith, LoadsAs}
-use Rattle.pmf_ledger.specs.Report.{report_of}
+use Rattle.pmf_event.specs.{declared.profile.Profile.{Profile}, Section.{Trace}}
+use Rattle.pmf_ledger.specs.{Gathered.{IsLedgerOf}, Gathering.{HaveSameMembers}, LedgerText.{text_of_ledger}, LedgerValue.{LedgerValue}, declared.loading.LedgerFault.{LedgerFault}, Loading.{IsRefusedWith, LoadsAs}, Report.{report_of}}
 
 -- sets with the same members have one ledger by a profile, one report and one ledger text
 abbrev pub EqualSetsHaveOneLedger : Type 0

@@ -1,12 +1,9 @@
 -- The ledger text: a text line for the version, which tells the profile; for each section a block of its header, its
 -- events in canonical spelling and its rows; and a last text line with the number of blocks. Defined here.
 use Rattle.std.specs.Prelude.{ℕ, ◌^◌, ◌<◌, ◌≤◌, List, ◌++◌, length, codes, All, flat_map, decimal}
-use Rattle.pmf_event.specs.declared.name.Name.{Name}
-use Rattle.pmf_event.specs.declared.profile.Profile.{Profile}
-use Rattle.pmf_event.specs.declared.profile.Profile.TheVariants.{One, Two}
-use Rattle.pmf_event.specs.declared.section.TheConstants.{EVENT_LIMIT}
-use Rattle.pmf_storelog.specs.Prelude.{line_of_event, AllValid}
-use Rattle.pmf_verdict.specs.Prelude.{Checked, rows_in, text_of_rows}
+use Rattle.pmf_event.specs.declared.{name.Name.{Name}, profile.Profile.{Profile}, profile.Profile.TheVariants.{One, Two}, section.TheConstants.{EVENT_LIMIT}}
+use Rattle.pmf_storelog.specs.{Canonical.{line_of_event}, Spelling.{AllValid}}
+use Rattle.pmf_verdict.specs.{Checked.{Checked, rows_in}, Text.{text_of_rows}}
 use Rattle.pmf_ledger.specs.LedgerValue.{LedgerValue}
 
 -- the version of a profile

@@ -23,4 +23,3 @@ pub mod Loading
 pub mod FaultText
 pub mod Following
 pub mod Laws
-pub mod Prelude

@@ -1,27 +1,10 @@
 -- What a text says that is loaded as a ledger: it is read from the top, text line by text line, and the first fault
 -- decides. Defined here.
-use Rattle.std.specs.Prelude.{◌≡◌, ◌≢◌, ⊤, ℕ, zero, suc, ◌-◌, Bool, nat_lt, nat_eq, ◌==◌, List, [], ◌∷◌, ◌++◌, length, take, drop, slice_index_or, Option, Some, None, Result, Ok, Err, if◌then◌else◌, codes, Contains, bytes_eq}
-use Rattle.std.specs.List.{slice_split, starts_with}
-use Rattle.pmf_event.specs.declared.event.Event.{Event}
-use Rattle.pmf_event.specs.declared.name.Name.{Name}
-use Rattle.pmf_event.specs.declared.profile.Profile.{Profile}
-use Rattle.pmf_event.specs.declared.profile.Profile.TheVariants.{One, Two}
-use Rattle.pmf_event.specs.declared.row.Row.{Row}
-use Rattle.pmf_event.specs.declared.section.TheConstants.{EVENT_LIMIT}
-use Rattle.pmf_event.specs.Prelude.{Trace}
-use Rattle.pmf_storelog.specs.declared.fault.Cause.TheVariants.{TooManyEvents}
-use Rattle.pmf_storelog.specs.declared.line.LineFault.{LineFault}
-use Rattle.pmf_storelog.specs.declared.line.LineFault.TheVariants.{NoEvent, Refused}
-use Rattle.pmf_storelog.specs.Prelude.{event_of_line, out_of_memory, number_in_front}
-use Rattle.pmf_verdict.specs.Prelude.{rows_of, text_of_row}
-use Rattle.pmf_ledger.specs.declared.head.Head.{Head}
-use Rattle.pmf_ledger.specs.declared.loading.LedgerFault.{LedgerFault}
-use Rattle.pmf_ledger.specs.declared.loading.LedgerFault.TheVariants.{NotALedger, FalseRows, Conflict, Log, OutOfMemory}
-use Rattle.pmf_ledger.specs.declared.loading.TheConstants.{LEDGER_LIMIT}
-use Rattle.pmf_ledger.specs.Gathered.{IsLedgerOf}
-use Rattle.pmf_ledger.specs.Gathering.{Agrees}
-use Rattle.pmf_ledger.specs.LedgerText.{version_of}
-use Rattle.pmf_ledger.specs.LedgerValue.{LedgerValue}
+use Rattle.std.specs.{Prelude.{◌≡◌, ◌≢◌, ⊤, ℕ, zero, suc, ◌-◌, Bool, nat_lt, nat_eq, ◌==◌, List, [], ◌∷◌, ◌++◌, length, take, drop, slice_index_or, Option, Some, None, Result, Ok, Err, if◌then◌else◌, codes, Contains, bytes_eq}, List.{slice_split, starts_with}}
+use Rattle.pmf_event.specs.{declared.event.Event.{Event}, declared.name.Name.{Name}, declared.profile.Profile.{Profile}, declared.profile.Profile.TheVariants.{One, Two}, declared.row.Row.{Row}, declared.section.TheConstants.{EVENT_LIMIT}, Section.{Trace}}
+use Rattle.pmf_storelog.specs.{declared.fault.Cause.TheVariants.{TooManyEvents}, declared.line.LineFault.{LineFault}, declared.line.LineFault.TheVariants.{NoEvent, Refused}, Lines.{event_of_line}, LogText.{out_of_memory}, Numbers.{number_in_front}}
+use Rattle.pmf_verdict.specs.{Rows.{rows_of}, Text.{text_of_row}}
+use Rattle.pmf_ledger.specs.{declared.head.Head.{Head}, declared.loading.LedgerFault.{LedgerFault}, declared.loading.LedgerFault.TheVariants.{NotALedger, FalseRows, Conflict, Log, OutOfMemory}, declared.loading.TheConstants.{LEDGER_LIMIT}, Gathered.{IsLedgerOf}, Gathering.{Agrees}, LedgerText.{version_of}, LedgerValue.{LedgerValue}}
 
 -- the profile that the first text line tells
 unfoldable pub profile_of : List ℕ → Option Profile

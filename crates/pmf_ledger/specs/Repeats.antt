@@ -1,7 +1,6 @@
 -- Sections in a list: the one at a place, and names that stand twice. Defined here.
 use Rattle.std.specs.Prelude.{ℕ, ◌+◌, ◌<◌, Bool, eqb, ◌&&◌, List, [], map, length, get_or, count_by, slice_index_or}
-use Rattle.pmf_event.specs.declared.name.Name.{Name}
-use Rattle.pmf_event.specs.Prelude.{Trace}
+use Rattle.pmf_event.specs.{declared.name.Name.{Name}, Section.{Trace}}
 use Rattle.pmf_ledger.specs.Names.{IsBefore}
 
 -- no section: it stands for a place that the list hasn't

@@ -2,9 +2,7 @@
 -- the sums. Defined here.
 use Rattle.std.specs.Prelude.{ℕ, ◌+◌, ◌≤◌, List, [], ◌∷◌, ◌++◌, length, codes, count_by, sum_by, flat_map, decimal}
 use Rattle.pmf_event.specs.declared.row.Row.{Row}
-use Rattle.pmf_verdict.specs.declared.outcome.Outcome.{Outcome}
-use Rattle.pmf_verdict.specs.declared.outcome.Outcome.TheVariants.{Pass, Fail, Warn, Empty}
-use Rattle.pmf_verdict.specs.Prelude.{outcome_of, is_same, Checked, rows_in, text_of_rows}
+use Rattle.pmf_verdict.specs.{declared.outcome.Outcome.{Outcome}, declared.outcome.Outcome.TheVariants.{Pass, Fail, Warn, Empty}, Outcome.{outcome_of, is_same}, Checked.{Checked, rows_in}, Text.{text_of_rows}}
 use Rattle.pmf_ledger.specs.declared.totals.Totals.{Totals}
 
 -- how many of these rows count so

@@ -1,14 +1,9 @@
 -- How a section stands to a ledger, and what became of a verdict. Defined here.
 use Rattle.std.specs.Prelude.{◌≡◌, Result, Ok, Err}
 use Rattle.pmf_event.specs.Section.{Trace}
-use Rattle.pmf_ledger.specs.declared.taking.Standing.{Standing}
-use Rattle.pmf_ledger.specs.declared.taking.Standing.TheVariants as standing
-use Rattle.pmf_ledger.specs.declared.taking.TakeFault.{TakeFault}
-use Rattle.pmf_ledger.specs.declared.taking.Taken.{Taken}
+use Rattle.pmf_ledger.specs.{declared.taking.Standing.{Standing}, declared.taking.TakeFault.{TakeFault}, declared.taking.Taken.{Taken}, Gathered.{Holds, HoldsOther}, LedgerValue.{LedgerValue}, Places.{IsPlaceOf, LacksName}}
 use Rattle.pmf_verdict.specs.Checked.{Checked}
-use Rattle.pmf_ledger.specs.Gathered.{Holds, HoldsOther}
-use Rattle.pmf_ledger.specs.LedgerValue.{LedgerValue}
-use Rattle.pmf_ledger.specs.Places.{IsPlaceOf, LacksName}
+use Rattle.pmf_ledger.specs.declared.taking.Standing.TheVariants as standing
 
 -- the section is held, or its name is held with other events, or its name is not held and belongs at this place
 abbrev pub IsStandingOf : LedgerValue → Trace → Standing → Type 0

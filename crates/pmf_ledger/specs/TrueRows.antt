@@ -1,5 +1,5 @@
 -- What the rows of a checked section say of the crash images that the rules allow it.
-use Rattle.pmf_verdict.specs.Prelude.{Checked, rows_in, IsExact, SameLinesAreOneStore, FailuresAreReal, PersistsHold, OrdersHold, ScopesHold}
+use Rattle.pmf_verdict.specs.{Checked.{Checked, rows_in}, Exact.{IsExact, SameLinesAreOneStore}, Explained.{FailuresAreReal}, Sound.{PersistsHold, OrdersHold, ScopesHold}}
 
 -- what they show as passed holds in every allowed image, what they show as failed has one that contradicts it, and
 -- so they say exactly which assertions hold; by profile Two what they show as SAMELINE one store wrote

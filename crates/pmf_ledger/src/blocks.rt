@@ -1,9 +1,8 @@
 //! The blocks of a ledger text, as far as it was read.
 
 ghost use Rattle.std.specs.Prelude.{◌≡◌, ◌+◌, ◌<◌, ◌^◌, [], ◌++◌, drop, length, codes, IfOk, bytes_eq};
-ghost use Rattle.pmf_verdict.specs.Prelude.{rows_in, text_of_row};
-ghost use Rattle.pmf_ledger.specs.Following.{HasRead, Reaches, StandsFor};
-ghost use Rattle.pmf_ledger.specs.Loading.{Reading, after_end, after_event, after_head, after_line, after_row, after_version, end_of, fault_at, head_of, profile_of, unread, with_events, with_rows, with_section};
+ghost use Rattle.pmf_verdict.specs.{Checked.{rows_in}, Text.{text_of_row}};
+ghost use Rattle.pmf_ledger.specs.{Following.{HasRead, Reaches, StandsFor}, Loading.{Reading, after_end, after_event, after_head, after_line, after_row, after_version, end_of, fault_at, head_of, profile_of, unread, with_events, with_rows, with_section}};
 ghost use Rattle.pmf_storelog.specs.Lines.{event_of_line};
 
 use crate::head::{read_end, read_head, read_version};

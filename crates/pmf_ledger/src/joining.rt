@@ -2,9 +2,7 @@
 
 ghost use Rattle.std.specs.Prelude.{◌≡◌, ◌≢◌, ◌↔◌, ◌+◌, ◌<◌, ◌≤◌, List, [], IfErr, IfOk, MatchOption, All, vec_len, vec_capacity};
 ghost use Rattle.pmf_verdict.specs.Checked.{Checked};
-ghost use Rattle.pmf_ledger.specs.Gathered.{GathersBoth, IsLeastClash, Unites};
-ghost use Rattle.pmf_ledger.specs.Joining.{Agree, AgreeInNames, AgreeTogether, AreRefusedAs, IsLeastDiffering, IsMerging, IsMerged};
-ghost use Rattle.pmf_ledger.specs.Names.{Rises};
+ghost use Rattle.pmf_ledger.specs.{Gathered.{GathersBoth, IsLeastClash, Unites}, Joining.{Agree, AgreeInNames, AgreeTogether, AreRefusedAs, IsLeastDiffering, IsMerging, IsMerged}, Names.{Rises}};
 
 use crate::ledger::Ledger;
 use crate::taking::order;

@@ -1,7 +1,6 @@
 //! Laws of gatherings, of their ledgers and of ledger texts, each the clause of an empty function.
 
-ghost use Rattle.pmf_ledger.specs.Gathering.{GivesItsLedger, GivesWhereItMay, JoiningAssociates, JoiningCommutes, JoiningRepeats, OnlyTheSetCounts, RefusesForCause};
-ghost use Rattle.pmf_ledger.specs.Laws.{EqualSetsHaveOneLedger, TextsLoadAsOneLedger, WhatLoadsIsNotRefused};
+ghost use Rattle.pmf_ledger.specs.{Gathering.{GivesItsLedger, GivesWhereItMay, JoiningAssociates, JoiningCommutes, JoiningRepeats, OnlyTheSetCounts, RefusesForCause}, Laws.{EqualSetsHaveOneLedger, TextsLoadAsOneLedger, WhatLoadsIsNotRefused}};
 
 /// Whatever ledger a gathering gives, in whatever order it took and joined, it is the ledger of the set that
 /// was gathered: each of its sections once, in the order of their names. That set agrees, and all is by one

@@ -2,11 +2,7 @@
 
 ghost use Rattle.std.specs.Prelude.{◌≡◌, ◌↔◌, [], length, Contains, IsTrue, IfSome, MatchOption, All};
 ghost use Rattle.pmf_verdict.specs.Checked.{Checked};
-ghost use Rattle.pmf_ledger.specs.Gathered.{IsLedgerOf};
-ghost use Rattle.pmf_ledger.specs.LedgerValue.{LedgerValue};
-ghost use Rattle.pmf_ledger.specs.Names.{Rises};
-ghost use Rattle.pmf_ledger.specs.Places.{HasName, LacksName};
-ghost use Rattle.pmf_ledger.specs.TrueRows.{HasTrueRows};
+ghost use Rattle.pmf_ledger.specs.{Gathered.{IsLedgerOf}, LedgerValue.{LedgerValue}, Names.{Rises}, Places.{HasName, LacksName}, TrueRows.{HasTrueRows}};
 
 use pmf_event::{Name, Profile};
 use pmf_verdict::Verdict;

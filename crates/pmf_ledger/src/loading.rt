@@ -1,9 +1,7 @@
 //! A ledger from its text.
 
 ghost use Rattle.std.specs.Prelude.{◌≡◌, MatchResult};
-ghost use Rattle.pmf_ledger.specs.FaultText.{words_of_conflict};
-ghost use Rattle.pmf_ledger.specs.Following.{is_over};
-ghost use Rattle.pmf_ledger.specs.Loading.{IsOfText, IsRefusedWith, LoadsAs};
+ghost use Rattle.pmf_ledger.specs.{FaultText.{words_of_conflict}, Following.{is_over}, Loading.{IsOfText, IsRefusedWith, LoadsAs}};
 
 use crate::blocks::{Blocks, Next};
 use crate::ledger::Ledger;

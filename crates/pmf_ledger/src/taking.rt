@@ -2,10 +2,7 @@
 
 ghost use Rattle.std.specs.Prelude.{◌≡◌, ◌≢◌, ◌↔◌, ◌<◌, ◌≤◌, length, get_or, Contains, OnOk, OnErr, IfErr, IfOk, IsTrue, MatchResult, All};
 ghost use Rattle.pmf_verdict.specs.Checked.{Checked};
-ghost use Rattle.pmf_ledger.specs.Gathered.{Gains, Gathers, Holds, HoldsOther};
-ghost use Rattle.pmf_ledger.specs.Taking.{IsRefusedAs, IsStandingOf};
-ghost use Rattle.pmf_ledger.specs.Names.{IsBefore, Rises};
-ghost use Rattle.pmf_ledger.specs.Places.{IsPlaceOf, LacksName, StandsAt};
+ghost use Rattle.pmf_ledger.specs.{Gathered.{Gains, Gathers, Holds, HoldsOther}, Taking.{IsRefusedAs, IsStandingOf}, Names.{IsBefore, Rises}, Places.{IsPlaceOf, LacksName, StandsAt}};
 
 use crate::ledger::Ledger;
 use pmf_event::{Name, Section};

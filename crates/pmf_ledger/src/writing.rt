@@ -1,12 +1,9 @@
 //! The text of a ledger, from which it can be loaded.
 
 ghost use Rattle.std.specs.Prelude.{◌≡◌, ◌≤◌, ◌++◌, OnOk, IfOk, length, All, flat_map, string_bytes};
-ghost use Rattle.pmf_storelog.specs.Prelude.{line_of_event, AllValid};
-ghost use Rattle.pmf_verdict.specs.Prelude.{Checked, rows_in, text_of_rows};
-ghost use Rattle.pmf_ledger.specs.Loading.{LoadsAs};
-ghost use Rattle.pmf_ledger.specs.Names.{Rises};
-ghost use Rattle.pmf_ledger.specs.declared.loading.TheConstants.{LEDGER_LIMIT};
-ghost use Rattle.pmf_ledger.specs.LedgerText.{IsSpelled, text_of_block, text_of_end, text_of_head, text_of_ledger, version_of};
+ghost use Rattle.pmf_storelog.specs.{Canonical.{line_of_event}, Spelling.{AllValid}};
+ghost use Rattle.pmf_verdict.specs.{Checked.{Checked, rows_in}, Text.{text_of_rows}};
+ghost use Rattle.pmf_ledger.specs.{Loading.{LoadsAs}, Names.{Rises}, declared.loading.TheConstants.{LEDGER_LIMIT}, LedgerText.{IsSpelled, text_of_block, text_of_end, text_of_head, text_of_ledger, version_of}};
 
 use crate::ledger::Ledger;
 use pmf_event::{Event, Name, Profile};

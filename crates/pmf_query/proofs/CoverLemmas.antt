@@ -1,17 +1,8 @@
 -- What later assertions cover, one event further to the front.
-use Rattle.pmf_event.proofs.Common.{◌≡◌, ℕ, suc, ◌+◌, ◌-◌, ◌<◌, ◌≤◌, Bool, true, false, not, cond, if◌then◌else◌, ◌&&◌, ◌||◌, List, length, refl, sym, ap, ◌∙◌, arith, inl, inr, Option, Some, None, nat_lt, is_some, cases_lt, lt-ltb, le-ltb, false≢true}
-use Rattle.pmf_event.specs.declared.event.Event.{Event}
-use Rattle.pmf_event.specs.declared.event.Event.TheVariants.{Store}
-use Rattle.pmf_event.specs.Prelude.{count, greatest, some_between, at, event_at, closes_scope, Extent, covers_byte, first_from}
-use Rattle.pmf_event.proofs.PlacesLemmas.{count-step, count-zero, greatest-bound, greatest-passes, some_between-here}
-use Rattle.pmf_event.proofs.EventLemmas.{at-is}
-use Rattle.pmf_event.proofs.RangeLemmas.{first_from-same}
-use Rattle.pmf_runs.specs.declared.members.Members.{Members}
-use Rattle.pmf_runs.specs.declared.runs.RunMap.{RunMap}
-use Rattle.pmf_runs.specs.contracts.members.BoolState.TheImpl.{ghosts}
-use Rattle.pmf_runs.specs.Runs.{state_at, passing, is_between, ChangesBetween}
-use Rattle.pmf_query.specs.declared.covering.Later.{Later}
-use Rattle.pmf_query.specs.Covering.{names, is_named_after, is_closed_after, is_covered, is_in, is_inside, is_uncovered, lacks_cover, stored_by, uncovered_of, StandsAfter}
+use Rattle.std.proofs.{Common.{◌≡◌, ℕ, suc, ◌+◌, ◌-◌, ◌<◌, ◌≤◌, Bool, true, false, not, cond, if◌then◌else◌, ◌&&◌, ◌||◌, List, length, refl, sym, ap, ◌∙◌, arith, inl, inr, Option, Some, None, nat_lt, is_some, lt-ltb, le-ltb}, lemmas.Bool.{cases_lt, false≢true}}
+use Rattle.pmf_event.{specs.declared.event.Event.{Event}, specs.declared.event.Event.TheVariants.{Store}, specs.Places.{count, greatest, some_between}, specs.Store.{at, event_at}, specs.Transactions.{closes_scope}, specs.Span.{Extent, covers_byte}, specs.Ranges.{first_from}, proofs.PlacesLemmas.{count-step, count-zero, greatest-bound, greatest-passes, some_between-here}, proofs.EventLemmas.{at-is}, proofs.RangeLemmas.{first_from-same}}
+use Rattle.pmf_runs.specs.{declared.members.Members.{Members}, declared.runs.RunMap.{RunMap}, contracts.members.BoolState.TheImpl.{ghosts}, Runs.{state_at, passing, is_between, ChangesBetween}}
+use Rattle.pmf_query.specs.{declared.covering.Later.{Later}, Covering.{names, is_named_after, is_closed_after, is_covered, is_in, is_inside, is_uncovered, lacks_cover, stored_by, uncovered_of, StandsAfter}}
 
 none_last : (test : ℕ → Bool) (n : ℕ) → some_between test n (suc n) ≡ false
 unfolding some_between

@@ -1,10 +1,7 @@
 -- The records before and after an offset at which they begin anew.
-use Rattle.pmf_event.proofs.Common.{◌≡◌, ℕ, ◌+◌, ◌-◌, ◌<◌, ◌≤◌, Bool, true, false, ◌==◌, List, [], ◌∷◌, ◌++◌, Option, Some, None, MatchOption, length, take, drop, get_or, All, refl, sym, ap, subst, ◌∙◌, arith, append_assoc, prefix_len, suffix_len, Decides-eqb, append-nil, take_rest, take_all, take_at, take-take, get_or-take, length-take-le, length-drop, take-append-drop, drop-append-le, drop-drop, All-from_get_or, prefix_len_is, prefix_len_passes, prefix_len-le-length, slice_split_none, take-add, drop-length}
+use Rattle.std.{proofs.Common.{◌≡◌, ℕ, ◌+◌, ◌-◌, ◌<◌, ◌≤◌, Bool, true, false, ◌==◌, List, [], ◌∷◌, ◌++◌, Option, Some, None, MatchOption, length, take, drop, get_or, All, refl, sym, ap, subst, ◌∙◌, arith, append_assoc, append-nil, take_all, take_at, get_or-take, length-take-le, length-drop, take-append-drop}, specs.List.{prefix_len, suffix_len}, proofs.lemmas.Bool.Decides.{Decides-eqb}, proofs.lemmas.List.{take_rest, take-take, drop-append-le, drop-drop}, proofs.lemmas.List.Elements.{All-from_get_or}, proofs.lemmas.List.Sums.{prefix_len_is, prefix_len_passes, prefix_len-le-length}, proofs.lemmas.List.Splits.{slice_split_none}, proofs.Math.Seq.{take-add, drop-length}}
 use Rattle.memchr.specs.Find.{IsFirstByte, is_byte3}
-use Rattle.pmf_storelog.specs.Separators.{is_separator, is_blank, trimmed, without_front_blanks, without_end_blanks, records_in, parts_of, records_of}
-use Rattle.pmf_storelog.proofs.SplitLemmas.{split_filled, joined, joined_at}
-use Rattle.pmf_storelog.proofs.PartLemmas.{parts_of-append, records_in-append, separator_found}
-use Rattle.pmf_storelog.proofs.TallyLemmas.{records_in-blank, records_in-filled}
+use Rattle.pmf_storelog.{specs.Separators.{is_separator, is_blank, trimmed, without_front_blanks, without_end_blanks, records_in, parts_of, records_of}, proofs.SplitLemmas.{split_filled, joined, joined_at}, proofs.PartLemmas.{parts_of-append, records_in-append, separator_found}, proofs.TallyLemmas.{records_in-blank, records_in-filled}}
 use Rattle.pmf_query.specs.Walking.{BeginsAnew, IsNext, IsPart}
 
 pub records_of-nil : records_of [] ≡ []

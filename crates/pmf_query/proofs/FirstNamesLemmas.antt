@@ -1,7 +1,6 @@
 -- The different ones of some names, in the order in which they first stand, with one name more.
-use Rattle.pmf_event.proofs.Common.{◌≡◌, ℕ, zero, suc, ◌<◌, ◌≤◌, Bool, true, false, cond, List, [], ◌∷◌, ◌++◌, length, take, refl, sym, ap, subst, ◌∙◌, arith, length-append, length-take, take_all, not, ◌||◌, filter, bytes_eq, list_any, bytes_eq-Decides, append-nil, take-append-le, filter-append}
-use Rattle.pmf_query.specs.declared.naming.TheConstants.{LISTED}
-use Rattle.pmf_query.specs.Naming.{first_names, is_among}
+use Rattle.std.{proofs.Common.{◌≡◌, ℕ, zero, suc, ◌<◌, ◌≤◌, Bool, true, false, cond, List, [], ◌∷◌, ◌++◌, length, take, refl, sym, ap, subst, ◌∙◌, arith, length-append, length-take, take_all, not, ◌||◌, filter, bytes_eq, append-nil}, specs.List.{list_any}, proofs.lemmas.Slice.Eq.{bytes_eq-Decides}, proofs.lemmas.List.{take-append-le}, proofs.lemmas.List.Elements.{filter-append}}
+use Rattle.pmf_query.specs.{declared.naming.TheConstants.{LISTED}, Naming.{first_names, is_among}}
 
 -- whether it is another name than this one
 abbrev pub is_other : List ℕ → List ℕ → Bool

@@ -1,10 +1,8 @@
 -- The events of a section before and behind the record that gave one.
-use Rattle.pmf_event.proofs.Common.{◌≡◌, ℕ, ◌+◌, ◌-◌, ◌<◌, List, [], ◌∷◌, ◌++◌, Some, length, length-append, take, drop, get_or, refl, sym, ap, ◌∙◌, arith, append_assoc, inl, inr, slice_get, eq-eqb, cases_lt, append-nil, take_more, take-take, take-append-drop, length-take-le}
+use Rattle.std.proofs.{Common.{◌≡◌, ℕ, ◌+◌, ◌-◌, ◌<◌, List, [], ◌∷◌, ◌++◌, Some, length, length-append, take, drop, get_or, refl, sym, ap, ◌∙◌, arith, append_assoc, inl, inr, slice_get, eq-eqb, append-nil, take-append-drop, length-take-le}, lemmas.Bool.{cases_lt}, lemmas.List.{take_more, take-take}}
 use Rattle.pmf_event.specs.declared.event.Event.{Event}
-use Rattle.pmf_storelog.specs.Prelude.{record_of, current_at, current_of, events_in, numbered, reading_at}
-use Rattle.pmf_storelog.proofs.LogLemmas.{current_at-append, events_in-push, in_section}
-use Rattle.pmf_query.specs.Locating.{Gives}
-use Rattle.pmf_query.proofs.LocationLemmas.{slice_get-at}
+use Rattle.pmf_storelog.{specs.Records.{record_of}, specs.LogText.{current_at, current_of, events_in, numbered, reading_at}, proofs.LogLemmas.{current_at-append, events_in-push, in_section}}
+use Rattle.pmf_query.{specs.Locating.{Gives}, proofs.LocationLemmas.{slice_get-at}}
 
 -- more records only add events behind
 pub events_in-more : (xs ys : List (List ℕ)) (number : ℕ) → (more : List Event) × (events_in (xs ++ ys) number ≡ events_in xs number ++ more)

@@ -1,10 +1,7 @@
 -- Depth and scope after one more event.
-use Rattle.pmf_event.proofs.Common.{◌≡◌, ℕ, zero, suc, ◌+◌, ◌-◌, ◌<◌, Bool, true, false, ◌&&◌, List, [], ◌∷◌, ◌++◌, Some, length, get_or, refl, sym, ap, ◌∙◌, arith, inl, inr, nat_lt, cases_eq, cases_lt, get_or_append_left, get_or_at}
-use Rattle.pmf_event.specs.declared.event.Event.{Event}
-use Rattle.pmf_event.specs.declared.event.Event.TheVariants.{TxEnd}
-use Rattle.pmf_event.specs.Prelude.{event_at, begins, ends, opens_scope, closes_scope, depth_at, in_scope, in_transaction, scope_at}
+use Rattle.std.proofs.{Common.{◌≡◌, ℕ, zero, suc, ◌+◌, ◌-◌, ◌<◌, Bool, true, false, ◌&&◌, List, [], ◌∷◌, ◌++◌, Some, length, get_or, refl, sym, ap, ◌∙◌, arith, inl, inr, nat_lt}, lemmas.Bool.{cases_eq, cases_lt}, lemmas.List.{get_or_append_left, get_or_at}}
+use Rattle.pmf_event.{specs.declared.event.Event.{Event}, specs.declared.event.Event.TheVariants.{TxEnd}, specs.Store.{event_at}, specs.Transactions.{begins, ends, opens_scope, closes_scope, depth_at, in_scope, in_transaction, scope_at}, proofs.TransactionLemmas.{depth-start, scope-start, depth-begun, depth-ended, depth-kept, scope-stays, scope-opened, scope-kept, scope-closed, scoped-from, unscoped-from, in_scope-same}}
 use Rattle.pmf_query.specs.Covering.{is_inside}
-use Rattle.pmf_event.proofs.TransactionLemmas.{depth-start, scope-start, depth-begun, depth-ended, depth-kept, scope-stays, scope-opened, scope-kept, scope-closed, scoped-from, unscoped-from, in_scope-same}
 
 -- what begins a transaction ends none
 begins_alone : (e : Event) → begins e ≡ true → ends e ≡ false

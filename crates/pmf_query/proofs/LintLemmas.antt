@@ -1,14 +1,7 @@
 -- What is told of a log that was read.
-use Rattle.pmf_event.proofs.Common.{◌≡◌, ℕ, List, [], ◌∷◌, ◌++◌, Ok, length, take, sym, ap, subst, length-map}
-use Rattle.pmf_storelog.specs.Prelude.{records_of, LogValue, fault_of, log_of, numbers_of, sections_of, skipped_of, value_of}
-use Rattle.pmf_query.specs.Linting.{IsLint}
-use Rattle.pmf_query.specs.Locating.{IsFaultless}
-use Rattle.pmf_query.specs.Summing.{sums_of}
-use Rattle.pmf_query.specs.declared.summing.Sums.{Sums}
-use Rattle.pmf_query.specs.Walking.{IsNext}
-use Rattle.pmf_query.specs.declared.counting.NameCounts.{NameCounts}
-use Rattle.pmf_query.specs.Counting.{Tallies}
-use Rattle.pmf_query.proofs.NumberFoundLemmas.{by_fault}
+use Rattle.std.proofs.{Common.{◌≡◌, ℕ, List, [], ◌∷◌, ◌++◌, Ok, length, take, sym, ap, subst}, lemmas.List.{length-map}}
+use Rattle.pmf_storelog.specs.{Separators.{records_of}, LogValue.{LogValue}, LogText.{fault_of, log_of, numbers_of, sections_of, skipped_of, value_of}}
+use Rattle.pmf_query.{specs.Linting.{IsLint}, specs.Locating.{IsFaultless}, specs.Summing.{sums_of}, specs.declared.summing.Sums.{Sums}, specs.Walking.{IsNext}, specs.declared.counting.NameCounts.{NameCounts}, specs.Counting.{Tallies}, proofs.NumberFoundLemmas.{by_fault}}
 
 pub skipped_so : (run : ℕ) (bytes : List ℕ) (log : LogValue) → log_of run bytes ≡ Ok log → log.skipped ≡ skipped_of (records_of bytes)
 unfolding log_of value_of

@@ -1,10 +1,6 @@
 -- The bytes of a printed character, and names that are shown whole.
-use Rattle.pmf_event.proofs.Common.{◌≡◌, ℕ, ◌≤◌, Bool, true, List, [], ◌∷◌, ◌++◌, cond, length, take, take_all, ap, sym, ◌∙◌, arith, nat_le, codes, flat_map, append-nil, and_parts, le-leb, leb-true}
-use Rattle.std.proofs.lemmas.Str.{encode_ascii}
-use Rattle.std.proofs.Math.Utf8.{encode}
-use Rattle.pmf_query.specs.declared.telling.TheConstants.{SHOWN}
-use Rattle.pmf_query.specs.Nearness.{is_printed}
-use Rattle.pmf_query.specs.LintText.{shown_byte, shown_name}
+use Rattle.std.proofs.{Common.{◌≡◌, ℕ, ◌≤◌, Bool, true, List, [], ◌∷◌, ◌++◌, cond, length, take, take_all, ap, sym, ◌∙◌, arith, nat_le, codes, flat_map, append-nil, le-leb}, lemmas.Bool.{and_parts, leb-true}, lemmas.Str.{encode_ascii}, Math.Utf8.{encode}}
+use Rattle.pmf_query.specs.{declared.telling.TheConstants.{SHOWN}, Nearness.{is_printed}, LintText.{shown_byte, shown_name}}
 
 pub printed_alone : (b c : ℕ) → c ≡ b → is_printed b ≡ true → encode c ≡ b ∷ []
 unfolding is_printed

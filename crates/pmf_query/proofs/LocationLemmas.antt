@@ -1,11 +1,7 @@
 -- The record that a walk has come to, as the one that gave an event.
 use Rattle.std.proofs.Common.{◌≡◌, ℕ, ◌+◌, List, [], ◌∷◌, ◌++◌, Some, length, length-append, take, drop, refl, sym, ap, subst, ◌∙◌, arith, append_assoc, slice_get, take_at}
-use Rattle.pmf_storelog.specs.Prelude.{records_of, record_of, current_at, current_of, events_in, numbered, reading_at}
-use Rattle.pmf_storelog.proofs.LogLemmas.{current_at-append, reading_at-append, reading_at-last}
-use Rattle.pmf_query.specs.Walking.{IsNext}
-use Rattle.pmf_query.specs.Passing.{GivesNext}
-use Rattle.pmf_query.specs.Locating.{Gives, IsLocation}
-use Rattle.pmf_query.proofs.CursorLemmas.{anew_all}
+use Rattle.pmf_storelog.{specs.Separators.{records_of}, specs.Records.{record_of}, specs.LogText.{current_at, current_of, events_in, numbered, reading_at}, proofs.LogLemmas.{current_at-append, reading_at-append, reading_at-last}}
+use Rattle.pmf_query.{specs.Walking.{IsNext}, specs.Passing.{GivesNext}, specs.Locating.{Gives, IsLocation}, proofs.CursorLemmas.{anew_all}}
 
 pub slice_get-at : {A : Type 0} (xs : List A) (y : A) (ys : List A) → slice_get (xs ++ y ∷ ys) (length xs) ≡ Some y
 slice_get-at [] y ys = refl

@@ -1,16 +1,8 @@
 -- Counts of names, with one more name.
-use Rattle.pmf_event.proofs.Common.{◌≡◌, ℕ, zero, suc, ◌+◌, ◌-◌, ◌^◌, ◌<◌, ◌≤◌, Bool, true, false, cond, List, [], ◌∷◌, ◌++◌, Some, None, length, take, get_or, map, All, refl, sym, ap, subst, ◌∙◌, arith, length-append, not, ◌||◌, filter, is_some, bytes_eq, bytes_eq-Decides, list_any, false≢true, append-nil, map-append, length-map, take_more, All-append, All-cons, filter-append, list_any-append, sum_by-append, count_by-le-length, length-filter}
+use Rattle.std.{proofs.Common.{◌≡◌, ℕ, zero, suc, ◌+◌, ◌-◌, ◌^◌, ◌<◌, ◌≤◌, Bool, true, false, cond, List, [], ◌∷◌, ◌++◌, Some, None, length, take, get_or, map, All, refl, sym, ap, subst, ◌∙◌, arith, length-append, not, ◌||◌, filter, is_some, bytes_eq, append-nil}, proofs.lemmas.Slice.Eq.{bytes_eq-Decides}, specs.List.{list_any}, proofs.lemmas.Bool.{false≢true}, proofs.lemmas.List.{map-append, length-map, take_more}, proofs.lemmas.List.Elements.{All-append, All-cons, filter-append}, proofs.lemmas.List.Folds.{list_any-append}, proofs.lemmas.List.Sums.{sum_by-append, count_by-le-length, length-filter}}
 use Rattle.memchr.specs.Find.{IsFirstByte, is_byte}
-use Rattle.pmf_storelog.specs.Prelude.{is_skipped, fields_of, is_field_end}
-use Rattle.pmf_storelog.proofs.SplitLemmas.{split_none, split_some}
-use Rattle.pmf_query.specs.declared.naming.Named.{Named}
-use Rattle.pmf_query.specs.declared.naming.TheConstants.{LISTED}
-use Rattle.pmf_query.specs.declared.listing.Listing.{Listing}
-use Rattle.pmf_query.specs.declared.counting.NameCounts.{NameCounts}
-use Rattle.pmf_query.proofs.FirstNamesLemmas.{all_first, among_others, first_again, first_full, first_new, is_other}
-use Rattle.pmf_query.specs.Nearness.{has_near, has_strange, is_text, near_of}
-use Rattle.pmf_query.specs.Counting.{Lists, Tallies}
-use Rattle.pmf_query.specs.Naming.{Count, first_names, known_names, count_named, count_others, counting, first_field, is_among, name_of, names_in, names_of, skipped_names}
+use Rattle.pmf_storelog.{specs.LogText.{is_skipped}, specs.Records.{fields_of, is_field_end}, proofs.SplitLemmas.{split_none, split_some}}
+use Rattle.pmf_query.{specs.declared.naming.Named.{Named}, specs.declared.naming.TheConstants.{LISTED}, specs.declared.listing.Listing.{Listing}, specs.declared.counting.NameCounts.{NameCounts}, proofs.FirstNamesLemmas.{all_first, among_others, first_again, first_full, first_new, is_other}, specs.Nearness.{has_near, has_strange, is_text, near_of}, specs.Counting.{Lists, Tallies}, specs.Naming.{Count, first_names, known_names, count_named, count_others, counting, first_field, is_among, name_of, names_in, names_of, skipped_names}}
 
 count_named-push : (n name : List ℕ) (names : List (List ℕ)) → count_named n (names ++ name ∷ []) ≡ count_named n names + cond (bytes_eq n name) 1 0
 unfolding count_named

@@ -1,8 +1,7 @@
 -- The section of a number, among those of a log.
-use Rattle.pmf_event.proofs.Common.{◌≡◌, ℕ, ◌+◌, ◌<◌, List, [], ◌∷◌, ◌++◌, Ok, Some, None, Option, map, length, take, get_or, sym, ◌∙◌, ap, subst, inl, inr, refl, Contains, take_more, map-append, get_or-map, length-map, Contains-push_cases, Contains-get_or}
+use Rattle.std.proofs.{Common.{◌≡◌, ℕ, ◌+◌, ◌<◌, List, [], ◌∷◌, ◌++◌, Ok, Some, None, Option, map, length, take, get_or, sym, ◌∙◌, ap, subst, inl, inr, refl, Contains}, lemmas.List.{take_more, map-append, get_or-map, length-map}, lemmas.List.Elements.{Contains-push_cases, Contains-get_or}}
 use Rattle.pmf_event.specs.Section.{Trace}
-use Rattle.pmf_storelog.specs.declared.fault.LogFault.{LogFault}
-use Rattle.pmf_storelog.specs.Prelude.{LogValue, events_in, fault_of, log_of, numbers_of, section_named, sections_of, value_of, value_unless, records_of}
+use Rattle.pmf_storelog.specs.{declared.fault.LogFault.{LogFault}, LogValue.{LogValue}, LogText.{events_in, fault_of, log_of, numbers_of, section_named, sections_of, value_of, value_unless}, Separators.{records_of}}
 use Rattle.pmf_query.specs.Locating.{IsFaultless}
 
 -- none of the sections has the number

@@ -1,13 +1,8 @@
 -- What one more record says of a section.
 use Rattle.std.proofs.Common.{◌≡◌, ℕ, ◌+◌, List, [], ◌∷◌, ◌++◌, Ok, Err, length, length-append, refl, sym, ap, ◌∙◌, arith, eq-eqb, ne_eqb, append-nil}
 use Rattle.pmf_event.specs.declared.event.Event.{Event}
-use Rattle.pmf_storelog.specs.declared.fault.Cause.{Cause}
-use Rattle.pmf_storelog.specs.declared.record.Saying.TheVariants.{Happens, Enters, Skipped}
-use Rattle.pmf_storelog.specs.Prelude.{record_of, current_of, events_in, number_after, numbered}
-use Rattle.pmf_storelog.proofs.LogLemmas.{current_of-push, events_in-push, events_in-event, events_in-enter, events_in-nothing, in_section}
-use Rattle.pmf_storelog.proofs.TallyLemmas.{current_of-nil, events_in-nil}
-use Rattle.pmf_query.specs.declared.passing.Passed.{Passed}
-use Rattle.pmf_query.specs.Passing.{HasPassed, GivesNext}
+use Rattle.pmf_storelog.{specs.declared.fault.Cause.{Cause}, specs.declared.record.Saying.TheVariants.{Happens, Enters, Skipped}, specs.Records.{record_of}, specs.LogText.{current_of, events_in, number_after, numbered}, proofs.LogLemmas.{current_of-push, events_in-push, events_in-event, events_in-enter, events_in-nothing, in_section}, proofs.TallyLemmas.{current_of-nil, events_in-nil}}
+use Rattle.pmf_query.specs.{declared.passing.Passed.{Passed}, Passing.{HasPassed, GivesNext}}
 
 pub passed_none : (section : ℕ) (passed : Passed) → passed.records ≡ 0 → passed.current ≡ 0 → passed.events ≡ 0 → HasPassed section [] passed
 passed_none section passed records current events = record {

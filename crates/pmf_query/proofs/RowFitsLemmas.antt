@@ -1,14 +1,8 @@
 -- A row of a verdict that has a certificate stands at a place of the events, and the certificate fits them.
-use Rattle.pmf_event.proofs.Common.{◌≡◌, ◌<◌, ◌≤◌, ℕ, zero, suc, List, [], length, get_or, Option, None, Some, refl, arith, slice_get, Contains-get_or, slice_get_within}
-use Rattle.pmf_event.specs.declared.event.Event.{Event}
-use Rattle.pmf_event.specs.declared.row.Row.{Row}
-use Rattle.pmf_event.specs.Prelude.{event_at}
-use Rattle.pmf_image.specs.declared.certificate.Certificate.{Certificate}
-use Rattle.pmf_image.specs.Certificate.{Fits}
-use Rattle.pmf_image.specs.Contradiction.{Contradicts, ContradictsEvent}
-use Rattle.pmf_verdict.specs.declared.outcome.Outcome.{Outcome}
-use Rattle.pmf_verdict.specs.declared.outcome.Outcome.TheVariants.{Pass, Fail, Warn, Empty}
-use Rattle.pmf_verdict.specs.Prelude.{certificate_of, FailuresAreReal}
+use Rattle.std.proofs.{Common.{◌≡◌, ◌<◌, ◌≤◌, ℕ, zero, suc, List, [], length, get_or, Option, None, Some, refl, arith, slice_get}, lemmas.List.Elements.{Contains-get_or}, lemmas.Option.{slice_get_within}}
+use Rattle.pmf_event.specs.{declared.event.Event.{Event}, declared.row.Row.{Row}, Store.{event_at}}
+use Rattle.pmf_image.specs.{declared.certificate.Certificate.{Certificate}, Certificate.{Fits}, Contradiction.{Contradicts, ContradictsEvent}}
+use Rattle.pmf_verdict.specs.{declared.outcome.Outcome.{Outcome}, declared.outcome.Outcome.TheVariants.{Pass, Fail, Warn, Empty}, Explained.{certificate_of, FailuresAreReal}}
 use Rattle.pmf_query.specs.AllExplained.{text_if}
 
 has_event : (es : List Event) (k : ℕ) (c : Certificate) (o : Option Event) → slice_get es k ≡ o → ContradictsEvent es (suc k) c o → k < length es

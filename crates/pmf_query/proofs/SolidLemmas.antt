@@ -1,5 +1,5 @@
 -- The bytes of a log that are neither separators nor blanks all stand in its records, so that a record begins at one offset.
-use Rattle.pmf_event.proofs.Common.{◌≡◌, ℕ, zero, suc, ◌+◌, ◌-◌, ◌<◌, Bool, true, false, cond, List, [], ◌∷◌, ◌++◌, Some, length, take, drop, get_or, map, reverse, All, refl, sym, ap, subst, ◌∙◌, arith, inl, inr, not, ◌||◌, slice_get, filter, prefix_len, suffix_len, slice_split, onto_first, AllByRecursion, cases_lt, lt-ltb, get_or-reverse, get_or-drop, get_or-take, length-take-le, length-drop, take-append-drop, All-from_get_or, prefix_len_passes, prefix_len-le-length, suffix_len-le-length, take-add}
+use Rattle.std.{proofs.Common.{◌≡◌, ℕ, zero, suc, ◌+◌, ◌-◌, ◌<◌, Bool, true, false, cond, List, [], ◌∷◌, ◌++◌, Some, length, take, drop, get_or, map, reverse, All, refl, sym, ap, subst, ◌∙◌, arith, inl, inr, not, ◌||◌, slice_get, filter, lt-ltb, get_or-drop, get_or-take, length-take-le, length-drop, take-append-drop}, specs.List.{prefix_len, suffix_len, slice_split, onto_first, AllByRecursion}, proofs.lemmas.Bool.{cases_lt}, proofs.lemmas.List.{get_or-reverse}, proofs.lemmas.List.Elements.{All-from_get_or}, proofs.lemmas.List.Sums.{prefix_len_passes, prefix_len-le-length, suffix_len-le-length}, proofs.Math.Seq.{take-add}}
 use Rattle.pmf_storelog.specs.Separators.{is_separator, is_blank, is_filled, trimmed, without_front_blanks, without_end_blanks, records_in, parts_of, records_of}
 use Rattle.pmf_query.specs.Locating.{StandsAt}
 

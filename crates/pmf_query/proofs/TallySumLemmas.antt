@@ -1,9 +1,7 @@
 -- Counts over lists, and the sums of sections, with one more.
-use Rattle.pmf_event.proofs.Common.{◌≡◌, ℕ, ◌+◌, ◌*◌, ◌^◌, ◌<◌, List, [], ◌∷◌, ◌++◌, length, take, get_or, map, refl, sym, ◌∙◌, ap, arith, count_by, take_more, map-append, sum_by-append}
+use Rattle.std.proofs.{Common.{◌≡◌, ℕ, ◌+◌, ◌*◌, ◌^◌, ◌<◌, List, [], ◌∷◌, ◌++◌, length, take, get_or, map, refl, sym, ◌∙◌, ap, arith, count_by}, lemmas.List.{take_more, map-append}, lemmas.List.Sums.{sum_by-append}}
 use Rattle.pmf_event.specs.Section.{Trace}
-use Rattle.pmf_query.specs.declared.summing.Sums.{Sums}
-use Rattle.pmf_query.specs.Covering.{uncovered_of}
-use Rattle.pmf_query.specs.Summing.{IsWithin, asserts, both, empty_of, is_store, sums_of}
+use Rattle.pmf_query.specs.{declared.summing.Sums.{Sums}, Covering.{uncovered_of}, Summing.{IsWithin, asserts, both, empty_of, is_store, sums_of}}
 
 sums_of-push : (ts : List Trace) (t : Trace) → sums_of (ts ++ t ∷ []) ≡ both (sums_of ts) (sums_of (t ∷ []))
 unfolding sums_of

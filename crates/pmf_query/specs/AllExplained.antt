@@ -1,15 +1,9 @@
 -- What explains every failing row of a log at once. Defined here.
 use Rattle.std.specs.Prelude.{◌≡◌, ℕ, List, [], ◌++◌, codes, Option, None, Some, Ok, flat_map, decimal}
-use Rattle.pmf_event.specs.declared.event.Event.{Event}
-use Rattle.pmf_event.specs.declared.name.Name.{Name}
-use Rattle.pmf_event.specs.declared.profile.Profile.{Profile}
-use Rattle.pmf_event.specs.declared.row.Row.{Row}
-use Rattle.pmf_event.specs.Prelude.{Trace}
+use Rattle.pmf_event.specs.{declared.event.Event.{Event}, declared.name.Name.{Name}, declared.profile.Profile.{Profile}, declared.row.Row.{Row}, Section.{Trace}}
 use Rattle.pmf_image.specs.declared.certificate.Certificate.{Certificate}
-use Rattle.pmf_storelog.specs.Prelude.{log_of, LogValue}
-use Rattle.pmf_verdict.specs.declared.outcome.Outcome.{Outcome}
-use Rattle.pmf_verdict.specs.declared.outcome.Outcome.TheVariants.{Fail}
-use Rattle.pmf_verdict.specs.Prelude.{certificate_of, outcome_of, rows_of, text_of_row}
+use Rattle.pmf_storelog.specs.{LogText.{log_of}, LogValue.{LogValue}}
+use Rattle.pmf_verdict.specs.{declared.outcome.Outcome.{Outcome}, declared.outcome.Outcome.TheVariants.{Fail}, Explained.{certificate_of}, Outcome.{outcome_of}, Rows.{rows_of}, Text.{text_of_row}}
 use Rattle.pmf_query.specs.Explanation.{text_of_bytes, text_of_image}
 
 -- what the image of a row's certificate holds of the bytes that the row names, or `no image`

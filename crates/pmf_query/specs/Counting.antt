@@ -1,10 +1,6 @@
 -- What a walk over records has counted so far. Defined here.
 use Rattle.std.specs.Prelude.{◌≡◌, ℕ, List, length, take}
-use Rattle.pmf_query.specs.declared.naming.TheConstants.{LISTED}
-use Rattle.pmf_query.specs.declared.listing.Listing.{Listing}
-use Rattle.pmf_query.specs.declared.counting.NameCounts.{NameCounts}
-use Rattle.pmf_query.specs.Naming.{Count, count_others, first_names, known_names, names_in, names_of, skipped_names}
-use Rattle.pmf_query.specs.Nearness.{has_near, has_strange}
+use Rattle.pmf_query.specs.{declared.naming.TheConstants.{LISTED}, declared.listing.Listing.{Listing}, declared.counting.NameCounts.{NameCounts}, Naming.{Count, count_others, first_names, known_names, names_in, names_of, skipped_names}, Nearness.{has_near, has_strange}}
 
 -- what is listed is that of these names: the first different ones, the count of each, how many there are of all others, and
 -- whether one is near to a known name, or no text

@@ -1,8 +1,6 @@
 -- Which stores of a section no later assertion covers. Defined here.
 use Rattle.std.specs.Prelude.{◌≡◌, ℕ, suc, Bool, false, not, ◌&&◌, ◌||◌, is_some, ◌<◌, List, Option, Some, None, length, slice_index_or}
-use Rattle.pmf_event.specs.declared.event.Event.{Event}
-use Rattle.pmf_event.specs.declared.event.Event.TheVariants.{Store, Persist, Ordered}
-use Rattle.pmf_event.specs.Prelude.{Extent, covers_byte, count, some_between, first_byte, event_at, at, closes_scope, in_scope, in_transaction}
+use Rattle.pmf_event.specs.{declared.event.Event.{Event}, declared.event.Event.TheVariants.{Store, Persist, Ordered}, Span.{Extent, covers_byte}, Places.{count, some_between}, Ranges.{first_byte}, Store.{event_at, at}, Transactions.{closes_scope, in_scope, in_transaction}}
 use Rattle.pmf_runs.specs.Runs.{state_at}
 use Rattle.pmf_query.specs.declared.covering.Later.{Later}
 

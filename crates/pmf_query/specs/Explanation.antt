@@ -1,15 +1,9 @@
 -- What explain_text answers: the text that explains one place of a section. Defined here.
 use Rattle.std.specs.Prelude.{◌≡◌, ℕ, List, [], ◌∷◌, ◌++◌, codes, Option, None, Some, Ok, flat_map, decimal}
-use Rattle.pmf_event.specs.declared.event.Event.{Event}
-use Rattle.pmf_event.specs.declared.finding.Finding.{Finding}
-use Rattle.pmf_event.specs.declared.finding.Finding.TheVariants.{PersistFail, OrderedFail, CheckFail}
-use Rattle.pmf_event.specs.declared.profile.Profile.{Profile}
-use Rattle.pmf_event.specs.declared.row.Row.{Row}
-use Rattle.pmf_event.specs.Prelude.{address, line_of_byte, Trace, last_store}
-use Rattle.pmf_image.specs.declared.certificate.Certificate.{Certificate}
-use Rattle.pmf_image.specs.Certificate.{cut_in, shows_in}
-use Rattle.pmf_storelog.specs.Prelude.{log_of, LogValue}
-use Rattle.pmf_verdict.specs.Prelude.{Explains, rows_of, text_of_rows, rows_at}
+use Rattle.pmf_event.specs.{declared.event.Event.{Event}, declared.finding.Finding.{Finding}, declared.finding.Finding.TheVariants.{PersistFail, OrderedFail, CheckFail}, declared.profile.Profile.{Profile}, declared.row.Row.{Row}, Address.{address}, Line.{line_of_byte}, Section.{Trace}, Store.{last_store}}
+use Rattle.pmf_image.specs.{declared.certificate.Certificate.{Certificate}, Certificate.{cut_in, shows_in}}
+use Rattle.pmf_storelog.specs.{LogText.{log_of}, LogValue.{LogValue}}
+use Rattle.pmf_verdict.specs.{Explained.{Explains}, Rows.{rows_of}, Text.{text_of_rows, rows_at}}
 use Rattle.pmf_query.specs.Refusals.{IsPlace, IsSection}
 
 -- the bytes that a failed row names; other rows have no image

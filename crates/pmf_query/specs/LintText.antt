@@ -1,11 +1,6 @@
 -- The text that tells what a log holds: ASCII, in text lines. Defined here.
-use Rattle.std.specs.Prelude.{ℕ, ◌/◌, ◌%◌, Bool, false, not, ◌&&◌, ◌||◌, ◌==◌, nat_le, List, [], ◌∷◌, ◌++◌, Option, None, Some, length, take, codes, if◌then◌else◌, flat_map}
-use Rattle.std.specs.Fmt.{decimal, digit_glyph}
-use Rattle.pmf_query.specs.declared.lint.Lint.{Lint}
-use Rattle.pmf_query.specs.declared.naming.Named.{Named}
-use Rattle.pmf_query.specs.declared.summing.Sums.{Sums}
-use Rattle.pmf_query.specs.declared.telling.TheConstants.{SHOWN}
-use Rattle.pmf_query.specs.Nearness.{is_printed, near_of}
+use Rattle.std.specs.{Prelude.{ℕ, ◌/◌, ◌%◌, Bool, false, not, ◌&&◌, ◌||◌, ◌==◌, nat_le, List, [], ◌∷◌, ◌++◌, Option, None, Some, length, take, codes, if◌then◌else◌, flat_map}, Fmt.{decimal, digit_glyph}}
+use Rattle.pmf_query.specs.{declared.lint.Lint.{Lint}, declared.naming.Named.{Named}, declared.summing.Sums.{Sums}, declared.telling.TheConstants.{SHOWN}, Nearness.{is_printed, near_of}}
 
 -- ---- names
 

@@ -1,14 +1,7 @@
 -- What is told of a whole log. Defined here.
 use Rattle.std.specs.Prelude.{◌≡◌, ℕ, List, length, take}
-use Rattle.pmf_storelog.specs.Prelude.{records_of, numbers_of, sections_of, skipped_of}
-use Rattle.pmf_query.specs.Locating.{IsFaultless}
-use Rattle.pmf_query.specs.Naming.{Count, count_others, first_names, known_names, names_in, names_of, skipped_names}
-use Rattle.pmf_query.specs.Nearness.{has_near, has_strange}
-use Rattle.pmf_query.specs.Summing.{sums_of}
-use Rattle.pmf_query.specs.declared.naming.TheConstants.{LISTED}
-use Rattle.pmf_query.specs.declared.lint.Lint.{Lint}
-use Rattle.pmf_query.specs.declared.lint.Linted.{Linted}
-use Rattle.pmf_query.specs.LintText.{is_suspicious, text_of_lint}
+use Rattle.pmf_storelog.specs.{Separators.{records_of}, LogText.{numbers_of, sections_of, skipped_of}}
+use Rattle.pmf_query.specs.{Locating.{IsFaultless}, Naming.{Count, count_others, first_names, known_names, names_in, names_of, skipped_names}, Nearness.{has_near, has_strange}, Summing.{sums_of}, declared.naming.TheConstants.{LISTED}, declared.lint.Lint.{Lint}, declared.lint.Linted.{Linted}, LintText.{is_suspicious, text_of_lint}}
 
 -- the log is faultless, and this is told of it: its records; how many have each known name; how many are skipped; of their
 -- names the first different ones, how many have each of these, how many have none, and whether one is near to a known name, or no

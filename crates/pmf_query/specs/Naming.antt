@@ -1,7 +1,6 @@
 -- The names of a log's records: how many records have each. Defined here.
-use Rattle.std.specs.Prelude.{◌≡◌, ℕ, ◌+◌, Bool, not, List, [], ◌∷◌, map, filter, codes, count_by, if◌then◌else◌, bytes_eq}
-use Rattle.std.specs.List.{All, list_any}
-use Rattle.pmf_storelog.specs.Prelude.{fields_of, is_skipped}
+use Rattle.std.specs.{Prelude.{◌≡◌, ℕ, ◌+◌, Bool, not, List, [], ◌∷◌, map, filter, codes, count_by, if◌then◌else◌, bytes_eq}, List.{All, list_any}}
+use Rattle.pmf_storelog.specs.{Records.{fields_of}, LogText.{is_skipped}}
 use Rattle.pmf_query.specs.declared.naming.Named.{Named}
 
 -- the first of these fields

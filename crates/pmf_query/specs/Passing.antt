@@ -1,7 +1,7 @@
 -- What is kept of the records that a walk has passed. Defined here.
 use Rattle.std.specs.Prelude.{◌≡◌, ℕ, ◌+◌, List, [], ◌∷◌, length}
 use Rattle.pmf_event.specs.declared.event.Event.{Event}
-use Rattle.pmf_storelog.specs.Prelude.{current_of, events_in, numbered, record_of}
+use Rattle.pmf_storelog.specs.{LogText.{current_of, events_in, numbered}, Records.{record_of}}
 use Rattle.pmf_query.specs.declared.passing.Passed.{Passed}
 
 -- what is kept is that of these records, as they speak of this section

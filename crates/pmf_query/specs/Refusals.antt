@@ -1,12 +1,10 @@
 -- Which section and event of a log are asked for, and why a log gives no answer. Defined here.
 use Rattle.std.specs.Prelude.{◌≡◌, ◌≢◌, ℕ, ◌≤◌, List, ◌++◌, length, codes, Ok, Err, Contains, decimal}
 use Rattle.pmf_event.specs.Section.{Trace}
-use Rattle.pmf_storelog.specs.Prelude.{text_of_fault, log_of, out_of_memory, LogValue}
+use Rattle.pmf_storelog.specs.{FaultText.{text_of_fault}, LogText.{log_of, out_of_memory}, LogValue.{LogValue}}
 use Rattle.pmf_request.specs.declared.settings.Sought.{Sought}
-use Rattle.pmf_query.specs.declared.refusal.EventFault.{EventFault}
+use Rattle.pmf_query.specs.declared.refusal.{EventFault.{EventFault}, EventRefusal.{EventRefusal}, LogRefusal.{LogRefusal}}
 use Rattle.pmf_query.specs.declared.refusal.EventFault.TheVariants as fault
-use Rattle.pmf_query.specs.declared.refusal.EventRefusal.{EventRefusal}
-use Rattle.pmf_query.specs.declared.refusal.LogRefusal.{LogRefusal}
 use Rattle.pmf_query.specs.declared.refusal.LogRefusal.TheVariants as refusal
 
 -- the log has this section, of this number

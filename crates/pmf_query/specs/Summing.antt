@@ -1,14 +1,8 @@
 -- What the sections of a log hold, in numbers. Defined here.
 use Rattle.std.specs.Prelude.{ℕ, ◌+◌, ◌≤◌, Bool, true, false, List, length, count_by, sum_by}
-use Rattle.pmf_event.specs.declared.event.Event.{Event}
-use Rattle.pmf_event.specs.declared.event.Event.TheVariants.{Store, Persist, Ordered, CheckEnd}
-use Rattle.pmf_event.specs.declared.profile.Profile.TheVariants.{One}
-use Rattle.pmf_event.specs.declared.row.Row.{Row}
-use Rattle.pmf_event.specs.Prelude.{Trace}
-use Rattle.pmf_verdict.specs.declared.outcome.Outcome.TheVariants.{Empty}
-use Rattle.pmf_verdict.specs.Prelude.{outcome_of, is_same, rows_of}
-use Rattle.pmf_query.specs.Covering.{uncovered_of}
-use Rattle.pmf_query.specs.declared.summing.Sums.{Sums}
+use Rattle.pmf_event.specs.{declared.event.Event.{Event}, declared.event.Event.TheVariants.{Store, Persist, Ordered, CheckEnd}, declared.profile.Profile.TheVariants.{One}, declared.row.Row.{Row}, Section.{Trace}}
+use Rattle.pmf_verdict.specs.{declared.outcome.Outcome.TheVariants.{Empty}, Outcome.{outcome_of, is_same}, Rows.{rows_of}}
+use Rattle.pmf_query.specs.{Covering.{uncovered_of}, declared.summing.Sums.{Sums}}
 
 -- whether the event asserts something: that bytes are durable, that two were made in order, or what its scope stored
 unfoldable pub asserts : Event → Bool

@@ -1,8 +1,7 @@
 //! How many stores of a section no later assertion covers.
 
 ghost use Rattle.std.specs.Prelude.{◌≡◌, ◌<◌, ◌^◌, ◌||◌, ◌&&◌, if◌then◌else◌, ℕ, suc, List, Some, length, IfOk, OnOk};
-ghost use Rattle.pmf_event.specs.declared.event.Event.{Event};
-ghost use Rattle.pmf_event.specs.Prelude.{event_at};
+ghost use Rattle.pmf_event.specs.{declared.event.Event.{Event}, Store.{event_at}};
 ghost use Rattle.pmf_runs.specs.Runs.{state_at};
 ghost use Rattle.pmf_query.specs.Covering.{is_in, is_inside, is_uncovered, names, stored_by, uncovered_of, StandsAfter};
 

@@ -3,8 +3,7 @@
 ghost use Rattle.std.specs.Prelude.{◌≡◌, ◌≤◌, ◌++◌, length, OnOk, IfOk, MatchResult, string_bytes};
 ghost use Rattle.pmf_image.specs.Certificate.{Fits};
 ghost use Rattle.pmf_verdict.specs.Checked.{rows_in};
-ghost use Rattle.pmf_query.specs.Explanation.{ExplainsPlace, IsExplanation, text_of_byte, text_of_bytes, text_of_image, text_of_line, text_of_certificate};
-ghost use Rattle.pmf_query.specs.Refusals.{IsEventFault, IsEventRefusal};
+ghost use Rattle.pmf_query.specs.{Explanation.{ExplainsPlace, IsExplanation, text_of_byte, text_of_bytes, text_of_image, text_of_line, text_of_certificate}, Refusals.{IsEventFault, IsEventRefusal}};
 
 use crate::query::{Answer, Query};
 use crate::refusal::{EventFault, EventRefusal};

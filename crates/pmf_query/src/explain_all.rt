@@ -1,11 +1,9 @@
 //! The text that explains every failing row of a log.
 
 ghost use Rattle.std.specs.Prelude.{◌≡◌, ◌≤◌, ◌++◌, ℕ, length, Some, OnOk, IfOk, MatchResult, flat_map, string_bytes};
-ghost use Rattle.pmf_image.specs.Certificate.{Fits};
-ghost use Rattle.pmf_image.specs.declared.certificate.Certificate.{Certificate};
+ghost use Rattle.pmf_image.specs.{Certificate.{Fits}, declared.certificate.Certificate.{Certificate}};
 ghost use Rattle.pmf_verdict.specs.Explained.{certificate_of};
-ghost use Rattle.pmf_query.specs.AllExplained.{ExplainsAll, text_if_failed, text_of_failed, text_of_failures, text_of_name, text_of_proof};
-ghost use Rattle.pmf_query.specs.Refusals.{IsLogRefusal};
+ghost use Rattle.pmf_query.specs.{AllExplained.{ExplainsAll, text_if_failed, text_of_failed, text_of_failures, text_of_name, text_of_proof}, Refusals.{IsLogRefusal}};
 
 use crate::explain::{push_bytes, push_image};
 use crate::query::{Answer, Query};

@@ -1,8 +1,7 @@
 //! Which places of a section stand in a transaction and a scope.
 
 ghost use Rattle.std.specs.Prelude.{◌≡◌, ◌+◌, ◌<◌, ◌≤◌, ◌^◌, ℕ, suc, List, Some, length, slice_index_or, IfOk, false};
-ghost use Rattle.pmf_event.specs.declared.event.Event.{Event};
-ghost use Rattle.pmf_event.specs.Prelude.{event_at, begins, closes_scope, depth_at, ends, in_scope, opens_scope};
+ghost use Rattle.pmf_event.specs.{declared.event.Event.{Event}, Store.{event_at}, Transactions.{begins, closes_scope, depth_at, ends, in_scope, opens_scope}};
 ghost use Rattle.pmf_query.specs.Covering.{AreInside};
 
 use crate::covering::both;

@@ -2,9 +2,7 @@
 
 ghost use Rattle.std.specs.Prelude.{◌≡◌, MatchResult, IfOk};
 ghost use Rattle.pmf_storelog.specs.Separators.{records_of};
-ghost use Rattle.pmf_query.specs.Counting.{Tallies};
-ghost use Rattle.pmf_query.specs.Linting.{IsLint, Overviews};
-ghost use Rattle.pmf_query.specs.Refusals.{IsLogRefusal};
+ghost use Rattle.pmf_query.specs.{Counting.{Tallies}, Linting.{IsLint, Overviews}, Refusals.{IsLogRefusal}};
 
 use crate::counting::NameCounts;
 use crate::listing::Listing;

@@ -1,9 +1,8 @@
 //! Where an event of a section stands in its log.
 
 ghost use Rattle.std.specs.Prelude.{◌≡◌, ◌≢◌, ◌<◌, ◌≤◌, length, MatchResult, MatchOption, IfErr, IfOk};
-ghost use Rattle.pmf_storelog.specs.Prelude.{events_in, records_of};
-ghost use Rattle.pmf_query.specs.Locating.{IsLocated, IsLocation, IsLocationText, text_of_location};
-ghost use Rattle.pmf_query.specs.Refusals.{IsEventFault, IsEventRefusal};
+ghost use Rattle.pmf_storelog.specs.{LogText.{events_in}, Separators.{records_of}};
+ghost use Rattle.pmf_query.specs.{Locating.{IsLocated, IsLocation, IsLocationText, text_of_location}, Refusals.{IsEventFault, IsEventRefusal}};
 
 use crate::passing::Passed;
 use crate::query::{Answer, Query};

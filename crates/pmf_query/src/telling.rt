@@ -1,8 +1,7 @@
 //! The text that tells what a log holds, and its warnings.
 
 ghost use Rattle.std.specs.Prelude.{◌≡◌, [], ◌∷◌, ◌++◌, true, IfOk, OnOk, flat_map, string_bytes};
-ghost use Rattle.pmf_query.specs.LintText.{asserts_nothing, checks_nothing, escaped, hint_of, is_suspicious, line_of_assertions, line_of_counts, line_of_known, line_of_others, line_of_skipped, line_of_stores, lines_of_warnings, shown_byte, shown_name, text_of_lint, warned};
-ghost use Rattle.pmf_query.specs.Nearness.{is_printed, near_of};
+ghost use Rattle.pmf_query.specs.{LintText.{asserts_nothing, checks_nothing, escaped, hint_of, is_suspicious, line_of_assertions, line_of_counts, line_of_known, line_of_others, line_of_skipped, line_of_stores, lines_of_warnings, shown_byte, shown_name, text_of_lint, warned}, Nearness.{is_printed, near_of}};
 
 use crate::lint::Lint;
 use crate::naming::Named;

@@ -1,7 +1,6 @@
 //! The records of a log one after another, where they stand.
 
-ghost use Rattle.std.specs.Prelude.{◌≡◌, ◌+◌, ◌<◌, ◌≤◌, [], ◌∷◌, length, take, MatchOption};
-ghost use Rattle.std.specs.List.{prefix_len};
+ghost use Rattle.std.specs.{Prelude.{◌≡◌, ◌+◌, ◌<◌, ◌≤◌, [], ◌∷◌, length, take, MatchOption}, List.{prefix_len}};
 ghost use Rattle.pmf_storelog.specs.Separators.{is_blank, parts_of, records_of};
 ghost use Rattle.pmf_query.specs.Walking.{BeginsAnew, IsNext, IsPart};
 

@@ -1,16 +1,7 @@
 -- Walks over the elements of a range, and what a question has found so far.
-use Rattle.pmf_event.proofs.Common.{◌≡◌, ℕ, zero, suc, ◌+◌, ◌-◌, ◌<◌, ◌≤◌, min, max, Bool, true, false, if◌then◌else◌, List, length, get_or, refl, sym, ◌∙◌, ap, subst, arith, inl, inr, Option, Some, None, is_some, cases_lt}
-use Rattle.pmf_event.specs.Ranges.{first_from, lesser, least_from}
-use Rattle.pmf_event.proofs.RangeLemmas.{first_from-none, first_from-some, first_from-same, least_from-same, least_from-split, least_from-alike, lesser-none, lesser-assoc}
-use Rattle.pmf_runs.specs.declared.leaf.Leaf.{Leaf}
-use Rattle.pmf_runs.specs.declared.walk.Counted.{Counted}
-use Rattle.pmf_runs.specs.Ranks.{rank, at_rank, Rises}
-use Rattle.pmf_runs.specs.Walks.{end_of}
-use Rattle.pmf_runs.specs.Leaves.{leaf_state}
-use Rattle.pmf_runs.proofs.RankLemmas.{IsRank, rank-is, rank-unique, rank-above, rises-le, lt-true, lt-false}
-use Rattle.pmf_runs.proofs.LeafLemmas.{state-read}
-use Rattle.pmf_runs.specs.Lines.{counted_from}
-use Rattle.pmf_runs.proofs.LineCountLemmas.{counted-same, counted-split, counted-none}
+use Rattle.std.proofs.{Common.{◌≡◌, ℕ, zero, suc, ◌+◌, ◌-◌, ◌<◌, ◌≤◌, min, max, Bool, true, false, if◌then◌else◌, List, length, get_or, refl, sym, ◌∙◌, ap, subst, arith, inl, inr, Option, Some, None, is_some}, lemmas.Bool.{cases_lt}}
+use Rattle.pmf_event.{specs.Ranges.{first_from, lesser, least_from}, proofs.RangeLemmas.{first_from-none, first_from-some, first_from-same, least_from-same, least_from-split, least_from-alike, lesser-none, lesser-assoc}}
+use Rattle.pmf_runs.{specs.declared.leaf.Leaf.{Leaf}, specs.declared.walk.Counted.{Counted}, specs.Ranks.{rank, at_rank, Rises}, specs.Walks.{end_of}, specs.Leaves.{leaf_state}, proofs.RankLemmas.{IsRank, rank-is, rank-unique, rank-above, rises-le, lt-true, lt-false}, proofs.LeafLemmas.{state-read}, specs.Lines.{counted_from}, proofs.LineCountLemmas.{counted-same, counted-split, counted-none}}
 
 -- ---- where a walk begins, and where an element ends
 

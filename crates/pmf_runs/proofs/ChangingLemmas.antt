@@ -1,13 +1,6 @@
 -- Where a change alters states, run by run, and what a change of those alone comes to.
-use Rattle.pmf_event.proofs.Common.{◌≡◌, ℕ, suc, ◌+◌, ◌<◌, ◌≤◌, Bool, true, false, List, [], ◌∷◌, zero, set, map, length, get_or, sym, ◌∙◌, ap, subst, arith, inl, inr, min, ◌&&◌, nat_le, nat_lt, if◌then◌else◌, Option, Some, Result, Ok, Err, OnOk, OnErr, cases_lt, cases_eq, get_or-map, get_or-set_same, get_or-set_other, map-set, length-map}
-use Rattle.pmf_runs.specs.declared.leaf.Leaf.{Leaf}
-use Rattle.pmf_runs.specs.declared.level.Level.{Level}
-use Rattle.pmf_runs.specs.Levels.{level_state}
-use Rattle.pmf_runs.proofs.LevelLemmas.{level-bound}
-use Rattle.pmf_runs.specs.Ranks.{rank, at_rank, Rises, SameStates, ChangesWithin, AltersWithin, Sees, IsStop, CoversAll, Splits, is_within}
-use Rattle.pmf_runs.specs.Leaves.{leaf_state}
-use Rattle.pmf_runs.proofs.RankLemmas.{IsRank, rank-is, rank-unique, rises-le, le-true, le-false, lt-true, lt-false}
-use Rattle.pmf_runs.proofs.LeafLemmas.{rank-bound, state-read}
+use Rattle.std.proofs.{Common.{◌≡◌, ℕ, suc, ◌+◌, ◌<◌, ◌≤◌, Bool, true, false, List, [], ◌∷◌, zero, set, map, length, get_or, sym, ◌∙◌, ap, subst, arith, inl, inr, min, ◌&&◌, nat_le, nat_lt, if◌then◌else◌, Option, Some, Result, Ok, Err, OnOk, OnErr, get_or-set_same, get_or-set_other}, lemmas.Bool.{cases_lt, cases_eq}, lemmas.List.{get_or-map, map-set, length-map}}
+use Rattle.pmf_runs.{specs.declared.leaf.Leaf.{Leaf}, specs.declared.level.Level.{Level}, specs.Levels.{level_state}, proofs.LevelLemmas.{level-bound}, specs.Ranks.{rank, at_rank, Rises, SameStates, ChangesWithin, AltersWithin, Sees, IsStop, CoversAll, Splits, is_within}, specs.Leaves.{leaf_state}, proofs.RankLemmas.{IsRank, rank-is, rank-unique, rises-le, le-true, le-false, lt-true, lt-false}, proofs.LeafLemmas.{rank-bound, state-read}}
 
 -- the run of an index goes on to where it stops, and the next one begins there
 pub record Runs (keys : List ℕ) (start end index stop : ℕ) : Type 0 where

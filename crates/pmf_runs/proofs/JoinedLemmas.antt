@@ -1,11 +1,6 @@
 -- Leaves and levels whose neighbouring runs differ, by what is done to them.
-use Rattle.pmf_event.proofs.Common.{◌≡◌, ℕ, ◌+◌, ◌-◌, ◌<◌, ◌≤◌, List, [], length, get_or, take, drop, sym, ◌∙◌, ap, subst, arith, inl, inr, ◌⊎◌, nat_le, nat_lt, ◌&&◌, if◌then◌else◌, Option, None, Some, IfSome, insert, remove, cases_lt, cases_eq, and_right, get_or_read, length-take-le, get_or-take, length-drop, get_or-drop, length-insert, get_or-insert_below, get_or-insert_at, get_or-insert_above, length-remove, get_or-remove_below, get_or-remove_above}
-use Rattle.pmf_runs.specs.declared.leaf.Leaf.{Leaf}
-use Rattle.pmf_runs.specs.Ranks.{rank, HasKey, Rises, ChangesItems, low_rank, high_rank}
-use Rattle.pmf_runs.specs.Leaves.{leaf_begins}
-use Rattle.pmf_runs.specs.Joined.{Joined, JoinedBut, JoinedBeside, InOrder}
-use Rattle.pmf_runs.proofs.RankLemmas.{rank-is, rank-key, rank-above, le-false, lt-false}
-use Rattle.pmf_runs.proofs.LeafLemmas.{leaf-counted}
+use Rattle.std.proofs.{Common.{◌≡◌, ℕ, ◌+◌, ◌-◌, ◌<◌, ◌≤◌, List, [], length, get_or, take, drop, sym, ◌∙◌, ap, subst, arith, inl, inr, ◌⊎◌, nat_le, nat_lt, ◌&&◌, if◌then◌else◌, Option, None, Some, IfSome, insert, remove, length-take-le, get_or-take, length-drop, get_or-drop}, lemmas.Bool.{cases_lt, cases_eq, and_right}, lemmas.List.{get_or_read}, lemmas.List.Edits.{length-insert, get_or-insert_below, get_or-insert_at, get_or-insert_above, length-remove, get_or-remove_below, get_or-remove_above}}
+use Rattle.pmf_runs.{specs.declared.leaf.Leaf.{Leaf}, specs.Ranks.{rank, HasKey, Rises, ChangesItems, low_rank, high_rank}, specs.Leaves.{leaf_begins}, specs.Joined.{Joined, JoinedBut, JoinedBeside, InOrder}, proofs.RankLemmas.{rank-is, rank-key, rank-above, le-false, lt-false}, proofs.LeafLemmas.{leaf-counted}}
 
 some-is : (a b : ℕ) → Some a ≡ Some b → a ≡ b
 some-is a b is = cc is

@@ -1,11 +1,6 @@
 -- Levels whose parts are joined, by what is done to them.
-use Rattle.pmf_event.proofs.Common.{◌≡◌, ℕ, ◌+◌, ◌-◌, ◌<◌, ◌≤◌, List, [], length, get_or, set, take, drop, refl, sym, ◌∙◌, ap, subst, arith, inl, inr, ◌⊎◌, Option, None, Some, IfSome, cases_lt, cases_eq, get_or_read, get_or-set_same, get_or-set_other, length-set, length-take-le, get_or-take, length-drop, get_or-drop}
-use Rattle.pmf_runs.specs.declared.level.Level.{Level}
-use Rattle.pmf_runs.specs.Ranks.{rank, Rises, HasKey, IsFresh, IsInner, bound_at, low_rank, high_rank}
-use Rattle.pmf_runs.specs.Joined.{AllJoined, PartsJoined, IsHanded, JoinsParts, InOrder}
-use Rattle.pmf_runs.proofs.RankLemmas.{rank-is, rank-key, bound_at-same, bound_at-other, at-low, at-high}
-use Rattle.pmf_runs.proofs.LevelLemmas.{level-counted}
-use Rattle.pmf_runs.proofs.JoinedLemmas.{rank-order}
+use Rattle.std.proofs.{Common.{◌≡◌, ℕ, ◌+◌, ◌-◌, ◌<◌, ◌≤◌, List, [], length, get_or, set, take, drop, refl, sym, ◌∙◌, ap, subst, arith, inl, inr, ◌⊎◌, Option, None, Some, IfSome, get_or-set_same, get_or-set_other, length-set, length-take-le, get_or-take, length-drop, get_or-drop}, lemmas.Bool.{cases_lt, cases_eq}, lemmas.List.{get_or_read}}
+use Rattle.pmf_runs.{specs.declared.level.Level.{Level}, specs.Ranks.{rank, Rises, HasKey, IsFresh, IsInner, bound_at, low_rank, high_rank}, specs.Joined.{AllJoined, PartsJoined, IsHanded, JoinsParts, InOrder}, proofs.RankLemmas.{rank-is, rank-key, bound_at-same, bound_at-other, at-low, at-high}, proofs.LevelLemmas.{level-counted}, proofs.JoinedLemmas.{rank-order}}
 
 -- a key is not fresh
 has-fresh : (keys : List ℕ) (p : ℕ) → Rises keys → HasKey keys p → IsFresh keys p → ⊥

@@ -1,9 +1,6 @@
 -- The states of a leaf, by its keys and states.
-use Rattle.pmf_event.proofs.Common.{◌≡◌, ℕ, ◌+◌, ◌-◌, ◌/◌, ◌<◌, ◌≤◌, List, [], ◌∷◌, ◌++◌, length, get_or, set, take, drop, refl, sym, ◌∙◌, ap, subst, arith, inl, inr, true, false, ◌&&◌, nat_le, nat_lt, if◌then◌else◌, Option, IfSome, insert, remove, cases_lt, and_right, get_or_read, set-get_or, take_rest}
-use Rattle.pmf_runs.specs.declared.leaf.Leaf.{Leaf}
-use Rattle.pmf_runs.specs.Ranks.{rank, at_rank, HasKey, SameStates, ChangesWithin, ChangesItems, low_rank, high_rank, IsTail, parting}
-use Rattle.pmf_runs.specs.Leaves.{leaf_state, leaf_begins, leaf_middle}
-use Rattle.pmf_runs.proofs.RankLemmas.{IsRank, rank-is, at_rank-insert, at_rank-remove, at_rank-changes, at_rank-take, at_rank-drop, insert-has, insert-keeps, le-true, lt-true, le-false, lt-false, last-rank}
+use Rattle.std.proofs.{Common.{◌≡◌, ℕ, ◌+◌, ◌-◌, ◌/◌, ◌<◌, ◌≤◌, List, [], ◌∷◌, ◌++◌, length, get_or, set, take, drop, refl, sym, ◌∙◌, ap, subst, arith, inl, inr, true, false, ◌&&◌, nat_le, nat_lt, if◌then◌else◌, Option, IfSome, insert, remove}, lemmas.Bool.{cases_lt, and_right}, lemmas.List.{get_or_read, set-get_or, take_rest}}
+use Rattle.pmf_runs.{specs.declared.leaf.Leaf.{Leaf}, specs.Ranks.{rank, at_rank, HasKey, SameStates, ChangesWithin, ChangesItems, low_rank, high_rank, IsTail, parting}, specs.Leaves.{leaf_state, leaf_begins, leaf_middle}, proofs.RankLemmas.{IsRank, rank-is, at_rank-insert, at_rank-remove, at_rank-changes, at_rank-take, at_rank-drop, insert-has, insert-keeps, le-true, lt-true, le-false, lt-false, last-rank}}
 
 pub none-within : (low high k : ℕ) → high ≤ low → (nat_le low k && nat_lt k high) ≡ false
 none-within low high k le = elim (cases_lt k high) [

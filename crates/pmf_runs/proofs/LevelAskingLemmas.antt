@@ -1,14 +1,7 @@
 -- What the parts of a level answer about their numbers.
 use Rattle.std.proofs.Common.{◌≡◌, ℕ, ◌+◌, ◌-◌, ◌<◌, ◌≤◌, min, max, Bool, false, List, length, get_or, refl, sym, ◌∙◌, ap, subst, arith, None}
 use Rattle.pmf_event.specs.Ranges.{first_from}
-use Rattle.pmf_runs.specs.declared.level.Level.{Level}
-use Rattle.pmf_runs.specs.Ranks.{rank, Rises}
-use Rattle.pmf_runs.specs.Walks.{end_of}
-use Rattle.pmf_runs.specs.Levels.{level_state}
-use Rattle.pmf_runs.proofs.LevelLemmas.{level-read}
-use Rattle.pmf_runs.proofs.AskingLemmas.{Question, Walks, Asked, walks-start, walks-at, first-law, first_found, asked-start, asked-more, asked-end, end-key, end-last}
-use Rattle.pmf_runs.proofs.RankLemmas.{rank-unique}
-use Rattle.pmf_runs.proofs.SkipLemmas.{first-none}
+use Rattle.pmf_runs.{specs.declared.level.Level.{Level}, specs.Ranks.{rank, Rises}, specs.Walks.{end_of}, specs.Levels.{level_state}, proofs.LevelLemmas.{level-read}, proofs.AskingLemmas.{Question, Walks, Asked, walks-start, walks-at, first-law, first_found, asked-start, asked-more, asked-end, end-key, end-last}, proofs.RankLemmas.{rank-unique}, proofs.SkipLemmas.{first-none}}
 
 -- what a part answers is what the level answers for the numbers of the part
 pub part-asked : {V A X : Type 0} {ask : (ℕ → V) → ℕ → ℕ → A} {join : X → A → X} (law : Question ask join) {P S : Type 0} (state : P → S → ℕ → S) (value : S → V) (level : Level P) (part : P) (first end start index until : ℕ) →

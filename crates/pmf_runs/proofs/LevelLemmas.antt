@@ -1,10 +1,6 @@
 -- The states of a level, by its keys and parts.
-use Rattle.pmf_event.proofs.Common.{◌≡◌, ℕ, zero, suc, ◌+◌, ◌-◌, ◌<◌, ◌≤◌, Bool, true, List, [], ◌∷◌, length, get_or, set, take, drop, map, refl, sym, ◌∙◌, ap, subst, arith, inl, inr, nat_le, nat_lt, ◌&&◌, false, if◌then◌else◌, Option, None, Some, IfSome, insert, remove, cases_eq, get_or-map, get_or-set_same, get_or-set_other, length-set, set-get_or, map-set, length-map, take-map, drop-map}
-use Rattle.pmf_runs.specs.declared.level.Level.{Level}
-use Rattle.pmf_runs.specs.Ranks.{rank, at_rank, HasKey, IsFresh, SameStates, ChangesWithin, Splits, IsInner, reaches, falls_short, is_within, bound_at, IsTail, parting}
-use Rattle.pmf_runs.specs.Levels.{part_states, level_state, level_begins, level_middle, Rewrites, BeginsAt, GoesOn}
-use Rattle.pmf_runs.proofs.LeafLemmas.{none-within, all-within, lt-more}
-use Rattle.pmf_runs.proofs.RankLemmas.{IsRank, rank-is, rank-key, bound_at-same, bound_at-other, at_rank-insert, at_rank-remove, at_rank-take, at_rank-drop, last-rank}
+use Rattle.std.proofs.{Common.{◌≡◌, ℕ, zero, suc, ◌+◌, ◌-◌, ◌<◌, ◌≤◌, Bool, true, List, [], ◌∷◌, length, get_or, set, take, drop, map, refl, sym, ◌∙◌, ap, subst, arith, inl, inr, nat_le, nat_lt, ◌&&◌, false, if◌then◌else◌, Option, None, Some, IfSome, insert, remove, get_or-set_same, get_or-set_other, length-set}, lemmas.Bool.{cases_eq}, lemmas.List.{get_or-map, set-get_or, map-set, length-map, take-map, drop-map}}
+use Rattle.pmf_runs.{specs.declared.level.Level.{Level}, specs.Ranks.{rank, at_rank, HasKey, IsFresh, SameStates, ChangesWithin, Splits, IsInner, reaches, falls_short, is_within, bound_at, IsTail, parting}, specs.Levels.{part_states, level_state, level_begins, level_middle, Rewrites, BeginsAt, GoesOn}, proofs.LeafLemmas.{none-within, all-within, lt-more}, proofs.RankLemmas.{IsRank, rank-is, rank-key, bound_at-same, bound_at-other, at_rank-insert, at_rank-remove, at_rank-take, at_rank-drop, last-rank}}
 
 map-insert : {X Y : Type 0} (f : X → Y) (xs : List X) (i : ℕ) (x : X) → map f (insert xs i x) ≡ insert (map f xs) i (f x)
 map-insert f xs zero x = refl

@@ -1,9 +1,7 @@
 -- Cache lines counted byte by byte, and run by run.
-use Rattle.pmf_event.proofs.Common.{◌≡◌, ℕ, zero, suc, ◌+◌, ◌-◌, ◌*◌, ◌/◌, ◌%◌, ◌<◌, ◌≤◌, max, Bool, true, false, if◌then◌else◌, refl, sym, ◌∙◌, ap, arith, inl, inr, Some, is_some, cases_lt}
+use Rattle.std.proofs.{Common.{◌≡◌, ℕ, zero, suc, ◌+◌, ◌-◌, ◌*◌, ◌/◌, ◌%◌, ◌<◌, ◌≤◌, max, Bool, true, false, if◌then◌else◌, refl, sym, ◌∙◌, ap, arith, inl, inr, Some, is_some}, lemmas.Bool.{cases_lt}}
 use Rattle.pmf_event.specs.Ranges.{first_from, count_from}
-use Rattle.pmf_runs.specs.declared.walk.Counted.{Counted}
-use Rattle.pmf_runs.specs.Lines.{line_has, with_line, counted_from}
-use Rattle.pmf_runs.proofs.RankLemmas.{lt-true, lt-false}
+use Rattle.pmf_runs.{specs.declared.walk.Counted.{Counted}, specs.Lines.{line_has, with_line, counted_from}, proofs.RankLemmas.{lt-true, lt-false}}
 
 abbrev counted : ℕ → ℕ → Counted
 counted count next = record { count = count; next = next }

@@ -1,12 +1,7 @@
 -- The first state that passes, where the range ends beyond all keys.
-use Rattle.pmf_event.proofs.Common.{◌≡◌, ℕ, ◌-◌, ◌<◌, ◌≤◌, Bool, true, false, List, length, get_or, sym, ◌∙◌, ap, subst, arith, inl, inr, Some, None, cases_lt, get_or_read}
-use Rattle.pmf_event.specs.Ranges.{first_from}
-use Rattle.pmf_event.proofs.RangeLemmas.{first_from-none, first_from-some}
-use Rattle.pmf_runs.specs.declared.leaf.Leaf.{Leaf}
-use Rattle.pmf_runs.specs.Ranks.{rank, at_rank, Rises, IsBeyond}
-use Rattle.pmf_runs.specs.Leaves.{leaf_state}
-use Rattle.pmf_runs.proofs.RankLemmas.{IsRank, rank-is, rank-unique, rank-above, rises-le}
-use Rattle.pmf_runs.proofs.LeafLemmas.{leaf-counted, rank-bound}
+use Rattle.std.proofs.{Common.{◌≡◌, ℕ, ◌-◌, ◌<◌, ◌≤◌, Bool, true, false, List, length, get_or, sym, ◌∙◌, ap, subst, arith, inl, inr, Some, None}, lemmas.Bool.{cases_lt}, lemmas.List.{get_or_read}}
+use Rattle.pmf_event.{specs.Ranges.{first_from}, proofs.RangeLemmas.{first_from-none, first_from-some}}
+use Rattle.pmf_runs.{specs.declared.leaf.Leaf.{Leaf}, specs.Ranks.{rank, at_rank, Rises, IsBeyond}, specs.Leaves.{leaf_state}, proofs.RankLemmas.{IsRank, rank-is, rank-unique, rank-above, rises-le}, proofs.LeafLemmas.{leaf-counted, rank-bound}}
 
 -- a key is the first number of the run after it
 rank-at : (keys : List ℕ) (i : ℕ) → Rises keys → 0 < i → i ≤ length keys → rank keys (get_or keys (i - 1) 0) ≡ i

@@ -1,5 +1,5 @@
 -- Ranks by index, and what an edit of the keys and the elements does to them.
-use Rattle.pmf_event.proofs.Common.{◌≡◌, ℕ, zero, suc, ◌+◌, ◌-◌, ◌<◌, ◌≤◌, Bool, true, false, List, [], ◌∷◌, length, get_or, take, drop, set, refl, sym, ◌∙◌, ap, subst, arith, rules, inl, inr, ◌==◌, nat_le, nat_lt, ◌&&◌, if◌then◌else◌, Option, None, Some, IfSome, is_some, insert, remove, length-take-le, get_or-take, length-drop, get_or-drop, length-set, get_or-set_same, get_or-set_other, cases_lt, cases_eq, false≢true, nat_tests, length-insert, get_or-insert_below, get_or-insert_at, get_or-insert_above, length-remove, get_or-remove_below, get_or-remove_above}
+use Rattle.std.proofs.{Common.{◌≡◌, ℕ, zero, suc, ◌+◌, ◌-◌, ◌<◌, ◌≤◌, Bool, true, false, List, [], ◌∷◌, length, get_or, take, drop, set, refl, sym, ◌∙◌, ap, subst, arith, rules, inl, inr, ◌==◌, nat_le, nat_lt, ◌&&◌, if◌then◌else◌, Option, None, Some, IfSome, is_some, insert, remove, length-take-le, get_or-take, length-drop, get_or-drop, length-set, get_or-set_same, get_or-set_other}, lemmas.Bool.{cases_lt, cases_eq, false≢true}, lemmas.Bool.Decides.{nat_tests}, lemmas.List.Edits.{length-insert, get_or-insert_below, get_or-insert_at, get_or-insert_above, length-remove, get_or-remove_below, get_or-remove_above}}
 use Rattle.pmf_runs.specs.Ranks.{IsFresh, rank, at_rank, Rises, HasKey, reaches, falls_short, is_within, low_rank, high_rank, ChangesItems, IsInner, bound_at}
 
 -- the first i keys are at most the number, and the next one is above it

@@ -1,12 +1,6 @@
 -- What a map of runs answers about a range, by its root.
 use Rattle.std.proofs.Common.{◌≡◌, ℕ, Bool, refl, sym, ◌∙◌, ap, Option, None, Some}
-use Rattle.pmf_runs.specs.declared.group.Group.{Group}
-use Rattle.pmf_runs.specs.declared.level.Level.{Level}
-use Rattle.pmf_runs.specs.declared.runs.RunMap.{RunMap}
-use Rattle.pmf_runs.specs.declared.state.State.{Ghosts}
-use Rattle.pmf_runs.specs.Runs.{root_state, state_at, passing, keyed}
-use Rattle.pmf_runs.proofs.RunLemmas.{gap-is, root-is}
-use Rattle.pmf_runs.proofs.AskingLemmas.{Question}
+use Rattle.pmf_runs.{specs.declared.group.Group.{Group}, specs.declared.level.Level.{Level}, specs.declared.runs.RunMap.{RunMap}, specs.declared.state.State.{Ghosts}, specs.Runs.{root_state, state_at, passing, keyed}, proofs.RunLemmas.{gap-is, root-is}, proofs.AskingLemmas.{Question}}
 
 pub passing-is : {S M : Type 0} {laws : Ghosts S M} (passes : S → Bool) (runs : RunMap S M laws) (b : ℕ) → passing passes runs b ≡ passes (state_at runs b)
 unfolding passing

@@ -1,15 +1,6 @@
 -- Maps whose neighbouring runs differ, by their roots.
 use Rattle.std.proofs.Common.{◌≡◌, sym, ◌∙◌, subst, None, Some}
-use Rattle.pmf_runs.specs.declared.group.Group.{Group}
-use Rattle.pmf_runs.specs.declared.page.Page.{Page}
-use Rattle.pmf_runs.specs.declared.level.Level.{Level}
-use Rattle.pmf_runs.specs.declared.runs.RunMap.{RunMap}
-use Rattle.pmf_runs.specs.declared.state.State.{Ghosts}
-use Rattle.pmf_runs.specs.Joined.{Joined, AllJoined, JoinedBut}
-use Rattle.pmf_runs.specs.Pages.{pages_joined}
-use Rattle.pmf_runs.specs.Runs.{root_joined, IsJoined}
-use Rattle.pmf_runs.proofs.JoinedLemmas.{joined-plain, plain-joined}
-use Rattle.pmf_runs.proofs.JoinedLevelLemmas.{parts-all, all-parts-joined}
+use Rattle.pmf_runs.{specs.declared.group.Group.{Group}, specs.declared.page.Page.{Page}, specs.declared.level.Level.{Level}, specs.declared.runs.RunMap.{RunMap}, specs.declared.state.State.{Ghosts}, specs.Joined.{Joined, AllJoined, JoinedBut}, specs.Pages.{pages_joined}, specs.Runs.{root_joined, IsJoined}, proofs.JoinedLemmas.{joined-plain, plain-joined}, proofs.JoinedLevelLemmas.{parts-all, all-parts-joined}}
 
 some-same : {X : Type 0} (x y : X) → Some x ≡ Some y → x ≡ y
 some-same x y is = cc is

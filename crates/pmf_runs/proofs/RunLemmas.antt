@@ -1,13 +1,6 @@
 -- The states of a map of runs, by its root.
 use Rattle.std.proofs.Common.{◌≡◌, ◌≤◌, ℕ, sym, ◌∙◌, ap, if◌then◌else◌, None, Some, is_some, false, Result, Ok, Err, OnErr}
-use Rattle.pmf_runs.specs.declared.group.Group.{Group}
-use Rattle.pmf_runs.specs.declared.level.Level.{Level}
-use Rattle.pmf_runs.specs.declared.runs.RunMap.{RunMap}
-use Rattle.pmf_runs.specs.declared.state.State.{Ghosts}
-use Rattle.pmf_runs.specs.Ranks.{SameStates, ChangesWithin, is_within}
-use Rattle.pmf_runs.specs.Runs.{root_state, state_within, state_at, is_between, KeepsStates, ChangesBetween}
-use Rattle.pmf_runs.proofs.RankLemmas.{none-is-any}
-use Rattle.pmf_runs.proofs.LeafLemmas.{none-within}
+use Rattle.pmf_runs.{specs.declared.group.Group.{Group}, specs.declared.level.Level.{Level}, specs.declared.runs.RunMap.{RunMap}, specs.declared.state.State.{Ghosts}, specs.Ranks.{SameStates, ChangesWithin, is_within}, specs.Runs.{root_state, state_within, state_at, is_between, KeepsStates, ChangesBetween}, proofs.RankLemmas.{none-is-any}, proofs.LeafLemmas.{none-within}}
 
 pub on-err : {A E : Type 0} {P : Type 0} (r : Result A E) → P → OnErr r P
 on-err (Ok x) holds = tt

@@ -1,7 +1,6 @@
 -- What a question comes to where no state can answer it.
 use Rattle.std.proofs.Common.{◌≡◌, ℕ, zero, suc, ◌+◌, Bool, false, refl, sym, ◌∙◌, ap, if◌then◌else◌, Option, None, Some}
-use Rattle.pmf_event.proofs.RangeLemmas.{lesser-none, lesser-assoc}
-use Rattle.pmf_event.specs.Ranges.{first_from, least_from, lesser}
+use Rattle.pmf_event.{proofs.RangeLemmas.{lesser-none, lesser-assoc}, specs.Ranges.{first_from, least_from, lesser}}
 
 pub first-none : (test : ℕ → Bool) (b n : ℕ) → ((k : ℕ) → test k ≡ false) → first_from test b n ≡ None
 unfolding first_from

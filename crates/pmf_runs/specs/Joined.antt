@@ -1,8 +1,6 @@
 -- Maps in which neighbouring runs differ.
 use Rattle.std.specs.Prelude.{◌≡◌, ◌⊎◌, ◌<◌, ◌≤◌, ◌+◌, ℕ, List, length, get_or, Option, None, Some, IfSome}
-use Rattle.pmf_runs.specs.declared.leaf.Leaf.{Leaf}
-use Rattle.pmf_runs.specs.declared.level.Level.{Level}
-use Rattle.pmf_runs.specs.Ranks.{rank, HasKey, IsFresh, ChangesWithin, Splits, bound_at}
+use Rattle.pmf_runs.specs.{declared.leaf.Leaf.{Leaf}, declared.level.Level.{Level}, Ranks.{rank, HasKey, IsFresh, ChangesWithin, Splits, bound_at}}
 
 -- no two neighbouring states of the leaf are equal
 pub record Joined {S : Type 0} (leaf : Leaf S) : Type 0 where

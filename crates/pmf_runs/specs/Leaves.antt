@@ -1,7 +1,6 @@
 -- The states of the numbers in a leaf.
 use Rattle.std.specs.Prelude.{ℕ, Bool, nat_le, get_or, vec_len}
-use Rattle.pmf_runs.specs.declared.leaf.Leaf.{Leaf}
-use Rattle.pmf_runs.specs.Ranks.{at_rank, HasKey, parting}
+use Rattle.pmf_runs.specs.{declared.leaf.Leaf.{Leaf}, Ranks.{at_rank, HasKey, parting}}
 
 -- the state of a number is the one at its rank
 unfoldable pub leaf_state : {S : Type 0} → Leaf S → S → ℕ → S

@@ -1,7 +1,6 @@
 -- The states of the numbers in a level: each number is handed to the part at its rank.
 use Rattle.std.specs.Prelude.{◌≡◌, ◌⊎◌, ◌<◌, ◌≤◌, ◌+◌, ℕ, Bool, true, ◌&&◌, nat_lt, if◌then◌else◌, Option, nat_le, List, length, map, get_or, vec_len}
-use Rattle.pmf_runs.specs.declared.level.Level.{Level}
-use Rattle.pmf_runs.specs.Ranks.{rank, at_rank, HasKey, is_within, bound_at, parting}
+use Rattle.pmf_runs.specs.{declared.level.Level.{Level}, Ranks.{rank, at_rank, HasKey, is_within, bound_at, parting}}
 
 -- the state that each part gives a number
 abbrev pub part_states : {P S : Type 0} → (P → S → ℕ → S) → List P → S → ℕ → List S

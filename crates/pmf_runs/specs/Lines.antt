@@ -1,7 +1,6 @@
 -- Cache lines of a map, whose numbers are bytes: those with one whose state passes.
 use Rattle.std.specs.Prelude.{ℕ, zero, suc, ◌+◌, ◌*◌, ◌/◌, Bool, nat_lt, if◌then◌else◌, is_some}
-use Rattle.pmf_event.specs.declared.span.TheConstants.{LINE_SIZE}
-use Rattle.pmf_event.specs.Prelude.{first_from}
+use Rattle.pmf_event.specs.{declared.span.TheConstants.{LINE_SIZE}, Ranges.{first_from}}
 use Rattle.pmf_runs.specs.declared.walk.Counted.{Counted}
 
 -- whether some byte of the n-th line passes

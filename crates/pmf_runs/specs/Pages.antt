@@ -1,11 +1,6 @@
 -- The states of the numbers in a level of pages.
 use Rattle.std.specs.Prelude.{ℕ, Option}
-use Rattle.pmf_runs.specs.declared.level.Level.{Level}
-use Rattle.pmf_runs.specs.declared.page.Page.{Page}
-use Rattle.pmf_runs.specs.declared.state.State.{Ghosts}
-use Rattle.pmf_runs.specs.Leaves.{leaf_state, leaf_begins}
-use Rattle.pmf_runs.specs.Levels.{level_state, level_begins}
-use Rattle.pmf_runs.specs.Joined.{JoinedBut, PartsJoined}
+use Rattle.pmf_runs.specs.{declared.level.Level.{Level}, declared.page.Page.{Page}, declared.state.State.{Ghosts}, Leaves.{leaf_state, leaf_begins}, Levels.{level_state, level_begins}, Joined.{JoinedBut, PartsJoined}}
 
 module _ {S M : Type 0} {laws : Ghosts S M} where
   -- the state of a number in a level of pages is that in the leaf of the page that it is handed to

@@ -1,12 +1,6 @@
 -- The states of the numbers in a map of runs.
 use Rattle.std.specs.Prelude.{◌≡◌, ℕ, Bool, ◌&&◌, nat_le, nat_lt, Option, None, Some, if◌then◌else◌}
-use Rattle.pmf_runs.specs.declared.group.Group.{Group}
-use Rattle.pmf_runs.specs.declared.level.Level.{Level}
-use Rattle.pmf_runs.specs.declared.runs.RunMap.{RunMap}
-use Rattle.pmf_runs.specs.declared.state.State.{Ghosts}
-use Rattle.pmf_runs.specs.Joined.{Joined, AllJoined, PartsJoined}
-use Rattle.pmf_runs.specs.Levels.{level_state}
-use Rattle.pmf_runs.specs.Pages.{pages_state, pages_joined}
+use Rattle.pmf_runs.specs.{declared.group.Group.{Group}, declared.level.Level.{Level}, declared.runs.RunMap.{RunMap}, declared.state.State.{Ghosts}, Joined.{Joined, AllJoined, PartsJoined}, Levels.{level_state}, Pages.{pages_state, pages_joined}}
 
 -- whether the number lies from first up to the end
 unfoldable pub is_between : ℕ → ℕ → ℕ → Bool

@@ -1,10 +1,7 @@
 //! A level of pages with its summary.
 
 ghost use Rattle.std.specs.Prelude.{◌≡◌, ◌≤◌, ℕ, true, false, None, Some, OnOk, OnErr, IfOk, IfSome};
-ghost use Rattle.pmf_runs.specs.Ranks.{SameStates, CoversAll};
-ghost use Rattle.pmf_runs.specs.Joined.{InOrder, ChangesRange, ChangesCut, Halves};
-ghost use Rattle.pmf_runs.specs.Levels.{level_full, level_middle};
-ghost use Rattle.pmf_runs.specs.Pages.{pages_state, pages_begins, pages_joined};
+ghost use Rattle.pmf_runs.specs.{Ranks.{SameStates, CoversAll}, Joined.{InOrder, ChangesRange, ChangesCut, Halves}, Levels.{level_full, level_middle}, Pages.{pages_state, pages_begins, pages_joined}};
 
 use crate::level::Level;
 use crate::page::Page;

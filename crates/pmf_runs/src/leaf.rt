@@ -27,8 +27,7 @@ pub(crate) struct Leaf<S> {
 }
 
 impl<S: State> Leaf<S> {
-    ghost use Rattle.pmf_runs.specs.Leaves.{leaf_state, leaf_begins, leaf_full, leaf_middle};
-    ghost use Rattle.pmf_runs.specs.Joined.{JoinedBut, JoinedBeside, InOrder, ChangesRange, ChangesCut, Halves};
+    ghost use Rattle.pmf_runs.specs.{Leaves.{leaf_state, leaf_begins, leaf_full, leaf_middle}, Joined.{JoinedBut, JoinedBeside, InOrder, ChangesRange, ChangesCut, Halves}};
 
     /// The leaf in which each number has this state.
     pub(crate) fn new(alloc: Global, state: S) -> Result<Leaf<S>, AllocError>

@@ -27,8 +27,7 @@ pub(crate) struct Level<P> {
 }
 
 impl<P> Level<P> {
-    ghost use Rattle.pmf_runs.specs.Levels.{level_state, level_begins, level_full, level_middle, BeginsAt, GoesOn, IsFullAt, Rewrites};
-    ghost use Rattle.pmf_runs.specs.Joined.{PartsJoined, JoinsParts, InOrder, ChangesRange, ChangesCut, Halves};
+    ghost use Rattle.pmf_runs.specs.{Levels.{level_state, level_begins, level_full, level_middle, BeginsAt, GoesOn, IsFullAt, Rewrites}, Joined.{PartsJoined, JoinsParts, InOrder, ChangesRange, ChangesCut, Halves}};
 
     /// The level of one part.
     pub(crate) fn new<S: State>(alloc: Global, part: P) -> Result<Level<P>, AllocError>

@@ -1,9 +1,7 @@
 //! A leaf with its summary.
 
 ghost use Rattle.std.specs.Prelude.{◌≡◌, ◌≤◌, ℕ, true, false, None, Some, OnOk, OnErr, IfOk, IfSome};
-ghost use Rattle.pmf_runs.specs.Ranks.{SameStates, CoversAll};
-ghost use Rattle.pmf_runs.specs.Joined.{JoinedBut, InOrder, ChangesRange, ChangesCut, Halves};
-ghost use Rattle.pmf_runs.specs.Leaves.{leaf_state, leaf_begins, leaf_full, leaf_middle};
+ghost use Rattle.pmf_runs.specs.{Ranks.{SameStates, CoversAll}, Joined.{JoinedBut, InOrder, ChangesRange, ChangesCut, Halves}, Leaves.{leaf_state, leaf_begins, leaf_full, leaf_middle}};
 
 use crate::leaf::Leaf;
 use crate::part::Part;

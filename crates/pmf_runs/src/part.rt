@@ -2,9 +2,7 @@
 
 ghost use Rattle.std.specs.Prelude.{◌≡◌, ◌≤◌, ◌-◌, ℕ, Bool, true, Option, None, Some, IfOk, OnOk, OnErr, IfSome};
 ghost use Rattle.pmf_event.specs.Ranges.{first_from, least_from, lesser};
-ghost use Rattle.pmf_runs.specs.Lines.{counted_from};
-ghost use Rattle.pmf_runs.specs.Ranks.{SameStates, CoversAll, IsTail};
-ghost use Rattle.pmf_runs.specs.Joined.{InOrder, ChangesRange, ChangesCut, Halves};
+ghost use Rattle.pmf_runs.specs.{Lines.{counted_from}, Ranks.{SameStates, CoversAll, IsTail}, Joined.{InOrder, ChangesRange, ChangesCut, Halves}};
 
 use crate::state::{Change, Effect, Key, State, Test};
 use crate::walk::Counted;

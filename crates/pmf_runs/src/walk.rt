@@ -2,9 +2,7 @@
 
 ghost use Rattle.std.specs.Prelude.{◌≡◌, ◌≤◌, ◌-◌};
 ghost use Rattle.pmf_event.specs.Ranges.{first_from, least_from, lesser};
-ghost use Rattle.pmf_runs.specs.Lines.{counted_from};
-ghost use Rattle.pmf_runs.specs.Ranks.{Rises, rank};
-ghost use Rattle.pmf_runs.specs.Walks.{end_of};
+ghost use Rattle.pmf_runs.specs.{Lines.{counted_from}, Ranks.{Rises, rank}, Walks.{end_of}};
 
 use crate::keys::rank_near;
 use pmf_event::LINE_SIZE;

@@ -1,10 +1,6 @@
 -- Bounds that are wider than others cover what those cover.
-use Rattle.pmf_event.proofs.Common.{◌≡◌, ℕ, ◌≤◌, Bool, true, false, refl, arith, ◌||◌, Option, None, Some, leb-true, le-leb, and_parts, and_from}
-use Rattle.pmf_shadow.specs.declared.byte.ByteState.{ByteState}
-use Rattle.pmf_shadow.specs.declared.byte.Stored.{Stored}
-use Rattle.pmf_shadow.specs.declared.byte.bounds.Bounds.{Bounds}
-use Rattle.pmf_shadow.specs.States.{stored_of}
-use Rattle.pmf_shadow.specs.Bounds.{covers, covers_mark, covers_store, covers_write_back, joined}
+use Rattle.std.proofs.{Common.{◌≡◌, ℕ, ◌≤◌, Bool, true, false, refl, arith, ◌||◌, Option, None, Some, le-leb}, lemmas.Bool.{leb-true, and_parts, and_from}}
+use Rattle.pmf_shadow.specs.{declared.byte.ByteState.{ByteState}, declared.byte.Stored.{Stored}, declared.byte.bounds.Bounds.{Bounds}, States.{stored_of}, Bounds.{covers, covers_mark, covers_store, covers_write_back, joined}}
 
 -- each bound of the one is at least as wide as the other's
 record IsWider (own other : Bounds) : Type 0 where

@@ -1,12 +1,8 @@
 -- The least pair without trying pairs: which bytes of the one span have a partner in the other, said by
 -- three numbers of the other, and which byte is the partner.
-use Rattle.pmf_event.proofs.Common.{◌≡◌, ℕ, ◌+◌, ◌<◌, ◌≤◌, Bool, true, false, ◌&&◌, ◌==◌, nat_lt, if◌then◌else◌, refl, sym, ◌∙◌, ap, arith, inl, inr, ◌||◌, Option, Some, None, cases_lt, cases_eq, leb-true, le-leb, lt-ltb, ltb-true, or_cases, or_left, or_right, eq-eqb, ne_eqb, Decides-eqb, or-true}
-use Rattle.std.specs.Cmp.{both_ways}
-use Rattle.pmf_event.proofs.LeastPairLemmas.{HasOne, partner-from_one, one-from_partner}
-use Rattle.pmf_event.specs.Prelude.{Extent, line_of_byte, has_partner}
-use Rattle.pmf_shadow.specs.declared.byte.Stored.{Stored}
-use Rattle.pmf_shadow.specs.States.{holds_of, is_late, late_for, late_for_any, is_before, stored_by, comes_after, has_one_by, place_of, opening_of}
-use Rattle.pmf_shadow.specs.Pairs.{both_hold, by_epoch, by_place, by_epochs, by_lines, by_line, on_line, off_line, IsLeastValue}
+use Rattle.std.{proofs.Common.{◌≡◌, ℕ, ◌+◌, ◌<◌, ◌≤◌, Bool, true, false, ◌&&◌, ◌==◌, nat_lt, if◌then◌else◌, refl, sym, ◌∙◌, ap, arith, inl, inr, ◌||◌, Option, Some, None, le-leb, lt-ltb, eq-eqb, ne_eqb}, proofs.lemmas.Bool.{cases_lt, cases_eq, leb-true, ltb-true, or_cases, or_left, or_right}, proofs.lemmas.Bool.Decides.{Decides-eqb}, proofs.Math.Bool.{or-true}, specs.Cmp.{both_ways}}
+use Rattle.pmf_event.{proofs.LeastPairLemmas.{HasOne, partner-from_one, one-from_partner}, specs.Span.{Extent}, specs.Line.{line_of_byte}, specs.Order.{has_partner}}
+use Rattle.pmf_shadow.specs.{declared.byte.Stored.{Stored}, States.{holds_of, is_late, late_for, late_for_any, is_before, stored_by, comes_after, has_one_by, place_of, opening_of}, Pairs.{both_hold, by_epoch, by_place, by_epochs, by_lines, by_line, on_line, off_line, IsLeastValue}}
 
 -- ---- what is kept of two bytes
 

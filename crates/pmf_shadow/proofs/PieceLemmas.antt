@@ -1,10 +1,7 @@
 -- A search of a span in three pieces: before a line, on it, and after it.
-use Rattle.pmf_event.proofs.Common.{◌≡◌, ℕ, zero, suc, ◌+◌, ◌-◌, ◌%◌, ◌<◌, ◌≤◌, Bool, true, false, refl, sym, ◌∙◌, ap, arith, subst, inl, inr, min, max, ◌⊎◌, Option, Some, None, is_some, nat_le, if◌then◌else◌, cases_lt, cases_eq, leb-true, leb-false}
-use Rattle.pmf_event.specs.Prelude.{Extent, line_of_byte, first_from, lesser, least_from}
-use Rattle.pmf_event.proofs.LineLemmas.{line-bounds, line-unique}
-use Rattle.pmf_event.proofs.RangeLemmas.{first_from-none, first_from-some, none-passes, first-passes, some-or-none, some-from, none-from}
-use Rattle.pmf_shadow.specs.Pairs.{by_line, on_line, off_line, HasValue, IsLeastValue}
-use Rattle.pmf_shadow.proofs.PairLemmas.{by_line-on, by_line-off, on_line-on, on_line-off, off_line-on, off_line-off}
+use Rattle.std.proofs.{Common.{◌≡◌, ℕ, zero, suc, ◌+◌, ◌-◌, ◌%◌, ◌<◌, ◌≤◌, Bool, true, false, refl, sym, ◌∙◌, ap, arith, subst, inl, inr, min, max, ◌⊎◌, Option, Some, None, is_some, nat_le, if◌then◌else◌}, lemmas.Bool.{cases_lt, cases_eq, leb-true, leb-false}}
+use Rattle.pmf_event.{specs.Span.{Extent}, specs.Line.{line_of_byte}, specs.Ranges.{first_from, lesser, least_from}, proofs.LineLemmas.{line-bounds, line-unique}, proofs.RangeLemmas.{first_from-none, first_from-some, none-passes, first-passes, some-or-none, some-from, none-from}}
+use Rattle.pmf_shadow.{specs.Pairs.{by_line, on_line, off_line, HasValue, IsLeastValue}, proofs.PairLemmas.{by_line-on, by_line-off, on_line-on, on_line-off, off_line-on, off_line-off}}
 
 module _ (line : ℕ) (aligned : line % 64 ≡ 0) where
   below : (k : ℕ) → k < line → line_of_byte k ≡ line → ⊥

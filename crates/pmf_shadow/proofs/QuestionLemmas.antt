@@ -1,21 +1,8 @@
 -- What is kept answers the questions as the definitions do.
-use Rattle.pmf_event.proofs.Common.{◌≡◌, ℕ, ◌+◌, ◌*◌, ◌<◌, ◌≤◌, Bool, true, false, not, ◌&&◌, ◌==◌, nat_lt, if◌then◌else◌, List, refl, sym, ◌∙◌, ap, arith, inl, inr, Option, Some, None, is_none, cases_lt, cases_eq, le-leb, le-ltb, lt-ltb, ne_eqb, lt-leb, Decides-eqb, and-false}
-use Rattle.pmf_event.specs.declared.event.Event.{Event}
-use Rattle.pmf_event.specs.declared.interval.Interval.{Interval}
-use Rattle.pmf_event.specs.Prelude.{Extent, line_of_byte, count, first_byte, at, stores, is_fence, last_store, epoch_of, write_back_epoch, epoch_unless, first_write_back, closing_fence, epoch_after, interval_at, is_open, is_excluded, is_included, is_checked, is_exposed, is_clean, is_pending, lines_where, is_undurable, is_unwritten}
-use Rattle.pmf_event.proofs.RangeLemmas.{first_from-same}
-use Rattle.pmf_event.proofs.WriteBackLemmas.{epoch_unless-none, epoch_unless-some, epoch_after-none, epoch_after-some, closing-from_epoch, closing-none, closing-late}
-use Rattle.pmf_event.proofs.LineBytesLemmas.{lines_follow_from_their_bytes}
-use Rattle.pmf_shadow.specs.declared.byte.ByteState.{ByteState}
-use Rattle.pmf_shadow.specs.declared.byte.Stored.{Stored}
-use Rattle.pmf_shadow.specs.declared.shadow.Shadow.{Shadow}
+use Rattle.std.proofs.{Common.{◌≡◌, ℕ, ◌+◌, ◌*◌, ◌<◌, ◌≤◌, Bool, true, false, not, ◌&&◌, ◌==◌, nat_lt, if◌then◌else◌, List, refl, sym, ◌∙◌, ap, arith, inl, inr, Option, Some, None, is_none, le-leb, le-ltb, lt-ltb, ne_eqb}, lemmas.Bool.{cases_lt, cases_eq, lt-leb}, lemmas.Bool.Decides.{Decides-eqb}, Math.Bool.{and-false}}
+use Rattle.pmf_event.{specs.declared.event.Event.{Event}, specs.declared.interval.Interval.{Interval}, specs.Span.{Extent}, specs.Line.{line_of_byte}, specs.Places.{count}, specs.Ranges.{first_byte}, specs.Store.{at, stores, is_fence, last_store, epoch_of}, specs.WriteBack.{write_back_epoch, epoch_unless}, specs.Interval.{first_write_back, closing_fence, epoch_after, interval_at, is_open}, specs.Exclusion.{is_excluded, is_included}, specs.Persist.{is_checked, is_exposed}, specs.FlushWarnings.{is_clean, is_pending, lines_where}, specs.LineBytes.{is_undurable, is_unwritten}, proofs.RangeLemmas.{first_from-same}, proofs.WriteBackLemmas.{epoch_unless-none, epoch_unless-some, epoch_after-none, epoch_after-some, closing-from_epoch, closing-none, closing-late}, proofs.LineBytesLemmas.{lines_follow_from_their_bytes}}
+use Rattle.pmf_shadow.{specs.declared.byte.ByteState.{ByteState}, specs.declared.byte.Stored.{Stored}, specs.declared.shadow.Shadow.{Shadow}, specs.States.{stored_of, checked_store, holds_of, any_store, is_late, is_from, late_for, lacks_write_back, written_back_from}, specs.Shadow.{stored_at, closing, StandsFor}, specs.Told.{interval_as_told}, specs.Stretches.{line_lacks, line_has_but, lines_by}, proofs.StandsLemmas.{IsByteAt, stands-bytes, store_of-none, store_of-some, stored_at-is}, proofs.StretchLemmas.{lines_by-same, clean-by, pending-by}}
 use Rattle.pmf_runs.specs.Runs.{state_at, passing}
-use Rattle.pmf_shadow.specs.States.{stored_of, checked_store, holds_of, any_store, is_late, is_from, late_for, lacks_write_back, written_back_from}
-use Rattle.pmf_shadow.specs.Shadow.{stored_at, closing, StandsFor}
-use Rattle.pmf_shadow.specs.Told.{interval_as_told}
-use Rattle.pmf_shadow.specs.Stretches.{line_lacks, line_has_but, lines_by}
-use Rattle.pmf_shadow.proofs.StandsLemmas.{IsByteAt, stands-bytes, store_of-none, store_of-some, stored_at-is}
-use Rattle.pmf_shadow.proofs.StretchLemmas.{lines_by-same, clean-by, pending-by}
 
 -- ---- where an interval closes
 

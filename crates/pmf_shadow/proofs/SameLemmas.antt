@@ -1,9 +1,6 @@
 -- What the definitions say at p looks only at the events up to p.
-use Rattle.pmf_event.proofs.Common.{◌≡◌, ℕ, zero, suc, ◌-◌, ◌<◌, ◌≤◌, Bool, ◌&&◌, ◌==◌, nat_lt, if◌then◌else◌, List, [], ◌∷◌, ◌++◌, length, take, refl, sym, ◌∙◌, ap, arith, inl, inr, Some, None, slice_get, length-take-le, cases_lt, slice_get_within}
-use Rattle.pmf_event.specs.declared.event.Event.{Event}
-use Rattle.pmf_event.specs.Prelude.{greatest, least, count, event_at, passes, at, flushes, is_fence, last, epoch_of, writes_back, first_write_back, epoch_unless, write_back_epoch, excludes, marks, is_excluded, HasBytes}
-use Rattle.pmf_event.proofs.PlacesLemmas.{SameUpTo, least-bound}
-use Rattle.pmf_event.proofs.WriteBackLemmas.{last-bound}
+use Rattle.std.proofs.{Common.{◌≡◌, ℕ, zero, suc, ◌-◌, ◌<◌, ◌≤◌, Bool, ◌&&◌, ◌==◌, nat_lt, if◌then◌else◌, List, [], ◌∷◌, ◌++◌, length, take, refl, sym, ◌∙◌, ap, arith, inl, inr, Some, None, slice_get, length-take-le}, lemmas.Bool.{cases_lt}, lemmas.Option.{slice_get_within}}
+use Rattle.pmf_event.{specs.declared.event.Event.{Event}, specs.Places.{greatest, least, count}, specs.Store.{event_at, passes, at, flushes, is_fence, last, epoch_of}, specs.Interval.{writes_back, first_write_back}, specs.WriteBack.{epoch_unless, write_back_epoch}, specs.Exclusion.{excludes, marks, is_excluded}, specs.LineBytes.{HasBytes}, proofs.PlacesLemmas.{SameUpTo, least-bound}, proofs.WriteBackLemmas.{last-bound}}
 use Rattle.pmf_shadow.specs.Laws.{SameEvents}
 
 -- ---- searches

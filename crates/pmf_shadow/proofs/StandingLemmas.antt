@@ -1,29 +1,8 @@
 -- A run of equal states: its bytes stand alike, and it goes on up to the first byte that has another state.
-use Rattle.std.proofs.Common.{◌≡◌, ℕ, ◌+◌, ◌-◌, ◌<◌, ◌≤◌, Bool, true, false, not, ◌&&◌, ◌==◌, if◌then◌else◌, List, refl, sym, ◌∙◌, ap, arith, inl, inr}
-use Rattle.std.specs.Prelude.{Option, Some, None}
-use Rattle.std.proofs.Math.Bool.{beq}
-use Rattle.std.proofs.lemmas.Bool.{cases_eq, and_from, not-false, not_from_true, ne_eqb}
-use Rattle.std.proofs.lemmas.Bool.Decides.{Decides-eqb}
-use Rattle.pmf_event.specs.declared.event.Event.{Event}
-use Rattle.pmf_event.specs.Line.{line_of_byte}
-use Rattle.pmf_event.specs.Places.{count}
-use Rattle.pmf_event.specs.Ranges.{first_from}
-use Rattle.pmf_event.specs.Store.{at, stores, is_fence, last_store}
-use Rattle.pmf_event.specs.WriteBack.{write_back_epoch}
-use Rattle.pmf_event.proofs.RangeLemmas.{none-passes, first-passes}
-use Rattle.pmf_shadow.specs.declared.byte.ByteState.{ByteState}
-use Rattle.pmf_shadow.specs.declared.byte.bounds.Bounds.{Bounds}
-use Rattle.pmf_shadow.specs.declared.shadow.Shadow.{Shadow}
-use Rattle.pmf_shadow.specs.declared.standing.Standing.{Standing}
-use Rattle.pmf_runs.specs.declared.runs.RunMap.{RunMap}
-use Rattle.pmf_runs.specs.declared.state.State.{Ghosts}
-use Rattle.pmf_runs.specs.Runs.{state_at, passing}
-use Rattle.pmf_shadow.specs.EqualStates.{is_like, equal_states}
-use Rattle.pmf_shadow.specs.Shadow.{stored_at, StandsFor}
-use Rattle.pmf_shadow.specs.Standing.{place_as_told, StandsSo}
-use Rattle.pmf_shadow.specs.States.{holds_of, lacks_write_back, late_for, place_of, stored_of}
-use Rattle.pmf_shadow.proofs.StandsLemmas.{store_of, store_of-none, store_of-some, stored_at-is}
-use Rattle.pmf_shadow.proofs.QuestionLemmas.{undurable-by, unwritten-by}
+use Rattle.std.proofs.{Common.{◌≡◌, ℕ, ◌+◌, ◌-◌, ◌<◌, ◌≤◌, Bool, true, false, not, ◌&&◌, ◌==◌, if◌then◌else◌, List, refl, sym, ◌∙◌, ap, arith, inl, inr, Option, Some, None, ne_eqb}, Math.Bool.{beq}, lemmas.Bool.{cases_eq, and_from, not-false, not_from_true}, lemmas.Bool.Decides.{Decides-eqb}}
+use Rattle.pmf_event.{specs.declared.event.Event.{Event}, specs.Line.{line_of_byte}, specs.Places.{count}, specs.Ranges.{first_from}, specs.Store.{at, stores, is_fence, last_store}, specs.WriteBack.{write_back_epoch}, proofs.RangeLemmas.{none-passes, first-passes}}
+use Rattle.pmf_shadow.{specs.declared.byte.ByteState.{ByteState}, specs.declared.byte.bounds.Bounds.{Bounds}, specs.declared.shadow.Shadow.{Shadow}, specs.declared.standing.Standing.{Standing}, specs.EqualStates.{is_like, equal_states}, specs.Shadow.{stored_at, StandsFor}, specs.Standing.{place_as_told, StandsSo}, specs.States.{holds_of, lacks_write_back, late_for, place_of, stored_of}, proofs.StandsLemmas.{store_of, store_of-none, store_of-some, stored_at-is}, proofs.QuestionLemmas.{undurable-by, unwritten-by}}
+use Rattle.pmf_runs.specs.{declared.runs.RunMap.{RunMap}, declared.state.State.{Ghosts}, Runs.{state_at, passing}}
 
 beq-itself : (v : Bool) → beq v v ≡ true
 beq-itself true = refl

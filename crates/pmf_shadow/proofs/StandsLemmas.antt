@@ -1,25 +1,9 @@
 -- The shadow stands for one more event: what the definitions say of a byte after it, and that the changed
 -- runs say the same.
-use Rattle.pmf_event.proofs.Common.{◌≡◌, ℕ, zero, suc, ◌+◌, ◌-◌, ◌*◌, ◌/◌, ◌<◌, ◌≤◌, Bool, true, false, ◌==◌, if◌then◌else◌, List, [], ◌∷◌, ◌++◌, length, take, refl, sym, ◌∙◌, ap, subst, arith, inl, inr, Option, Some, None, is_none, cases_eq, leb-true, le-leb, lt-ltb, and_parts, and_from, ne_eqb, ltb-true, Decides-eqb}
-use Rattle.std.specs.Cmp.{both_ways}
-use Rattle.pmf_event.specs.declared.event.Event.{Event}
-use Rattle.pmf_event.specs.declared.event.Event.TheVariants.{Store, Flush, Fence, Persist, Ordered, Exclude, Include, TxBegin, TxAdd, TxEnd, CheckStart, CheckEnd}
-use Rattle.pmf_event.specs.Prelude.{Extent, line_of_byte, meets_line, count, event_at, at, stores, flushes, is_fence, last_store, epoch_of, write_back_epoch, excludes, marks, is_excluded, HasBytes}
-use Rattle.pmf_event.proofs.PlacesLemmas.{count-le, count-zero}
-use Rattle.pmf_event.proofs.EventLemmas.{at-is, last-none, last-other, last-here, epoch_of-next, fences-step}
-use Rattle.pmf_event.proofs.LineLemmas.{line-bounds, meets-bounds, bounds-meet}
-use Rattle.pmf_event.proofs.WriteBackLemmas.{last-bound, write_back-kept, write_back-stored, write_back-flushed}
-use Rattle.pmf_shadow.specs.declared.byte.ByteState.{ByteState}
-use Rattle.pmf_shadow.specs.declared.byte.Stored.{Stored}
-use Rattle.pmf_runs.specs.declared.runs.RunMap.{RunMap}
-use Rattle.pmf_runs.specs.declared.state.State.{Ghosts}
-use Rattle.pmf_shadow.specs.declared.shadow.Shadow.{Shadow}
-use Rattle.pmf_runs.specs.Runs.{state_at, is_between, ChangesBetween}
-use Rattle.pmf_shadow.specs.States.{stored_of, after_store, after_write_back, after_mark}
-use Rattle.pmf_shadow.specs.EqualStates.{state_of}
-use Rattle.pmf_shadow.specs.Shadow.{stored_at, StandsFor, FollowsAt}
-use Rattle.pmf_shadow.specs.Laws.{is_unseen, UnseenEventsChangeNothing, OnlyPastEventsCount, StepsFollowWithin}
-use Rattle.pmf_shadow.proofs.SameLemmas.{count_at-same, last-same, last_epoch-same, write_back_epoch-same, excluded-same, sized-same, same-longer, at_the_end, length-taken, same-taken, same-retaken}
+use Rattle.std.{proofs.Common.{◌≡◌, ℕ, zero, suc, ◌+◌, ◌-◌, ◌*◌, ◌/◌, ◌<◌, ◌≤◌, Bool, true, false, ◌==◌, if◌then◌else◌, List, [], ◌∷◌, ◌++◌, length, take, refl, sym, ◌∙◌, ap, subst, arith, inl, inr, Option, Some, None, is_none, le-leb, lt-ltb, ne_eqb}, proofs.lemmas.Bool.{cases_eq, leb-true, and_parts, and_from, ltb-true}, proofs.lemmas.Bool.Decides.{Decides-eqb}, specs.Cmp.{both_ways}}
+use Rattle.pmf_event.{specs.declared.event.Event.{Event}, specs.declared.event.Event.TheVariants.{Store, Flush, Fence, Persist, Ordered, Exclude, Include, TxBegin, TxAdd, TxEnd, CheckStart, CheckEnd}, specs.Span.{Extent}, specs.Line.{line_of_byte, meets_line}, specs.Places.{count}, specs.Store.{event_at, at, stores, flushes, is_fence, last_store, epoch_of}, specs.WriteBack.{write_back_epoch}, specs.Exclusion.{excludes, marks, is_excluded}, specs.LineBytes.{HasBytes}, proofs.PlacesLemmas.{count-le, count-zero}, proofs.EventLemmas.{at-is, last-none, last-other, last-here, epoch_of-next, fences-step}, proofs.LineLemmas.{line-bounds, meets-bounds, bounds-meet}, proofs.WriteBackLemmas.{last-bound, write_back-kept, write_back-stored, write_back-flushed}}
+use Rattle.pmf_shadow.{specs.declared.byte.ByteState.{ByteState}, specs.declared.byte.Stored.{Stored}, specs.declared.shadow.Shadow.{Shadow}, specs.States.{stored_of, after_store, after_write_back, after_mark}, specs.EqualStates.{state_of}, specs.Shadow.{stored_at, StandsFor, FollowsAt}, specs.Laws.{is_unseen, UnseenEventsChangeNothing, OnlyPastEventsCount, StepsFollowWithin}, proofs.SameLemmas.{count_at-same, last-same, last_epoch-same, write_back_epoch-same, excluded-same, sized-same, same-longer, at_the_end, length-taken, same-taken, same-retaken}}
+use Rattle.pmf_runs.specs.{declared.runs.RunMap.{RunMap}, declared.state.State.{Ghosts}, Runs.{state_at, is_between, ChangesBetween}}
 
 -- ---- one byte
 

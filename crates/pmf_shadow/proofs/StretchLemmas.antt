@@ -1,9 +1,6 @@
 -- Lines by a test on their bytes: the least, how many, and what a stretch of bytes that pass says of them.
-use Rattle.pmf_event.proofs.Common.{◌≡◌, ℕ, zero, suc, ◌+◌, ◌-◌, ◌*◌, ◌/◌, ◌<◌, ◌≤◌, Bool, true, false, not, ◌&&◌, if◌then◌else◌, refl, sym, ◌∙◌, ap, arith, inl, inr, ◌↔◌, Option, Some, None, is_some, cases_lt, cases_eq, and_parts, and_from, and_left, and_right, not_from_true, not_from_false, not-true, true_from_ne_false}
-use Rattle.std.specs.Cmp.{both_ways}
-use Rattle.pmf_event.specs.declared.lines.Lines.{Lines}
-use Rattle.pmf_event.specs.Prelude.{Extent, first_from, count_from, numbered, first_line, line_count, lines_from, lines_where, SomeByteOf, NoByteOf}
-use Rattle.pmf_event.proofs.RangeLemmas.{NonePass, some-from, none-from, first-passes, none-passes, first_from-none, first_from-some, first_from-same, count_from-same}
+use Rattle.std.{proofs.Common.{◌≡◌, ℕ, zero, suc, ◌+◌, ◌-◌, ◌*◌, ◌/◌, ◌<◌, ◌≤◌, Bool, true, false, not, ◌&&◌, if◌then◌else◌, refl, sym, ◌∙◌, ap, arith, inl, inr, ◌↔◌, Option, Some, None, is_some}, proofs.lemmas.Bool.{cases_lt, cases_eq, and_parts, and_from, and_left, and_right, not_from_true, not_from_false, not-true, true_from_ne_false}, specs.Cmp.{both_ways}}
+use Rattle.pmf_event.{specs.declared.lines.Lines.{Lines}, specs.Span.{Extent}, specs.Ranges.{first_from, count_from}, specs.FlushWarnings.{numbered, first_line, line_count, lines_from, lines_where}, specs.LineBytes.{SomeByteOf, NoByteOf}, proofs.RangeLemmas.{NonePass, some-from, none-from, first-passes, none-passes, first_from-none, first_from-some, first_from-same, count_from-same}}
 use Rattle.pmf_runs.specs.Lines.{line_has}
 use Rattle.pmf_shadow.specs.Stretches.{line_lacks, line_has_but, AllHave, lines_at, lines_by}
 

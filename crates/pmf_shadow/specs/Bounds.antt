@@ -1,9 +1,6 @@
 -- Bounds of the states of some bytes: which states they cover, and what may be among those.
 use Rattle.std.specs.Prelude.{ℕ, Bool, true, false, not, ◌&&◌, ◌||◌, nat_lt, nat_le, min, max, Option, None, Some, if◌then◌else◌}
-use Rattle.pmf_shadow.specs.declared.byte.ByteState.{ByteState}
-use Rattle.pmf_shadow.specs.declared.byte.Stored.{Stored}
-use Rattle.pmf_shadow.specs.declared.byte.bounds.Bounds.{Bounds}
-use Rattle.pmf_shadow.specs.States.{stored_of}
+use Rattle.pmf_shadow.specs.{declared.byte.ByteState.{ByteState}, declared.byte.Stored.{Stored}, declared.byte.bounds.Bounds.{Bounds}, States.{stored_of}}
 
 -- ---- what bounds cover
 

@@ -1,10 +1,5 @@
 -- States of a byte that agree in each field are the same: the law of their `==`.
-use Rattle.std.specs.Prelude.{◌≡◌, ℕ, Bool, true, ◌&&◌, ◌==◌}
-use Rattle.std.specs.Cmp.{booleans_Decides}
-use Rattle.std.proofs.Common.{◌∙◌, ap}
-use Rattle.std.proofs.Math.Bool.{beq}
-use Rattle.std.proofs.lemmas.Bool.{and_parts}
-use Rattle.std.proofs.lemmas.Bool.Decides.{Decides-eqb}
+use Rattle.std.{specs.Prelude.{◌≡◌, ℕ, Bool, true, ◌&&◌, ◌==◌}, specs.Cmp.{booleans_Decides}, proofs.Common.{◌∙◌, ap}, proofs.Math.Bool.{beq}, proofs.lemmas.Bool.{and_parts}, proofs.lemmas.Bool.Decides.{Decides-eqb}}
 use Rattle.pmf_shadow.specs.declared.byte.ByteState.{ByteState}
 
 -- a state by its fields

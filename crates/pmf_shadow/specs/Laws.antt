@@ -1,10 +1,7 @@
 -- Laws of what a shadow stands for, which its empty public functions prove.
 use Rattle.std.specs.Prelude.{◌≡◌, ℕ, suc, ◌≤◌, Bool, true, false, List, Some}
-use Rattle.pmf_event.specs.declared.event.Event.{Event}
-use Rattle.pmf_event.specs.declared.event.Event.TheVariants.{Store, Flush, Fence, Exclude, Include}
-use Rattle.pmf_event.specs.Prelude.{event_at}
-use Rattle.pmf_shadow.specs.declared.shadow.Shadow.{Shadow}
-use Rattle.pmf_shadow.specs.Shadow.{StandsFor, FollowsAt, Follows}
+use Rattle.pmf_event.specs.{declared.event.Event.{Event}, declared.event.Event.TheVariants.{Store, Flush, Fence, Exclude, Include}, Store.{event_at}}
+use Rattle.pmf_shadow.specs.{declared.shadow.Shadow.{Shadow}, Shadow.{StandsFor, FollowsAt, Follows}}
 
 -- whether the event changes nothing that a shadow keeps
 unfoldable pub is_unseen : Event → Bool

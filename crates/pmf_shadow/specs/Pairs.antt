@@ -1,15 +1,8 @@
 -- The pairs that an order assertion speaks of, by what the shadow keeps of their bytes.
 use Rattle.std.specs.Prelude.{◌≡◌, ℕ, ◌+◌, ◌<◌, ◌≤◌, Bool, true, false, ◌==◌, List, Option, None, Some, if◌then◌else◌}
-use Rattle.pmf_event.specs.declared.event.Event.{Event}
-use Rattle.pmf_event.specs.declared.profile.Profile.{Profile}
-use Rattle.pmf_event.specs.Prelude.{line_of_byte, share_line, is_unordered, is_certified}
-use Rattle.pmf_shadow.specs.declared.byte.ByteState.{ByteState}
-use Rattle.pmf_shadow.specs.declared.byte.Stored.{Stored}
-use Rattle.pmf_runs.specs.declared.runs.RunMap.{RunMap}
-use Rattle.pmf_runs.specs.declared.state.State.{Ghosts}
-use Rattle.pmf_shadow.specs.declared.byte.bounds.Bounds.{Bounds}
-use Rattle.pmf_runs.specs.Runs.{state_at}
-use Rattle.pmf_shadow.specs.States.{checked_store, comes_after, stored_by}
+use Rattle.pmf_event.specs.{declared.event.Event.{Event}, declared.profile.Profile.{Profile}, Line.{line_of_byte}, Order.{share_line, is_unordered, is_certified}}
+use Rattle.pmf_shadow.specs.{declared.byte.ByteState.{ByteState}, declared.byte.Stored.{Stored}, declared.byte.bounds.Bounds.{Bounds}, States.{checked_store, comes_after, stored_by}}
+use Rattle.pmf_runs.specs.{declared.runs.RunMap.{RunMap}, declared.state.State.{Ghosts}, Runs.{state_at}}
 
 -- the pairs that are asked for: those that are certified, or all that are unordered
 abbrev pub pairs_of : Bool → Profile → List Event → ℕ → ℕ → ℕ → Bool

@@ -1,9 +1,6 @@
 -- What is told of a run of bytes, which are alike in it.
 use Rattle.std.specs.Prelude.{◌≡◌, ℕ, ◌<◌, ◌≤◌, ◌==◌, List, Option, None, Some, if◌then◌else◌}
-use Rattle.pmf_event.specs.declared.event.Event.{Event}
-use Rattle.pmf_event.specs.Store.{last_store}
-use Rattle.pmf_event.specs.Exclusion.{is_excluded}
-use Rattle.pmf_event.specs.LineBytes.{is_undurable, is_unwritten}
+use Rattle.pmf_event.specs.{declared.event.Event.{Event}, Store.{last_store}, Exclusion.{is_excluded}, LineBytes.{is_undurable, is_unwritten}}
 use Rattle.pmf_shadow.specs.declared.standing.Standing.{Standing}
 
 -- the place that was told of a store, if there is one

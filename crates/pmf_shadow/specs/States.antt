@@ -1,7 +1,6 @@
 -- What an event does to the state that is kept of a byte, and what the questions ask of it.
 use Rattle.std.specs.Prelude.{ℕ, Bool, true, false, not, ◌&&◌, ◌||◌, ◌==◌, nat_lt, nat_le, Option, None, Some, is_none, if◌then◌else◌}
-use Rattle.pmf_shadow.specs.declared.byte.ByteState.{ByteState}
-use Rattle.pmf_shadow.specs.declared.byte.Stored.{Stored}
+use Rattle.pmf_shadow.specs.declared.byte.{ByteState.{ByteState}, Stored.{Stored}}
 
 -- ---- what is kept
 

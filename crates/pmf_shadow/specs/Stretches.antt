@@ -1,7 +1,6 @@
 -- Cache lines by number and by a test on their bytes. No public clause cites this.
 use Rattle.std.specs.Prelude.{◌≡◌, ℕ, ◌<◌, ◌≤◌, Bool, true, not, ◌&&◌, Option}
-use Rattle.pmf_event.specs.declared.lines.Lines.{Lines}
-use Rattle.pmf_event.specs.Prelude.{Extent, first_from, count_from, first_line, line_count, lines_from}
+use Rattle.pmf_event.specs.{declared.lines.Lines.{Lines}, Span.{Extent}, Ranges.{first_from, count_from}, FlushWarnings.{first_line, line_count, lines_from}}
 use Rattle.pmf_runs.specs.Lines.{line_has}
 
 -- whether no byte of the line with this number passes

@@ -1,12 +1,7 @@
 -- Places as they were told: what the definitions say by the position of an event, said by the place that the
 -- caller gave it.
 use Rattle.std.specs.Prelude.{◌≡◌, ℕ, ◌<◌, ◌≤◌, List, Option, None, Some}
-use Rattle.pmf_event.specs.declared.event.Event.{Event}
-use Rattle.pmf_event.specs.declared.event.Event.TheVariants.{Store}
-use Rattle.pmf_event.specs.declared.finding.Finding.{Finding}
-use Rattle.pmf_event.specs.declared.finding.Finding.TheVariants.{OrderedFail, Unclosed}
-use Rattle.pmf_event.specs.declared.interval.Interval.{Interval}
-use Rattle.pmf_event.specs.Prelude.{Extent, event_at}
+use Rattle.pmf_event.specs.{declared.event.Event.{Event}, declared.event.Event.TheVariants.{Store}, declared.finding.Finding.{Finding}, declared.finding.Finding.TheVariants.{OrderedFail, Unclosed}, declared.interval.Interval.{Interval}, Span.{Extent}, Store.{event_at}}
 
 -- of two stores up to p the later one was told at the greater place
 abbrev pub KeepsOrder : (ℕ → ℕ) → List Event → ℕ → Type 0

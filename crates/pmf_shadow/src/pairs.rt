@@ -1,13 +1,9 @@
 //! The least pair of an order assertion, found by a few walks and not by trying pairs.
 
 ghost use Rattle.std.specs.Prelude.{◌≡◌, ◌%◌, ◌<◌};
-ghost use Rattle.pmf_event.specs.declared.span.TheConstants.{ADDRESS_LIMIT, LINE_SIZE};
-ghost use Rattle.pmf_event.specs.Prelude.{IsValidExtent, first_byte, lesser, least_pair};
+ghost use Rattle.pmf_event.specs.{declared.span.TheConstants.{ADDRESS_LIMIT, LINE_SIZE}, Span.{IsValidExtent}, Ranges.{first_byte, lesser}, Order.{least_pair}};
 ghost use Rattle.pmf_runs.specs.Runs.{passing, keyed};
-ghost use Rattle.pmf_shadow.specs.Pairs.{by_epochs, by_line, by_lines, kept, off_line, on_line, pairs_of, IsLeastValue};
-ghost use Rattle.pmf_shadow.specs.Shadow.{ForEachList};
-ghost use Rattle.pmf_shadow.specs.States.{kept_opening, kept_place};
-ghost use Rattle.pmf_shadow.specs.Told.{KeepsOrder};
+ghost use Rattle.pmf_shadow.specs.{Pairs.{by_epochs, by_line, by_lines, kept, off_line, on_line, pairs_of, IsLeastValue}, Shadow.{ForEachList}, States.{kept_opening, kept_place}, Told.{KeepsOrder}};
 
 use crate::byte::{ByteState, ComesAfter, HasOneBy, IsLate, Opening, OpensIn, Place, StoredBy};
 use crate::shadow::Shadow;

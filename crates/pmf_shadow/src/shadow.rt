@@ -1,11 +1,9 @@
 //! The shadow of some events: the states of bytes, and how many fences there were.
 
 ghost use Rattle.std.specs.Prelude.{◌≡◌, ℕ, ◌+◌, List, OnOk, OnErr, is_some};
-ghost use Rattle.pmf_event.specs.declared.event.Event.{Event};
-ghost use Rattle.pmf_event.specs.Prelude.{IsValidExtent, first_byte, interval_at, is_included, is_checked, is_exposed, is_clean, is_pending, lines_where};
+ghost use Rattle.pmf_event.specs.{declared.event.Event.{Event}, Span.{IsValidExtent}, Ranges.{first_byte}, Interval.{interval_at}, Exclusion.{is_included}, Persist.{is_checked, is_exposed}, FlushWarnings.{is_clean, is_pending, lines_where}};
 ghost use Rattle.pmf_runs.specs.Runs.{passing};
-ghost use Rattle.pmf_shadow.specs.Shadow.{StandsFor, ForEachList, HasRoom, FollowsAt, Follows, Keeps, closing};
-ghost use Rattle.pmf_shadow.specs.Told.{interval_as_told};
+ghost use Rattle.pmf_shadow.specs.{Shadow.{StandsFor, ForEachList, HasRoom, FollowsAt, Follows, Keeps, closing}, Told.{interval_as_told}};
 
 use crate::byte::{
     ByteState, IsChecked, IsIncluded, IsLate, IsPending, IsUndurable, IsUnwritten, Marked,

@@ -1,12 +1,9 @@
 //! How the bytes stand, run by run, for who goes over all of them.
 
 ghost use Rattle.std.specs.Prelude.{◌≡◌, ◌<◌, ◌≤◌, ◌-◌, ℕ};
-ghost use Rattle.pmf_event.specs.LineBytes.{is_undurable};
-ghost use Rattle.pmf_event.specs.Ranges.{first_from};
+ghost use Rattle.pmf_event.specs.{LineBytes.{is_undurable}, Ranges.{first_from}};
 ghost use Rattle.pmf_runs.specs.Runs.{state_at};
-ghost use Rattle.pmf_shadow.specs.Shadow.{ForEachList};
-ghost use Rattle.pmf_shadow.specs.Standing.{AllStandSo};
-ghost use Rattle.pmf_shadow.specs.States.{holds_of, lacks_write_back, late_for, place_of, stored_of};
+ghost use Rattle.pmf_shadow.specs.{Shadow.{ForEachList}, Standing.{AllStandSo}, States.{holds_of, lacks_write_back, late_for, place_of, stored_of}};
 
 use crate::byte::{ByteState, HasOther, IsUndurable, IsUnwritten};
 use crate::shadow::Shadow;

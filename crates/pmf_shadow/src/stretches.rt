@@ -1,12 +1,9 @@
 //! Cache lines by their bytes: those with a byte that passes a test, found by stretches of such bytes.
 
 ghost use Rattle.std.specs.Prelude.{◌≡◌, ℕ, ◌+◌, ◌-◌, ◌*◌, ◌/◌, ◌<◌, ◌≤◌, Bool, true, false};
-ghost use Rattle.pmf_event.specs.declared.span.TheConstants.{ADDRESS_LIMIT, LINE_SIZE};
-ghost use Rattle.pmf_event.specs.Prelude.{IsValidExtent, count_from, first_from, first_line};
-ghost use Rattle.pmf_shadow.specs.declared.byte.ByteState.{ByteState};
-ghost use Rattle.pmf_runs.specs.Runs.{passing};
-ghost use Rattle.pmf_runs.specs.Lines.{line_has};
-ghost use Rattle.pmf_shadow.specs.Stretches.{AllHave, line_has_but, line_lacks, lines_at, lines_by};
+ghost use Rattle.pmf_event.specs.{declared.span.TheConstants.{ADDRESS_LIMIT, LINE_SIZE}, Span.{IsValidExtent}, Ranges.{count_from, first_from}, FlushWarnings.{first_line}};
+ghost use Rattle.pmf_shadow.specs.{declared.byte.ByteState.{ByteState}, Stretches.{AllHave, line_has_but, line_lacks, lines_at, lines_by}};
+ghost use Rattle.pmf_runs.specs.{Runs.{passing}, Lines.{line_has}};
 
 use crate::byte::{ByteState, Fails};
 use crate::shadow::Shadow;

@@ -1,11 +1,8 @@
 -- What is written of a number and of a span reads as itself.
-use Rattle.pmf_event.proofs.Common.{◌≡◌, ℕ, zero, suc, ◌+◌, ◌*◌, ◌/◌, ◌%◌, ◌^◌, ◌<◌, ◌≤◌, true, false, ◌==◌, if◌then◌else◌, List, [], ◌∷◌, ◌++◌, Some, length, refl, sym, ap, ◌∙◌, arith, inl, inr, Ok, digits_onto, digit_glyph, digit_value, digits_value, AllDigits, list_all, AllByRecursion, All-from_recursion, digits_is_IsNumeral, Decides-eqb, lt-ltb, le-leb, cases_eq, slice_split_none, slice_split_at}
-use Rattle.std.specs.Fmt.{digits}
-use Rattle.pmf_event.specs.Prelude.{Extent, IsValidExtent, extent_of, address}
-use Rattle.pmf_storelog.specs.Records.{is_field_end, fields_of, span_of_texts, span_of_numbers, span_or_cause}
+use Rattle.std.{proofs.Common.{◌≡◌, ℕ, zero, suc, ◌+◌, ◌*◌, ◌/◌, ◌%◌, ◌^◌, ◌<◌, ◌≤◌, true, false, ◌==◌, if◌then◌else◌, List, [], ◌∷◌, ◌++◌, Some, length, refl, sym, ap, ◌∙◌, arith, inl, inr, Ok, lt-ltb, le-leb}, specs.Fmt.{digits_onto, digit_glyph, digits}, specs.Char.{digit_value}, specs.Str.Parse.{digits_value, AllDigits}, specs.List.{list_all, AllByRecursion}, proofs.lemmas.List.Elements.{All-from_recursion}, proofs.lemmas.Fmt.{digits_is_IsNumeral}, proofs.lemmas.Bool.Decides.{Decides-eqb}, proofs.lemmas.Bool.{cases_eq}, proofs.lemmas.List.Splits.{slice_split_none, slice_split_at}}
+use Rattle.pmf_event.specs.{Span.{Extent, IsValidExtent, extent_of}, Address.{address}}
+use Rattle.pmf_storelog.specs.{Records.{is_field_end, fields_of, span_of_texts, span_of_numbers, span_or_cause}, Numbers.{is_digit_in, is_numeral, numeral_of, number_of}, Canonical.{field_of, fields_of_span}}
 use native.Mathlib.Nat.{pow-suc}
-use Rattle.pmf_storelog.specs.Numbers.{is_digit_in, is_numeral, numeral_of, number_of}
-use Rattle.pmf_storelog.specs.Canonical.{field_of, fields_of_span}
 
 -- a number below 16 ^ m has at most m hexadecimal digits
 onto-length : (k m n : ℕ) (acc : List ℕ) → 0 < m → n < 16 ^ m → length (digits_onto k 16 false n acc) ≤ m + length acc

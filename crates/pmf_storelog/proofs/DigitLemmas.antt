@@ -1,5 +1,5 @@
 -- The table of digits has the value of each byte.
-use Rattle.pmf_event.proofs.Common.{◌≡◌, ℕ, zero, suc, ◌+◌, ◌<◌, List, [], ◌∷◌, get_or, refl, ap, ◌∙◌, arith, digit_value}
+use Rattle.std.{proofs.Common.{◌≡◌, ℕ, zero, suc, ◌+◌, ◌<◌, List, [], ◌∷◌, get_or, refl, ap, ◌∙◌, arith}, specs.Char.{digit_value}}
 
 -- the values of n numbers from k on
 unfoldable tabulate : (ℕ → ℕ) → ℕ → ℕ → List ℕ

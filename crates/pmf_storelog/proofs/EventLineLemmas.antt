@@ -1,20 +1,8 @@
 -- Text lines that are one record, and what an event's canonical text line reads as.
-use Rattle.pmf_event.proofs.Common.{◌≡◌, ℕ, ◌≤◌, true, false, List, [], ◌∷◌, ◌++◌, None, Some, Option, length, All, refl, sym, ◌∙◌, arith, length-append, Ok, nat_le, codes, bytes_eq, le-leb, list_any_none, list_any_at, bytes_eq-Decides}
+use Rattle.std.proofs.{Common.{◌≡◌, ℕ, ◌≤◌, true, false, List, [], ◌∷◌, ◌++◌, None, Some, Option, length, All, refl, sym, ◌∙◌, arith, length-append, Ok, nat_le, codes, bytes_eq, le-leb}, lemmas.List.Folds.{list_any_none, list_any_at}, lemmas.Slice.Eq.{bytes_eq-Decides}}
 use Rattle.memchr.specs.Find.{IsFirstByte, is_byte3}
 use Rattle.pmf_event.specs.declared.event.Event.{Event}
-use Rattle.pmf_storelog.specs.declared.fault.TheConstants.{LOG_LIMIT}
-use Rattle.pmf_storelog.specs.declared.record.Saying.TheVariants.{Happens}
-use Rattle.pmf_storelog.specs.Separators.{is_separator}
-use Rattle.pmf_storelog.specs.Records.{fields_of, record_of, saying_of, saying_of_fields, section_of_fields, section_of_number}
-use Rattle.pmf_storelog.specs.Numbers.{number_of}
-use Rattle.pmf_storelog.specs.Canonical.{name_of, fields_of_event}
-use Rattle.pmf_storelog.specs.Lines.{is_one_record, names_a_section, names_a_section_first, event_of_record, event_of_line}
-use Rattle.pmf_storelog.specs.Spelling.{AllValid}
-use Rattle.pmf_storelog.proofs.PlainRecordLemmas.{IsPlain, trimmed-plain}
-use Rattle.pmf_storelog.proofs.PlainLemmas.{text_of_event, text_of_event-plain}
-use Rattle.pmf_storelog.proofs.RoundTripLemmas.{line-length}
-use Rattle.pmf_storelog.proofs.SpellingLemmas.{record_of-event}
-use Rattle.pmf_storelog.proofs.SplitLemmas.{none_pass}
+use Rattle.pmf_storelog.{specs.declared.fault.TheConstants.{LOG_LIMIT}, specs.declared.record.Saying.TheVariants.{Happens}, specs.Separators.{is_separator}, specs.Records.{fields_of, record_of, saying_of, saying_of_fields, section_of_fields, section_of_number}, specs.Numbers.{number_of}, specs.Canonical.{name_of, fields_of_event}, specs.Lines.{is_one_record, names_a_section, names_a_section_first, event_of_record, event_of_line}, specs.Spelling.{AllValid}, proofs.PlainRecordLemmas.{IsPlain, trimmed-plain}, proofs.PlainLemmas.{text_of_event, text_of_event-plain}, proofs.RoundTripLemmas.{line-length}, proofs.SpellingLemmas.{record_of-event}, proofs.SplitLemmas.{none_pass}}
 
 -- what a search for a separator says of a text line
 pub one_record-none : (line : List ℕ) → IsFirstByte (is_byte3 124 10 13) line None → nat_le (length line) LOG_LIMIT ≡ is_one_record line

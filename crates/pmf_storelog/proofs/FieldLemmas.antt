@@ -1,8 +1,7 @@
 -- What a search for a semicolon says of the fields.
 use Rattle.std.proofs.Common.{◌≡◌, ℕ, ◌+◌, List, [], ◌∷◌, Option, Some, None, take, drop, MatchOption}
 use Rattle.memchr.specs.Find.{IsFirstByte, is_byte}
-use Rattle.pmf_storelog.specs.Records.{is_field_end, fields_of}
-use Rattle.pmf_storelog.proofs.SplitLemmas.{split_none, split_some}
+use Rattle.pmf_storelog.{specs.Records.{is_field_end, fields_of}, proofs.SplitLemmas.{split_none, split_some}}
 
 pub field_end_found : (text : List ℕ) (r : Option ℕ) → IsFirstByte (is_byte 59) text r →
     MatchOption r (fields_of text ≡ text ∷ []) (λ end. fields_of text ≡ take end text ∷ fields_of (drop (end + 1) text))

@@ -1,5 +1,5 @@
 -- A decimal number at the front of a text.
-use Rattle.pmf_event.proofs.Common.{◌≡◌, ℕ, ◌^◌, ◌<◌, ◌≤◌, true, false, List, [], ◌∷◌, ◌++◌, Some, length, refl, ap, ◌∙◌, arith, decimal, lt-ltb, le-leb, take_at, drop_at, ⊤, digit_value, list_all, digits_value, AllDigits, decimal_is_IsNumeral, length-decimal-le}
+use Rattle.std.{proofs.Common.{◌≡◌, ℕ, ◌^◌, ◌<◌, ◌≤◌, true, false, List, [], ◌∷◌, ◌++◌, Some, length, refl, ap, ◌∙◌, arith, decimal, lt-ltb, le-leb, take_at, drop_at}, specs.Prelude.{⊤}, specs.Char.{digit_value}, specs.List.{list_all}, specs.Str.Parse.{digits_value, AllDigits}, proofs.lemmas.Fmt.{decimal_is_IsNumeral, length-decimal-le}}
 use Rattle.pmf_storelog.specs.Numbers.{is_digit_in, is_numeral, numeral_of, digits_in_front, number_before, number_in_front}
 
 -- the text is empty, or begins with a byte that is no decimal digit

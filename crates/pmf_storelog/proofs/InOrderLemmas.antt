@@ -1,8 +1,6 @@
 -- The numbers of a list in order: they rise, are those of the list, and with one more are one insertion more.
-use Rattle.pmf_event.proofs.Common.{◌≡◌, ℕ, zero, suc, ◌<◌, List, [], ◌∷◌, ◌++◌, length, get_or, refl, sym, ◌∙◌, ap, subst, arith, inl, inr, Less, Equal, Greater, ◌⊎◌, Contains, nat_cmp, nat_cmp_is, cases_order}
-use Rattle.std.specs.BTreeSet.{insert_key}
-use Rattle.pmf_storelog.specs.Rising.{IsBelow, Rises, with_number, in_order}
-use Rattle.pmf_storelog.specs.Laws.{InOrderIsTheSetInOrder}
+use Rattle.std.{proofs.Common.{◌≡◌, ℕ, zero, suc, ◌<◌, List, [], ◌∷◌, ◌++◌, length, get_or, refl, sym, ◌∙◌, ap, subst, arith, inl, inr, Less, Equal, Greater, ◌⊎◌, Contains, nat_cmp}, specs.Cmp.{nat_cmp_is}, proofs.lemmas.Bool.{cases_order}, specs.BTreeSet.{insert_key}}
+use Rattle.pmf_storelog.specs.{Rising.{IsBelow, Rises, with_number, in_order}, Laws.{InOrderIsTheSetInOrder}}
 
 -- the number is among them
 abbrev pub Has : ℕ → List ℕ → Type 0

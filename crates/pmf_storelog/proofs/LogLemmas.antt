@@ -1,19 +1,7 @@
 -- The sections, the skipped records and the first fault of a list of records that more records follow.
-use Rattle.pmf_event.proofs.Common.{◌≡◌, ℕ, zero, suc, ◌+◌, ◌-◌, ◌<◌, ◌≤◌, Bool, true, false, cond, map, List, [], ◌∷◌, ◌++◌, Option, Some, None, Result, Ok, Err, length, take, refl, sym, ap, ◌∙◌, arith, add-one, length-append, ⊎_elim, ◌==◌, filter, append_assoc, map-append, append-nil, take_at, take-append-le, take_all, get_or_append_left, get_or_at, length_push, filter-append, sum_by-append, take-append-add, lt-ltb, le-ltb, cases_lt}
+use Rattle.std.proofs.{Common.{◌≡◌, ℕ, zero, suc, ◌+◌, ◌-◌, ◌<◌, ◌≤◌, Bool, true, false, cond, map, List, [], ◌∷◌, ◌++◌, Option, Some, None, Result, Ok, Err, length, take, refl, sym, ap, ◌∙◌, arith, add-one, length-append, ⊎_elim, ◌==◌, filter, append_assoc, append-nil, take_at, take_all, lt-ltb, le-ltb}, lemmas.List.{map-append, take-append-le, get_or_append_left, get_or_at, length_push}, lemmas.List.Elements.{filter-append}, lemmas.List.Sums.{sum_by-append}, Math.Seq.{take-append-add}, lemmas.Bool.{cases_lt}}
 use Rattle.pmf_event.specs.declared.event.Event.{Event}
-use Rattle.pmf_storelog.specs.declared.fault.TheConstants.{LOG_LIMIT}
-use Rattle.pmf_storelog.specs.declared.fault.Cause.{Cause}
-use Rattle.pmf_storelog.specs.declared.fault.Cause.TheVariants.{TooLong}
-use Rattle.pmf_storelog.specs.declared.fault.LogFault.{LogFault}
-use Rattle.pmf_storelog.specs.declared.record.Saying.{Saying}
-use Rattle.pmf_storelog.specs.declared.record.Saying.TheVariants.{Happens, Enters, Skipped}
-use Rattle.pmf_storelog.specs.Records.{record_of}
-use Rattle.pmf_storelog.specs.Sections.{with_event}
-use Rattle.pmf_storelog.specs.Separators.{records_of, ended_records}
-use Rattle.pmf_storelog.specs.LogText.{reading_at, number_after, current_at, current_of, numbered, numbered_among, numbered_events, events_in, entered, entered_among, entered_of, numbers_of, is_skipped, skipped_of, refusal_after, refusal_at, or_else, first_fault_among, first_fault, too_long, shown_within, fault_within, shown_fault, fault_of, IsFaultOfAll}
-use Rattle.pmf_storelog.specs.Rising.{with_number, in_order}
-use Rattle.pmf_storelog.proofs.InOrderLemmas.{in_order-push}
-use Rattle.pmf_storelog.proofs.PartLemmas.{ended_records-more, records_of-unfinished, unfinished}
+use Rattle.pmf_storelog.{specs.declared.fault.TheConstants.{LOG_LIMIT}, specs.declared.fault.Cause.{Cause}, specs.declared.fault.Cause.TheVariants.{TooLong}, specs.declared.fault.LogFault.{LogFault}, specs.declared.record.Saying.{Saying}, specs.declared.record.Saying.TheVariants.{Happens, Enters, Skipped}, specs.Records.{record_of}, specs.Sections.{with_event}, specs.Separators.{records_of, ended_records}, specs.LogText.{reading_at, number_after, current_at, current_of, numbered, numbered_among, numbered_events, events_in, entered, entered_among, entered_of, numbers_of, is_skipped, skipped_of, refusal_after, refusal_at, or_else, first_fault_among, first_fault, too_long, shown_within, fault_within, shown_fault, fault_of, IsFaultOfAll}, specs.Rising.{with_number, in_order}, proofs.InOrderLemmas.{in_order-push}, proofs.PartLemmas.{ended_records-more, records_of-unfinished, unfinished}}
 
 -- the events of a section among numbered ones
 abbrev pub in_section : ℕ → List (ℕ × Event) → List Event

@@ -1,5 +1,5 @@
 -- Reading a numeral digit by digit.
-use Rattle.pmf_event.proofs.Common.{◌≡◌, ℕ, ◌+◌, ◌*◌, ◌^◌, ◌<◌, ◌≤◌, drop, get_or, Bool, true, false, cond, ◌&&◌, nat_lt, List, [], ◌∷◌, Option, Some, None, length, refl, sym, ap, ◌∙◌, arith, list_all, drop_more, drop_all, digit_value, digits_value_after, lt-ltb, le-ltb, lt-leb, le-leb, common_steps}
+use Rattle.std.{proofs.Common.{◌≡◌, ℕ, ◌+◌, ◌*◌, ◌^◌, ◌<◌, ◌≤◌, drop, get_or, Bool, true, false, cond, ◌&&◌, nat_lt, List, [], ◌∷◌, Option, Some, None, length, refl, sym, ap, ◌∙◌, arith, lt-ltb, le-ltb, le-leb}, specs.List.{list_all}, proofs.lemmas.List.{drop_more, drop_all}, specs.Char.{digit_value}, specs.Str.Parse.{digits_value_after}, proofs.lemmas.Bool.{lt-leb}, proofs.lemmas.Grind.{common_steps}}
 use Rattle.pmf_storelog.specs.Numbers.{is_digit_in, is_numeral, numeral_of}
 
 -- what digits give after a value

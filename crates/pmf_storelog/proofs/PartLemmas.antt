@@ -1,8 +1,7 @@
 -- The parts and the ended records of bytes that more bytes follow.
-use Rattle.pmf_event.proofs.Common.{◌≡◌, ℕ, ◌+◌, ◌-◌, ◌<◌, List, [], ◌∷◌, ◌++◌, Option, Some, None, length, take, map, MatchOption, refl, sym, ap, ◌∙◌, arith, length-append, filter, append_assoc, append-nil, take_at, map-append, filter-append}
+use Rattle.std.proofs.{Common.{◌≡◌, ℕ, ◌+◌, ◌-◌, ◌<◌, List, [], ◌∷◌, ◌++◌, Option, Some, None, length, take, map, MatchOption, refl, sym, ap, ◌∙◌, arith, length-append, filter, append_assoc, append-nil, take_at}, lemmas.List.{map-append}, lemmas.List.Elements.{filter-append}}
 use Rattle.memchr.specs.Find.{IsFirstByte, is_byte3}
-use Rattle.pmf_storelog.specs.Separators.{is_separator, is_filled, trimmed, records_in, parts_of, ended_parts, records_of, ended_records}
-use Rattle.pmf_storelog.proofs.SplitLemmas.{split_none, split_upto, split_filled, slice_split-append, joined, joined_at}
+use Rattle.pmf_storelog.{specs.Separators.{is_separator, is_filled, trimmed, records_in, parts_of, ended_parts, records_of, ended_records}, proofs.SplitLemmas.{split_none, split_upto, split_filled, slice_split-append, joined, joined_at}}
 
 -- what a search for a separator answers
 pub separator_found : (text : List ℕ) (r : Option ℕ) → IsFirstByte (is_byte3 124 10 13) text r →

@@ -1,13 +1,7 @@
 -- The lines of the canonical text of a section have no separator and no blank.
-use Rattle.pmf_event.proofs.Common.{◌≡◌, ℕ, ◌^◌, ◌<◌, ◌≤◌, Bool, true, false, ◌==◌, List, [], ◌∷◌, ◌++◌, length, refl, ap, ◌∙◌, arith, rules, inl, inr, length-append, codes, ⊤, digits, digit_value, AllDigits, AllByRecursion, Decides-eqb, cases_eq, digits_is_IsNumeral, All-from_recursion}
-use Rattle.pmf_event.specs.declared.event.Event.{Event}
-use Rattle.pmf_event.specs.declared.event.Event.TheVariants.{Store, Flush, Fence, Persist, Ordered, Exclude, Include, TxBegin, TxAdd, TxEnd, CheckStart, CheckEnd}
-use Rattle.pmf_event.specs.Prelude.{Extent, IsValidExtent, address}
-use Rattle.pmf_storelog.specs.Separators.{is_separator, is_blank}
-use Rattle.pmf_storelog.specs.Canonical.{field_of, fields_of_span, fields_of_event, name_of}
-use Rattle.pmf_storelog.specs.Spelling.{AllValid}
-use Rattle.pmf_storelog.proofs.CanonicalLemmas.{fits_of}
-use Rattle.pmf_storelog.proofs.PlainRecordLemmas.{IsPlain}
+use Rattle.std.{proofs.Common.{◌≡◌, ℕ, ◌^◌, ◌<◌, ◌≤◌, Bool, true, false, ◌==◌, List, [], ◌∷◌, ◌++◌, length, refl, ap, ◌∙◌, arith, rules, inl, inr, length-append, codes}, specs.Prelude.{⊤}, specs.Fmt.{digits}, specs.Char.{digit_value}, specs.Str.Parse.{AllDigits}, specs.List.{AllByRecursion}, proofs.lemmas.Bool.Decides.{Decides-eqb}, proofs.lemmas.Bool.{cases_eq}, proofs.lemmas.Fmt.{digits_is_IsNumeral}, proofs.lemmas.List.Elements.{All-from_recursion}}
+use Rattle.pmf_event.specs.{declared.event.Event.{Event}, declared.event.Event.TheVariants.{Store, Flush, Fence, Persist, Ordered, Exclude, Include, TxBegin, TxAdd, TxEnd, CheckStart, CheckEnd}, Span.{Extent, IsValidExtent}, Address.{address}}
+use Rattle.pmf_storelog.{specs.Separators.{is_separator, is_blank}, specs.Canonical.{field_of, fields_of_span, fields_of_event, name_of}, specs.Spelling.{AllValid}, proofs.CanonicalLemmas.{fits_of}, proofs.PlainRecordLemmas.{IsPlain}}
 
 -- no byte passes
 abbrev NoneIn : (ℕ → Bool) → List ℕ → Type 0

@@ -1,7 +1,6 @@
 -- Lines of a text that are records as they stand.
-use Rattle.pmf_event.proofs.Common.{◌≡◌, ℕ, suc, ◌-◌, ◌<◌, false, List, [], ◌∷◌, ◌++◌, length, drop, All, refl, ap, ◌∙◌, arith, append_assoc, take_all, lt-ltb, flat_map, suffix_len, prefix_len_is, suffix_len_is, slice_split_at}
-use Rattle.pmf_storelog.specs.Separators.{is_separator, is_blank, trimmed, without_front_blanks, without_end_blanks, records_in, parts_of, records_of}
-use Rattle.pmf_storelog.proofs.PartLemmas.{records_in-append}
+use Rattle.std.{proofs.Common.{◌≡◌, ℕ, suc, ◌-◌, ◌<◌, false, List, [], ◌∷◌, ◌++◌, length, drop, All, refl, ap, ◌∙◌, arith, append_assoc, take_all, lt-ltb, flat_map}, specs.List.{suffix_len}, proofs.lemmas.List.Sums.{prefix_len_is, suffix_len_is}, proofs.lemmas.List.Splits.{slice_split_at}}
+use Rattle.pmf_storelog.{specs.Separators.{is_separator, is_blank, trimmed, without_front_blanks, without_end_blanks, records_in, parts_of, records_of}, proofs.PartLemmas.{records_in-append}}
 
 -- a line that is a record as it stands: filled, no byte of it a separator or a blank
 pub record IsPlain (line : List ℕ) : Type 0 where

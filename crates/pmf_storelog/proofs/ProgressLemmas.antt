@@ -1,15 +1,6 @@
 -- What is kept of bytes that more bytes follow.
-use Rattle.pmf_event.proofs.Common.{◌≡◌, ℕ, ◌+◌, ◌-◌, List, [], ◌∷◌, ◌++◌, Result, Ok, Err, OnOk, IfErr, length, take, drop, sym, ap, subst, ◌∙◌, arith, append_assoc, take-append-drop, take_rest, take-add}
-use Rattle.pmf_storelog.specs.declared.fault.LogFault.{LogFault}
-use Rattle.pmf_storelog.specs.declared.progress.Progress.{Progress}
-use Rattle.pmf_storelog.specs.Separators.{records_in, parts_of, ended_parts, ended_records}
-use Rattle.pmf_storelog.specs.LogText.{first_fault}
-use Rattle.pmf_storelog.specs.Answers.{IsShown}
-use Rattle.pmf_storelog.specs.Tally.{HasTaken}
-use Rattle.pmf_storelog.specs.Progress.{HasParsed}
-use Rattle.pmf_storelog.proofs.PartLemmas.{parts_of-nil, ended_is, ended_parts-open, parts_of-open, parts_of-ended, ended_records-ended}
-use Rattle.pmf_storelog.proofs.LogLemmas.{first_fault-ended}
-use Rattle.pmf_storelog.proofs.TallyLemmas.{records_in-none}
+use Rattle.std.proofs.{Common.{◌≡◌, ℕ, ◌+◌, ◌-◌, List, [], ◌∷◌, ◌++◌, Result, Ok, Err, OnOk, IfErr, length, take, drop, sym, ap, subst, ◌∙◌, arith, append_assoc, take-append-drop}, lemmas.List.{take_rest}, Math.Seq.{take-add}}
+use Rattle.pmf_storelog.{specs.declared.fault.LogFault.{LogFault}, specs.declared.progress.Progress.{Progress}, specs.Separators.{records_in, parts_of, ended_parts, ended_records}, specs.LogText.{first_fault}, specs.Answers.{IsShown}, specs.Tally.{HasTaken}, specs.Progress.{HasParsed}, proofs.PartLemmas.{parts_of-nil, ended_is, ended_parts-open, parts_of-open, parts_of-ended, ended_records-ended}, proofs.LogLemmas.{first_fault-ended}, proofs.TallyLemmas.{records_in-none}}
 
 -- no bytes have one part, which is empty
 pub parsed_none : (run : ℕ) (progress : Progress) → HasTaken run [] progress.tally → progress.carry.items ≡ [] → HasParsed run [] progress

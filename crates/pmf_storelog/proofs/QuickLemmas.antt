@@ -1,19 +1,7 @@
 -- What the quick reading finds, it finds as the definition of a record says.
-use Rattle.pmf_event.proofs.Common.{◌≡◌, ℕ, ◌+◌, ◌-◌, length-drop, get_or, append_assoc, length-append, ◌^◌, ◌<◌, ◌≤◌, List, [], ◌∷◌, ◌++◌, Bool, true, false, rules, length, take, drop, refl, sym, ap, subst, ◌∙◌, arith, codes, Result, Ok, nat_eq, bytes_eq, starts_with, slice_split, starts_is, bytes_eq-Decides, Decides-eqb, AllDigits, digits_value, length-take-le, take-append-drop, take_all, take_at, drop_at, drop_more, All-from_recursion, slice_split_at}
-use Rattle.std.proofs.Math.Nat.{pow-le-pow_right}
-use Rattle.std.proofs.lemmas.Int.Digits.{digits_value-lt}
-use Rattle.pmf_storelog.specs.Numbers.{number_of}
-use Rattle.pmf_event.specs.declared.event.Event.{Event}
-use Rattle.pmf_event.specs.declared.event.Event.TheVariants.{Store, Flush, Fence, Persist, Ordered, TxAdd}
-use Rattle.pmf_event.specs.Prelude.{Extent, extent_of}
-use Rattle.pmf_storelog.specs.declared.record.Saying.TheVariants.{Happens, Skipped}
-use Rattle.pmf_storelog.specs.Records.{is_field_end, fields_of, record_of, saying_of, transaction_of, saying_of_fields, other_name, event_over, order_of_fields, order_of_texts, span_of_fields, span_of_texts, stored_span}
-use Rattle.pmf_storelog.specs.declared.fault.Cause.{Cause}
-use Rattle.pmf_storelog.specs.Separators.{is_separator, is_blank, parts_of}
-use Rattle.pmf_storelog.specs.Quick.{BeginsWithDigits, BeginsWithEvent, BeginsWithField, BeginsWithFields, BeginsWithNumber, BeginsWithPart, HasFields, IsClean}
-use Rattle.pmf_storelog.proofs.CanonicalLemmas.{numeral_of-digits, NoFieldEnd, no_field_end, fields_of-more, fields_of-last}
-use Rattle.pmf_storelog.proofs.PlainRecordLemmas.{IsPlain, records_in-plain}
-use Rattle.pmf_storelog.proofs.PlainLemmas.{no_separator, no_blank}
+use Rattle.std.{proofs.Common.{◌≡◌, ℕ, ◌+◌, ◌-◌, length-drop, get_or, append_assoc, length-append, ◌^◌, ◌<◌, ◌≤◌, List, [], ◌∷◌, ◌++◌, Bool, true, false, rules, length, take, drop, refl, sym, ap, subst, ◌∙◌, arith, codes, Result, Ok, nat_eq, bytes_eq, length-take-le, take-append-drop, take_all, take_at, drop_at}, specs.List.{starts_with, slice_split}, proofs.lemmas.Slice.Eq.{starts_is, bytes_eq-Decides}, proofs.lemmas.Bool.Decides.{Decides-eqb}, specs.Str.Parse.{AllDigits, digits_value}, proofs.lemmas.List.{drop_more}, proofs.lemmas.List.Elements.{All-from_recursion}, proofs.lemmas.List.Splits.{slice_split_at}, proofs.Math.Nat.{pow-le-pow_right}, proofs.lemmas.Int.Digits.{digits_value-lt}}
+use Rattle.pmf_storelog.{specs.Numbers.{number_of}, specs.declared.record.Saying.TheVariants.{Happens, Skipped}, specs.Records.{is_field_end, fields_of, record_of, saying_of, transaction_of, saying_of_fields, other_name, event_over, order_of_fields, order_of_texts, span_of_fields, span_of_texts, stored_span}, specs.declared.fault.Cause.{Cause}, specs.Separators.{is_separator, is_blank, parts_of}, specs.Quick.{BeginsWithDigits, BeginsWithEvent, BeginsWithField, BeginsWithFields, BeginsWithNumber, BeginsWithPart, HasFields, IsClean}, proofs.CanonicalLemmas.{numeral_of-digits, NoFieldEnd, no_field_end, fields_of-more, fields_of-last}, proofs.PlainRecordLemmas.{IsPlain, records_in-plain}, proofs.PlainLemmas.{no_separator, no_blank}}
+use Rattle.pmf_event.specs.{declared.event.Event.{Event}, declared.event.Event.TheVariants.{Store, Flush, Fence, Persist, Ordered, TxAdd}, Span.{Extent, extent_of}}
 
 -- fewer than 16 digits leave room for one more
 pub room_for_a_digit : (text : List ℕ) (count : ℕ) → count < 16 → count ≤ length text → AllDigits 16 (take count text) → digits_value 16 (take count text) < 1152921504606846976

@@ -1,23 +1,7 @@
 -- What is written of a section is a log that says the section alone.
-use Rattle.pmf_event.proofs.Common.{Equal, ◌≡◌, ℕ, suc, ◌+◌, ◌^◌, ◌<◌, ◌≤◌, true, false, ◌==◌, List, [], ◌∷◌, ◌++◌, None, Ok, length, map, take, All, refl, sym, ap, subst, ◌∙◌, arith, flat_map, ⊤, append_assoc, append-nil, length_push, take_all, Decides-eqb, nat_cmp_is}
-use Rattle.std.specs.Ordering.{match_ordering}
-use Rattle.pmf_event.specs.declared.event.Event.{Event}
-use Rattle.pmf_event.specs.declared.section.TheConstants.{EVENT_LIMIT}
-use Rattle.pmf_event.specs.Prelude.{Trace}
-use Rattle.pmf_storelog.specs.declared.fault.TheConstants.{LOG_LIMIT}
-use Rattle.pmf_storelog.specs.declared.record.Saying.TheVariants.{Happens, Enters}
-use Rattle.pmf_storelog.specs.Separators.{records_of}
-use Rattle.pmf_storelog.specs.Records.{record_of}
-use Rattle.pmf_storelog.specs.Sections.{with_event}
-use Rattle.pmf_storelog.specs.LogText.{current_of, current_at, entered_of, entered_among, numbers_of, events_in, numbered_events, numbered_among, skipped_of, first_fault, first_fault_among, refusal_after, or_else, number_after, section_named, sections_of, value_of, value_unless, fault_of, log_of}
-use Rattle.pmf_storelog.specs.Rising.{with_number}
-use Rattle.pmf_storelog.specs.Canonical.{canonical_text, line_of_event, line_of_marker}
-use Rattle.pmf_storelog.specs.Spelling.{AllValid}
-use Rattle.pmf_storelog.proofs.LogLemmas.{numbers_with, current_of-push, numbers_of-push, events_in-event, events_in-enter, skipped_of-event, skipped_of-enter, first_fault-push, fault_within-short}
-use Rattle.pmf_storelog.proofs.PlainLemmas.{text_of_event, text_of_marker}
-use Rattle.pmf_storelog.proofs.RoundTripLemmas.{EachValid, canonical_records, records_of-canonical, canonical-length}
-use Rattle.pmf_storelog.proofs.SpellingLemmas.{record_of-event, record_of-marker}
-use Rattle.pmf_storelog.specs.LogValue.{LogValue}
+use Rattle.std.{proofs.Common.{Equal, ◌≡◌, ℕ, suc, ◌+◌, ◌^◌, ◌<◌, ◌≤◌, true, false, ◌==◌, List, [], ◌∷◌, ◌++◌, None, Ok, length, map, take, All, refl, sym, ap, subst, ◌∙◌, arith, flat_map, append_assoc, append-nil, take_all}, specs.Prelude.{⊤}, proofs.lemmas.List.{length_push}, proofs.lemmas.Bool.Decides.{Decides-eqb}, specs.Cmp.{nat_cmp_is}, specs.Ordering.{match_ordering}}
+use Rattle.pmf_event.specs.{declared.event.Event.{Event}, declared.section.TheConstants.{EVENT_LIMIT}, Section.{Trace}}
+use Rattle.pmf_storelog.{specs.declared.fault.TheConstants.{LOG_LIMIT}, specs.declared.record.Saying.TheVariants.{Happens, Enters}, specs.Separators.{records_of}, specs.Records.{record_of}, specs.Sections.{with_event}, specs.LogText.{current_of, current_at, entered_of, entered_among, numbers_of, events_in, numbered_events, numbered_among, skipped_of, first_fault, first_fault_among, refusal_after, or_else, number_after, section_named, sections_of, value_of, value_unless, fault_of, log_of}, specs.Rising.{with_number}, specs.Canonical.{canonical_text, line_of_event, line_of_marker}, specs.Spelling.{AllValid}, proofs.LogLemmas.{numbers_with, current_of-push, numbers_of-push, events_in-event, events_in-enter, skipped_of-event, skipped_of-enter, first_fault-push, fault_within-short}, proofs.PlainLemmas.{text_of_event, text_of_marker}, proofs.RoundTripLemmas.{EachValid, canonical_records, records_of-canonical, canonical-length}, proofs.SpellingLemmas.{record_of-event, record_of-marker}, specs.LogValue.{LogValue}}
 
 -- these records say one section, with this number and these events
 record Says (number : ℕ) (events : List Event) (records : List (List ℕ)) : Type 0 where

@@ -1,19 +1,6 @@
 -- What a reader says of all bytes fed to it.
-use Rattle.pmf_event.proofs.Common.{◌≡◌, ◌≢◌, ℕ, ◌+◌, ◌-◌, ◌<◌, ◌≤◌, min, List, [], ◌∷◌, ◌++◌, Some, None, Result, Ok, Err, IfOk, IfErr, length, length-append, take, refl, sym, ap, subst, ◌∙◌, arith, append_assoc, take_all, take_min, take-append-add}
-use Rattle.pmf_storelog.specs.declared.fault.TheConstants.{LOG_LIMIT}
-use Rattle.pmf_storelog.specs.declared.fault.Cause.TheVariants.{TooLong}
-use Rattle.pmf_storelog.specs.declared.fault.LogFault.{LogFault}
-use Rattle.pmf_storelog.specs.declared.tally.Tally.{Tally}
-use Rattle.pmf_storelog.specs.declared.progress.Progress.{Progress}
-use Rattle.pmf_storelog.specs.Separators.{records_in, records_of, ended_records}
-use Rattle.pmf_storelog.specs.LogValue.{LogValue}
-use Rattle.pmf_storelog.specs.LogText.{skipped_of, sections_of, first_fault, shown_fault, fault_of, value_of, log_of, out_of_memory}
-use Rattle.pmf_storelog.specs.Answers.{IsShown, Answers}
-use Rattle.pmf_storelog.specs.Tally.{HasTaken}
-use Rattle.pmf_storelog.specs.Progress.{HasParsed, HasParsedTo}
-use Rattle.pmf_storelog.proofs.PartLemmas.{ended_parts-open, records_of-unfinished}
-use Rattle.pmf_storelog.proofs.LogLemmas.{shown_within-short, shown_within-long, shown_within-early, fault_within-short}
-use Rattle.pmf_storelog.proofs.ProgressLemmas.{parsed_open}
+use Rattle.std.proofs.{Common.{◌≡◌, ◌≢◌, ℕ, ◌+◌, ◌-◌, ◌<◌, ◌≤◌, min, List, [], ◌∷◌, ◌++◌, Some, None, Result, Ok, Err, IfOk, IfErr, length, length-append, take, refl, sym, ap, subst, ◌∙◌, arith, append_assoc, take_all}, lemmas.List.{take_min}, Math.Seq.{take-append-add}}
+use Rattle.pmf_storelog.{specs.declared.fault.TheConstants.{LOG_LIMIT}, specs.declared.fault.Cause.TheVariants.{TooLong}, specs.declared.fault.LogFault.{LogFault}, specs.declared.tally.Tally.{Tally}, specs.declared.progress.Progress.{Progress}, specs.Separators.{records_in, records_of, ended_records}, specs.LogValue.{LogValue}, specs.LogText.{skipped_of, sections_of, first_fault, shown_fault, fault_of, value_of, log_of, out_of_memory}, specs.Answers.{IsShown, Answers}, specs.Tally.{HasTaken}, specs.Progress.{HasParsed, HasParsedTo}, proofs.PartLemmas.{ended_parts-open, records_of-unfinished}, proofs.LogLemmas.{shown_within-short, shown_within-long, shown_within-early, fault_within-short}, proofs.ProgressLemmas.{parsed_open}}
 
 -- what lies within the limit
 pub taken_front : (limit : ℕ) (bytes piece : List ℕ) → length bytes ≤ limit → take limit (bytes ++ piece) ≡ bytes ++ take (min (length piece) (limit - length bytes)) piece

@@ -1,20 +1,7 @@
 -- The numbers of a log's sections rise, and are at most as many as it may have.
-use Rattle.pmf_event.proofs.Common.{◌≡◌, ℕ, zero, suc, ◌+◌, ◌<◌, ◌≤◌, List, [], ◌∷◌, ◌++◌, length, map, take, drop, refl, sym, ◌∙◌, ap, subst, arith, inl, inr, Option, Some, None, Result, Ok, Err, ◌⊎◌, length-take-le, take-append-drop, cases_lt, lt-ltb, le-ltb}
-use Rattle.pmf_event.specs.declared.event.Event.{Event}
-use Rattle.pmf_event.specs.declared.name.Name.{Name}
-use Rattle.pmf_event.specs.Prelude.{Trace}
-use Rattle.pmf_storelog.specs.declared.fault.Cause.{Cause}
-use Rattle.pmf_storelog.specs.declared.fault.LogFault.{LogFault}
-use Rattle.pmf_storelog.specs.declared.fault.TheConstants.{LOG_LIMIT, SECTION_LIMIT}
-use Rattle.pmf_storelog.specs.declared.record.Saying.{Saying}
-use Rattle.pmf_storelog.specs.declared.record.Saying.TheVariants.{Happens, Enters, Skipped}
-use Rattle.pmf_storelog.specs.LogText.{cause_after, current_at, current_of, entered, entered_among, entered_of, events_in, fault_at, fault_of, fault_within, first_fault, first_fault_among, log_of, number_after, numbers_of, or_else, reading_at, refusal_after, refusal_at, section_named, sections_of, shown_within, too_long, value_of, value_unless}
-use Rattle.pmf_storelog.specs.LogValue.{LogValue}
-use Rattle.pmf_storelog.specs.Separators.{records_of, ended_records}
-use Rattle.pmf_storelog.specs.Rising.{Rises, with_number, in_order}
-use Rattle.pmf_storelog.specs.Laws.{SectionNumbersRise}
-use Rattle.pmf_storelog.proofs.InOrderLemmas.{Has, has-insert, insert-present, in_order-rises}
-use Rattle.pmf_storelog.proofs.LogLemmas.{entered_among-append, in_order-entered, numbers_with}
+use Rattle.std.proofs.{Common.{◌≡◌, ℕ, zero, suc, ◌+◌, ◌<◌, ◌≤◌, List, [], ◌∷◌, ◌++◌, length, map, take, drop, refl, sym, ◌∙◌, ap, subst, arith, inl, inr, Option, Some, None, Result, Ok, Err, ◌⊎◌, length-take-le, take-append-drop, lt-ltb, le-ltb}, lemmas.Bool.{cases_lt}}
+use Rattle.pmf_event.specs.{declared.event.Event.{Event}, declared.name.Name.{Name}, Section.{Trace}}
+use Rattle.pmf_storelog.{specs.declared.fault.Cause.{Cause}, specs.declared.fault.LogFault.{LogFault}, specs.declared.fault.TheConstants.{LOG_LIMIT, SECTION_LIMIT}, specs.declared.record.Saying.{Saying}, specs.declared.record.Saying.TheVariants.{Happens, Enters, Skipped}, specs.LogText.{cause_after, current_at, current_of, entered, entered_among, entered_of, events_in, fault_at, fault_of, fault_within, first_fault, first_fault_among, log_of, number_after, numbers_of, or_else, reading_at, refusal_after, refusal_at, section_named, sections_of, shown_within, too_long, value_of, value_unless}, specs.LogValue.{LogValue}, specs.Separators.{records_of, ended_records}, specs.Rising.{Rises, with_number, in_order}, specs.Laws.{SectionNumbersRise}, proofs.InOrderLemmas.{Has, has-insert, insert-present, in_order-rises}, proofs.LogLemmas.{entered_among-append, in_order-entered, numbers_with}}
 
 -- at most as many numbers of sections as a log may have, and the current one among them if there is one
 record IsOpen (numbers : List ℕ) (current : ℕ) : Type 0 where

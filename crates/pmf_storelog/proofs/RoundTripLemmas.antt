@@ -1,14 +1,7 @@
 -- The records of the canonical text of a section, and its length.
-use Rattle.pmf_event.proofs.Common.{◌≡◌, ℕ, zero, suc, ◌*◌, ◌^◌, ◌<◌, ◌≤◌, List, [], ◌∷◌, ◌++◌, length, map, All, refl, ap, ◌∙◌, arith, length-append, flat_map, codes, ⊤}
-use Rattle.pmf_event.specs.declared.event.Event.{Event}
-use Rattle.pmf_event.specs.declared.event.Event.TheVariants.{Store, Flush, Fence, Persist, Ordered, Exclude, Include, TxBegin, TxAdd, TxEnd, CheckStart, CheckEnd}
-use Rattle.pmf_event.specs.Prelude.{Trace, Extent, IsValidExtent}
-use Rattle.pmf_storelog.specs.Separators.{records_of}
-use Rattle.pmf_storelog.specs.Canonical.{field_of, fields_of_span, fields_of_event, name_of, line_of_event, line_of_marker, canonical_text}
-use Rattle.pmf_storelog.specs.Spelling.{AllValid}
-use Rattle.pmf_storelog.proofs.CanonicalLemmas.{fits_of, hex-length}
-use Rattle.pmf_storelog.proofs.PlainRecordLemmas.{IsPlain, text_of_lines, records_of-lines}
-use Rattle.pmf_storelog.proofs.PlainLemmas.{spelled, text_of_event, text_of_event-plain, text_of_marker, text_of_marker-plain}
+use Rattle.std.{proofs.Common.{◌≡◌, ℕ, zero, suc, ◌*◌, ◌^◌, ◌<◌, ◌≤◌, List, [], ◌∷◌, ◌++◌, length, map, All, refl, ap, ◌∙◌, arith, length-append, flat_map, codes}, specs.Prelude.{⊤}}
+use Rattle.pmf_event.specs.{declared.event.Event.{Event}, declared.event.Event.TheVariants.{Store, Flush, Fence, Persist, Ordered, Exclude, Include, TxBegin, TxAdd, TxEnd, CheckStart, CheckEnd}, Section.{Trace}, Span.{Extent, IsValidExtent}}
+use Rattle.pmf_storelog.{specs.Separators.{records_of}, specs.Canonical.{field_of, fields_of_span, fields_of_event, name_of, line_of_event, line_of_marker, canonical_text}, specs.Spelling.{AllValid}, proofs.CanonicalLemmas.{fits_of, hex-length}, proofs.PlainRecordLemmas.{IsPlain, text_of_lines, records_of-lines}, proofs.PlainLemmas.{spelled, text_of_event, text_of_event-plain, text_of_marker, text_of_marker-plain}}
 
 -- the spans of each event keep the limits
 abbrev pub EachValid : List Event → Type 0

@@ -1,15 +1,7 @@
 -- What the text of an event reads as: the event.
-use Rattle.pmf_event.proofs.Common.{◌≡◌, ℕ, ◌+◌, ◌^◌, ◌<◌, true, false, ◌==◌, [], ◌∷◌, ◌++◌, refl, ap, ◌∙◌, arith, rules, append_assoc, codes, Ok, le-ltb, Decides-eqb}
-use Rattle.pmf_event.specs.declared.event.Event.{Event}
-use Rattle.pmf_event.specs.declared.event.Event.TheVariants.{Store, Flush, Fence, Persist, Ordered, Exclude, Include, TxBegin, TxAdd, TxEnd, CheckStart, CheckEnd}
-use Rattle.pmf_event.specs.declared.span.TheConstants.{SPAN_LIMIT, ADDRESS_LIMIT}
-use Rattle.pmf_event.specs.Prelude.{Extent, IsValidExtent, extent_of, address}
-use Rattle.pmf_storelog.specs.declared.record.Saying.TheVariants.{Happens, Enters}
-use Rattle.pmf_storelog.specs.Records.{record_of, saying_of, transaction_of, saying_of_fields, section_of_fields, section_of_number, event_over, span_of_fields, stored_span, order_of_fields, order_of_texts, fields_of}
-use Rattle.pmf_storelog.specs.Canonical.{field_of, fields_of_span, fields_of_event, name_of}
-use Rattle.pmf_storelog.proofs.CanonicalLemmas.{fits_of, address-NoFieldEnd, fields_of-more, fields_of-last, fields_of-span, span_of_texts-address, number_of-address}
-use Rattle.pmf_storelog.proofs.PlainLemmas.{text_of_event, text_of_marker}
-use Rattle.pmf_storelog.specs.Spelling.{AllValid}
+use Rattle.std.proofs.{Common.{◌≡◌, ℕ, ◌+◌, ◌^◌, ◌<◌, true, false, ◌==◌, [], ◌∷◌, ◌++◌, refl, ap, ◌∙◌, arith, rules, append_assoc, codes, Ok, le-ltb}, lemmas.Bool.Decides.{Decides-eqb}}
+use Rattle.pmf_event.specs.{declared.event.Event.{Event}, declared.event.Event.TheVariants.{Store, Flush, Fence, Persist, Ordered, Exclude, Include, TxBegin, TxAdd, TxEnd, CheckStart, CheckEnd}, declared.span.TheConstants.{SPAN_LIMIT, ADDRESS_LIMIT}, Span.{Extent, IsValidExtent, extent_of}, Address.{address}}
+use Rattle.pmf_storelog.{specs.declared.record.Saying.TheVariants.{Happens, Enters}, specs.Records.{record_of, saying_of, transaction_of, saying_of_fields, section_of_fields, section_of_number, event_over, span_of_fields, stored_span, order_of_fields, order_of_texts, fields_of}, specs.Canonical.{field_of, fields_of_span, fields_of_event, name_of}, proofs.CanonicalLemmas.{fits_of, address-NoFieldEnd, fields_of-more, fields_of-last, fields_of-span, span_of_texts-address, number_of-address}, proofs.PlainLemmas.{text_of_event, text_of_marker}, specs.Spelling.{AllValid}}
 
 pub extent_of-valid : (s : Extent) → IsValidExtent s.first s.size → extent_of s.first s.size ≡ Ok s
 extent_of-valid s valid =

@@ -1,5 +1,5 @@
 -- What the first byte that passes a test says of the parts of a list, and the parts of two lists joined.
-use Rattle.pmf_event.proofs.Common.{◌≡◌, ℕ, ◌+◌, ◌<◌, Bool, true, false, cond, List, [], ◌∷◌, ◌++◌, Some, None, length, take, drop, get_or, All, refl, sym, ap, subst, ◌∙◌, arith, slice_split, onto_first, position_or_len, take_more, get_or-take, length-take-le, All-from_get_or, slice_split_none, slice_split_first, slice_split_at, position_or_len_is, false_from_ne_true}
+use Rattle.std.{proofs.Common.{◌≡◌, ℕ, ◌+◌, ◌<◌, Bool, true, false, cond, List, [], ◌∷◌, ◌++◌, Some, None, length, take, drop, get_or, All, refl, sym, ap, subst, ◌∙◌, arith, get_or-take, length-take-le}, specs.List.{slice_split, onto_first, position_or_len}, proofs.lemmas.List.{take_more}, proofs.lemmas.List.Elements.{All-from_get_or}, proofs.lemmas.List.Splits.{slice_split_none, slice_split_first, slice_split_at}, proofs.lemmas.List.Sums.{position_or_len_is}, proofs.lemmas.Bool.{false_from_ne_true}}
 use Rattle.memchr.specs.Find.{IsFirstByte}
 
 -- what isn't true is false

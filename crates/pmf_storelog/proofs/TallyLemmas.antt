@@ -1,22 +1,7 @@
 -- The tally with one more record, and with one more part.
 use Rattle.std.proofs.Common.{◌≡◌, ◌≢◌, ℕ, true, false, ◌+◌, ◌<◌, ◌≤◌, List, [], ◌∷◌, ◌++◌, Some, None, Result, Ok, Err, OnOk, IsOk, IfErr, length, length-append, refl, sym, ◌∙◌, arith, lt-ltb, le-ltb, eq-eqb, ne_eqb, append-nil}
-use Rattle.pmf_event.specs.declared.event.Event.{Event}
-use Rattle.pmf_event.specs.declared.section.TheConstants.{EVENT_LIMIT}
-use Rattle.pmf_storelog.specs.declared.fault.Cause.{Cause}
-use Rattle.pmf_storelog.specs.declared.fault.Cause.TheVariants.{OutOfMemory, TooManyEvents, TooManySections}
-use Rattle.pmf_storelog.specs.declared.fault.LogFault.{LogFault}
-use Rattle.pmf_storelog.specs.declared.fault.TheConstants.{SECTION_LIMIT}
-use Rattle.pmf_storelog.specs.declared.record.Saying.TheVariants.{Happens, Enters, Skipped}
-use Rattle.pmf_storelog.specs.declared.tally.Tally.{Tally}
-use Rattle.pmf_storelog.specs.Separators.{trimmed, records_in}
-use Rattle.pmf_storelog.specs.Records.{record_of}
-use Rattle.pmf_storelog.specs.LogText.{current_at, current_of, numbered_among, numbered_events, entered_among, entered_of, events_in, numbers_of, skipped_of, first_fault, first_fault_among, refusal_after, cause_after, fault_at, out_of_memory}
-use Rattle.pmf_storelog.specs.Rising.{with_number, in_order}
-use Rattle.pmf_storelog.specs.Answers.{IsShown}
-use Rattle.pmf_storelog.specs.Sections.{HasSections, with_event}
-use Rattle.pmf_storelog.specs.Tally.{HasTaken, AddsRecord, AddsSkipped, IsFaultFor}
-use Rattle.pmf_storelog.proofs.LogLemmas.{current_of-push, numbers_of-push, events_in-event, events_in-enter, events_in-nothing, skipped_of-event, skipped_of-enter, skipped_of-nothing, first_fault-push}
-use Rattle.pmf_storelog.proofs.SectionLemmas.{sections_as}
+use Rattle.pmf_event.specs.declared.{event.Event.{Event}, section.TheConstants.{EVENT_LIMIT}}
+use Rattle.pmf_storelog.{specs.declared.fault.Cause.{Cause}, specs.declared.fault.Cause.TheVariants.{OutOfMemory, TooManyEvents, TooManySections}, specs.declared.fault.LogFault.{LogFault}, specs.declared.fault.TheConstants.{SECTION_LIMIT}, specs.declared.record.Saying.TheVariants.{Happens, Enters, Skipped}, specs.declared.tally.Tally.{Tally}, specs.Separators.{trimmed, records_in}, specs.Records.{record_of}, specs.LogText.{current_at, current_of, numbered_among, numbered_events, entered_among, entered_of, events_in, numbers_of, skipped_of, first_fault, first_fault_among, refusal_after, cause_after, fault_at, out_of_memory}, specs.Rising.{with_number, in_order}, specs.Answers.{IsShown}, specs.Sections.{HasSections, with_event}, specs.Tally.{HasTaken, AddsRecord, AddsSkipped, IsFaultFor}, proofs.LogLemmas.{current_of-push, numbers_of-push, events_in-event, events_in-enter, events_in-nothing, skipped_of-event, skipped_of-enter, skipped_of-nothing, first_fault-push}, proofs.SectionLemmas.{sections_as}}
 
 numbers_of-nil : numbers_of [] ≡ []
 unfolding numbers_of entered_of entered_among

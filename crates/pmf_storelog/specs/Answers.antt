@@ -1,8 +1,6 @@
 -- What a call answers, held against what is defined, want of memory aside. Defined here.
 use Rattle.std.specs.Prelude.{◌≡◌, ◌≢◌, Option, Some, Result, Ok, Err, MatchResult}
-use Rattle.pmf_storelog.specs.LogValue.{LogValue}
-use Rattle.pmf_storelog.specs.LogText.{out_of_memory}
-use Rattle.pmf_storelog.specs.declared.fault.LogFault.{LogFault}
+use Rattle.pmf_storelog.specs.{LogValue.{LogValue}, LogText.{out_of_memory}, declared.fault.LogFault.{LogFault}}
 
 -- the fault that is answered is the one that is shown, or want of memory
 abbrev pub IsShown : LogFault → Option LogFault → Type 0

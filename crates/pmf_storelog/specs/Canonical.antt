@@ -1,9 +1,7 @@
 -- The canonical text of a section: its marker, and then one text line for each event, every number
 -- written as an address is, and the value of a store as 0x0. Defined here.
 use Rattle.std.specs.Prelude.{ℕ, List, [], ◌++◌, codes, flat_map}
-use Rattle.pmf_event.specs.declared.event.Event.{Event}
-use Rattle.pmf_event.specs.declared.event.Event.TheVariants.{Store, Flush, Fence, Persist, Ordered, Exclude, Include, TxBegin, TxAdd, TxEnd, CheckStart, CheckEnd}
-use Rattle.pmf_event.specs.Prelude.{address, Trace, Extent}
+use Rattle.pmf_event.specs.{declared.event.Event.{Event}, declared.event.Event.TheVariants.{Store, Flush, Fence, Persist, Ordered, Exclude, Include, TxBegin, TxAdd, TxEnd, CheckStart, CheckEnd}, Address.{address}, Section.{Trace}, Span.{Extent}}
 
 -- a field, and the semicolon before it
 unfoldable pub field_of : ℕ → List ℕ

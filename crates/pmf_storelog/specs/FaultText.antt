@@ -1,9 +1,7 @@
 -- How a fault is told. ASCII. Defined here.
 use Rattle.std.specs.Prelude.{ℕ, ◌==◌, List, ◌++◌, codes, if◌then◌else◌, decimal}
 use Rattle.pmf_event.specs.Span.{words_of_fault}
-use Rattle.pmf_storelog.specs.declared.fault.Cause.{Cause}
-use Rattle.pmf_storelog.specs.declared.fault.Cause.TheVariants.{TooFewFields, BadNumber, BadSpan, UnknownMarker, TooManySections, TooManyEvents, TooLong, OutOfMemory, Spent}
-use Rattle.pmf_storelog.specs.declared.fault.LogFault.{LogFault}
+use Rattle.pmf_storelog.specs.declared.fault.{Cause.{Cause}, Cause.TheVariants.{TooFewFields, BadNumber, BadSpan, UnknownMarker, TooManySections, TooManyEvents, TooLong, OutOfMemory, Spent}, LogFault.{LogFault}}
 
 -- the words of a cause
 abbrev pub words_of_cause : Cause → List ℕ

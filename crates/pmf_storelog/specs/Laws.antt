@@ -1,9 +1,7 @@
 -- Laws of the numbers of a log's sections, which the empty public functions prove.
 use Rattle.std.specs.Prelude.{◌≡◌, ◌↔◌, ℕ, List, map, Contains, Ok}
 use Rattle.pmf_event.specs.Section.{Trace}
-use Rattle.pmf_storelog.specs.Rising.{Rises, in_order}
-use Rattle.pmf_storelog.specs.LogText.{log_of}
-use Rattle.pmf_storelog.specs.LogValue.{LogValue}
+use Rattle.pmf_storelog.specs.{Rising.{Rises, in_order}, LogText.{log_of}, LogValue.{LogValue}}
 
 -- the numbers of the sections that a log without a fault says rise: each is below all that follow
 abbrev pub SectionNumbersRise : Type 0

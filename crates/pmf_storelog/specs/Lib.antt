@@ -19,4 +19,3 @@ pub mod Reader
 pub mod Canonical
 pub mod Spelling
 pub mod Lines
-pub mod Prelude

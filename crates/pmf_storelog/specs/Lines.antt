@@ -1,15 +1,7 @@
 -- What a text line says that is to be one event. Defined here.
-use Rattle.std.specs.Prelude.{ℕ, Bool, false, nat_le, List, [], ◌∷◌, length, Result, Ok, Err, if◌then◌else◌, codes, bytes_eq}
-use Rattle.std.specs.List.{list_any}
+use Rattle.std.specs.{Prelude.{ℕ, Bool, false, nat_le, List, [], ◌∷◌, length, Result, Ok, Err, if◌then◌else◌, codes, bytes_eq}, List.{list_any}}
 use Rattle.pmf_event.specs.declared.event.Event.{Event}
-use Rattle.pmf_storelog.specs.declared.fault.TheConstants.{LOG_LIMIT}
-use Rattle.pmf_storelog.specs.declared.fault.Cause.{Cause}
-use Rattle.pmf_storelog.specs.declared.line.LineFault.{LineFault}
-use Rattle.pmf_storelog.specs.declared.line.LineFault.TheVariants.{NoEvent, Refused}
-use Rattle.pmf_storelog.specs.declared.record.Saying.{Saying}
-use Rattle.pmf_storelog.specs.declared.record.Saying.TheVariants.{Happens, Enters, Skipped}
-use Rattle.pmf_storelog.specs.Separators.{is_separator, trimmed}
-use Rattle.pmf_storelog.specs.Records.{fields_of, record_of}
+use Rattle.pmf_storelog.specs.{declared.fault.TheConstants.{LOG_LIMIT}, declared.fault.Cause.{Cause}, declared.line.LineFault.{LineFault}, declared.line.LineFault.TheVariants.{NoEvent, Refused}, declared.record.Saying.{Saying}, declared.record.Saying.TheVariants.{Happens, Enters, Skipped}, Separators.{is_separator, trimmed}, Records.{fields_of, record_of}}
 
 -- whether the text line has no more bytes than a log may have, and none of them is a separator
 unfoldable pub is_one_record : List ℕ → Bool

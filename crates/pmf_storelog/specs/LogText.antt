@@ -1,18 +1,7 @@
 -- What the bytes of a log say: its sections, or its first fault. Defined here.
 use Rattle.std.specs.Prelude.{◌≡◌, ℕ, zero, suc, ◌+◌, Bool, true, false, nat_lt, ◌==◌, List, [], ◌∷◌, ◌++◌, length, take, map, filter, slice_index_or, Option, Some, None, Result, Ok, Err, if◌then◌else◌, count_by}
-use Rattle.pmf_event.specs.declared.event.Event.{Event}
-use Rattle.pmf_event.specs.declared.section.TheConstants.{EVENT_LIMIT}
-use Rattle.pmf_event.specs.Prelude.{Trace}
-use Rattle.pmf_storelog.specs.declared.fault.TheConstants.{LOG_LIMIT, SECTION_LIMIT}
-use Rattle.pmf_storelog.specs.declared.fault.Cause.{Cause}
-use Rattle.pmf_storelog.specs.declared.fault.Cause.TheVariants.{TooManySections, TooManyEvents, TooLong, OutOfMemory, Spent}
-use Rattle.pmf_storelog.specs.declared.fault.LogFault.{LogFault}
-use Rattle.pmf_storelog.specs.declared.record.Saying.{Saying}
-use Rattle.pmf_storelog.specs.declared.record.Saying.TheVariants.{Happens, Enters, Skipped}
-use Rattle.pmf_storelog.specs.Separators.{records_of, ended_records}
-use Rattle.pmf_storelog.specs.Records.{record_of}
-use Rattle.pmf_storelog.specs.Rising.{in_order}
-use Rattle.pmf_storelog.specs.LogValue.{LogValue}
+use Rattle.pmf_event.specs.{declared.event.Event.{Event}, declared.section.TheConstants.{EVENT_LIMIT}, Section.{Trace}}
+use Rattle.pmf_storelog.specs.{declared.fault.TheConstants.{LOG_LIMIT, SECTION_LIMIT}, declared.fault.Cause.{Cause}, declared.fault.Cause.TheVariants.{TooManySections, TooManyEvents, TooLong, OutOfMemory, Spent}, declared.fault.LogFault.{LogFault}, declared.record.Saying.{Saying}, declared.record.Saying.TheVariants.{Happens, Enters, Skipped}, Separators.{records_of, ended_records}, Records.{record_of}, Rising.{in_order}, LogValue.{LogValue}}
 
 -- want of memory, which is no record's
 abbrev pub out_of_memory : LogFault

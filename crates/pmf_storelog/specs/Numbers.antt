@@ -1,8 +1,5 @@
 -- How a number is spelled in a log. Defined here.
-use Rattle.std.specs.Prelude.{ℕ, ◌^◌, Bool, nat_lt, nat_le, nat_eq, ◌&&◌, List, length, take, drop, Option, Some, None, if◌then◌else◌, codes}
-use Rattle.std.specs.List.{list_all, prefix_len, starts_with}
-use Rattle.std.specs.Char.{digit_value}
-use Rattle.std.specs.Str.Parse.{digits_value}
+use Rattle.std.specs.{Prelude.{ℕ, ◌^◌, Bool, nat_lt, nat_le, nat_eq, ◌&&◌, List, length, take, drop, Option, Some, None, if◌then◌else◌, codes}, List.{list_all, prefix_len, starts_with}, Char.{digit_value}, Str.Parse.{digits_value}}
 
 -- whether the byte is a digit in this radix, letters of either case
 abbrev pub is_digit_in : ℕ → ℕ → Bool

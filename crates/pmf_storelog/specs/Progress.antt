@@ -1,8 +1,6 @@
 -- What a reader keeps of the bytes that it has read. Defined here.
 use Rattle.std.specs.Prelude.{◌≡◌, ℕ, List, [], ◌∷◌, ◌++◌}
-use Rattle.pmf_storelog.specs.Separators.{parts_of, ended_parts, ended_records}
-use Rattle.pmf_storelog.specs.Tally.{HasTaken}
-use Rattle.pmf_storelog.specs.declared.progress.Progress.{Progress}
+use Rattle.pmf_storelog.specs.{Separators.{parts_of, ended_parts, ended_records}, Tally.{HasTaken}, declared.progress.Progress.{Progress}}
 
 -- what is kept is what these bytes of the run give: the ended records' tally, and the unfinished part
 pub record HasParsed (run : ℕ) (bytes : List ℕ) (progress : Progress) : Type 0 where

@@ -1,13 +1,7 @@
 -- What the quick reading of a record promises of what it has read. Defined here.
-use Rattle.std.specs.Prelude.{◌≡◌, ℕ, ◌+◌, ◌<◌, ◌≤◌, List, [], ◌∷◌, ◌++◌, false, length, take, Some, Result, Ok}
-use Rattle.std.specs.List.{AllByRecursion}
-use Rattle.std.specs.Str.Parse.{AllDigits}
+use Rattle.std.specs.{Prelude.{◌≡◌, ℕ, ◌+◌, ◌<◌, ◌≤◌, List, [], ◌∷◌, ◌++◌, false, length, take, Some, Result, Ok}, List.{AllByRecursion}, Str.Parse.{AllDigits}}
 use Rattle.pmf_event.specs.declared.event.Event.{Event}
-use Rattle.pmf_storelog.specs.declared.fault.Cause.{Cause}
-use Rattle.pmf_storelog.specs.declared.record.Saying.TheVariants.{Happens}
-use Rattle.pmf_storelog.specs.Numbers.{numeral_of, number_of}
-use Rattle.pmf_storelog.specs.Records.{fields_of, record_of}
-use Rattle.pmf_storelog.specs.Separators.{is_blank, is_separator, parts_of, records_in}
+use Rattle.pmf_storelog.specs.{declared.fault.Cause.{Cause}, declared.record.Saying.TheVariants.{Happens}, Numbers.{numeral_of, number_of}, Records.{fields_of, record_of}, Separators.{is_blank, is_separator, parts_of, records_in}}
 
 -- the text begins with so many hexadecimal digits, which spell the value
 pub record BeginsWithDigits (text : List ℕ) (value count : ℕ) : Type 0 where

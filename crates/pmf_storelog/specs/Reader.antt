@@ -1,7 +1,6 @@
 -- What a reader in mid-log stands for. Defined here.
 use Rattle.std.specs.Prelude.{◌≡◌, ℕ, true, false, List, length}
-use Rattle.pmf_storelog.specs.Progress.{HasParsed}
-use Rattle.pmf_storelog.specs.declared.reader.LogReader.{LogReader}
+use Rattle.pmf_storelog.specs.{Progress.{HasParsed}, declared.reader.LogReader.{LogReader}}
 
 -- the reader, which has refused nothing, stands for these bytes of the run
 pub record HasRead (run : ℕ) (bytes : List ℕ) (reader : LogReader) : Type 0 where

@@ -1,15 +1,7 @@
 -- What one record says: an event, a section's number, nothing for this checker, or why it is refused. Defined here.
-use Rattle.std.specs.Prelude.{ℕ, Bool, nat_eq, ◌==◌, List, [], ◌∷◌, Option, Some, None, Result, Ok, Err, if◌then◌else◌, codes, bytes_eq}
-use Rattle.std.specs.List.{slice_split, starts_with}
-use Rattle.pmf_event.specs.declared.event.Event.{Event}
-use Rattle.pmf_event.specs.declared.event.Event.TheVariants.{Store, Flush, Fence, Persist, Ordered, Exclude, Include, TxBegin, TxAdd, TxEnd, CheckStart, CheckEnd}
-use Rattle.pmf_event.specs.declared.span.SpanFault.{SpanFault}
-use Rattle.pmf_event.specs.Prelude.{Extent, extent_of}
-use Rattle.pmf_storelog.specs.declared.record.Saying.{Saying}
-use Rattle.pmf_storelog.specs.declared.record.Saying.TheVariants.{Happens, Enters, Skipped}
-use Rattle.pmf_storelog.specs.declared.fault.Cause.{Cause}
-use Rattle.pmf_storelog.specs.declared.fault.Cause.TheVariants.{TooFewFields, BadNumber, BadSpan, UnknownMarker}
-use Rattle.pmf_storelog.specs.Numbers.{number_of}
+use Rattle.std.specs.{Prelude.{ℕ, Bool, nat_eq, ◌==◌, List, [], ◌∷◌, Option, Some, None, Result, Ok, Err, if◌then◌else◌, codes, bytes_eq}, List.{slice_split, starts_with}}
+use Rattle.pmf_event.specs.{declared.event.Event.{Event}, declared.event.Event.TheVariants.{Store, Flush, Fence, Persist, Ordered, Exclude, Include, TxBegin, TxAdd, TxEnd, CheckStart, CheckEnd}, declared.span.SpanFault.{SpanFault}, Span.{Extent, extent_of}}
+use Rattle.pmf_storelog.specs.{declared.record.Saying.{Saying}, declared.record.Saying.TheVariants.{Happens, Enters, Skipped}, declared.fault.Cause.{Cause}, declared.fault.Cause.TheVariants.{TooFewFields, BadNumber, BadSpan, UnknownMarker}, Numbers.{number_of}}
 
 -- whether the byte is the semicolon that ends a field
 abbrev pub is_field_end : ℕ → Bool

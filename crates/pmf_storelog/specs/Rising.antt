@@ -1,7 +1,5 @@
 -- Numbers that rise, and the numbers of a list in order. Defined here.
-use Rattle.std.specs.Prelude.{ℕ, ◌<◌, List, [], ◌∷◌}
-use Rattle.std.specs.Ordering.{nat_cmp}
-use Rattle.std.specs.BTreeSet.{insert_key}
+use Rattle.std.specs.{Prelude.{ℕ, ◌<◌, List, [], ◌∷◌}, Ordering.{nat_cmp}, BTreeSet.{insert_key}}
 
 -- the number is below each of these
 abbrev pub IsBelow : ℕ → List ℕ → Type 0

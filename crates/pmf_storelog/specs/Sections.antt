@@ -1,13 +1,8 @@
 -- What the open sections of a run stand for: rising numbers, the events of each, and the current number.
 -- Defined here.
-use Rattle.std.specs.Prelude.{◌≡◌, ℕ, ◌<◌, List, [], ◌++◌, ◌∷◌, ◌==◌, if◌then◌else◌, length, slice_index_or, Some, None, Option}
-use Rattle.std.specs.Ordering.{nat_cmp}
-use Rattle.std.specs.BTreeMap.{get, keys, insert_entry, IsOrdered, Updates}
-use Rattle.pmf_event.specs.declared.event.Event.{Event}
-use Rattle.pmf_event.specs.Prelude.{Trace}
-use Rattle.pmf_storelog.specs.declared.fault.TheConstants.{SECTION_LIMIT}
-use Rattle.pmf_storelog.specs.LogText.{section_named}
-use Rattle.pmf_storelog.specs.declared.sections.OpenSections.{OpenSections}
+use Rattle.std.specs.{Prelude.{◌≡◌, ℕ, ◌<◌, List, [], ◌++◌, ◌∷◌, ◌==◌, if◌then◌else◌, length, slice_index_or, Some, None, Option}, Ordering.{nat_cmp}, BTreeMap.{get, keys, insert_entry, IsOrdered, Updates}}
+use Rattle.pmf_event.specs.{declared.event.Event.{Event}, Section.{Trace}}
+use Rattle.pmf_storelog.specs.{declared.fault.TheConstants.{SECTION_LIMIT}, LogText.{section_named}, declared.sections.OpenSections.{OpenSections}}
 
 -- the section stands at this place of the list
 abbrev pub StandsAt : Trace → List Trace → ℕ → Type 0

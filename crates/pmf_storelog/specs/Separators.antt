@@ -1,6 +1,5 @@
 -- How the bytes of a log are split into records. Defined here.
-use Rattle.std.specs.Prelude.{ℕ, ◌-◌, Bool, nat_lt, ◌||◌, ◌==◌, List, length, take, drop, map, filter}
-use Rattle.std.specs.List.{slice_split, prefix_len, suffix_len}
+use Rattle.std.specs.{Prelude.{ℕ, ◌-◌, Bool, nat_lt, ◌||◌, ◌==◌, List, length, take, drop, map, filter}, List.{slice_split, prefix_len, suffix_len}}
 
 -- whether the byte ends a record: `|`, line feed or carriage return
 abbrev pub is_separator : ℕ → Bool

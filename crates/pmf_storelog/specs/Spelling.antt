@@ -1,6 +1,5 @@
 -- Which events a log can spell: those whose spans keep the limits. Defined here.
-use Rattle.pmf_event.specs.declared.event.Event.{Event}
-use Rattle.pmf_event.specs.Prelude.{Extent, IsValidExtent, IsValidEvent}
+use Rattle.pmf_event.specs.{declared.event.Event.{Event}, Span.{Extent, IsValidExtent}, Section.{IsValidEvent}}
 
 -- the span keeps the limits of spans
 abbrev pub IsValid : Extent → Type 0

@@ -1,11 +1,6 @@
 -- What the tally of a reader stands for: a list of records, none of them faulty. Defined here.
 use Rattle.std.specs.Prelude.{◌≡◌, ◌≢◌, ℕ, ◌+◌, List, length, None, Result, Ok, Err}
-use Rattle.pmf_storelog.specs.LogText.{events_in, numbers_of, current_of, skipped_of, first_fault}
-use Rattle.pmf_storelog.specs.Sections.{HasSections}
-use Rattle.pmf_storelog.specs.declared.fault.Cause.{Cause}
-use Rattle.pmf_storelog.specs.declared.fault.Cause.TheVariants.{OutOfMemory}
-use Rattle.pmf_storelog.specs.declared.fault.LogFault.{LogFault}
-use Rattle.pmf_storelog.specs.declared.tally.Tally.{Tally}
+use Rattle.pmf_storelog.specs.{LogText.{events_in, numbers_of, current_of, skipped_of, first_fault}, Sections.{HasSections}, declared.fault.Cause.{Cause}, declared.fault.Cause.TheVariants.{OutOfMemory}, declared.fault.LogFault.{LogFault}, declared.tally.Tally.{Tally}}
 
 -- the tally is that of these records of the run, none of them faulty
 pub record HasTaken (run : ℕ) (records : List (List ℕ)) (tally : Tally) : Type 0 where

@@ -1,9 +1,7 @@
 //! The fields of a record.
 
 ghost use Rattle.std.specs.Prelude.{◌≡◌, ◌+◌, ◌<◌, [], ◌∷◌, length, take, drop, MatchResult, MatchOption, IfSome, option_copied};
-ghost use Rattle.pmf_storelog.specs.Fields.{fields_left};
-ghost use Rattle.pmf_storelog.specs.Records.{fields_of};
-ghost use Rattle.pmf_storelog.specs.declared.fault.Cause.TheVariants.{TooFewFields};
+ghost use Rattle.pmf_storelog.specs.{Fields.{fields_left}, Records.{fields_of}, declared.fault.Cause.TheVariants.{TooFewFields}};
 
 use crate::fault::Cause;
 use memchr::memchr;

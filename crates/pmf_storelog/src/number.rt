@@ -1,7 +1,6 @@
 //! The numbers that a text spells.
 
-ghost use Rattle.std.specs.Prelude.{◌≡◌, ◌<◌, ◌≤◌, None, Some, MatchOption};
-ghost use Rattle.std.specs.Char.{digit_value};
+ghost use Rattle.std.specs.{Prelude.{◌≡◌, ◌<◌, ◌≤◌, None, Some, MatchOption}, Char.{digit_value}};
 ghost use Rattle.pmf_storelog.specs.Numbers.{digits_in_front, number_in_front, number_of, numeral_of};
 
 /// The number that the text spells, or None where it spells none below 2^64.

@@ -1,8 +1,7 @@
 //! How far a log was read: the records that ended, and the one that a piece cut.
 
 ghost use Rattle.std.specs.Prelude.{◌≡◌, ◌+◌, ◌<◌, ◌≤◌, ◌^◌, ℕ, List, [], ◌∷◌, ◌++◌, length, take, MatchOption, OnOk, IfOk, IfErr, IfSome};
-ghost use Rattle.pmf_storelog.specs.Quick.{SaysAlone};
-ghost use Rattle.pmf_storelog.specs.Separators.{ended_records, parts_of};
+ghost use Rattle.pmf_storelog.specs.{Quick.{SaysAlone}, Separators.{ended_records, parts_of}};
 
 use crate::fault::LogFault;
 use crate::quick::read_part;
@@ -19,9 +18,7 @@ pub(crate) struct Progress {
 }
 
 impl Progress {
-    ghost use Rattle.pmf_storelog.specs.LogText.{first_fault, out_of_memory};
-    ghost use Rattle.pmf_storelog.specs.Answers.{IsShown};
-    ghost use Rattle.pmf_storelog.specs.Progress.{HasParsed, HasParsedTo};
+    ghost use Rattle.pmf_storelog.specs.{LogText.{first_fault, out_of_memory}, Answers.{IsShown}, Progress.{HasParsed, HasParsedTo}};
 
     /// What no bytes give. Takes no memory.
     pub(crate) fn new(alloc: Global, run: u64) -> Progress

@@ -2,10 +2,7 @@
 //! nothing, the plain reading decides.
 
 ghost use Rattle.std.specs.Prelude.{◌≡◌, ◌≤◌, ◌∷◌, length, Ok, IfSome};
-ghost use Rattle.pmf_storelog.specs.Quick.{BeginsWithDigits, BeginsWithEvent, BeginsWithField, BeginsWithFields, BeginsWithNumber, BeginsWithPart};
-ghost use Rattle.pmf_storelog.specs.Records.{order_of_fields, record_of, span_of_fields, stored_span};
-ghost use Rattle.pmf_storelog.specs.Separators.{is_separator};
-ghost use Rattle.pmf_storelog.specs.declared.record.Saying.TheVariants.{Happens};
+ghost use Rattle.pmf_storelog.specs.{Quick.{BeginsWithDigits, BeginsWithEvent, BeginsWithField, BeginsWithFields, BeginsWithNumber, BeginsWithPart}, Records.{order_of_fields, record_of, span_of_fields, stored_span}, Separators.{is_separator}, declared.record.Saying.TheVariants.{Happens}};
 
 use crate::number::digit_of;
 use crate::record::Saying;

@@ -24,9 +24,7 @@ pub struct LogReader {
 }
 
 impl LogReader {
-    ghost use Rattle.pmf_storelog.specs.LogText.{IsFaultOfAll, log_of, out_of_memory, shown_fault, spent};
-    ghost use Rattle.pmf_storelog.specs.Answers.{Answers, IsShown};
-    ghost use Rattle.pmf_storelog.specs.Reader.{HasRead, IsSpent};
+    ghost use Rattle.pmf_storelog.specs.{LogText.{IsFaultOfAll, log_of, out_of_memory, shown_fault, spent}, Answers.{Answers, IsShown}, Reader.{HasRead, IsSpent}};
 
     /// A reader of the run's log, of which nothing is fed yet. Takes no memory.
     pub fn new(alloc: Global, run: u64) -> LogReader

@@ -1,7 +1,6 @@
 //! A log in one piece.
 
-ghost use Rattle.pmf_storelog.specs.LogText.{log_of};
-ghost use Rattle.pmf_storelog.specs.Answers.{Answers};
+ghost use Rattle.pmf_storelog.specs.{LogText.{log_of}, Answers.{Answers}};
 
 use crate::fault::LogFault;
 use crate::log::Log;

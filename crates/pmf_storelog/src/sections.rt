@@ -1,11 +1,7 @@
 //! The sections of a run that have begun.
 
-ghost use Rattle.std.specs.Prelude.{◌≡◌, ◌≢◌, ◌<◌, ◌≤◌, ℕ, List, [], ◌∷◌, ◌++◌, length, map, slice_index_or, None, OnOk, IfOk, IfErr};
-ghost use Rattle.std.specs.Option.{ForSome};
-ghost use Rattle.std.specs.Ordering.{nat_cmp};
-ghost use Rattle.std.specs.BTreeMap.{get, IsOrdered};
-ghost use Rattle.pmf_event.specs.declared.section.TheConstants.{EVENT_LIMIT};
-ghost use Rattle.pmf_event.specs.Prelude.{Trace};
+ghost use Rattle.std.specs.{Prelude.{◌≡◌, ◌≢◌, ◌<◌, ◌≤◌, ℕ, List, [], ◌∷◌, ◌++◌, length, map, slice_index_or, None, OnOk, IfOk, IfErr}, Option.{ForSome}, Ordering.{nat_cmp}, BTreeMap.{get, IsOrdered}};
+ghost use Rattle.pmf_event.specs.{declared.section.TheConstants.{EVENT_LIMIT}, Section.{Trace}};
 ghost use Rattle.pmf_storelog.specs.declared.fault.TheConstants.{SECTION_LIMIT};
 
 use crate::fault::{Cause, SECTION_LIMIT};
@@ -33,10 +29,7 @@ pub(crate) struct OpenSections {
 
 impl OpenSections {
     ghost use Rattle.pmf_event.specs.declared.event.Event.{Event};
-    ghost use Rattle.pmf_storelog.specs.LogText.{section_named};
-    ghost use Rattle.pmf_storelog.specs.Rising.{with_number};
-    ghost use Rattle.pmf_storelog.specs.Sections.{HasSections, Opens, with_event};
-    ghost use Rattle.pmf_storelog.specs.declared.fault.Cause.TheVariants.{OutOfMemory, TooManyEvents, TooManySections};
+    ghost use Rattle.pmf_storelog.specs.{LogText.{section_named}, Rising.{with_number}, Sections.{HasSections, Opens, with_event}, declared.fault.Cause.TheVariants.{OutOfMemory, TooManyEvents, TooManySections}};
 
     /// No section yet. Takes no memory.
     pub(crate) fn new(alloc: Global, run: u64) -> OpenSections

@@ -23,13 +23,7 @@ pub(crate) struct Tally {
 }
 
 impl Tally {
-    ghost use Rattle.pmf_storelog.specs.Separators.{records_in};
-    ghost use Rattle.pmf_storelog.specs.LogText.{first_fault, out_of_memory, sections_of, skipped_of};
-    ghost use Rattle.pmf_storelog.specs.Answers.{IsShown};
-    ghost use Rattle.pmf_storelog.specs.Quick.{SaysAlone};
-    ghost use Rattle.pmf_storelog.specs.Records.{record_of};
-    ghost use Rattle.pmf_storelog.specs.Tally.{AddsRecord, AddsSkipped, HasTaken, IsFaultFor};
-    ghost use Rattle.pmf_storelog.specs.declared.record.Saying.TheVariants.{Happens};
+    ghost use Rattle.pmf_storelog.specs.{Separators.{records_in}, LogText.{first_fault, out_of_memory, sections_of, skipped_of}, Answers.{IsShown}, Quick.{SaysAlone}, Records.{record_of}, Tally.{AddsRecord, AddsSkipped, HasTaken, IsFaultFor}, declared.record.Saying.TheVariants.{Happens}};
 
     /// The tally of no record.
     pub(crate) fn new(alloc: Global, run: u64) -> Tally

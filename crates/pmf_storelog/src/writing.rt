@@ -1,9 +1,7 @@
 //! The canonical text of a section.
 
 ghost use Rattle.std.specs.Prelude.{◌≡◌, ◌++◌, ◌∷◌, [], ◌<◌, ◌^◌, Ok, OnOk, IfOk, string_bytes};
-ghost use Rattle.pmf_storelog.specs.Canonical.{canonical_text, field_of, fields_of_span, fields_of_event, line_of_event, line_of_marker, name_of};
-ghost use Rattle.pmf_storelog.specs.LogText.{log_of};
-ghost use Rattle.pmf_storelog.specs.Spelling.{AllValid, IsValid};
+ghost use Rattle.pmf_storelog.specs.{Canonical.{canonical_text, field_of, fields_of_span, fields_of_event, line_of_event, line_of_marker, name_of}, LogText.{log_of}, Spelling.{AllValid, IsValid}};
 
 use pmf_event::{Event, Section, Span};
 use std::alloc::{AllocError, Global};

@@ -1,6 +1,5 @@
 -- What each command answers that reads a stream and then writes one text. Defined here.
-use Rattle.std.specs.Prelude.{◌≡◌, ℕ, ◌+◌, ◌<◌, List, length, take, Option, Result, Ok, Err}
-use Rattle.std.specs.Io.KnownBytes.{Appends}
+use Rattle.std.specs.{Prelude.{◌≡◌, ℕ, ◌+◌, ◌<◌, List, length, take, Option, Result, Ok, Err}, Io.KnownBytes.{Appends}}
 use Rattle.pmf_stream.specs.declared.fault.StreamFault.{StreamFault}
 use Rattle.pmf_stream.specs.declared.fault.StreamFault.TheVariants as fault
 

@@ -1,21 +1,13 @@
 -- What check_stream reads, and the report or ledger text that it writes. Defined here.
-use Rattle.std.specs.Prelude.{◌≡◌, ◌≢◌, ◌<◌, ◌≤◌, ◌⊎◌, Bool, true, false, List, ◌++◌, length, ℕ, Option, None, Ok, Err}
-use Rattle.std.specs.Io.KnownBytes.{IsAtEnd}
-use Rattle.pmf_storelog.specs.declared.fault.LogFault.{LogFault}
-use Rattle.pmf_storelog.specs.declared.fault.TheConstants.{LOG_LIMIT}
-use Rattle.pmf_storelog.specs.Prelude.{LogValue, log_of, shown_fault, IsFaultOfAll, out_of_memory}
-use Rattle.pmf_ledger.specs.Prelude.{IsLedgerOf, text_of_ledger, LedgerValue, report_of, totals_of}
-use Rattle.pmf_farm.specs.declared.fault.FarmFault.{FarmFault}
-use Rattle.pmf_farm.specs.declared.fault.FarmFault.TheVariants as farm
-use Rattle.pmf_board.specs.declared.board.TheConstants.{MOST_WORKERS}
-use Rattle.pmf_farm.specs.Running.{IsTaken}
-use Rattle.pmf_board.specs.Workers.{AreWorkers}
-use Rattle.pmf_stream.specs.declared.checking.CheckLogFault.{CheckLogFault}
-use Rattle.pmf_stream.specs.declared.checking.CheckLogFault.TheVariants as checking
-use Rattle.pmf_stream.specs.declared.checking.Done.{Done}
-use Rattle.pmf_stream.specs.declared.reading.TheConstants.{PIECE}
+use Rattle.std.specs.{Prelude.{◌≡◌, ◌≢◌, ◌<◌, ◌≤◌, ◌⊎◌, Bool, true, false, List, ◌++◌, length, ℕ, Option, None, Ok, Err}, Io.KnownBytes.{IsAtEnd}}
+use Rattle.pmf_storelog.specs.{declared.fault.LogFault.{LogFault}, declared.fault.TheConstants.{LOG_LIMIT}, LogValue.{LogValue}, LogText.{log_of, shown_fault, IsFaultOfAll, out_of_memory}}
+use Rattle.pmf_ledger.specs.{Gathered.{IsLedgerOf}, LedgerText.{text_of_ledger}, LedgerValue.{LedgerValue}, Report.{report_of, totals_of}}
+use Rattle.pmf_farm.specs.{declared.fault.FarmFault.{FarmFault}, Running.{IsTaken}}
+use Rattle.pmf_board.specs.{declared.board.TheConstants.{MOST_WORKERS}, Workers.{AreWorkers}}
+use Rattle.pmf_stream.specs.{declared.checking.CheckLogFault.{CheckLogFault}, declared.checking.Done.{Done}, declared.reading.TheConstants.{PIECE}, Reading.{HasReadBytes}}
 use Rattle.pmf_request.specs.declared.settings.Settings.{Settings}
-use Rattle.pmf_stream.specs.Reading.{HasReadBytes}
+use Rattle.pmf_farm.specs.declared.fault.FarmFault.TheVariants as farm
+use Rattle.pmf_stream.specs.declared.checking.CheckLogFault.TheVariants as checking
 
 -- the stream was read to its end, and what was read is this log of the run, without a fault
 pub record IsLogOf (run : ℕ) (old new : Option (List ℕ)) (log : LogValue) : Type 0 where

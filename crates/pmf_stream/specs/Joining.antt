@@ -1,15 +1,10 @@
 -- What the texts of ledgers give that are joined, text after text. Defined here.
 use Rattle.std.specs.Prelude.{◌≡◌, ◌≢◌, ℕ, zero, suc, ◌<◌, ◌≤◌, Bool, List, [], length, take, slice_index_or, None, All, flat_map}
-use Rattle.pmf_event.specs.declared.profile.Profile.{Profile}
-use Rattle.pmf_event.specs.declared.profile.Profile.TheVariants.{One}
-use Rattle.pmf_event.specs.Prelude.{Trace}
-use Rattle.pmf_ledger.specs.declared.joining.JoinFault.{JoinFault}
-use Rattle.pmf_ledger.specs.Prelude.{GathersBoth, IsLeastClash, IsLedgerOf, Unites, LedgerValue, IsRefusedWith, LoadsAs, fault_of, reading_of, totals_of}
+use Rattle.pmf_event.specs.{declared.profile.Profile.{Profile}, declared.profile.Profile.TheVariants.{One}, Section.{Trace}}
+use Rattle.pmf_ledger.specs.{declared.joining.JoinFault.{JoinFault}, Gathered.{GathersBoth, IsLeastClash, IsLedgerOf, Unites}, LedgerValue.{LedgerValue}, Loading.{IsRefusedWith, LoadsAs, fault_of, reading_of}, Report.{totals_of}}
+use Rattle.pmf_stream.specs.{declared.joining.Joined.{Joined}, declared.joining.JoinTextFault.{JoinTextFault}, Checking.{text_asked}}
 use Rattle.pmf_ledger.specs.declared.joining.JoinFault.TheVariants as join
-use Rattle.pmf_stream.specs.declared.joining.Joined.{Joined}
-use Rattle.pmf_stream.specs.declared.joining.JoinTextFault.{JoinTextFault}
 use Rattle.pmf_stream.specs.declared.joining.JoinTextFault.TheVariants as fault
-use Rattle.pmf_stream.specs.Checking.{text_asked}
 
 -- the sections of a text's blocks
 unfoldable pub blocks_of : List ℕ → List Trace

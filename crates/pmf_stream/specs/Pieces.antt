@@ -1,8 +1,6 @@
 -- What a log's reader takes of a stream, piece by piece. Defined here.
 use Rattle.std.specs.Prelude.{◌≡◌, ◌≢◌, ℕ, List, ◌++◌, None}
-use Rattle.pmf_storelog.specs.declared.fault.LogFault.{LogFault}
-use Rattle.pmf_storelog.specs.declared.reader.LogReader.{LogReader}
-use Rattle.pmf_storelog.specs.Prelude.{shown_fault, IsFaultOfAll, out_of_memory, HasRead}
+use Rattle.pmf_storelog.specs.{declared.fault.LogFault.{LogFault}, declared.reader.LogReader.{LogReader}, LogText.{shown_fault, IsFaultOfAll, out_of_memory}, Reader.{HasRead}}
 
 -- the reader stands for these bytes of the run, which show no fault yet
 abbrev pub StandsFor : ℕ → List ℕ → LogReader → Type 0

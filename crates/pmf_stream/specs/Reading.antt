@@ -1,6 +1,5 @@
 -- What was read of a stream. Defined here.
-use Rattle.std.specs.Prelude.{◌≡◌, ℕ, ◌+◌, ◌≤◌, ◌⊎◌, List, ◌++◌, length, Option}
-use Rattle.std.specs.Io.KnownBytes.{Consumes, IsAtEnd}
+use Rattle.std.specs.{Prelude.{◌≡◌, ℕ, ◌+◌, ◌≤◌, ◌⊎◌, List, ◌++◌, length, Option}, Io.KnownBytes.{Consumes, IsAtEnd}}
 use Rattle.pmf_stream.specs.declared.reading.TheConstants.{PIECE}
 
 -- these bytes were read, at most one more than the limit

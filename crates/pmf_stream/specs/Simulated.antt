@@ -1,7 +1,6 @@
 -- What sim_to writes of a log and a schedule, and what it refuses. Defined here.
 use Rattle.std.specs.Prelude.{◌≢◌, ℕ, List}
-use Rattle.pmf_world.specs.Simulation.{IsSimFault, IsSimulation}
-use Rattle.pmf_world.specs.declared.simulating.SimFault.{SimFault}
+use Rattle.pmf_world.specs.{Simulation.{IsSimFault, IsSimulation}, declared.simulating.SimFault.{SimFault}}
 use Rattle.pmf_world.specs.declared.simulating.SimFault.TheVariants as fault
 
 -- a simulation, of what a command writes that answers nothing else

@@ -1,10 +1,7 @@
 //! From a stream of bytes to the answer of a question about the log in it.
 
 ghost use Rattle.pmf_storelog.specs.declared.fault.TheConstants.{LOG_LIMIT};
-ghost use Rattle.pmf_stream.specs.Answering.{Answers, TellsFaults};
-ghost use Rattle.pmf_stream.specs.Asked.{IsAnswerOf, IsRefusalOf};
-ghost use Rattle.pmf_stream.specs.Failures.{CanCountOneMore};
-ghost use Rattle.pmf_stream.specs.Reading.{ReadsWithin};
+ghost use Rattle.pmf_stream.specs.{Answering.{Answers, TellsFaults}, Asked.{IsAnswerOf, IsRefusalOf}, Failures.{CanCountOneMore}, Reading.{ReadsWithin}};
 
 use crate::fault::StreamFault;
 use crate::reading::read_all;

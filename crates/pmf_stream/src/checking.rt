@@ -1,14 +1,10 @@
 //! From a stream of bytes to its report, or its ledger text.
 
 ghost use Rattle.std.specs.Prelude.{◌≡◌, ◌≢◌, ◌++◌, ◌+◌, ℕ, List, [], Option, None, IfOk, IfErr, MatchResult};
-ghost use Rattle.pmf_storelog.specs.declared.fault.TheConstants.{LOG_LIMIT};
-ghost use Rattle.pmf_storelog.specs.Prelude.{out_of_memory, shown_fault, HasRead};
+ghost use Rattle.pmf_storelog.specs.{declared.fault.TheConstants.{LOG_LIMIT}, LogText.{out_of_memory, shown_fault}, Reader.{HasRead}};
 ghost use Rattle.pmf_farm.specs.Running.{IsTaken};
-ghost use Rattle.pmf_ledger.specs.Prelude.{IsLedgerOf, totals_of};
-ghost use Rattle.pmf_stream.specs.Answering.{Answers, RefusesReading, TellsFaults, failed_reads};
-ghost use Rattle.pmf_stream.specs.Checking.{IsCheckFaultOf, IsLogOf, IsReportOf, Reports, text_asked};
-ghost use Rattle.pmf_stream.specs.Failures.{CanCountOneMore};
-ghost use Rattle.pmf_stream.specs.Reading.{ReadsWithin};
+ghost use Rattle.pmf_ledger.specs.{Gathered.{IsLedgerOf}, Report.{totals_of}};
+ghost use Rattle.pmf_stream.specs.{Answering.{Answers, RefusesReading, TellsFaults, failed_reads}, Checking.{IsCheckFaultOf, IsLogOf, IsReportOf, Reports, text_asked}, Failures.{CanCountOneMore}, Reading.{ReadsWithin}};
 
 use crate::failed::Failed;
 use crate::fault::StreamFault;
@@ -48,8 +44,7 @@ pub enum CheckLogFault {
 impl Intake for LogReader {
     type Fault = LogFault;
 
-    ghost use Rattle.std.proofs.Common.{append_assoc, sym, subst};
-    ghost use Rattle.std.proofs.lemmas.List.{append-nil};
+    ghost use Rattle.std.proofs.{Common.{append_assoc, sym, subst}, lemmas.List.{append-nil}};
     ghost use Rattle.pmf_stream.specs.Pieces.{Refuses, StandsFor, Takes};
 
     ghost Takes = { Takes };

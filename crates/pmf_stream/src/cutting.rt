@@ -1,8 +1,7 @@
 //! A log that is read in pieces, and written with its sections cut as it is read.
 
 ghost use Rattle.std.specs.Prelude.{◌≡◌, ◌+◌, IfErr};
-ghost use Rattle.pmf_stream.specs.Answering.{IsRefused, failed_reads, failed_writes};
-ghost use Rattle.pmf_stream.specs.Failures.{CanCountOneMore};
+ghost use Rattle.pmf_stream.specs.{Answering.{IsRefused, failed_reads, failed_writes}, Failures.{CanCountOneMore}};
 
 use crate::failed::Failed;
 use crate::fault::StreamFault;

@@ -1,10 +1,8 @@
 //! From the texts of ledgers to the text of the ledger of them all.
 
 ghost use Rattle.std.specs.Prelude.{◌≡◌, ◌+◌, ◌≤◌, ℕ, List, map, IfOk, IfErr, MatchResult};
-ghost use Rattle.pmf_ledger.specs.Prelude.{LedgerValue, IsOfText, IsRefusedWith, LoadsAs};
-ghost use Rattle.pmf_stream.specs.Answering.{Answers, TellsFaults};
-ghost use Rattle.pmf_stream.specs.Failures.{CanCountOneMore};
-ghost use Rattle.pmf_stream.specs.Joining.{IsFirstRefusal, IsJoinFaultOf, IsJoinOf, IsJoinOfTwo, IsJoinedAt, IsJoinedText, IsRefusalOfTexts, IsRefusedAt};
+ghost use Rattle.pmf_ledger.specs.{LedgerValue.{LedgerValue}, Loading.{IsOfText, IsRefusedWith, LoadsAs}};
+ghost use Rattle.pmf_stream.specs.{Answering.{Answers, TellsFaults}, Failures.{CanCountOneMore}, Joining.{IsFirstRefusal, IsJoinFaultOf, IsJoinOf, IsJoinOfTwo, IsJoinedAt, IsJoinedText, IsRefusalOfTexts, IsRefusedAt}};
 
 use crate::checking::write_asked;
 use crate::fault::StreamFault;

@@ -1,9 +1,7 @@
 //! The one loop that reads a stream, and what its pieces go to.
 
 ghost use Rattle.std.specs.Prelude.{◌≡◌, ◌+◌, ◌++◌, ◌<◌, ◌^◌, ℕ, [], List, IfOk, IfErr, MatchResult};
-ghost use Rattle.pmf_stream.specs.Failures.{CanCountOneMore, CountsFailure};
-ghost use Rattle.pmf_stream.specs.Answering.{RefusesReading, failed_reads};
-ghost use Rattle.pmf_stream.specs.Reading.{HasReadAll, HasReadTo, ReadsWithin};
+ghost use Rattle.pmf_stream.specs.{Failures.{CanCountOneMore, CountsFailure}, Answering.{RefusesReading, failed_reads}, Reading.{HasReadAll, HasReadTo, ReadsWithin}};
 
 use crate::failed::Failed;
 use crate::fault::StreamFault;
@@ -69,8 +67,7 @@ pub(crate) fn read_into<R: Source, I: Intake>(
 impl Intake for Vec<u8> {
     type Fault = AllocError;
 
-    ghost use Rattle.std.proofs.Common.{append_assoc, sym, ◌∙◌, ap};
-    ghost use Rattle.std.proofs.lemmas.List.{append-nil};
+    ghost use Rattle.std.proofs.{Common.{append_assoc, sym, ◌∙◌, ap}, lemmas.List.{append-nil}};
 
     ghost Takes = { λ a xs b. b.items ≡ a.items ++ xs };
 

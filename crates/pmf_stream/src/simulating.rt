@@ -1,8 +1,6 @@
 //! From a log and a schedule to the text of the simulation, written.
 
-ghost use Rattle.pmf_stream.specs.Answering.{Answers, TellsFaults};
-ghost use Rattle.pmf_stream.specs.Failures.{CanCountOneMore};
-ghost use Rattle.pmf_stream.specs.Simulated.{IsSimRefusalOf, IsSimulationOf};
+ghost use Rattle.pmf_stream.specs.{Answering.{Answers, TellsFaults}, Failures.{CanCountOneMore}, Simulated.{IsSimRefusalOf, IsSimulationOf}};
 
 use crate::fault::StreamFault;
 use crate::sink::Sink;

@@ -1,7 +1,6 @@
 //! What is written to.
 
-ghost use Rattle.std.specs.Prelude.{◌≡◌, ◌≤◌, ℕ, List, Option, [], IfOk, length};
-ghost use Rattle.std.specs.Io.KnownBytes.{WriteAppends};
+ghost use Rattle.std.specs.{Prelude.{◌≡◌, ◌≤◌, ℕ, List, Option, [], IfOk, length}, Io.KnownBytes.{WriteAppends}};
 ghost use Rattle.pmf_stream.specs.Failures.{CanCountOneMore, CountsFailure};
 
 use crate::device::{Counted, Device};

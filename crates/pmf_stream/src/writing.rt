@@ -1,9 +1,7 @@
 //! The one loop that writes a text, and the answer of a command that writes one.
 
-ghost use Rattle.std.specs.Prelude.{◌≡◌, ◌<◌, ◌+◌, IfErr, OnOk, length, take};
-ghost use Rattle.std.specs.Io.KnownBytes.{Appends};
-ghost use Rattle.pmf_stream.specs.Answering.{Writes, failed_writes};
-ghost use Rattle.pmf_stream.specs.Failures.{CanCountOneMore, CountsFailure};
+ghost use Rattle.std.specs.{Prelude.{◌≡◌, ◌<◌, ◌+◌, IfErr, OnOk, length, take}, Io.KnownBytes.{Appends}};
+ghost use Rattle.pmf_stream.specs.{Answering.{Writes, failed_writes}, Failures.{CanCountOneMore, CountsFailure}};
 
 use crate::failed::Failed;
 use crate::fault::StreamFault;

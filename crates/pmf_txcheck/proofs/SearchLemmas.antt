@@ -1,19 +1,9 @@
 -- The two walks of the transaction checker: none so far, and the first from here.
-use Rattle.pmf_event.proofs.Common.{◌≡◌, ℕ, ◌+◌, ◌-◌, ◌<◌, ◌≤◌, Bool, true, false, not, ◌&&◌, List, refl, sym, ◌∙◌, ap, arith, inl, inr, Option, Some, None, unwrap_or, and-false}
-use Rattle.std.proofs.lemmas.Bool.{cases_lt, cases_eq, both_ways, not-true, not-false, and_from, lt-ltb}
-use Rattle.pmf_event.specs.declared.event.Event.{Event}
-use Rattle.pmf_event.specs.declared.span.TheConstants.{ADDRESS_LIMIT}
-use Rattle.pmf_event.specs.Prelude.{first_from, is_excluded, is_included, interval_at, is_open, last_store, is_checked, is_exposed, in_transaction, is_backed, in_scope, is_scoped}
-use Rattle.pmf_event.proofs.RangeLemmas.{IsFirst, first_from-none, first_from-some, none-passes, first-passes}
-use Rattle.pmf_runs.specs.declared.members.Members.{Members}
-use Rattle.pmf_runs.specs.declared.runs.RunMap.{RunMap}
-use Rattle.pmf_runs.specs.declared.state.State.{Ghosts}
-use Rattle.pmf_shadow.specs.declared.shadow.Shadow.{Shadow}
-use Rattle.pmf_runs.specs.Runs.{state_at, passing}
-use Rattle.pmf_shadow.specs.Shadow.{StandsFor}
-use Rattle.pmf_txcheck.specs.declared.state.TxState.{TxState}
-use Rattle.pmf_txcheck.specs.Findings.{lacks_backup_by, is_left_open_by}
-use Rattle.pmf_txcheck.specs.Tracking.{Tracks}
+use Rattle.std.proofs.{Common.{◌≡◌, ℕ, ◌+◌, ◌-◌, ◌<◌, ◌≤◌, Bool, true, false, not, ◌&&◌, List, refl, sym, ◌∙◌, ap, arith, inl, inr, Option, Some, None, unwrap_or, lt-ltb}, Math.Bool.{and-false}, lemmas.Bool.{cases_lt, cases_eq, both_ways, not-true, not-false, and_from}}
+use Rattle.pmf_event.{specs.declared.event.Event.{Event}, specs.declared.span.TheConstants.{ADDRESS_LIMIT}, specs.Ranges.{first_from}, specs.Exclusion.{is_excluded, is_included}, specs.Interval.{interval_at, is_open}, specs.Store.{last_store}, specs.Persist.{is_checked, is_exposed}, specs.Transactions.{in_transaction, is_backed, in_scope, is_scoped}, proofs.RangeLemmas.{IsFirst, first_from-none, first_from-some, none-passes, first-passes}}
+use Rattle.pmf_runs.specs.{declared.members.Members.{Members}, declared.runs.RunMap.{RunMap}, declared.state.State.{Ghosts}, Runs.{state_at, passing}}
+use Rattle.pmf_shadow.specs.{declared.shadow.Shadow.{Shadow}, Shadow.{StandsFor}}
+use Rattle.pmf_txcheck.specs.{declared.state.TxState.{TxState}, Findings.{lacks_backup_by, is_left_open_by}, Tracking.{Tracks}}
 
 -- none of the numbers from first up to this one passes
 abbrev pub NoneUpTo : (ℕ → Bool) → ℕ → ℕ → Type 0

@@ -2,15 +2,9 @@
 -- the backup and the scope are those of the first p events of the one list, and what is included and which
 -- intervals are open is that of the first q events of the other.
 use Rattle.std.specs.Prelude.{◌≡◌, ℕ, Bool, not, ◌&&◌, List, Option, None, if◌then◌else◌}
-use Rattle.pmf_event.specs.declared.event.Event.{Event}
-use Rattle.pmf_event.specs.declared.finding.Finding.{Finding}
-use Rattle.pmf_event.specs.declared.finding.Finding.TheVariants.{TxStillOpen, Unopened}
-use Rattle.pmf_event.specs.declared.span.TheConstants.{ADDRESS_LIMIT}
-use Rattle.pmf_event.specs.Prelude.{Extent, first_from, first_byte, interval_at, is_open, is_included, depth_at, in_transaction, is_backed, in_scope, is_scoped, nobackup_with, scope_passes_unless}
-use Rattle.pmf_shadow.specs.declared.shadow.Shadow.{Shadow}
-use Rattle.pmf_shadow.specs.Shadow.{StandsFor}
-use Rattle.pmf_txcheck.specs.declared.state.TxState.{TxState}
-use Rattle.pmf_txcheck.specs.Tracking.{Tracks}
+use Rattle.pmf_event.specs.{declared.event.Event.{Event}, declared.finding.Finding.{Finding}, declared.finding.Finding.TheVariants.{TxStillOpen, Unopened}, declared.span.TheConstants.{ADDRESS_LIMIT}, Span.{Extent}, Ranges.{first_from, first_byte}, Interval.{interval_at, is_open}, Exclusion.{is_included}, Transactions.{depth_at, in_transaction, is_backed, in_scope, is_scoped, nobackup_with, scope_passes_unless}}
+use Rattle.pmf_shadow.specs.{declared.shadow.Shadow.{Shadow}, Shadow.{StandsFor}}
+use Rattle.pmf_txcheck.specs.{declared.state.TxState.{TxState}, Tracking.{Tracks}}
 
 -- whether byte b is included by the one list and not backed up by the other
 unfoldable pub lacks_backup_by : List Event → ℕ → List Event → ℕ → ℕ → Bool

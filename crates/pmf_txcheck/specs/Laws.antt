@@ -1,12 +1,8 @@
 -- Laws of what a state stands for and of its findings, which its empty public functions prove.
 use Rattle.std.specs.Prelude.{◌≡◌, ℕ, suc, Bool, true, false, List, Some}
-use Rattle.pmf_event.specs.declared.event.Event.{Event}
-use Rattle.pmf_event.specs.declared.event.Event.TheVariants.{Store, TxBegin, TxAdd, TxEnd, CheckStart, CheckEnd}
-use Rattle.pmf_event.specs.Prelude.{Extent, event_at, store_finding, check_finding}
+use Rattle.pmf_event.specs.{declared.event.Event.{Event}, declared.event.Event.TheVariants.{Store, TxBegin, TxAdd, TxEnd, CheckStart, CheckEnd}, Span.{Extent}, Store.{event_at}, Transactions.{store_finding, check_finding}}
 use Rattle.pmf_shadow.specs.Laws.{SameEvents, SamePlaces}
-use Rattle.pmf_txcheck.specs.declared.state.TxState.{TxState}
-use Rattle.pmf_txcheck.specs.Tracking.{Tracks, FollowsAt, Follows}
-use Rattle.pmf_txcheck.specs.Findings.{store_finding_by, check_finding_by}
+use Rattle.pmf_txcheck.specs.{declared.state.TxState.{TxState}, Tracking.{Tracks, FollowsAt, Follows}, Findings.{store_finding_by, check_finding_by}}
 
 -- whether the event changes nothing that the state keeps
 unfoldable pub is_untracked : Event → Bool

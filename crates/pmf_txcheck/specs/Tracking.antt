@@ -1,8 +1,7 @@
 -- What the transaction checker's state stands for: what is kept is what the definitions say of the first
 -- p events of a list, with the places that were told of the events that opened a scope.
 use Rattle.std.specs.Prelude.{◌≡◌, ℕ, suc, true, ◌==◌, [], ◌∷◌, ◌++◌, List, length, Option, None, Some, if◌then◌else◌}
-use Rattle.pmf_event.specs.declared.event.Event.{Event}
-use Rattle.pmf_event.specs.Prelude.{depth_at, in_transaction, is_backed, scope_at, in_scope, is_scoped}
+use Rattle.pmf_event.specs.{declared.event.Event.{Event}, Transactions.{depth_at, in_transaction, is_backed, scope_at, in_scope, is_scoped}}
 use Rattle.pmf_runs.specs.Runs.{state_at}
 use Rattle.pmf_txcheck.specs.declared.state.TxState.{TxState}
 

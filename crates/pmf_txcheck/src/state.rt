@@ -1,13 +1,9 @@
 //! The state of the transaction checker after some events.
 
 ghost use Rattle.std.specs.Prelude.{◌≡◌, ℕ, ◌+◌, ◌-◌, ◌<◌, ◌≤◌, ◌^◌, List, true, option_map, OnOk, OnErr, IfOk};
-ghost use Rattle.pmf_event.specs.declared.event.Event.{Event};
-ghost use Rattle.pmf_event.specs.declared.span.TheConstants.{ADDRESS_LIMIT, SPAN_LIMIT};
-ghost use Rattle.pmf_event.specs.Prelude.{first_from, depth_at, in_transaction, in_scope, add_finding, close_finding, end_finding, start_finding};
-ghost use Rattle.pmf_shadow.specs.Shadow.{StandsFor};
-ghost use Rattle.pmf_shadow.specs.Told.{finding_as_told};
-ghost use Rattle.pmf_txcheck.specs.Findings.{FindsOfCheckEnd, FindsOfStore, is_left_open_by, lacks_backup_by};
-ghost use Rattle.pmf_txcheck.specs.Tracking.{Follows, FollowsAt, ForEachList, Keeps, Tracks, depth_of};
+ghost use Rattle.pmf_event.specs.{declared.event.Event.{Event}, declared.span.TheConstants.{ADDRESS_LIMIT, SPAN_LIMIT}, Ranges.{first_from}, Transactions.{depth_at, in_transaction, in_scope, add_finding, close_finding, end_finding, start_finding}};
+ghost use Rattle.pmf_shadow.specs.{Shadow.{StandsFor}, Told.{finding_as_told}};
+ghost use Rattle.pmf_txcheck.specs.{Findings.{FindsOfCheckEnd, FindsOfStore, is_left_open_by, lacks_backup_by}, Tracking.{Follows, FollowsAt, ForEachList, Keeps, Tracks, depth_of}};
 
 use pmf_event::{ADDRESS_LIMIT, Event, Finding, Span};
 use pmf_runs::{IsIn, IsOut, PutIn, RunMap};

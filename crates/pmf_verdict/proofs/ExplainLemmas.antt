@@ -1,24 +1,8 @@
 -- Where a certificate comes from, and that its image is allowed and contradicts the assertion.
-use Rattle.pmf_event.proofs.Common.{◌≡◌, ℕ, zero, suc, ◌-◌, Bool, true, false, not, ◌&&◌, if◌then◌else◌, List, refl, sym, ◌∙◌, ap, arith, subst, Option, Some, None, is_none, Contains, and_parts}
-use Rattle.pmf_event.specs.declared.event.Event.{Event}
-use Rattle.pmf_event.specs.declared.event.Event.TheVariants.{CheckEnd}
-use Rattle.pmf_event.specs.declared.finding.Finding.{Finding}
-use Rattle.pmf_event.specs.declared.finding.Finding.TheVariants.{PersistPass, PersistFail, PersistEmpty, OrderedPass, OrderedFail, OrderedSameLine, OrderedEmpty, CheckPass, CheckFail, TxStillOpen, Unopened}
-use Rattle.pmf_event.specs.declared.profile.Profile.{Profile}
-use Rattle.pmf_event.specs.declared.span.TheConstants.{ADDRESS_LIMIT}
-use Rattle.pmf_event.specs.Prelude.{Extent, line_of_byte, event_at, last_store, interval_at, is_open, is_included, first_from, first_byte, is_checked, is_exposed, pass_unless, persist_finding, is_unordered, is_certified, least_pair, finding_of_pairs, ordered_finding, in_transaction, depth_at, in_scope, is_scoped, is_left_open, scope_passes_unless, check_finding}
-use Rattle.pmf_event.proofs.RangeLemmas.{first-passes}
-use Rattle.pmf_event.proofs.LeastPairLemmas.{pair-from, certified-unordered}
-use Rattle.pmf_event.proofs.LineLemmas.{bounds-cover}
-use Rattle.pmf_event.proofs.TransactionLemmas.{left_open-exposed}
-use Rattle.pmf_image.specs.declared.certificate.Certificate.{Certificate}
-use Rattle.pmf_image.specs.Contradiction.{PersistContradicted, OrderedContradicted, ScopeContradicted, ContradictsEvent, Contradicts}
-use Rattle.pmf_image.proofs.ImageLemmas.{last_store-bound}
-use Rattle.pmf_image.proofs.FailureLemmas.{shown-where_open, pair-shown}
-use Rattle.pmf_image.proofs.ExactLemmas.{checked-parts}
-use Rattle.pmf_verdict.specs.Rows.{row_at, rows_of}
-use Rattle.pmf_verdict.specs.Explained.{certificate_of}
-use Rattle.pmf_verdict.proofs.KindLemmas.{persist-from_rows, ordered-from_rows, check-from_rows}
+use Rattle.std.proofs.{Common.{◌≡◌, ℕ, zero, suc, ◌-◌, Bool, true, false, not, ◌&&◌, if◌then◌else◌, List, refl, sym, ◌∙◌, ap, arith, subst, Option, Some, None, is_none, Contains}, lemmas.Bool.{and_parts}}
+use Rattle.pmf_event.{specs.declared.event.Event.{Event}, specs.declared.event.Event.TheVariants.{CheckEnd}, specs.declared.finding.Finding.{Finding}, specs.declared.finding.Finding.TheVariants.{PersistPass, PersistFail, PersistEmpty, OrderedPass, OrderedFail, OrderedSameLine, OrderedEmpty, CheckPass, CheckFail, TxStillOpen, Unopened}, specs.declared.profile.Profile.{Profile}, specs.declared.span.TheConstants.{ADDRESS_LIMIT}, specs.Span.{Extent}, specs.Line.{line_of_byte}, specs.Store.{event_at, last_store}, specs.Interval.{interval_at, is_open}, specs.Exclusion.{is_included}, specs.Ranges.{first_from, first_byte}, specs.Persist.{is_checked, is_exposed, pass_unless, persist_finding}, specs.Order.{is_unordered, is_certified, least_pair, finding_of_pairs, ordered_finding}, specs.Transactions.{in_transaction, depth_at, in_scope, is_scoped, is_left_open, scope_passes_unless, check_finding}, proofs.RangeLemmas.{first-passes}, proofs.LeastPairLemmas.{pair-from, certified-unordered}, proofs.LineLemmas.{bounds-cover}, proofs.TransactionLemmas.{left_open-exposed}}
+use Rattle.pmf_image.{specs.declared.certificate.Certificate.{Certificate}, specs.Contradiction.{PersistContradicted, OrderedContradicted, ScopeContradicted, ContradictsEvent, Contradicts}, proofs.ImageLemmas.{last_store-bound}, proofs.FailureLemmas.{shown-where_open, pair-shown}, proofs.ExactLemmas.{checked-parts}}
+use Rattle.pmf_verdict.{specs.Rows.{row_at, rows_of}, specs.Explained.{certificate_of}, proofs.KindLemmas.{persist-from_rows, ordered-from_rows, check-from_rows}}
 
 -- ---- a failure of a persist assertion
 

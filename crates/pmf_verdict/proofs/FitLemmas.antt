@@ -1,22 +1,9 @@
 -- Failures are real: a certificate that the rows give speaks of the section's events, and its image is allowed
 -- and contradicts the assertion.
 use Rattle.std.proofs.Common.{◌≡◌, ℕ, ◌≤◌, List, length, refl, ap, arith, subst, Some, None, Contains}
-use Rattle.pmf_event.specs.declared.event.Event.{Event}
-use Rattle.pmf_event.specs.declared.event.Event.TheVariants.{Persist, Ordered, CheckEnd}
-use Rattle.pmf_event.specs.declared.finding.Finding.{Finding}
-use Rattle.pmf_event.specs.declared.finding.Finding.TheVariants.{PersistFail, OrderedFail, CheckFail}
-use Rattle.pmf_event.specs.declared.profile.Profile.{Profile}
-use Rattle.pmf_event.specs.Prelude.{line_of_byte}
-use Rattle.pmf_event.proofs.LineLemmas.{line-bounds}
-use Rattle.pmf_image.specs.declared.certificate.Certificate.{Certificate}
-use Rattle.pmf_image.specs.Certificate.{Fits, IsLine}
-use Rattle.pmf_image.specs.Contradiction.{ContradictsEvent}
-use Rattle.pmf_verdict.specs.Rows.{row_at, rows_of}
-use Rattle.pmf_verdict.specs.Explained.{certificate_of, FailuresAreReal}
-use Rattle.pmf_verdict.proofs.KindLemmas.{persist-from_rows, ordered-from_rows, check-from_rows}
-use Rattle.pmf_image.proofs.FailureLemmas.{certificates-allowed}
-use Rattle.pmf_verdict.proofs.RowsLemmas.{place-within}
-use Rattle.pmf_verdict.proofs.ExplainLemmas.{contradicted-by}
+use Rattle.pmf_event.{specs.declared.event.Event.{Event}, specs.declared.event.Event.TheVariants.{Persist, Ordered, CheckEnd}, specs.declared.finding.Finding.{Finding}, specs.declared.finding.Finding.TheVariants.{PersistFail, OrderedFail, CheckFail}, specs.declared.profile.Profile.{Profile}, specs.Line.{line_of_byte}, proofs.LineLemmas.{line-bounds}}
+use Rattle.pmf_image.{specs.declared.certificate.Certificate.{Certificate}, specs.Certificate.{Fits, IsLine}, specs.Contradiction.{ContradictsEvent}, proofs.FailureLemmas.{certificates-allowed}}
+use Rattle.pmf_verdict.{specs.Rows.{row_at, rows_of}, specs.Explained.{certificate_of, FailuresAreReal}, proofs.KindLemmas.{persist-from_rows, ordered-from_rows, check-from_rows}, proofs.RowsLemmas.{place-within}, proofs.ExplainLemmas.{contradicted-by}}
 
 bare-fits : (es : List Event) (p : ℕ) → p ≤ length es → Fits es (record { crash = p; full_line = None })
 bare-fits es p within = record { crash = within; full_line = λ line is. let bad : None ≡ Some line = is in cc }

@@ -1,27 +1,8 @@
 -- Which assertions hold, by their rows.
-use Rattle.pmf_event.proofs.Common.{◌≡◌, ℕ, zero, suc, ◌-◌, ◌<◌, ◌≤◌, Bool, true, false, not, ◌&&◌, nat_lt, if◌then◌else◌, List, [], ◌∷◌, map, length, refl, sym, ◌∙◌, ap, subst, arith, inl, inr, ◌↔◌, ◌⊎◌, ◌||◌, Option, Some, None, Contains, is_none, Contains-append_left, Contains-append_right, cases_eq, and_parts, ltb-false, not-true, not-false}
-use Rattle.pmf_event.specs.declared.event.Event.{Event}
-use Rattle.pmf_event.specs.declared.event.Event.TheVariants.{Persist, Ordered, CheckEnd}
-use Rattle.pmf_event.specs.declared.finding.Finding.{Finding}
-use Rattle.pmf_event.specs.declared.finding.Finding.TheVariants.{PersistPass, PersistFail, PersistEmpty, OrderedPass, OrderedFail, OrderedSameLine, OrderedEmpty, CheckPass, CheckFail, TxStillOpen, Unopened}
-use Rattle.pmf_event.specs.declared.profile.Profile.{Profile}
-use Rattle.pmf_event.specs.declared.profile.Profile.TheVariants.{One, Two}
-use Rattle.pmf_event.specs.declared.span.TheConstants.{ADDRESS_LIMIT}
-use Rattle.pmf_event.specs.Prelude.{line_of_byte, Extent, covers_byte, event_at, last_store, first_from, first_byte, is_checked, is_exposed, pass_unless, persist_finding, interval_at, precedes, share_line, is_stored_before, is_ordered, is_unordered, is_certified, least_pair, finding_of_pairs, ordered_finding, in_transaction, depth_at, in_scope, is_left_open, scope_passes_unless, check_finding}
-use Rattle.pmf_event.proofs.RangeLemmas.{none-passes}
-use Rattle.pmf_event.proofs.LeastPairLemmas.{pair-from, unpaired}
-use Rattle.pmf_event.proofs.LineLemmas.{covers-bounds}
-use Rattle.pmf_image.specs.declared.certificate.Certificate.{Certificate}
-use Rattle.pmf_image.specs.Contradiction.{ContradictsEvent}
-use Rattle.pmf_image.specs.Holds.{PersistHolds, OrderedHolds, ScopeHolds, EventHolds, Holds}
-use Rattle.pmf_image.proofs.ExactLemmas.{not_holds-contradicted, holds-by_profile_two, checked-parts}
-use Rattle.pmf_verdict.specs.Rows.{findings_of, row_at, rows_upto, rows_at_end, rows_of}
-use Rattle.pmf_verdict.specs.Explained.{certificate_of}
-use Rattle.pmf_verdict.specs.Exact.{IsPassOrEmpty, IsNotFailed, AreApart, OrderIsExact, IsExact, SameLinesAreOneStore}
-use Rattle.pmf_verdict.proofs.RowsLemmas.{place-within}
-use Rattle.pmf_verdict.proofs.KindLemmas.{kind_of, persist-kind, ordered-kind, persist-from_rows, ordered-from_rows}
-use Rattle.pmf_verdict.proofs.ExplainLemmas.{contradicted-by}
-use Rattle.pmf_verdict.proofs.SoundLemmas.{passes_hold, orders_hold, scopes_hold}
+use Rattle.std.proofs.{Common.{◌≡◌, ℕ, zero, suc, ◌-◌, ◌<◌, ◌≤◌, Bool, true, false, not, ◌&&◌, nat_lt, if◌then◌else◌, List, [], ◌∷◌, map, length, refl, sym, ◌∙◌, ap, subst, arith, inl, inr, ◌↔◌, ◌⊎◌, ◌||◌, Option, Some, None, Contains, is_none, ltb-false}, lemmas.List.Elements.{Contains-append_left, Contains-append_right}, lemmas.Bool.{cases_eq, and_parts, not-true, not-false}}
+use Rattle.pmf_event.{specs.declared.event.Event.{Event}, specs.declared.event.Event.TheVariants.{Persist, Ordered, CheckEnd}, specs.declared.finding.Finding.{Finding}, specs.declared.finding.Finding.TheVariants.{PersistPass, PersistFail, PersistEmpty, OrderedPass, OrderedFail, OrderedSameLine, OrderedEmpty, CheckPass, CheckFail, TxStillOpen, Unopened}, specs.declared.profile.Profile.{Profile}, specs.declared.profile.Profile.TheVariants.{One, Two}, specs.declared.span.TheConstants.{ADDRESS_LIMIT}, specs.Line.{line_of_byte}, specs.Span.{Extent, covers_byte}, specs.Store.{event_at, last_store}, specs.Ranges.{first_from, first_byte}, specs.Persist.{is_checked, is_exposed, pass_unless, persist_finding}, specs.Interval.{interval_at}, specs.Order.{precedes, share_line, is_stored_before, is_ordered, is_unordered, is_certified, least_pair, finding_of_pairs, ordered_finding}, specs.Transactions.{in_transaction, depth_at, in_scope, is_left_open, scope_passes_unless, check_finding}, proofs.RangeLemmas.{none-passes}, proofs.LeastPairLemmas.{pair-from, unpaired}, proofs.LineLemmas.{covers-bounds}}
+use Rattle.pmf_image.{specs.declared.certificate.Certificate.{Certificate}, specs.Contradiction.{ContradictsEvent}, specs.Holds.{PersistHolds, OrderedHolds, ScopeHolds, EventHolds, Holds}, proofs.ExactLemmas.{not_holds-contradicted, holds-by_profile_two, checked-parts}}
+use Rattle.pmf_verdict.{specs.Rows.{findings_of, row_at, rows_upto, rows_at_end, rows_of}, specs.Explained.{certificate_of}, specs.Exact.{IsPassOrEmpty, IsNotFailed, AreApart, OrderIsExact, IsExact, SameLinesAreOneStore}, proofs.RowsLemmas.{place-within}, proofs.KindLemmas.{kind_of, persist-kind, ordered-kind, persist-from_rows, ordered-from_rows}, proofs.ExplainLemmas.{contradicted-by}, proofs.SoundLemmas.{passes_hold, orders_hold, scopes_hold}}
 
 -- ---- each assertion has a row
 

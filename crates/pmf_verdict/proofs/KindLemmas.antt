@@ -1,15 +1,7 @@
 -- Of which events the findings among the rows are.
-use Rattle.pmf_event.proofs.Common.{◌≡◌, ℕ, zero, suc, ◌-◌, ◌<◌, Bool, true, false, not, ◌&&◌, if◌then◌else◌, List, map, length, refl, sym, ◌∙◌, ap, arith, inl, inr, ◌⊎◌, Option, Some, None, Contains, is_none, Contains-append_cases}
-use Rattle.pmf_event.specs.declared.event.Event.{Event}
-use Rattle.pmf_event.specs.declared.event.Event.TheVariants.{Store, Flush, Persist, Ordered, TxAdd, TxEnd, CheckStart, CheckEnd}
-use Rattle.pmf_event.specs.declared.finding.Finding.{Finding}
-use Rattle.pmf_event.specs.declared.finding.Finding.TheVariants.{PersistPass, PersistFail, PersistEmpty, OrderedPass, OrderedFail, OrderedSameLine, OrderedEmpty, CheckPass, CheckFail, TxStillOpen, Unmatched, Outside, Nested, Unopened, Unclosed}
-use Rattle.pmf_event.specs.declared.lines.Lines.{Lines}
-use Rattle.pmf_event.specs.declared.profile.Profile.{Profile}
-use Rattle.pmf_event.specs.declared.span.TheConstants.{ADDRESS_LIMIT}
-use Rattle.pmf_event.specs.Prelude.{Extent, event_at, first_from, first_byte, is_checked, is_exposed, pass_unless, persist_finding, is_unordered, is_certified, least_pair, finding_of_pairs, ordered_finding, is_clean, is_pending, lines_where, doubled_finding, needless_finding, if_any, flush_findings, in_transaction, depth_at, is_outside, is_backed, in_scope, scope_at, lacks_backup, is_left_open, nobackup_with, duplog_with, scope_passes_unless, store_finding, add_finding, end_finding, start_finding, check_finding, close_finding}
-use Rattle.pmf_verdict.specs.Rows.{row_at, findings_of, rows_upto, rows_at_end, rows_of}
-use Rattle.pmf_verdict.proofs.RowsLemmas.{finding-from_rows, place-of_row}
+use Rattle.std.proofs.{Common.{◌≡◌, ℕ, zero, suc, ◌-◌, ◌<◌, Bool, true, false, not, ◌&&◌, if◌then◌else◌, List, map, length, refl, sym, ◌∙◌, ap, arith, inl, inr, ◌⊎◌, Option, Some, None, Contains, is_none}, lemmas.List.Elements.{Contains-append_cases}}
+use Rattle.pmf_event.specs.{declared.event.Event.{Event}, declared.event.Event.TheVariants.{Store, Flush, Persist, Ordered, TxAdd, TxEnd, CheckStart, CheckEnd}, declared.finding.Finding.{Finding}, declared.finding.Finding.TheVariants.{PersistPass, PersistFail, PersistEmpty, OrderedPass, OrderedFail, OrderedSameLine, OrderedEmpty, CheckPass, CheckFail, TxStillOpen, Unmatched, Outside, Nested, Unopened, Unclosed}, declared.lines.Lines.{Lines}, declared.profile.Profile.{Profile}, declared.span.TheConstants.{ADDRESS_LIMIT}, Span.{Extent}, Store.{event_at}, Ranges.{first_from, first_byte}, Persist.{is_checked, is_exposed, pass_unless, persist_finding}, Order.{is_unordered, is_certified, least_pair, finding_of_pairs, ordered_finding}, FlushWarnings.{is_clean, is_pending, lines_where, doubled_finding, needless_finding, if_any, flush_findings}, Transactions.{in_transaction, depth_at, is_outside, is_backed, in_scope, scope_at, lacks_backup, is_left_open, nobackup_with, duplog_with, scope_passes_unless, store_finding, add_finding, end_finding, start_finding, check_finding, close_finding}}
+use Rattle.pmf_verdict.{specs.Rows.{row_at, findings_of, rows_upto, rows_at_end, rows_of}, proofs.RowsLemmas.{finding-from_rows, place-of_row}}
 
 -- of which events a finding is: 1 of persist assertions, 2 of order assertions, 3 of the ends of scopes, 0 of
 -- others

@@ -1,11 +1,6 @@
 -- The rows so far, and where a row comes from.
-use Rattle.pmf_event.proofs.Common.{◌≡◌, ℕ, zero, suc, ◌-◌, ◌<◌, ◌≤◌, List, [], ◌∷◌, ◌++◌, map, length, refl, sym, ◌∙◌, ap, subst, arith, inl, inr, Option, Some, None, Contains, append_assoc, map-append, Contains-append_cases, slice_get_within}
-use Rattle.pmf_event.specs.declared.event.Event.{Event}
-use Rattle.pmf_event.specs.declared.event.Event.TheVariants.{Flush}
-use Rattle.pmf_event.specs.declared.finding.Finding.{Finding}
-use Rattle.pmf_event.specs.declared.profile.Profile.{Profile}
-use Rattle.pmf_event.specs.declared.row.Row.{Row}
-use Rattle.pmf_event.specs.Prelude.{Extent, event_at, if_any, flush_findings}
+use Rattle.std.proofs.{Common.{◌≡◌, ℕ, zero, suc, ◌-◌, ◌<◌, ◌≤◌, List, [], ◌∷◌, ◌++◌, map, length, refl, sym, ◌∙◌, ap, subst, arith, inl, inr, Option, Some, None, Contains, append_assoc}, lemmas.List.{map-append}, lemmas.List.Elements.{Contains-append_cases}, lemmas.Option.{slice_get_within}}
+use Rattle.pmf_event.specs.{declared.event.Event.{Event}, declared.event.Event.TheVariants.{Flush}, declared.finding.Finding.{Finding}, declared.profile.Profile.{Profile}, declared.row.Row.{Row}, Span.{Extent}, Store.{event_at}, FlushWarnings.{if_any, flush_findings}}
 use Rattle.pmf_verdict.specs.Rows.{findings_of, row_at, rows_upto}
 
 rows_upto-more : (profile : Profile) (es : List Event) (p : ℕ) →

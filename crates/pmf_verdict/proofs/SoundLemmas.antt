@@ -1,21 +1,8 @@
 -- What a PASS row says of its checked bytes, and that the assertion holds.
 use Rattle.std.proofs.Common.{◌≡◌, ℕ, zero, suc, ◌-◌, ◌<◌, Bool, true, false, not, ◌&&◌, if◌then◌else◌, List, refl, sym, ◌∙◌, ap, arith, subst, Option, Some, None, is_none, lt-ltb}
-use Rattle.pmf_event.specs.declared.event.Event.{Event}
-use Rattle.pmf_event.specs.declared.event.Event.TheVariants.{CheckEnd}
-use Rattle.pmf_event.specs.declared.finding.Finding.TheVariants.{PersistPass, PersistFail, PersistEmpty, OrderedPass, OrderedFail, OrderedSameLine, OrderedEmpty, CheckPass, CheckFail, TxStillOpen, Unopened}
-use Rattle.pmf_event.specs.declared.profile.Profile.{Profile}
-use Rattle.pmf_event.specs.declared.span.TheConstants.{ADDRESS_LIMIT}
-use Rattle.pmf_event.specs.Prelude.{Extent, covers_byte, event_at, last_store, interval_at, is_open, is_included, first_from, first_byte, is_checked, is_exposed, pass_unless, persist_finding, is_ordered, is_unordered, is_certified, least_pair, finding_of_pairs, ordered_finding, in_transaction, depth_at, in_scope, is_scoped, is_left_open, scope_passes_unless, check_finding}
-use Rattle.pmf_event.proofs.RangeLemmas.{none-passes}
-use Rattle.pmf_event.proofs.LeastPairLemmas.{unpaired}
-use Rattle.pmf_event.proofs.LineLemmas.{covers-bounds, bounds-cover}
-use Rattle.pmf_event.proofs.TransactionLemmas.{scoped-written, left_open-exposed}
-use Rattle.pmf_image.specs.Holds.{ScopeHolds}
-use Rattle.pmf_image.proofs.ImageLemmas.{holds-where_closed}
-use Rattle.pmf_image.proofs.OrderedLemmas.{holds-where_ordered}
-use Rattle.pmf_verdict.specs.Rows.{rows_of}
-use Rattle.pmf_verdict.specs.Sound.{PersistsHold, OrdersHold, ScopesHold}
-use Rattle.pmf_verdict.proofs.KindLemmas.{persist-from_rows, ordered-from_rows, check-from_rows}
+use Rattle.pmf_event.{specs.declared.event.Event.{Event}, specs.declared.event.Event.TheVariants.{CheckEnd}, specs.declared.finding.Finding.TheVariants.{PersistPass, PersistFail, PersistEmpty, OrderedPass, OrderedFail, OrderedSameLine, OrderedEmpty, CheckPass, CheckFail, TxStillOpen, Unopened}, specs.declared.profile.Profile.{Profile}, specs.declared.span.TheConstants.{ADDRESS_LIMIT}, specs.Span.{Extent, covers_byte}, specs.Store.{event_at, last_store}, specs.Interval.{interval_at, is_open}, specs.Exclusion.{is_included}, specs.Ranges.{first_from, first_byte}, specs.Persist.{is_checked, is_exposed, pass_unless, persist_finding}, specs.Order.{is_ordered, is_unordered, is_certified, least_pair, finding_of_pairs, ordered_finding}, specs.Transactions.{in_transaction, depth_at, in_scope, is_scoped, is_left_open, scope_passes_unless, check_finding}, proofs.RangeLemmas.{none-passes}, proofs.LeastPairLemmas.{unpaired}, proofs.LineLemmas.{covers-bounds, bounds-cover}, proofs.TransactionLemmas.{scoped-written, left_open-exposed}}
+use Rattle.pmf_image.{specs.Holds.{ScopeHolds}, proofs.ImageLemmas.{holds-where_closed}, proofs.OrderedLemmas.{holds-where_ordered}}
+use Rattle.pmf_verdict.{specs.Rows.{rows_of}, specs.Sound.{PersistsHold, OrdersHold, ScopesHold}, proofs.KindLemmas.{persist-from_rows, ordered-from_rows, check-from_rows}}
 
 -- ---- persist assertions
 

@@ -1,5 +1,5 @@
 -- A text of the rows at one place, row by row.
-use Rattle.pmf_event.proofs.Common.{◌≡◌, ℕ, ◌+◌, ◌<◌, Bool, cond, List, [], ◌∷◌, ◌++◌, length, take, get_or, sym, ◌∙◌, ap, flat_map, ne_eqb, append-nil, append_assoc, Decides-eqb, flat_map-append, filter_more}
+use Rattle.std.proofs.{Common.{◌≡◌, ℕ, ◌+◌, ◌<◌, Bool, cond, List, [], ◌∷◌, ◌++◌, length, take, get_or, sym, ◌∙◌, ap, flat_map, ne_eqb, append-nil, append_assoc}, lemmas.Bool.Decides.{Decides-eqb}, lemmas.Grind.{flat_map-append}, lemmas.List.Elements.{filter_more}}
 use Rattle.pmf_event.specs.declared.row.Row.{Row}
 use Rattle.pmf_verdict.specs.Text.{stands_at, rows_at}
 

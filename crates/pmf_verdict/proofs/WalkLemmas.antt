@@ -1,25 +1,10 @@
 -- One more event of a walk: the shadow and the transactions stand for it, and the rows are those of its
 -- findings.
 use Rattle.std.proofs.Common.{◌≡◌, ℕ, suc, ◌-◌, true, List, [], ◌∷◌, ◌++◌, map, refl, sym, ◌∙◌, ap, arith, subst, Option, Some, None, option_map, append-nil}
-use Rattle.pmf_event.specs.declared.event.Event.{Event}
-use Rattle.pmf_event.specs.declared.event.Event.TheVariants.{Store, TxAdd, TxEnd, CheckStart, CheckEnd}
-use Rattle.pmf_event.specs.declared.finding.Finding.{Finding}
-use Rattle.pmf_event.specs.declared.finding.Finding.TheVariants.{OrderedFail, Unclosed}
-use Rattle.pmf_event.specs.declared.profile.Profile.{Profile}
-use Rattle.pmf_event.specs.Prelude.{Extent, event_at, if_any, store_finding, add_finding, end_finding, start_finding, check_finding}
-use Rattle.pmf_shadow.specs.declared.shadow.Shadow.{Shadow}
-use Rattle.pmf_shadow.specs.Shadow.{StandsFor, FollowsAt}
-use Rattle.pmf_shadow.specs.Told.{finding_as_told}
-use Rattle.pmf_shadow.specs.Laws.{is_unseen}
-use Rattle.pmf_shadow.proofs.StandsLemmas.{follows-within, unseen-follows}
-use Rattle.pmf_txcheck.specs.declared.state.TxState.{TxState}
-use Rattle.pmf_txcheck.specs.Laws.{is_untracked}
-use Rattle.pmf_txcheck.specs.Tracking.{Tracks, FollowsAt as FollowsTransactionAt}
-use Rattle.pmf_txcheck.proofs.TrackLemmas.{follows-within as tracks-within, untracked-follows}
-use Rattle.pmf_verdict.specs.declared.checking.Walk.{Walk}
-use Rattle.pmf_verdict.specs.Rows.{findings_of, row_at, rows_upto}
-use Rattle.pmf_verdict.specs.Walks.{Walks}
-use Rattle.pmf_verdict.proofs.RowsLemmas.{rows_upto-next}
+use Rattle.pmf_event.specs.{declared.event.Event.{Event}, declared.event.Event.TheVariants.{Store, TxAdd, TxEnd, CheckStart, CheckEnd}, declared.finding.Finding.{Finding}, declared.finding.Finding.TheVariants.{OrderedFail, Unclosed}, declared.profile.Profile.{Profile}, Span.{Extent}, Store.{event_at}, FlushWarnings.{if_any}, Transactions.{store_finding, add_finding, end_finding, start_finding, check_finding}}
+use Rattle.pmf_shadow.{specs.declared.shadow.Shadow.{Shadow}, specs.Shadow.{StandsFor, FollowsAt}, specs.Told.{finding_as_told}, specs.Laws.{is_unseen}, proofs.StandsLemmas.{follows-within, unseen-follows}}
+use Rattle.pmf_txcheck.{specs.declared.state.TxState.{TxState}, specs.Laws.{is_untracked}, specs.Tracking.{Tracks, FollowsAt as FollowsTransactionAt}, proofs.TrackLemmas.{follows-within as tracks-within, untracked-follows}}
+use Rattle.pmf_verdict.{specs.declared.checking.Walk.{Walk}, specs.Rows.{findings_of, row_at, rows_upto}, specs.Walks.{Walks}, proofs.RowsLemmas.{rows_upto-next}}
 
 -- the shadow was told of each event at its own place
 pub stands-next : (place : ℕ) (old new : Shadow) (e : Event) → FollowsAt place old new e → (es : List Event) (p : ℕ) → event_at es (suc p) ≡ Some e → place ≡ suc p →

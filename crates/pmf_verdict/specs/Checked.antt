@@ -1,8 +1,6 @@
 -- A section that was checked, as a value.
 use Rattle.std.specs.Prelude.{List}
-use Rattle.pmf_event.specs.declared.profile.Profile.{Profile}
-use Rattle.pmf_event.specs.declared.row.Row.{Row}
-use Rattle.pmf_event.specs.Prelude.{Trace}
+use Rattle.pmf_event.specs.{declared.profile.Profile.{Profile}, declared.row.Row.{Row}, Section.{Trace}}
 use Rattle.pmf_verdict.specs.Rows.{rows_of}
 
 -- the section, and the profile by which it was checked

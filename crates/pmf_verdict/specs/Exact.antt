@@ -1,15 +1,8 @@
 -- Exactness: which assertions hold, by their rows. An assertion holds if it does so at each crash that it speaks
 -- of, in every image that the rules allow there, torn stores included.
 use Rattle.std.specs.Prelude.{◌≡◌, ◌↔◌, ◌⊎◌, ℕ, ◌-◌, true, false, List, Some, Contains}
-use Rattle.pmf_event.specs.declared.event.Event.{Event}
-use Rattle.pmf_event.specs.declared.event.Event.TheVariants.{Persist, Ordered, CheckEnd}
-use Rattle.pmf_event.specs.declared.finding.Finding.TheVariants.{PersistPass, PersistEmpty, OrderedPass, OrderedEmpty, OrderedSameLine, CheckPass}
-use Rattle.pmf_event.specs.declared.profile.Profile.{Profile}
-use Rattle.pmf_event.specs.declared.profile.Profile.TheVariants.{One, Two}
-use Rattle.pmf_event.specs.declared.row.Row.{Row}
-use Rattle.pmf_event.specs.Prelude.{Extent, covers_byte, event_at, last_store, is_checked, is_unordered, in_scope, in_transaction}
-use Rattle.pmf_image.specs.Holds.{PersistHolds, OrderedHolds, ScopeHolds}
-use Rattle.pmf_image.specs.Laws.{PairsAreOneByte}
+use Rattle.pmf_event.specs.{declared.event.Event.{Event}, declared.event.Event.TheVariants.{Persist, Ordered, CheckEnd}, declared.finding.Finding.TheVariants.{PersistPass, PersistEmpty, OrderedPass, OrderedEmpty, OrderedSameLine, CheckPass}, declared.profile.Profile.{Profile}, declared.profile.Profile.TheVariants.{One, Two}, declared.row.Row.{Row}, Span.{Extent, covers_byte}, Store.{event_at, last_store}, Persist.{is_checked}, Order.{is_unordered}, Transactions.{in_scope, in_transaction}}
+use Rattle.pmf_image.specs.{Holds.{PersistHolds, OrderedHolds, ScopeHolds}, Laws.{PairsAreOneByte}}
 use Rattle.pmf_verdict.specs.Rows.{row_at}
 
 -- a persist assertion holds exactly where its row is PASS or EMPTY

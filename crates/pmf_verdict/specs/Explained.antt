@@ -1,14 +1,7 @@
 -- Certificates of failed assertions: the crash image that shows the failure.
 use Rattle.std.specs.Prelude.{◌≡◌, ℕ, List, Option, None, Some, Contains}
-use Rattle.pmf_event.specs.declared.event.Event.{Event}
-use Rattle.pmf_event.specs.declared.finding.Finding.{Finding}
-use Rattle.pmf_event.specs.declared.finding.Finding.TheVariants.{PersistFail, OrderedFail, CheckFail}
-use Rattle.pmf_event.specs.declared.row.Row.{Row}
-use Rattle.pmf_event.specs.Prelude.{line_of_byte}
-use Rattle.pmf_image.specs.declared.certificate.Certificate.{Certificate}
-use Rattle.pmf_image.specs.Image.{IsAllowed}
-use Rattle.pmf_image.specs.Certificate.{Fits, image_of}
-use Rattle.pmf_image.specs.Contradiction.{Contradicts}
+use Rattle.pmf_event.specs.{declared.event.Event.{Event}, declared.finding.Finding.{Finding}, declared.finding.Finding.TheVariants.{PersistFail, OrderedFail, CheckFail}, declared.row.Row.{Row}, Line.{line_of_byte}}
+use Rattle.pmf_image.specs.{declared.certificate.Certificate.{Certificate}, Image.{IsAllowed}, Certificate.{Fits, image_of}, Contradiction.{Contradicts}}
 use Rattle.pmf_verdict.specs.Rows.{row_at}
 
 -- the certificate of what is found at p: of a failed persist assertion, and of a scope that failed, a crash

@@ -17,4 +17,3 @@ pub mod Exact
 pub mod Explained
 pub mod Text
 pub mod Outcome
-pub mod Prelude

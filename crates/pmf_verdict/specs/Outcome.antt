@@ -1,9 +1,7 @@
 -- How a row counts in a report. Defined here.
 use Rattle.std.specs.Prelude.{Bool, true, false}
-use Rattle.pmf_event.specs.declared.finding.Finding.{Finding}
-use Rattle.pmf_event.specs.declared.finding.Finding.TheVariants.{PersistPass, PersistFail, PersistEmpty, OrderedPass, OrderedFail, OrderedSameLine, OrderedEmpty, FlushDoubled, FlushNeedless, NoBackup, DupLog, CheckPass, CheckFail, TxStillOpen, Unmatched, Outside, Nested, Unopened, Unclosed}
-use Rattle.pmf_verdict.specs.declared.outcome.Outcome.{Outcome}
-use Rattle.pmf_verdict.specs.declared.outcome.Outcome.TheVariants.{Pass, Fail, Warn, Empty}
+use Rattle.pmf_event.specs.declared.finding.{Finding.{Finding}, Finding.TheVariants.{PersistPass, PersistFail, PersistEmpty, OrderedPass, OrderedFail, OrderedSameLine, OrderedEmpty, FlushDoubled, FlushNeedless, NoBackup, DupLog, CheckPass, CheckFail, TxStillOpen, Unmatched, Outside, Nested, Unopened, Unclosed}}
+use Rattle.pmf_verdict.specs.declared.outcome.{Outcome.{Outcome}, Outcome.TheVariants.{Pass, Fail, Warn, Empty}}
 
 -- what a finding counts as
 abbrev pub outcome_of : Finding → Outcome

@@ -1,12 +1,7 @@
 -- The rows of a section: what the checker says of each event, in the order of the events, and then of the
 -- section's end.
 use Rattle.std.specs.Prelude.{ℕ, zero, suc, ◌-◌, List, [], ◌∷◌, ◌++◌, map, length, Option, Some}
-use Rattle.pmf_event.specs.declared.event.Event.{Event}
-use Rattle.pmf_event.specs.declared.event.Event.TheVariants.{Store, Flush, Persist, Ordered, TxAdd, TxEnd, CheckStart, CheckEnd}
-use Rattle.pmf_event.specs.declared.finding.Finding.{Finding}
-use Rattle.pmf_event.specs.declared.profile.Profile.{Profile}
-use Rattle.pmf_event.specs.declared.row.Row.{Row}
-use Rattle.pmf_event.specs.Prelude.{event_at, persist_finding, ordered_finding, flush_findings, if_any, store_finding, add_finding, end_finding, start_finding, check_finding, close_finding}
+use Rattle.pmf_event.specs.{declared.event.Event.{Event}, declared.event.Event.TheVariants.{Store, Flush, Persist, Ordered, TxAdd, TxEnd, CheckStart, CheckEnd}, declared.finding.Finding.{Finding}, declared.profile.Profile.{Profile}, declared.row.Row.{Row}, Store.{event_at}, Persist.{persist_finding}, Order.{ordered_finding}, FlushWarnings.{flush_findings, if_any}, Transactions.{store_finding, add_finding, end_finding, start_finding, check_finding, close_finding}}
 
 -- what is found of the event at place p; a write-back is judged before it takes effect, and so is what
 -- the event does to transactions and their scope

@@ -1,10 +1,6 @@
 -- Soundness: what a row shows as passed holds in every crash image that the rules allow.
 use Rattle.std.specs.Prelude.{◌≡◌, ℕ, List, Some, Contains}
-use Rattle.pmf_event.specs.declared.event.Event.{Event}
-use Rattle.pmf_event.specs.declared.event.Event.TheVariants.{Persist, Ordered, CheckEnd}
-use Rattle.pmf_event.specs.declared.finding.Finding.TheVariants.{PersistPass, OrderedPass, CheckPass}
-use Rattle.pmf_event.specs.declared.row.Row.{Row}
-use Rattle.pmf_event.specs.Prelude.{Extent, event_at}
+use Rattle.pmf_event.specs.{declared.event.Event.{Event}, declared.event.Event.TheVariants.{Persist, Ordered, CheckEnd}, declared.finding.Finding.TheVariants.{PersistPass, OrderedPass, CheckPass}, declared.row.Row.{Row}, Span.{Extent}, Store.{event_at}}
 use Rattle.pmf_image.specs.Holds.{PersistHolds, OrderedHolds, ScopeHolds}
 use Rattle.pmf_verdict.specs.Rows.{row_at}
 

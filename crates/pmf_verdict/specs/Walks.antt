@@ -1,11 +1,9 @@
 -- What the walk over a section keeps. No public clause cites this.
 use Rattle.std.specs.Prelude.{◌≡◌, ℕ, suc, List, Some}
-use Rattle.pmf_event.specs.declared.event.Event.{Event}
-use Rattle.pmf_event.specs.Prelude.{event_at}
+use Rattle.pmf_event.specs.{declared.event.Event.{Event}, Store.{event_at}}
 use Rattle.pmf_shadow.specs.Shadow.{StandsFor}
 use Rattle.pmf_txcheck.specs.Tracking.{Tracks}
-use Rattle.pmf_verdict.specs.declared.checking.Walk.{Walk}
-use Rattle.pmf_verdict.specs.Rows.{rows_upto}
+use Rattle.pmf_verdict.specs.{declared.checking.Walk.{Walk}, Rows.{rows_upto}}
 
 -- the shadow and the state of transactions stand for the first p events, each told at its own place, and the rows
 -- are theirs, by the walk's profile

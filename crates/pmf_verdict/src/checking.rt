@@ -1,10 +1,8 @@
 //! One walk over the events of a section, which gives its rows.
 
 ghost use Rattle.std.specs.Prelude.{◌≡◌, ℕ, suc, ◌≤◌, ◌<◌, [], ◌∷◌, ◌++◌, List, Some, length, map, OnOk, IfOk, IfErr};
-ghost use Rattle.pmf_event.specs.declared.event.Event.{Event};
-ghost use Rattle.pmf_event.specs.Prelude.{if_any};
-ghost use Rattle.pmf_verdict.specs.Walks.{Walks, Follows};
-ghost use Rattle.pmf_verdict.specs.Rows.{row_at, rows_of};
+ghost use Rattle.pmf_event.specs.{declared.event.Event.{Event}, FlushWarnings.{if_any}};
+ghost use Rattle.pmf_verdict.specs.{Walks.{Walks, Follows}, Rows.{row_at, rows_of}};
 
 use crate::verdict::Verdict;
 use pmf_asserts::{check_flush, check_ordered, check_persist};

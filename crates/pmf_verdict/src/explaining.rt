@@ -1,12 +1,8 @@
 //! The certificate of a failure.
 
 ghost use Rattle.std.specs.Prelude.{◌≡◌, ℕ, Some};
-ghost use Rattle.pmf_image.specs.Image.{IsAllowed};
-ghost use Rattle.pmf_image.specs.Certificate.{Fits, image_of};
-ghost use Rattle.pmf_image.specs.Contradiction.{Contradicts};
-ghost use Rattle.pmf_image.specs.declared.certificate.Certificate.{Certificate};
-ghost use Rattle.pmf_verdict.specs.Checked.{rows_in};
-ghost use Rattle.pmf_verdict.specs.Explained.{Explains, certificate_of};
+ghost use Rattle.pmf_image.specs.{Image.{IsAllowed}, Certificate.{Fits, image_of}, Contradiction.{Contradicts}, declared.certificate.Certificate.{Certificate}};
+ghost use Rattle.pmf_verdict.specs.{Checked.{rows_in}, Explained.{Explains, certificate_of}};
 
 use crate::verdict::Verdict;
 use pmf_event::{Finding, Row, line_of};

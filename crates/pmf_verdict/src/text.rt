@@ -1,8 +1,7 @@
 //! The text of rows.
 
 ghost use Rattle.std.specs.Prelude.{◌≡◌, ◌++◌, OnOk, IfOk, string_bytes};
-ghost use Rattle.pmf_verdict.specs.Checked.{rows_in};
-ghost use Rattle.pmf_verdict.specs.Text.{text_of_pair, text_of_finding, text_of_row, text_of_rows, rows_at};
+ghost use Rattle.pmf_verdict.specs.{Checked.{rows_in}, Text.{text_of_pair, text_of_finding, text_of_row, text_of_rows, rows_at}};
 
 use crate::verdict::Verdict;
 use pmf_event::{Finding, Row};

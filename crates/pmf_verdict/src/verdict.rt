@@ -1,11 +1,7 @@
 //! A section with the rows that the checker gives it.
 
 ghost use Rattle.std.specs.Prelude.{◌≡◌, ◌↔◌, IsTrue, IfOk};
-ghost use Rattle.pmf_verdict.specs.Checked.{Checked, rows_in};
-ghost use Rattle.pmf_verdict.specs.Rows.{rows_of};
-ghost use Rattle.pmf_verdict.specs.Explained.{FailuresAreReal};
-ghost use Rattle.pmf_verdict.specs.Sound.{PersistsHold, OrdersHold, ScopesHold};
-ghost use Rattle.pmf_verdict.specs.Exact.{IsExact, SameLinesAreOneStore};
+ghost use Rattle.pmf_verdict.specs.{Checked.{Checked, rows_in}, Rows.{rows_of}, Explained.{FailuresAreReal}, Sound.{PersistsHold, OrdersHold, ScopesHold}, Exact.{IsExact, SameLinesAreOneStore}};
 
 use pmf_event::{Name, Profile, Row, Rows, Section};
 use std::alloc::{AllocError, Global};

@@ -1,15 +1,6 @@
 -- What the matches of a command say of its options, and what the parts of a command have to do with its words.
-use Rattle.pmf_event.proofs.Common.{◌≡◌, ℕ, ◌<◌, ◌^◌, Bool, List, [], ◌∷◌, ◌||◌, refl, ◌∙◌, ap, subst, Option, Some, None, Result, Ok, Err, option_map, map, codes, true, false, Bor, unwrap_or, IfOk, decimal, list_any, ParsesUnsigned, ExplainsUnsignedError, HasUnsignedDigitsIfOk, parse-decimal}
-use Rattle.std.specs.declared.alloc.AllocError.{AllocError}
-use Rattle.std.specs.declared.num.ParseIntError.{ParseIntError}
-use Rattle.clap.specs.Matches.{ReadsOne}
-use Rattle.clap.specs.declared.parser.matches.Found.{Found}
-use Rattle.clap.specs.Words.{Text, one_text, rows_of, rule_of, with_rule, with_subcommand, app_of, AddsArg, AddsSubcommand, App, Rule, is_simple}
-use Rattle.clap.specs.declared.builder.arg.Arg.{Arg}
-use Rattle.clap.specs.declared.builder.command.Command.{Command}
-use Rattle.clap.specs.declared.builder.value_parser.ValueParser.{ValueParser}
-use Rattle.clap.proofs.OnLiterals.{clap_on_literals}
-use Rattle.clap.proofs.WalkLemmas.{one_text-rows}
+use Rattle.std.{proofs.Common.{◌≡◌, ℕ, ◌<◌, ◌^◌, Bool, List, [], ◌∷◌, ◌||◌, refl, ◌∙◌, ap, subst, Option, Some, None, Result, Ok, Err, option_map, map, codes, true, false, Bor, unwrap_or, IfOk, decimal}, specs.List.{list_any}, specs.Str.Parse.{ParsesUnsigned, ExplainsUnsignedError, HasUnsignedDigitsIfOk}, proofs.lemmas.Fmt.{parse-decimal}, specs.declared.alloc.AllocError.{AllocError}, specs.declared.num.ParseIntError.{ParseIntError}}
+use Rattle.clap.{specs.Matches.{ReadsOne}, specs.declared.parser.matches.Found.{Found}, specs.Words.{Text, one_text, rows_of, rule_of, with_rule, with_subcommand, app_of, AddsArg, AddsSubcommand, App, Rule, is_simple}, specs.declared.builder.arg.Arg.{Arg}, specs.declared.builder.command.Command.{Command}, specs.declared.builder.value_parser.ValueParser.{ValueParser}, proofs.OnLiterals.{clap_on_literals}, proofs.WalkLemmas.{one_text-rows}}
 use Rattle.pmf_words.specs.Words.{HasWords, IsNumberOf, IsFlagOf, pmfarm_words}
 
 ok-same : {E : Type 0} (r : Result ℕ E) (v k : ℕ) → r ≡ Ok v → r ≡ Ok k → v ≡ k

@@ -1,23 +1,11 @@
 -- The words of the command line: the commands and options of the program, and what they ask for. Defined here,
 -- in the words of `clap`.
-use Rattle.std.specs.Prelude.{◌≡◌, ℕ, ◌<◌, ◌^◌, pos, Bool, true, false, List, [], ◌∷◌, map, Some, codes, bytes_eq, decimal}
-use Rattle.std.specs.List.{list_any}
-use Rattle.clap.specs.Words.{App, Row, Rule, Text, all_of, first_of, one_of, app_of, new_app, new_rule, subcommand_of, with_rule, with_subcommand}
-use Rattle.clap.specs.Simple.{new_shape}
-use Rattle.clap.specs.declared.builder.action.ArgAction.TheVariants.{Append, SetTrue}
-use Rattle.clap.specs.declared.builder.command.Command.{Command, out-Command}
-use Rattle.clap.specs.declared.builder.value_parser.ValueParser.{ValueParser}
-use Rattle.clap.specs.declared.builder.value_parser.ValueParser.TheVariants as vp
+use Rattle.std.specs.{Prelude.{◌≡◌, ℕ, ◌<◌, ◌^◌, pos, Bool, true, false, List, [], ◌∷◌, map, Some, codes, bytes_eq, decimal}, List.{list_any}}
+use Rattle.clap.specs.{Words.{App, Row, Rule, Text, all_of, first_of, one_of, app_of, new_app, new_rule, subcommand_of, with_rule, with_subcommand}, Simple.{new_shape}, declared.builder.action.ArgAction.TheVariants.{Append, SetTrue}, declared.builder.command.Command.{Command, out-Command}, declared.builder.value_parser.ValueParser.{ValueParser}}
 use Rattle.pmf_event.specs.declared.profile.Profile.{Profile}
+use Rattle.pmf_request.specs.declared.{settings.Lengths.{Lengths}, settings.Question.{Question}, settings.Settings.{Settings}, settings.Sought.{Sought}, settings.Whole.{Whole}, request.Files.{Files}, request.Simulation.{Simulation}, request.Request.{Request}}
+use Rattle.clap.specs.declared.builder.value_parser.ValueParser.TheVariants as vp
 use Rattle.pmf_event.specs.declared.profile.Profile.TheVariants as profile
-use Rattle.pmf_request.specs.declared.settings.Lengths.{Lengths}
-use Rattle.pmf_request.specs.declared.settings.Question.{Question}
-use Rattle.pmf_request.specs.declared.settings.Settings.{Settings}
-use Rattle.pmf_request.specs.declared.settings.Sought.{Sought}
-use Rattle.pmf_request.specs.declared.settings.Whole.{Whole}
-use Rattle.pmf_request.specs.declared.request.Files.{Files}
-use Rattle.pmf_request.specs.declared.request.Simulation.{Simulation}
-use Rattle.pmf_request.specs.declared.request.Request.{Request}
 use Rattle.pmf_request.specs.declared.request.Request.TheVariants as request
 
 -- ---- the options

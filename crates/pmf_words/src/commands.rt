@@ -1,8 +1,7 @@
 //! The commands of the program.
 
 ghost use Rattle.std.specs.Prelude.{◌≡◌, false, true, Ok, IfOk};
-ghost use Rattle.clap.specs.Words.{App, Rule, new_app, rule_of, with_rule, with_subcommand};
-ghost use Rattle.clap.specs.declared.builder.value_parser.ValueParser.{ValueParser};
+ghost use Rattle.clap.specs.{Words.{App, Rule, new_app, rule_of, with_rule, with_subcommand}, declared.builder.value_parser.ValueParser.{ValueParser}};
 ghost use Rattle.pmf_words.specs.Words.{HasWords, check_words, cut_words, explain_words, join_words, lint_words, locate_words, pmfarm_words, profile_option, program_words, run_option, sim_words};
 
 use crate::options::{

@@ -1,8 +1,7 @@
 //! The options of the commands.
 
 ghost use Rattle.std.specs.Prelude.{◌≡◌, false, Some, codes};
-ghost use Rattle.clap.specs.Words.{rule_of};
-ghost use Rattle.clap.specs.declared.builder.value_parser.ValueParser.{ValueParser};
+ghost use Rattle.clap.specs.{Words.{rule_of}, declared.builder.value_parser.ValueParser.{ValueParser}};
 ghost use Rattle.pmf_words.specs.Words.{asked, asked_number, file_words, flag, large_number, number, option, profile_option, run_option, small_number};
 
 use clap::builder::ValueParser;

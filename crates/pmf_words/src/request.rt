@@ -1,7 +1,6 @@
 //! What the words of the command line ask for.
 
-ghost use Rattle.std.specs.Prelude.{◌≡◌, List, false, true, Some, codes, map, option_map, IfOk, bytes_eq, string_bytes};
-ghost use Rattle.std.specs.List.{list_any};
+ghost use Rattle.std.specs.{Prelude.{◌≡◌, List, false, true, Some, codes, map, option_map, IfOk, bytes_eq, string_bytes}, List.{list_any}};
 ghost use Rattle.clap.specs.Words.{Row, Text, found_of, rows_of, subcommand_rows_of};
 ghost use Rattle.pmf_event.specs.declared.profile.Profile.{Profile};
 ghost use Rattle.pmf_words.specs.Words.{IsCheckOf, IsCutOf, IsExplainAllOf, IsExplainBy, IsExplainOf, IsJoinOf, IsLocateOf, IsRequestBy, IsRequestOf, IsSimOf};

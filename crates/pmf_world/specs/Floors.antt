@@ -1,18 +1,12 @@
 -- What the floor of a world keeps, beside the farm that it shows. Defined here.
 use Rattle.std.specs.Prelude.{◌≡◌, ◌≢◌, ℕ, ◌+◌, ◌<◌, ◌≤◌, List, length, sum_by, slice_get, Some, None, Result, Ok, Err, All}
-use Rattle.pmf_event.specs.declared.profile.Profile.{Profile}
-use Rattle.pmf_event.specs.Prelude.{Trace}
+use Rattle.pmf_event.specs.{declared.profile.Profile.{Profile}, Section.{Trace}}
 use Rattle.pmf_verdict.specs.Checked.{Checked, checked_by}
 use Rattle.pmf_board.specs.declared.entry.Entry.{Entry}
 use Rattle.pmf_ledger.specs.Repeats.{section_at}
-use Rattle.pmf_world.specs.declared.doing.Doing.{Doing}
+use Rattle.pmf_world.specs.{declared.doing.Doing.{Doing}, declared.floor.Message.{Message}, declared.floor.Worker.{Worker}, declared.step.WorldAnswer.{WorldAnswer}, declared.step.WorldFault.{WorldFault}, Turns.{FarmState, Turned}}
 use Rattle.pmf_world.specs.declared.doing.Doing.TheVariants as doing
-use Rattle.pmf_world.specs.declared.floor.Message.{Message}
-use Rattle.pmf_world.specs.declared.floor.Worker.{Worker}
-use Rattle.pmf_world.specs.declared.step.WorldAnswer.{WorldAnswer}
-use Rattle.pmf_world.specs.declared.step.WorldFault.{WorldFault}
 use Rattle.pmf_world.specs.declared.step.WorldFault.TheVariants as fault
-use Rattle.pmf_world.specs.Turns.{FarmState, Turned}
 
 -- the profile, the sections, and their farm
 pub record FloorValue : Type 0 where

@@ -1,12 +1,9 @@
 -- What becomes of one ledger of a world. Defined here.
 use Rattle.std.specs.Prelude.{◌≡◌, ◌↔◌, ℕ, set}
 use Rattle.pmf_event.specs.Section.{Trace}
-use Rattle.pmf_ledger.specs.declared.taking.Taken.{Taken}
-use Rattle.pmf_ledger.specs.declared.taking.Taken.TheVariants.{Added, Repeat}
-use Rattle.pmf_ledger.specs.Prelude.{Gathers, GathersBoth, Holds, LedgerValue}
-use Rattle.pmf_world.specs.declared.step.WorldAnswer.{WorldAnswer}
+use Rattle.pmf_ledger.specs.{declared.taking.Taken.{Taken}, declared.taking.Taken.TheVariants.{Added, Repeat}, Gathered.{Gathers, GathersBoth, Holds}, LedgerValue.{LedgerValue}}
+use Rattle.pmf_world.specs.{declared.step.WorldAnswer.{WorldAnswer}, Worlds.{WorldValue, ledger_at}}
 use Rattle.pmf_world.specs.declared.step.WorldAnswer.TheVariants as answer
-use Rattle.pmf_world.specs.Worlds.{WorldValue, ledger_at}
 
 -- the world with this ledger as number k
 abbrev pub with_ledger : WorldValue → ℕ → LedgerValue → WorldValue

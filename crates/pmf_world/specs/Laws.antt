@@ -1,13 +1,11 @@
 -- What holds after every list of steps: gathered sections, tasks, and what was sent. Defined here.
 use Rattle.std.specs.Prelude.{◌≡◌, ◌≢◌, ◌⊎◌, ◌↔◌, ℕ, ◌<◌, true, List, [], ◌∷◌, ◌++◌, length, slice_get, Some, Ok, IsOk, Contains, AllPairs}
 use Rattle.pmf_event.specs.Section.{Trace}
-use Rattle.pmf_ledger.specs.Prelude.{Holds, section_at}
+use Rattle.pmf_ledger.specs.{Gathered.{Holds}, Repeats.{section_at}}
 use Rattle.pmf_board.specs.Machine.{entry_at}
-use Rattle.pmf_world.specs.declared.step.WorldStep.{WorldStep}
+use Rattle.pmf_world.specs.{declared.step.WorldStep.{WorldStep}, Steps.{WorldState, Stepped, opening_of, stepped, after, set_at}, Worlds.{WorldValue, StandsFor, ledger_at}}
 use Rattle.pmf_world.specs.declared.step.WorldStep.TheVariants as step
 use Rattle.pmf_world.specs.declared.step.WorldAnswer.TheVariants as answer
-use Rattle.pmf_world.specs.Steps.{WorldState, Stepped, opening_of, stepped, after, set_at}
-use Rattle.pmf_world.specs.Worlds.{WorldValue, StandsFor, ledger_at}
 
 -- the step brings section s to ledger k: a message of it arrives there, or a ledger is joined there at which it was gathered before
 abbrev pub Brings : WorldState → (ℕ → Type 0) → WorldStep → ℕ → ℕ → Type 0

@@ -1,12 +1,9 @@
 -- The text lines of a simulation: one for each step, and a report for each ledger. Defined here.
 use Rattle.std.specs.Prelude.{ℕ, suc, ◌+◌, List, [], ◌∷◌, ◌++◌, length, Result, Ok, Err, codes, decimal}
-use Rattle.pmf_ledger.specs.Prelude.{LedgerValue, report_of}
-use Rattle.pmf_world.specs.declared.step.WorldAnswer.{WorldAnswer}
+use Rattle.pmf_ledger.specs.{LedgerValue.{LedgerValue}, Report.{report_of}}
+use Rattle.pmf_world.specs.{declared.step.WorldAnswer.{WorldAnswer}, declared.step.WorldFault.{WorldFault}, declared.step.WorldStep.{WorldStep}, Steps.{WorldState, Stepped, stepped, after}}
 use Rattle.pmf_world.specs.declared.step.WorldAnswer.TheVariants as answer
-use Rattle.pmf_world.specs.declared.step.WorldFault.{WorldFault}
 use Rattle.pmf_world.specs.declared.step.WorldFault.TheVariants as fault
-use Rattle.pmf_world.specs.declared.step.WorldStep.{WorldStep}
-use Rattle.pmf_world.specs.Steps.{WorldState, Stepped, stepped, after}
 
 -- what is written of an answer
 unfoldable pub text_of_answer : WorldAnswer → List ℕ

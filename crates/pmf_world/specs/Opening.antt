@@ -1,15 +1,10 @@
 -- What a world is made of, and what is refused. Defined here.
 use Rattle.std.specs.Prelude.{◌≡◌, ℕ, ◌<◌, ◌≤◌, List, length}
-use Rattle.pmf_event.specs.declared.profile.Profile.{Profile}
-use Rattle.pmf_event.specs.Prelude.{Trace}
-use Rattle.pmf_board.specs.declared.board.TheConstants.{MOST_SECTIONS, MOST_WORKERS}
+use Rattle.pmf_event.specs.{declared.profile.Profile.{Profile}, Section.{Trace}}
+use Rattle.pmf_board.specs.{declared.board.TheConstants.{MOST_SECTIONS, MOST_WORKERS}, Workers.{AreWorkers}}
 use Rattle.pmf_ledger.specs.Repeats.{HaveOwnNames, IsLeastTwice}
-use Rattle.pmf_board.specs.Workers.{AreWorkers}
-use Rattle.pmf_world.specs.declared.fault.TheConstants.{MOST_LEDGERS}
-use Rattle.pmf_world.specs.declared.fault.WorldNewFault.{WorldNewFault}
+use Rattle.pmf_world.specs.{declared.fault.TheConstants.{MOST_LEDGERS}, declared.fault.WorldNewFault.{WorldNewFault}, Steps.{opening_of}, Worlds.{WorldValue, StandsFor}}
 use Rattle.pmf_world.specs.declared.fault.WorldNewFault.TheVariants as fault
-use Rattle.pmf_world.specs.Steps.{opening_of}
-use Rattle.pmf_world.specs.Worlds.{WorldValue, StandsFor}
 
 -- 1 to 64 workers, at most 65,536 sections, each with a name of its own, and at most 64 ledgers
 pub record IsMade (sections : List Trace) (workers ledgers : ℕ) : Type 0 where

@@ -1,9 +1,6 @@
 -- What playing comes to, from any world that the played one stands for. Defined here.
 use Rattle.std.specs.Prelude.{◌≡◌, ℕ, ◌+◌, List, [], ◌∷◌, ◌++◌, length, reverse}
-use Rattle.pmf_world.specs.declared.step.WorldStep.{WorldStep}
-use Rattle.pmf_world.specs.Steps.{WorldState, stepped, after}
-use Rattle.pmf_world.specs.Worlds.{WorldValue, StandsFor}
-use Rattle.pmf_world.specs.Lines.{outcome_of, text_of_step, text_of_steps}
+use Rattle.pmf_world.specs.{declared.step.WorldStep.{WorldStep}, Steps.{WorldState, stepped, after}, Worlds.{WorldValue, StandsFor}, Lines.{outcome_of, text_of_step, text_of_steps}}
 
 -- the step of this number was played: whatever the old world stands for after the steps before it, the text grew by its line, and the new one stands for the world after it too
 pub record PlaysStep (old : WorldValue) (text : List ℕ) (number : ℕ) (step : WorldStep) (new : WorldValue) (text_then : List ℕ) : Type 0 where

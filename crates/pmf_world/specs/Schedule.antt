@@ -1,10 +1,7 @@
 -- A schedule: its text, and the steps that it tells. Defined here.
-use Rattle.std.specs.Prelude.{ℕ, suc, ◌^◌, Bool, nat_lt, ◌==◌, ◌&&◌, List, [], ◌∷◌, Option, None, Some, Result, Ok, Err, if◌then◌else◌, codes, bytes_eq}
-use Rattle.std.specs.List.{slice_split}
-use Rattle.std.specs.Str.Parse.{digits_value}
+use Rattle.std.specs.{Prelude.{ℕ, suc, ◌^◌, Bool, nat_lt, ◌==◌, ◌&&◌, List, [], ◌∷◌, Option, None, Some, Result, Ok, Err, if◌then◌else◌, codes, bytes_eq}, List.{slice_split}, Str.Parse.{digits_value}}
 use Rattle.pmf_storelog.specs.Numbers.{is_numeral}
-use Rattle.pmf_world.specs.declared.step.WorldStep.{WorldStep}
-use Rattle.pmf_world.specs.declared.step.WorldStep.TheVariants.{Fresh, Again, Check, Send, Mark, Lose, Arrive, Join}
+use Rattle.pmf_world.specs.declared.step.{WorldStep.{WorldStep}, WorldStep.TheVariants.{Fresh, Again, Check, Send, Mark, Lose, Arrive, Join}}
 
 -- whether the byte ends a text line
 abbrev pub is_line_end : ℕ → Bool

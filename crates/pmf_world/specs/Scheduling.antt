@@ -1,8 +1,6 @@
 -- Why a schedule is not read. Defined here.
 use Rattle.std.specs.Prelude.{◌≡◌, ℕ, List, Err}
-use Rattle.pmf_world.specs.declared.schedule.ScheduleFault.{ScheduleFault}
-use Rattle.pmf_world.specs.declared.schedule.ScheduleFault.TheVariants.{BadLine, OutOfMemory}
-use Rattle.pmf_world.specs.Schedule.{schedule_of}
+use Rattle.pmf_world.specs.{declared.schedule.ScheduleFault.{ScheduleFault}, declared.schedule.ScheduleFault.TheVariants.{BadLine, OutOfMemory}, Schedule.{schedule_of}}
 
 -- the first text line that is neither empty nor a step has this number; want of memory says nothing
 abbrev pub IsBadSchedule : List ℕ → ScheduleFault → Type 0

@@ -1,21 +1,11 @@
 -- What a simulation writes of a log and a schedule, and what it refuses. Defined here.
 use Rattle.std.specs.Prelude.{◌≡◌, ◌≢◌, ℕ, ◌<◌, ◌≤◌, List, [], ◌++◌, length, reverse, Ok, Err}
-use Rattle.pmf_event.specs.declared.profile.Profile.TheVariants.{One}
-use Rattle.pmf_event.specs.Prelude.{Trace}
-use Rattle.pmf_storelog.specs.Prelude.{log_of, out_of_memory, LogValue}
-use Rattle.pmf_board.specs.declared.board.TheConstants.{MOST_WORKERS}
-use Rattle.pmf_board.specs.Workers.{AreWorkers}
-use Rattle.pmf_world.specs.declared.fault.TheConstants.{MOST_LEDGERS}
-use Rattle.pmf_world.specs.declared.fault.WorldNewFault.{WorldNewFault}
+use Rattle.pmf_event.specs.{declared.profile.Profile.TheVariants.{One}, Section.{Trace}}
+use Rattle.pmf_storelog.specs.{LogText.{log_of, out_of_memory}, LogValue.{LogValue}}
+use Rattle.pmf_board.specs.{declared.board.TheConstants.{MOST_WORKERS}, Workers.{AreWorkers}}
+use Rattle.pmf_world.specs.{declared.fault.TheConstants.{MOST_LEDGERS}, declared.fault.WorldNewFault.{WorldNewFault}, declared.step.WorldStep.{WorldStep}, Steps.{after, opening_of}, Worlds.{WorldValue, StandsFor}, declared.simulating.SimFault.{SimFault}, declared.simulating.TheConstants.{SCHEDULE_LIMIT}, Schedule.{schedule_of}, Lines.{text_of_steps, text_of_ledgers}}
 use Rattle.pmf_world.specs.declared.fault.WorldNewFault.TheVariants as new
-use Rattle.pmf_world.specs.declared.step.WorldStep.{WorldStep}
-use Rattle.pmf_world.specs.Steps.{after, opening_of}
-use Rattle.pmf_world.specs.Worlds.{WorldValue, StandsFor}
-use Rattle.pmf_world.specs.declared.simulating.SimFault.{SimFault}
 use Rattle.pmf_world.specs.declared.simulating.SimFault.TheVariants as fault
-use Rattle.pmf_world.specs.declared.simulating.TheConstants.{SCHEDULE_LIMIT}
-use Rattle.pmf_world.specs.Schedule.{schedule_of}
-use Rattle.pmf_world.specs.Lines.{text_of_steps, text_of_ledgers}
 
 -- the text is that of the steps in a world of these sections: a line for each step, and then the report of each ledger, which is that of the sections gathered there
 pub record Plays (sections : List Trace) (workers ledgers : ℕ) (steps : List WorldStep) (text : List ℕ) : Type 0 where

@@ -1,15 +1,11 @@
 -- The world: a farm, and what was gathered at each ledger; and what every step does to it. Defined here.
-use Rattle.std.specs.Prelude.{ℕ, eqb, if◌then◌else◌, List, [], ◌∷◌, ◌++◌, get_or, set, slice_get, replicate, Option, None, Some, Result, Ok, Err}
-use Rattle.std.specs.List.{list_any}
+use Rattle.std.specs.{Prelude.{ℕ, eqb, if◌then◌else◌, List, [], ◌∷◌, ◌++◌, get_or, set, slice_get, replicate, Option, None, Some, Result, Ok, Err}, List.{list_any}}
 use Rattle.pmf_board.specs.Machine.{opening}
+use Rattle.pmf_world.specs.{declared.step.WorldStep.{WorldStep}, declared.step.WorldAnswer.{WorldAnswer}, declared.step.WorldFault.{WorldFault}, Turns.{FarmState, Turned, take_turn, check_where, send_where, mark_where, lose_where}}
 use Rattle.pmf_world.specs.declared.doing.Doing.TheVariants as doing
-use Rattle.pmf_world.specs.declared.step.WorldStep.{WorldStep}
 use Rattle.pmf_world.specs.declared.step.WorldStep.TheVariants as step
-use Rattle.pmf_world.specs.declared.step.WorldAnswer.{WorldAnswer}
 use Rattle.pmf_world.specs.declared.step.WorldAnswer.TheVariants as answer
-use Rattle.pmf_world.specs.declared.step.WorldFault.{WorldFault}
 use Rattle.pmf_world.specs.declared.step.WorldFault.TheVariants as fault
-use Rattle.pmf_world.specs.Turns.{FarmState, Turned, take_turn, check_where, send_where, mark_where, lose_where}
 
 -- the farm, and for each ledger the set of the sections gathered there: a list in which only membership counts
 pub record WorldState : Type 0 where

@@ -1,13 +1,10 @@
 -- A farm as a value, and what each turn of a worker does to it: the board machine, with what every worker is doing and
 -- the messages that were sent. Sections, workers and messages are told by their numbers, from 0. Defined here.
 use Rattle.std.specs.Prelude.{ℕ, List, [], ◌∷◌, ◌++◌, length, set, slice_get, Option, None, Some, Result, Ok, Err}
-use Rattle.pmf_board.specs.declared.entry.Entry.{Entry}
-use Rattle.pmf_board.specs.Machine.{mark, take_below}
-use Rattle.pmf_world.specs.declared.doing.Doing.{Doing}
+use Rattle.pmf_board.specs.{declared.entry.Entry.{Entry}, Machine.{mark, take_below}}
+use Rattle.pmf_world.specs.declared.{doing.Doing.{Doing}, step.WorldAnswer.{WorldAnswer}, step.WorldFault.{WorldFault}}
 use Rattle.pmf_world.specs.declared.doing.Doing.TheVariants as doing
-use Rattle.pmf_world.specs.declared.step.WorldAnswer.{WorldAnswer}
 use Rattle.pmf_world.specs.declared.step.WorldAnswer.TheVariants as answer
-use Rattle.pmf_world.specs.declared.step.WorldFault.{WorldFault}
 use Rattle.pmf_world.specs.declared.step.WorldFault.TheVariants as fault
 
 -- what stands of each section, what each worker is doing, and of which section each message is that was ever sent

@@ -1,15 +1,10 @@
 -- A world as contracts see it, and what it stands for. Defined here.
 use Rattle.std.specs.Prelude.{◌≡◌, ℕ, ◌<◌, List, [], length, map, get_or, Contains, Ok, Err, All}
-use Rattle.pmf_event.specs.declared.profile.Profile.{Profile}
-use Rattle.pmf_event.specs.Prelude.{Trace}
-use Rattle.pmf_ledger.specs.Prelude.{Holds, IsLedgerOf, LedgerValue, section_at}
-use Rattle.pmf_world.specs.declared.step.WorldStep.{WorldStep}
+use Rattle.pmf_event.specs.{declared.profile.Profile.{Profile}, Section.{Trace}}
+use Rattle.pmf_ledger.specs.{Gathered.{Holds, IsLedgerOf}, LedgerValue.{LedgerValue}, Repeats.{section_at}}
+use Rattle.pmf_world.specs.{declared.step.WorldStep.{WorldStep}, declared.step.WorldAnswer.{WorldAnswer}, declared.step.WorldFault.{WorldFault}, Turns.{FarmState}, Steps.{WorldState, stepped, set_at}}
 use Rattle.pmf_world.specs.declared.step.WorldStep.TheVariants as step
-use Rattle.pmf_world.specs.declared.step.WorldAnswer.{WorldAnswer}
-use Rattle.pmf_world.specs.declared.step.WorldFault.{WorldFault}
 use Rattle.pmf_world.specs.declared.step.WorldFault.TheVariants as fault
-use Rattle.pmf_world.specs.Turns.{FarmState}
-use Rattle.pmf_world.specs.Steps.{WorldState, stepped, set_at}
 
 -- the profile, the sections that were handed in, their farm, and the ledgers
 pub record WorldValue : Type 0 where

@@ -2,8 +2,7 @@
 
 ghost use Rattle.std.specs.Prelude.{◌≡◌, ◌<◌, ◌≤◌, ◌++◌, [], ◌∷◌, map, length, set, replicate, slice_get, Some, None, IfOk, OnOk, OnErr, MatchOption};
 ghost use Rattle.pmf_board.specs.Machine.{entry_at, hand_out, mark, opening};
-ghost use Rattle.pmf_world.specs.Floors.{Becomes, FloorValue, IsFloor, IsSent, idle, verdict_at};
-ghost use Rattle.pmf_world.specs.Turns.{with_worker};
+ghost use Rattle.pmf_world.specs.{Floors.{Becomes, FloorValue, IsFloor, IsSent, idle, verdict_at}, Turns.{with_worker}};
 
 use crate::doing::Doing;
 use pmf_board::Entry;

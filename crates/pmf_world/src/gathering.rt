@@ -2,8 +2,7 @@
 
 ghost use Rattle.std.specs.Prelude.{◌≡◌, ◌↔◌, ◌<◌, length, Contains, IfOk, IfErr, OnOk, OnErr, Ok};
 ghost use Rattle.pmf_ledger.specs.Gathered.{ClashesAt, Gains, Gathers, GathersBoth, Holds, HoldsOther, Unites};
-ghost use Rattle.pmf_world.specs.Gatherings.{JoinsAt, TakesAt};
-ghost use Rattle.pmf_world.specs.Worlds.{Refuses, Steps};
+ghost use Rattle.pmf_world.specs.{Gatherings.{JoinsAt, TakesAt}, Worlds.{Refuses, Steps}};
 
 use crate::step::{WorldAnswer, WorldFault, WorldStep};
 use crate::world::World;

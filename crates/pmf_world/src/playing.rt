@@ -1,8 +1,7 @@
 //! The steps of a schedule, played in a world, and the reports of its ledgers.
 
 ghost use Rattle.std.specs.Prelude.{◌≡◌, ◌<◌, ◌^◌, ◌++◌, length, take, IfOk, OnOk, string_bytes};
-ghost use Rattle.pmf_world.specs.Lines.{text_of_ledgers};
-ghost use Rattle.pmf_world.specs.Playing.{PlaysAll, PlaysStep};
+ghost use Rattle.pmf_world.specs.{Lines.{text_of_ledgers}, Playing.{PlaysAll, PlaysStep}};
 
 use crate::lines::{push_ledger, push_step};
 use crate::step::{WorldFault, WorldStep};

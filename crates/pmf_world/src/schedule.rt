@@ -1,9 +1,7 @@
 //! The steps that the text of a schedule tells.
 
 ghost use Rattle.std.specs.Prelude.{◌≡◌, ◌≤◌, length, Ok, MatchResult};
-ghost use Rattle.pmf_world.specs.Schedule.{number_of, schedule_of, step_of_line, step_of_one, step_of_two};
-ghost use Rattle.pmf_world.specs.declared.simulating.TheConstants.{SCHEDULE_LIMIT};
-ghost use Rattle.pmf_world.specs.Scheduling.{IsBadSchedule};
+ghost use Rattle.pmf_world.specs.{Schedule.{number_of, schedule_of, step_of_line, step_of_one, step_of_two}, declared.simulating.TheConstants.{SCHEDULE_LIMIT}, Scheduling.{IsBadSchedule}};
 
 use crate::step::WorldStep;
 use pmf_storelog::read_number_in_front;

@@ -1,8 +1,7 @@
 //! The turns of a worker: what it may do, by what it is doing.
 
 ghost use Rattle.std.specs.Prelude.{◌≤◌, slice_get};
-ghost use Rattle.pmf_world.specs.Floors.{IsTurned, IsTurnedIfRoom};
-ghost use Rattle.pmf_world.specs.Turns.{check_where, lose_where, mark_where, send_where, take_turn};
+ghost use Rattle.pmf_world.specs.{Floors.{IsTurned, IsTurnedIfRoom}, Turns.{check_where, lose_where, mark_where, send_where, take_turn}};
 
 use crate::doing::Doing;
 use crate::floor::Floor;

@@ -3,9 +3,7 @@
 ghost use Rattle.std.specs.Prelude.{◌≡◌, ◌<◌, [], map, length, replicate, slice_get, Some, None, IfOk, IfErr, OnErr, MatchOption, All};
 ghost use Rattle.pmf_board.specs.Machine.{entry_at};
 ghost use Rattle.pmf_ledger.specs.Repeats.{HaveOwnNames};
-ghost use Rattle.pmf_world.specs.Floors.{IsSent};
-ghost use Rattle.pmf_world.specs.Opening.{IsMade, IsNotMade, IsOpening};
-ghost use Rattle.pmf_world.specs.Worlds.{IsOfWorld, Refuses, Steps, WorldValue};
+ghost use Rattle.pmf_world.specs.{Floors.{IsSent}, Opening.{IsMade, IsNotMade, IsOpening}, Worlds.{IsOfWorld, Refuses, Steps, WorldValue}};
 
 use crate::fault::{MOST_LEDGERS, WorldNewFault};
 use crate::floor::Floor;

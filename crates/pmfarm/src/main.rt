@@ -6,8 +6,7 @@
 //! Not promised here: what a device does with the bytes, or the words of help and fault lines.
 #![tactic(auto)]
 
-ghost use Rattle.std.specs.Prelude.{◌≡◌};
-ghost use Rattle.std.specs.Process.{exit_status};
+ghost use Rattle.std.specs.{Prelude.{◌≡◌}, Process.{exit_status}};
 ghost use Rattle.pmf_command.specs.Statuses.{exit_code_of};
 
 #[cfg(test)]

@@ -1,18 +1,10 @@
 -- What the words say when a board is closed.
-use Rattle.std.proofs.Common.{◌≡◌, ℕ, zero, suc, ◌+◌, ◌<◌, ◌≤◌, List, [], ◌∷◌, ◌++◌, map, take, length, get_or, refl, sym, ◌∙◌, ap, subst}
-use Rattle.std.proofs.lemmas.List.{take_more}
+use Rattle.std.proofs.{Common.{◌≡◌, ℕ, zero, suc, ◌+◌, ◌<◌, ◌≤◌, List, [], ◌∷◌, ◌++◌, map, take, length, get_or, refl, sym, ◌∙◌, ap, subst}, lemmas.List.{take_more}}
+use Rattle.atomic_table.specs.Table.{Final, Seen}
+use Rattle.pmf_board.{specs.declared.entry.Entry.{Entry}, specs.declared.view.View.{View}, specs.Machine.{entry_at}, specs.Rule.{word_of, entry_of}, specs.Calls.{IsTallied}, proofs.lemmas.WordLemmas.{entry_of-word}, proofs.lemmas.KeepLemmas.{alone-times, alone-done}, proofs.lemmas.StepLemmas.{Holds}}
 use mathlib.Core.List.{map-append}
 use mathlib.Core.Option.{some, some-injective, some-ne-none}
 use lib.ListN.{get_elem?}
-use Rattle.atomic_table.specs.Table.{Final, Seen}
-use Rattle.pmf_board.specs.declared.entry.Entry.{Entry}
-use Rattle.pmf_board.specs.declared.view.View.{View}
-use Rattle.pmf_board.specs.Machine.{entry_at}
-use Rattle.pmf_board.specs.Rule.{word_of, entry_of}
-use Rattle.pmf_board.specs.Calls.{IsTallied}
-use Rattle.pmf_board.proofs.lemmas.WordLemmas.{entry_of-word}
-use Rattle.pmf_board.proofs.lemmas.KeepLemmas.{alone-times, alone-done}
-use Rattle.pmf_board.proofs.lemmas.StepLemmas.{Holds}
 
 get_or-at : (l : List ℕ) (i a d : ℕ) → get_elem? l i ≡ some a → get_or l i d ≡ a
 get_or-at [] i a d e = absurd (some-ne-none a (sym e))

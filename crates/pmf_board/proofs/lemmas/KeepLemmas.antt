@@ -1,19 +1,9 @@
 -- Each kind of change of the board and of the views keeps the rule.
-use Rattle.std.proofs.Common.{◌≡◌, ℕ, zero, suc, ◌+◌, ◌<◌, ◌≤◌, ◌≢◌, Bool, true, false, cond, ◌&&◌, eqb, leb, ◌⊎◌, inl, inr, ⊎_elim, ◌↔◌, List, [], ◌∷◌, ◌++◌, length, set, sum_by, refl, sym, ◌∙◌, ap, subst, arith}
-use Rattle.std.proofs.lemmas.Bool.{eq-eqb, ne_eqb, cases_eq, cases_lt, true≢false}
-use Rattle.std.proofs.lemmas.Bool.Decides.{nat_tests}
-use Rattle.std.proofs.lemmas.List.Sums.{sum_by-append}
+use Rattle.std.proofs.{Common.{◌≡◌, ℕ, zero, suc, ◌+◌, ◌<◌, ◌≤◌, ◌≢◌, Bool, true, false, cond, ◌&&◌, eqb, leb, ◌⊎◌, inl, inr, ⊎_elim, ◌↔◌, List, [], ◌∷◌, ◌++◌, length, set, sum_by, refl, sym, ◌∙◌, ap, subst, arith, eq-eqb, ne_eqb}, lemmas.Bool.{cases_eq, cases_lt, true≢false}, lemmas.Bool.Decides.{nat_tests}, lemmas.List.Sums.{sum_by-append}}
+use Rattle.atomic_table.proofs.Lists.{at_set, at_snoc, set_else}
+use Rattle.pmf_board.{specs.declared.entry.Entry.{Entry}, specs.declared.view.View.{View}, specs.Machine.{entry, entry_at, opening, handed_out, finished, hand_out, mark}, specs.Views.{task, times, marks, dones, most_seen, HasSeenDone, HasMarked, seen, took, marked, kept, given, both, spent, first_view, is_hand_out, tells_done}, specs.Rule.{Fits, IsKept, Agrees, due}, proofs.lemmas.TotalLemmas.{total-set, total-at, total-snoc, total-alone}, proofs.lemmas.WordLemmas.{opening-at}, proofs.lemmas.SightLemmas.{entry-set, most-le, dones-cons, most-append_le}}
 use mathlib.Core.Option.{some, some-injective, some-ne-none}
 use lib.ListN.{get_elem?}
-use Rattle.atomic_table.proofs.Lists.{at_set, at_snoc, set_else}
-use Rattle.pmf_board.specs.declared.entry.Entry.{Entry}
-use Rattle.pmf_board.specs.declared.view.View.{View}
-use Rattle.pmf_board.specs.Machine.{entry, entry_at, opening, handed_out, finished, hand_out, mark}
-use Rattle.pmf_board.specs.Views.{task, times, marks, dones, most_seen, HasSeenDone, HasMarked, seen, took, marked, kept, given, both, spent, first_view, is_hand_out, tells_done}
-use Rattle.pmf_board.specs.Rule.{Fits, IsKept, Agrees, due}
-use Rattle.pmf_board.proofs.lemmas.TotalLemmas.{total-set, total-at, total-snoc, total-alone}
-use Rattle.pmf_board.proofs.lemmas.WordLemmas.{opening-at}
-use Rattle.pmf_board.proofs.lemmas.SightLemmas.{entry-set, most-le, dones-cons, most-append_le}
 
 abbrev pub bit : Bool → ℕ
 bit b = cond b 1 0

@@ -1,15 +1,6 @@
 -- The board machine, and the words and views of a board.
-use Rattle.std.proofs.Common.{◌≡◌, ◌+◌, Bool, true, false, not, ltb, if◌then◌else◌, Some, None, map, set, refl, sym, ◌∙◌, ap, subst, arith}
-use Rattle.std.proofs.lemmas.Bool.{ltb-true, not-true, and_parts}
-use Rattle.std.proofs.lemmas.List.{map-set}
-use Rattle.std.proofs.lemmas.Option.{same_Some, none-some, slice_get-get_or}
-use Rattle.pmf_board.specs.declared.entry.Entry.{Entry}
-use Rattle.pmf_board.specs.Machine.{untouched, entry_at, is_on_offer, handed_out, finished, hand_out, mark, taken}
-use Rattle.pmf_board.specs.Views.{task, took, marked}
-use Rattle.pmf_board.specs.Rule.{IsKept, word_of}
-use Rattle.pmf_board.specs.Laws.{ChangesAreStepsOnWords, ChangesKeepTheRule}
-use Rattle.pmf_board.proofs.lemmas.WordLemmas.{word-handed_out, word-finished}
-use Rattle.pmf_board.proofs.lemmas.KeepLemmas.{IsKept-moves, Moves-took, Moves-marked}
+use Rattle.std.proofs.{Common.{◌≡◌, ◌+◌, Bool, true, false, not, ltb, if◌then◌else◌, Some, None, map, set, refl, sym, ◌∙◌, ap, subst, arith}, lemmas.Bool.{ltb-true, not-true, and_parts}, lemmas.List.{map-set}, lemmas.Option.{same_Some, none-some, slice_get-get_or}}
+use Rattle.pmf_board.{specs.declared.entry.Entry.{Entry}, specs.Machine.{untouched, entry_at, is_on_offer, handed_out, finished, hand_out, mark, taken}, specs.Views.{task, took, marked}, specs.Rule.{IsKept, word_of}, specs.Laws.{ChangesAreStepsOnWords, ChangesKeepTheRule}, proofs.lemmas.WordLemmas.{word-handed_out, word-finished}, proofs.lemmas.KeepLemmas.{IsKept-moves, Moves-took, Moves-marked}}
 
 if_some : {X : Type 0} (b : Bool) (x y : X) → (if b then Some x else None) ≡ Some y → (b ≡ true) × (x ≡ y)
 if_some true x y same = (refl, same_Some x y same)

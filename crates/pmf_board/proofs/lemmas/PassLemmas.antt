@@ -1,11 +1,6 @@
 -- What a pass's type keeps, after each step.
-use Rattle.std.proofs.Common.{◌≡◌, ℕ, ◌+◌, ◌-◌, ◌<◌, ◌≤◌, Bool, true, false, ◌&&◌, eqb, ◌⊎◌, inl, inr, [], refl, sym, ap, subst, arith}
-use Rattle.std.proofs.lemmas.Bool.{eqb-true, cases_lt}
-use Rattle.pmf_board.specs.declared.entry.Entry.{Entry}
-use Rattle.pmf_board.specs.Views.{task, times, seen, took, marked, kept, both}
-use Rattle.pmf_board.specs.Passes.{BoardId, IsSound}
-use Rattle.pmf_board.specs.Steps.{Mine}
-use Rattle.pmf_board.proofs.lemmas.KeepLemmas.{bit, times-took, times-both}
+use Rattle.std.proofs.{Common.{◌≡◌, ℕ, ◌+◌, ◌-◌, ◌<◌, ◌≤◌, Bool, true, false, ◌&&◌, eqb, ◌⊎◌, inl, inr, [], refl, sym, ap, subst, arith, eqb-true}, lemmas.Bool.{cases_lt}}
+use Rattle.pmf_board.{specs.declared.entry.Entry.{Entry}, specs.Views.{task, times, seen, took, marked, kept, both}, specs.Passes.{BoardId, IsSound}, specs.Steps.{Mine}, proofs.lemmas.KeepLemmas.{bit, times-took, times-both}}
 
 -- what the fields of a pass keep
 abbrev pub IsInside : ℕ → BoardId → Mine → Type 0

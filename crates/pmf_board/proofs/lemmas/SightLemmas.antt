@@ -1,11 +1,6 @@
 -- What a view saw, and what stands.
-use Rattle.std.proofs.Common.{◌≡◌, ℕ, ◌<◌, ◌≤◌, ◌≢◌, max, Bool, true, false, cond, ◌&&◌, eqb, ◌⊎◌, inl, inr, ⊎_elim, List, [], ◌∷◌, ◌++◌, length, set, count_by, refl, sym, ◌∙◌, ap, subst, arith, get_or-set_same, get_or-set_other}
-use Rattle.std.proofs.lemmas.List.Sums.{sum_by-cons}
-use Rattle.std.proofs.lemmas.Bool.{eqb-true, eq-eqb, cases_eq}
-use Rattle.pmf_board.specs.declared.entry.Entry.{Entry}
-use Rattle.pmf_board.specs.declared.view.Sight.{Sight}
-use Rattle.pmf_board.specs.Machine.{untouched, entry_at}
-use Rattle.pmf_board.specs.Views.{most_in, tells_done, sight}
+use Rattle.std.proofs.{Common.{◌≡◌, ℕ, ◌<◌, ◌≤◌, ◌≢◌, max, Bool, true, false, cond, ◌&&◌, eqb, ◌⊎◌, inl, inr, ⊎_elim, List, [], ◌∷◌, ◌++◌, length, set, count_by, refl, sym, ◌∙◌, ap, subst, arith, get_or-set_same, get_or-set_other, eqb-true, eq-eqb}, lemmas.List.Sums.{sum_by-cons}, lemmas.Bool.{cases_eq}}
+use Rattle.pmf_board.specs.{declared.entry.Entry.{Entry}, declared.view.Sight.{Sight}, Machine.{untouched, entry_at}, Views.{most_in, tells_done, sight}}
 
 abbrev bit : Bool → ℕ
 bit b = cond b 1 0

@@ -1,21 +1,13 @@
 -- The five kinds of step, as the table asks for them.
-use Rattle.std.proofs.Common.{◌≡◌, ℕ, ◌+◌, ◌<◌, false, eqb, bit_or, [], length, get_or, set, replicate, refl, sym, ◌∙◌, ap, subst, arith, eq-eqb, ne_eqb}
-use Rattle.std.proofs.lemmas.List.{map-set, set-get_or, length-set, length-replicate}
+use Rattle.std.proofs.{Common.{◌≡◌, ℕ, ◌+◌, ◌<◌, false, eqb, bit_or, [], length, get_or, set, replicate, refl, sym, ◌∙◌, ap, subst, arith, eq-eqb, ne_eqb, length-set}, lemmas.List.{map-set, set-get_or, length-replicate}}
+use Rattle.atomic_table.{proofs.Lists.{set_again}, specs.Table.{State, step, keeps, Allows, Splits, Joins, opening}}
+use Rattle.pmf_board.{specs.declared.view.View.{View}, specs.Machine.{entry_at, hand_out, mark, handed_out, finished}, specs.Views.{task, seen, took, marked, kept, given, both, spent, first_view}, specs.Rule.{Rules, IsKept, Agrees, word_of, entry_of}, specs.Steps.{Mine, looked, exchanged, raised, counted}, proofs.lemmas.WordLemmas.{entry_of-word, word-at, word-handed_out, word-finished, words-opening}, proofs.lemmas.KeepLemmas.{IsKept-moves, Moves-seen, Moves-took, Moves-marked, Agrees-at, IsKept-split, IsKept-join, IsKept-first, shares-le, times-le}}
 use mathlib.Core.Logic.{dite}
 use mathlib.Core.Option.{none, some}
 use native.Mathlib.Decide.{ℕ_discrete}
 use lib.ListN.{get_elem?}
 use prog.Atomic.{either}
-use Rattle.atomic_table.proofs.Lists.{set_again}
-use Rattle.atomic_table.specs.Table.{State, step, keeps, Allows, Splits, Joins, opening}
-use Rattle.pmf_board.specs.declared.view.View.{View}
-use Rattle.pmf_board.specs.Machine.{entry_at, hand_out, mark, handed_out, finished}
 use Rattle.pmf_board.specs.Machine as machine
-use Rattle.pmf_board.specs.Views.{task, seen, took, marked, kept, given, both, spent, first_view}
-use Rattle.pmf_board.specs.Rule.{Rules, IsKept, Agrees, word_of, entry_of}
-use Rattle.pmf_board.specs.Steps.{Mine, looked, exchanged, raised, counted}
-use Rattle.pmf_board.proofs.lemmas.WordLemmas.{entry_of-word, word-at, word-handed_out, word-finished, words-opening}
-use Rattle.pmf_board.proofs.lemmas.KeepLemmas.{IsKept-moves, Moves-seen, Moves-took, Moves-marked, Agrees-at, IsKept-split, IsKept-join, IsKept-first, shares-le, times-le}
 
 abbrev pub Table : Type 0
 Table = State (Unit {0}) View

@@ -1,9 +1,6 @@
 -- Entries as numbers.
-use Rattle.std.proofs.Common.{◌≡◌, ℕ, zero, suc, ◌+◌, ◌%◌, ◌≤◌, Bool, true, false, cond, leb, bit_or, List, [], ◌∷◌, map, get_or, replicate, refl, ap, arith}
-use Rattle.std.proofs.lemmas.Bool.{le-leb, lt-leb}
-use Rattle.pmf_board.specs.declared.entry.Entry.{Entry}
-use Rattle.pmf_board.specs.Machine.{entry, untouched, entry_at, opening, handed_out, finished}
-use Rattle.pmf_board.specs.Rule.{word_of, entry_of}
+use Rattle.std.proofs.{Common.{◌≡◌, ℕ, zero, suc, ◌+◌, ◌%◌, ◌≤◌, Bool, true, false, cond, leb, bit_or, List, [], ◌∷◌, map, get_or, replicate, refl, ap, arith, le-leb}, lemmas.Bool.{lt-leb}}
+use Rattle.pmf_board.specs.{declared.entry.Entry.{Entry}, Machine.{entry, untouched, entry_at, opening, handed_out, finished}, Rule.{word_of, entry_of}}
 
 entry-is : (h h' : ℕ) (d d' : Bool) → h ≡ h' → d ≡ d' → entry h d ≡ entry h' d'
 entry-is h h' d d' p q = λ i. entry (p i) (q i)

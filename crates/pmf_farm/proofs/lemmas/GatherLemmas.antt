@@ -1,9 +1,8 @@
 -- A ledger that gains the sections of a roll one after another.
-use Rattle.pmf_event.proofs.Common.{map, refl, ◌≡◌, List, ◌∷◌, [], ◌++◌, sym, ap, subst, inl, inr, IsPermutation, map-append, Contains-permutation, IsPermutation-map, IsPermutation-sym, Contains-append_left, Contains-append_right, Contains-append_cases}
-use Rattle.pmf_event.specs.declared.profile.Profile.{Profile}
-use Rattle.pmf_event.specs.Prelude.{Trace}
+use Rattle.std.proofs.{Common.{map, refl, ◌≡◌, List, ◌∷◌, [], ◌++◌, sym, ap, subst, inl, inr, IsPermutation}, lemmas.List.{map-append}, lemmas.List.Sorted.{Contains-permutation, IsPermutation-map, IsPermutation-sym}, lemmas.List.Elements.{Contains-append_left, Contains-append_right, Contains-append_cases}}
+use Rattle.pmf_event.specs.{declared.profile.Profile.{Profile}, Section.{Trace}}
 use Rattle.pmf_verdict.specs.Checked.{Checked, checked_by}
-use Rattle.pmf_ledger.specs.Prelude.{Gathers, IsLedgerOf, LedgerValue}
+use Rattle.pmf_ledger.specs.{Gathered.{Gathers, IsLedgerOf}, LedgerValue.{LedgerValue}}
 use Rattle.pmf_farm.specs.Rolls.{sections_of}
 
 -- where the section stands in the set doesn't count

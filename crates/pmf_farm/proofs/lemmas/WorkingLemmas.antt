@@ -1,15 +1,9 @@
 -- A worker's turns, one after another.
-use Rattle.pmf_event.proofs.Common.{◌≡◌, ℕ, zero, suc, ◌+◌, ◌-◌, ◌<◌, ◌≤◌, List, [], ◌∷◌, ◌++◌, length, map, refl, sym, ◌∙◌, ap, subst, arith, inl, inr, eqb, count_by, cond, eq-eqb, append_assoc, Ok, map-append, append-nil, cases_order, sum_by-append, sum_by-cons}
-use Rattle.pmf_event.specs.declared.profile.Profile.{Profile}
-use Rattle.pmf_event.specs.Prelude.{Trace}
+use Rattle.std.{proofs.Common.{◌≡◌, ℕ, zero, suc, ◌+◌, ◌-◌, ◌<◌, ◌≤◌, List, [], ◌∷◌, ◌++◌, length, map, refl, sym, ◌∙◌, ap, subst, arith, inl, inr, eqb, count_by, cond, eq-eqb, append_assoc, Ok, append-nil}, proofs.lemmas.List.{map-append}, proofs.lemmas.Bool.{cases_order}, proofs.lemmas.List.Sums.{sum_by-append, sum_by-cons}, specs.declared.alloc.AllocError.{AllocError}}
+use Rattle.pmf_event.specs.{declared.profile.Profile.{Profile}, Section.{Trace}}
 use Rattle.pmf_verdict.specs.Checked.{Checked}
-use Rattle.pmf_board.specs.Calls.{Stays, Takes}
-use Rattle.pmf_board.specs.declared.task.Task.{Task}
-use Rattle.pmf_board.specs.declared.view.View.{View}
-use Rattle.std.specs.declared.alloc.AllocError.{AllocError}
-use Rattle.pmf_farm.specs.declared.working.Ended.{Ended}
-use Rattle.pmf_farm.specs.declared.working.Ended.TheVariants.{All}
-use Rattle.pmf_farm.specs.Working.{HasWorked, Serves, checked_of, most_left}
+use Rattle.pmf_board.specs.{Calls.{Stays, Takes}, declared.task.Task.{Task}, declared.view.View.{View}}
+use Rattle.pmf_farm.specs.{declared.working.Ended.{Ended}, declared.working.Ended.TheVariants.{All}, Working.{HasWorked, Serves, checked_of, most_left}}
 
 module _ (sections : List Trace) (profile : Profile) where
   -- who did nothing has worked

@@ -1,12 +1,8 @@
 -- What a ledger holds after a section was put where its name belongs.
-use Rattle.pmf_event.proofs.Common.{◌≡◌, ℕ, List, [], ◌∷◌, take, drop, refl, sym, ◌∙◌, ap, subst, arith, inl, inr, get_or, ◌⊎◌, Contains, All, insert, take-append-drop, All-append, All-cons, All-take, All-drop, Contains-append_left, Contains-append_right, Contains-append_cases, Contains-push, Contains-push_cases, Contains-get_or}
+use Rattle.std.proofs.{Common.{◌≡◌, ℕ, List, [], ◌∷◌, take, drop, refl, sym, ◌∙◌, ap, subst, arith, inl, inr, get_or, ◌⊎◌, Contains, All, insert, take-append-drop}, lemmas.List.Elements.{All-append, All-cons, All-take, All-drop, Contains-append_left, Contains-append_right, Contains-append_cases, Contains-push, Contains-push_cases, Contains-get_or}}
 use Rattle.pmf_event.specs.Section.{Trace}
 use Rattle.pmf_verdict.specs.Checked.{Checked, checked_by}
-use Rattle.pmf_ledger.specs.Gathered.{Gains, Gathers, Holds}
-use Rattle.pmf_ledger.specs.LedgerValue.{LedgerValue}
-use Rattle.pmf_ledger.specs.Names.{ComesBefore, Rises}
-use Rattle.pmf_ledger.specs.Places.{IsPlaceOf, LacksName}
-use Rattle.pmf_ledger.proofs.lemmas.NameLemmas.{AllPairs-insert, before-total}
+use Rattle.pmf_ledger.{specs.Gathered.{Gains, Gathers, Holds}, specs.LedgerValue.{LedgerValue}, specs.Names.{ComesBefore, Rises}, specs.Places.{IsPlaceOf, LacksName}, proofs.lemmas.NameLemmas.{AllPairs-insert, before-total}}
 
 pub Rises-insert : (sections : List Checked) (k : ℕ) (v : Checked) → Rises sections → IsPlaceOf sections v.section.name k → LacksName sections v.section.name → Rises (insert sections k v)
 Rises-insert sections k v rises place absent = AllPairs-insert ComesBefore sections k v place.within rises place.before

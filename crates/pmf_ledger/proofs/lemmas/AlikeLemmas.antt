@@ -1,15 +1,7 @@
 -- Gatherings that are alike: only the set counts, and how it was joined doesn't.
-use Rattle.pmf_event.proofs.Common.{◌≡◌, List, ◌++◌, sym, ap, subst, append_assoc, inl, inr, Contains, Contains-append_cases, Contains-append_left, Contains-append_right}
+use Rattle.std.proofs.{Common.{◌≡◌, List, ◌++◌, sym, ap, subst, append_assoc, inl, inr, Contains}, lemmas.List.Elements.{Contains-append_cases, Contains-append_left, Contains-append_right}}
 use Rattle.pmf_event.specs.declared.profile.Profile.{Profile}
-use Rattle.pmf_ledger.specs.Report.{report_of}
-use Rattle.pmf_ledger.specs.Gathered.{IsLedgerOf}
-use Rattle.pmf_ledger.specs.Gathering.{AreAlike, Gathering, Gives, HaveSameMembers, IsBy, Joined, JoiningAssociates, JoiningCommutes, JoiningRepeats, OnlyTheSetCounts, set_of}
-use Rattle.pmf_ledger.specs.Laws.{EqualSetsHaveOneLedger}
-use Rattle.pmf_ledger.specs.LedgerText.{text_of_ledger}
-use Rattle.pmf_ledger.specs.LedgerValue.{LedgerValue}
-use Rattle.pmf_ledger.proofs.lemmas.UniqueLemmas.{ledger_once}
-use Rattle.pmf_ledger.proofs.lemmas.GatheringLemmas.{agrees_within, by_one, gives_ledger, refuses_for_cause}
-use Rattle.pmf_ledger.proofs.lemmas.GivingLemmas.{gives_where_it_may}
+use Rattle.pmf_ledger.{specs.Report.{report_of}, specs.Gathered.{IsLedgerOf}, specs.Gathering.{AreAlike, Gathering, Gives, HaveSameMembers, IsBy, Joined, JoiningAssociates, JoiningCommutes, JoiningRepeats, OnlyTheSetCounts, set_of}, specs.Laws.{EqualSetsHaveOneLedger}, specs.LedgerText.{text_of_ledger}, specs.LedgerValue.{LedgerValue}, proofs.lemmas.UniqueLemmas.{ledger_once}, proofs.lemmas.GatheringLemmas.{agrees_within, by_one, gives_ledger, refuses_for_cause}, proofs.lemmas.GivingLemmas.{gives_where_it_may}}
 
 -- gatherings of sets with the same members give one ledger, where the profiles of the one are those of the other
 one_ledger : (g h : Gathering) → ((p : Profile) → IsBy p g → IsBy p h) → ((p : Profile) → IsBy p h → IsBy p g) → HaveSameMembers (set_of g) (set_of h) →

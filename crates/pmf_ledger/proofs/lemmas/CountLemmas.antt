@@ -1,11 +1,8 @@
 -- How rows count, one after another, and the sums of sections.
-use Rattle.pmf_event.proofs.Common.{◌≡◌, ℕ, ◌+◌, ◌*◌, ◌-◌, ◌^◌, ◌<◌, ◌≤◌, true, false, List, [], ◌∷◌, ◌++◌, length, take, get_or, sum_by, refl, sym, ◌∙◌, ap, arith, length-append, take_more, count_by_more_yes, count_by_more_no, sum_by-append}
+use Rattle.std.proofs.{Common.{◌≡◌, ℕ, ◌+◌, ◌*◌, ◌-◌, ◌^◌, ◌<◌, ◌≤◌, true, false, List, [], ◌∷◌, ◌++◌, length, take, get_or, sum_by, refl, sym, ◌∙◌, ap, arith, length-append}, lemmas.List.{take_more}, lemmas.List.Sums.{count_by_more_yes, count_by_more_no, sum_by-append}}
 use Rattle.pmf_event.specs.declared.row.Row.{Row}
-use Rattle.pmf_verdict.specs.declared.outcome.Outcome.{Outcome}
-use Rattle.pmf_verdict.specs.declared.outcome.Outcome.TheVariants.{Pass, Fail, Warn, Empty}
-use Rattle.pmf_verdict.specs.Prelude.{Checked, rows_in, outcome_of, is_same}
-use Rattle.pmf_ledger.specs.declared.totals.Totals.{Totals}
-use Rattle.pmf_ledger.specs.Report.{IsWithin, both, rows_with, rows_with_in, totals_of}
+use Rattle.pmf_verdict.specs.{declared.outcome.Outcome.{Outcome}, declared.outcome.Outcome.TheVariants.{Pass, Fail, Warn, Empty}, Checked.{Checked, rows_in}, Outcome.{outcome_of, is_same}}
+use Rattle.pmf_ledger.specs.{declared.totals.Totals.{Totals}, Report.{IsWithin, both, rows_with, rows_with_in, totals_of}}
 
 -- so many of the first rows count so, of each kind
 pub record Counted (rows : List Row) (index pass fail warn empty : ℕ) : Type 0 where

@@ -1,14 +1,7 @@
 -- What gatherings give.
-use Rattle.pmf_event.proofs.Common.{◌≡◌, List, [], ◌∷◌, ◌++◌, refl, sym, ◌∙◌, ap, subst, arith, inl, inr, ◌≢◌, Contains, Contains-append_left, Contains-append_right}
-use Rattle.pmf_event.specs.declared.profile.Profile.{Profile}
-use Rattle.pmf_event.specs.declared.profile.Profile.TheVariants.{One, Two}
-use Rattle.pmf_event.specs.Prelude.{Trace}
-use Rattle.pmf_ledger.specs.Gathered.{IsLedgerOf}
-use Rattle.pmf_ledger.specs.Gathering.{Agrees, Begun, Gathering, Gives, IsBy, IsRefused, Joined, WithVerdict, set_of}
-use Rattle.pmf_ledger.specs.LedgerValue.{LedgerValue}
-use Rattle.pmf_ledger.proofs.lemmas.AddingLemmas.{Contains-cons}
-use Rattle.pmf_ledger.proofs.lemmas.MergingLemmas.{none_of_empty}
-use Rattle.pmf_ledger.proofs.lemmas.UniqueLemmas.{Agrees-ledger}
+use Rattle.std.proofs.{Common.{◌≡◌, List, [], ◌∷◌, ◌++◌, refl, sym, ◌∙◌, ap, subst, arith, inl, inr, ◌≢◌, Contains}, lemmas.List.Elements.{Contains-append_left, Contains-append_right}}
+use Rattle.pmf_event.specs.{declared.profile.Profile.{Profile}, declared.profile.Profile.TheVariants.{One, Two}, Section.{Trace}}
+use Rattle.pmf_ledger.{specs.Gathered.{IsLedgerOf}, specs.Gathering.{Agrees, Begun, Gathering, Gives, IsBy, IsRefused, Joined, WithVerdict, set_of}, specs.LedgerValue.{LedgerValue}, proofs.lemmas.AddingLemmas.{Contains-cons}, proofs.lemmas.MergingLemmas.{none_of_empty}, proofs.lemmas.UniqueLemmas.{Agrees-ledger}}
 
 -- profiles that don't differ are one
 profile_same : (p q : Profile) → (p ≢ q → ⊥) → p ≡ q

@@ -1,20 +1,8 @@
 -- A gathering that is not refused gives a ledger.
-use Rattle.pmf_event.proofs.Common.{◌≡◌, ℕ, ◌<◌, ◌≤◌, List, [], ◌∷◌, ◌++◌, length, zero, suc, refl, sym, ◌∙◌, ap, subst, arith, inl, inr, get_or, ◌⊎◌, Contains, insert, Contains-append_cases, Contains-append_left, Contains-append_right, Contains-get_or}
-use Rattle.pmf_event.specs.declared.name.Name.{Name}
-use Rattle.pmf_event.specs.declared.profile.Profile.{Profile}
-use Rattle.pmf_event.specs.Prelude.{Trace}
+use Rattle.std.proofs.{Common.{◌≡◌, ℕ, ◌<◌, ◌≤◌, List, [], ◌∷◌, ◌++◌, length, zero, suc, refl, sym, ◌∙◌, ap, subst, arith, inl, inr, get_or, ◌⊎◌, Contains, insert}, lemmas.List.Elements.{Contains-append_cases, Contains-append_left, Contains-append_right, Contains-get_or}}
+use Rattle.pmf_event.specs.{declared.name.Name.{Name}, declared.profile.Profile.{Profile}, Section.{Trace}}
 use Rattle.pmf_verdict.specs.Checked.{Checked, checked_by}
-use Rattle.pmf_ledger.specs.Gathered.{Gathers, GathersBoth, Holds, IsLedgerOf}
-use Rattle.pmf_ledger.specs.Gathering.{Agrees, Begun, Gathering, Gives, IsBy, IsRefused, Joined, RefusesJoin, RefusesVerdict, WithVerdict, set_of}
-use Rattle.pmf_ledger.specs.LedgerValue.{LedgerValue}
-use Rattle.pmf_ledger.specs.Names.{IsBefore, Rises}
-use Rattle.pmf_ledger.specs.Places.{HasName, IsPlaceOf, LacksName}
-use Rattle.pmf_ledger.proofs.lemmas.AddingLemmas.{All-insert, Contains-cons, Contains-cons_cases, Gains-held, Gains-insert, Gathers-gains, Rises-insert}
-use Rattle.pmf_ledger.proofs.lemmas.GatheringLemmas.{agrees_within, empty_ledger, gives_ledger, refuses_for_cause}
-use Rattle.pmf_ledger.proofs.lemmas.JoiningLemmas.{AreBy, Holds-section}
-use Rattle.pmf_ledger.proofs.lemmas.MergingLemmas.{none_of_empty}
-use Rattle.pmf_ledger.proofs.lemmas.NameLemmas.{before-itself, before-total, before-trans}
-use Rattle.pmf_ledger.proofs.lemmas.UniqueLemmas.{Rises-first, Rises-rest}
+use Rattle.pmf_ledger.{specs.Gathered.{Gathers, GathersBoth, Holds, IsLedgerOf}, specs.Gathering.{Agrees, Begun, Gathering, Gives, IsBy, IsRefused, Joined, RefusesJoin, RefusesVerdict, WithVerdict, set_of}, specs.LedgerValue.{LedgerValue}, specs.Names.{IsBefore, Rises}, specs.Places.{HasName, IsPlaceOf, LacksName}, proofs.lemmas.AddingLemmas.{All-insert, Contains-cons, Contains-cons_cases, Gains-held, Gains-insert, Gathers-gains, Rises-insert}, proofs.lemmas.GatheringLemmas.{agrees_within, empty_ledger, gives_ledger, refuses_for_cause}, proofs.lemmas.JoiningLemmas.{AreBy, Holds-section}, proofs.lemmas.MergingLemmas.{none_of_empty}, proofs.lemmas.NameLemmas.{before-itself, before-total, before-trans}, proofs.lemmas.UniqueLemmas.{Rises-first, Rises-rest}}
 
 -- where a name belongs that none has
 record Place (sections : List Checked) (name : Name) : Type 0 where

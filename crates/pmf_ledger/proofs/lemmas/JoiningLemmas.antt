@@ -1,13 +1,8 @@
 -- What two ledgers hold together, said of their lists.
-use Rattle.pmf_event.proofs.Common.{◌≡◌, List, sym, ◌∙◌, ap, subst, inl, inr, get_or, Contains, MatchOption, Option, None, Some, IfOk, Result, Ok, Err, All, All-contains, Contains-append_cases, Contains-append_left, Contains-append_right, Contains-get_or}
-use Rattle.pmf_event.specs.declared.name.Name.{Name}
-use Rattle.pmf_event.specs.declared.profile.Profile.{Profile}
+use Rattle.std.proofs.{Common.{◌≡◌, List, sym, ◌∙◌, ap, subst, inl, inr, get_or, Contains, MatchOption, Option, None, Some, IfOk, Result, Ok, Err, All}, lemmas.List.Elements.{All-contains, Contains-append_cases, Contains-append_left, Contains-append_right, Contains-get_or}}
+use Rattle.pmf_event.specs.declared.{name.Name.{Name}, profile.Profile.{Profile}}
 use Rattle.pmf_verdict.specs.Checked.{Checked, checked_by}
-use Rattle.pmf_ledger.specs.Gathered.{GathersBoth, Holds, IsLeastClash, Unites}
-use Rattle.pmf_ledger.specs.Joining.{Agree, AgreeInNames, AgreeTogether, IsLeastDiffering, IsMerged}
-use Rattle.pmf_ledger.specs.LedgerValue.{LedgerValue}
-use Rattle.pmf_ledger.specs.Names.{IsBefore, Rises}
-use Rattle.pmf_ledger.proofs.lemmas.NameLemmas.{before-total}
+use Rattle.pmf_ledger.{specs.Gathered.{GathersBoth, Holds, IsLeastClash, Unites}, specs.Joining.{Agree, AgreeInNames, AgreeTogether, IsLeastDiffering, IsMerged}, specs.LedgerValue.{LedgerValue}, specs.Names.{IsBefore, Rises}, proofs.lemmas.NameLemmas.{before-total}}
 
 -- each was checked by the profile
 abbrev pub AreBy : Profile → List Checked → Type 0

@@ -1,29 +1,11 @@
 -- A ledger text read text line by text line: what is left of it, and where the reading ends.
 use Rattle.std.proofs.Common.{◌≡◌, ℕ, zero, suc, ◌+◌, ◌-◌, ◌<◌, ◌≤◌, true, false, ◌==◌, List, [], ◌∷◌, ◌++◌, length, take, drop, get_or, Option, Some, None, refl, sym, ◌∙◌, ap, subst, arith, length-append, Result, Ok, Err, codes, if◌then◌else◌, bytes_eq, le-ltb, lt-ltb, append_assoc, append-nil, length-drop, length-take-le}
 use Rattle.memchr.specs.Find.{IsFirstByte, is_byte}
-use Rattle.pmf_event.specs.declared.event.Event.{Event}
-use Rattle.pmf_event.specs.declared.name.Name.{Name}
-use Rattle.pmf_event.specs.declared.profile.Profile.{Profile}
-use Rattle.pmf_event.specs.declared.row.Row.{Row}
-use Rattle.pmf_event.specs.declared.section.TheConstants.{EVENT_LIMIT}
-use Rattle.pmf_event.specs.Prelude.{Trace}
-use Rattle.pmf_storelog.specs.declared.fault.Cause.TheVariants.{TooManyEvents}
-use Rattle.pmf_storelog.specs.declared.line.LineFault.{LineFault}
-use Rattle.pmf_storelog.specs.Prelude.{event_of_line}
-use Rattle.pmf_verdict.specs.Prelude.{rows_of, text_of_row}
-use Rattle.pmf_ledger.specs.declared.head.Head.{Head}
-use Rattle.pmf_storelog.proofs.SplitLemmas.{split_none, split_some, split_filled}
-use Rattle.pmf_ledger.specs.declared.blocks.Blocks.{Blocks}
-use Rattle.pmf_ledger.specs.declared.blocks.Next.{Next}
+use Rattle.pmf_event.specs.{declared.event.Event.{Event}, declared.name.Name.{Name}, declared.profile.Profile.{Profile}, declared.row.Row.{Row}, declared.section.TheConstants.{EVENT_LIMIT}, Section.{Trace}}
+use Rattle.pmf_storelog.{specs.declared.fault.Cause.TheVariants.{TooManyEvents}, specs.declared.line.LineFault.{LineFault}, specs.Lines.{event_of_line}, proofs.SplitLemmas.{split_none, split_some, split_filled}}
+use Rattle.pmf_verdict.specs.{Rows.{rows_of}, Text.{text_of_row}}
+use Rattle.pmf_ledger.{specs.declared.head.Head.{Head}, specs.declared.blocks.Blocks.{Blocks}, specs.declared.blocks.Next.{Next}, specs.declared.loading.LedgerFault.{LedgerFault}, specs.declared.loading.LedgerFault.TheVariants.{NotALedger, FalseRows, Conflict, Log, OutOfMemory}, specs.declared.loading.TheConstants.{LEDGER_LIMIT}, specs.Following.{IsNext, StandsFor, IsStoppedBy, is_over}, specs.Gathered.{IsLedgerOf}, specs.Gathering.{Agrees}, specs.Loading.{Reading, Stage, AtVersion, AtBlock, AtEvents, AtRows, AtEnd, AtFault, at, unread, profile_of, head_of, end_of, after_version, after_head, after_end, after_event, after_row, after_line_at, with_rows, with_section, with_events, after_line, after_lines, is_line_end, parts_of, lines_of, left_of, reading_of, fault_at_end, fault_of, IsFirstOther, IsRefusedWith, LoadsAs}, proofs.lemmas.ReadingLemmas.{Agrees-ledger, line-fault}}
 use Rattle.pmf_ledger.specs.declared.blocks.Next.TheVariants as next
-use Rattle.pmf_ledger.specs.declared.loading.LedgerFault.{LedgerFault}
-use Rattle.pmf_ledger.specs.declared.loading.LedgerFault.TheVariants.{NotALedger, FalseRows, Conflict, Log, OutOfMemory}
-use Rattle.pmf_ledger.specs.declared.loading.TheConstants.{LEDGER_LIMIT}
-use Rattle.pmf_ledger.specs.Following.{IsNext, StandsFor, IsStoppedBy, is_over}
-use Rattle.pmf_ledger.specs.Gathered.{IsLedgerOf}
-use Rattle.pmf_ledger.specs.Gathering.{Agrees}
-use Rattle.pmf_ledger.specs.Loading.{Reading, Stage, AtVersion, AtBlock, AtEvents, AtRows, AtEnd, AtFault, at, unread, profile_of, head_of, end_of, after_version, after_head, after_end, after_event, after_row, after_line_at, with_rows, with_section, with_events, after_line, after_lines, is_line_end, parts_of, lines_of, left_of, reading_of, fault_at_end, fault_of, IsFirstOther, IsRefusedWith, LoadsAs}
-use Rattle.pmf_ledger.proofs.lemmas.ReadingLemmas.{Agrees-ledger, line-fault}
 
 -- the first of some parts, with more behind it
 take_before : {X : Type 0} (x : X) (xs : List X) → 0 < length xs → take (length (x ∷ xs) - 1) (x ∷ xs) ≡ x ∷ take (length xs - 1) xs

@@ -1,14 +1,7 @@
 -- A text loads as one ledger, or it is refused.
-use Rattle.pmf_event.proofs.Common.{◌≡◌, ℕ, List, ◌∷◌, refl, sym, ◌∙◌, subst, inl, Contains, Option, Some, None, Contains-append_left, Contains-append_right}
-use Rattle.pmf_event.specs.declared.name.Name.{Name}
-use Rattle.pmf_event.specs.Prelude.{Trace}
-use Rattle.pmf_ledger.specs.declared.loading.LedgerFault.{LedgerFault}
-use Rattle.pmf_ledger.specs.declared.loading.LedgerFault.TheVariants.{NotALedger, FalseRows, Conflict, Log, OutOfMemory}
-use Rattle.pmf_ledger.specs.LedgerValue.{LedgerValue}
-use Rattle.pmf_ledger.specs.Gathering.{Agrees}
-use Rattle.pmf_ledger.specs.Loading.{IsFirstOther, IsRefusedWith, LoadsAs, fault_of, reading_of}
-use Rattle.pmf_ledger.proofs.lemmas.AddingLemmas.{Contains-cons}
-use Rattle.pmf_ledger.proofs.lemmas.UniqueLemmas.{Agrees-ledger, ledger_once}
+use Rattle.std.proofs.{Common.{◌≡◌, ℕ, List, ◌∷◌, refl, sym, ◌∙◌, subst, inl, Contains, Option, Some, None}, lemmas.List.Elements.{Contains-append_left, Contains-append_right}}
+use Rattle.pmf_event.specs.{declared.name.Name.{Name}, Section.{Trace}}
+use Rattle.pmf_ledger.{specs.declared.loading.LedgerFault.{LedgerFault}, specs.declared.loading.LedgerFault.TheVariants.{NotALedger, FalseRows, Conflict, Log, OutOfMemory}, specs.LedgerValue.{LedgerValue}, specs.Gathering.{Agrees}, specs.Loading.{IsFirstOther, IsRefusedWith, LoadsAs, fault_of, reading_of}, proofs.lemmas.AddingLemmas.{Contains-cons}, proofs.lemmas.UniqueLemmas.{Agrees-ledger, ledger_once}}
 
 pub loads_once : (text : List ℕ) (a b : LedgerValue) → LoadsAs text a → LoadsAs text b → a ≡ b
 loads_once text a b first second =

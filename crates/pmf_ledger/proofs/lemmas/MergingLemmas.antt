@@ -1,10 +1,7 @@
 -- Two rising lists, while they are merged from their ends, and once they are.
-use Rattle.pmf_event.proofs.Common.{◌≡◌, ◌+◌, ◌-◌, ◌<◌, List, [], ◌∷◌, ◌++◌, length, reverse, refl, sym, ◌∙◌, ap, subst, arith, inl, inr, get_or, ◌⊎◌, Contains, AllPairs, cases_order, get_or_append_left, get_or_default, get_or_push, get_or-reverse, length-append, length-reverse, reverse-reverse, Contains-append_left, Contains-get_or, Contains-push, Contains-push_cases, Contains-permutation, IsPermutation-reverse}
-use Rattle.std.proofs.lemmas.List.Quantifiers.{all_pairs_push}
+use Rattle.std.proofs.{Common.{◌≡◌, ◌+◌, ◌-◌, ◌<◌, List, [], ◌∷◌, ◌++◌, length, reverse, refl, sym, ◌∙◌, ap, subst, arith, inl, inr, get_or, ◌⊎◌, Contains, AllPairs, length-append}, lemmas.Bool.{cases_order}, lemmas.List.{get_or_append_left, get_or_default, get_or_push, get_or-reverse, length-reverse, reverse-reverse}, lemmas.List.Elements.{Contains-append_left, Contains-get_or, Contains-push, Contains-push_cases}, lemmas.List.Sorted.{Contains-permutation, IsPermutation-reverse}, lemmas.List.Quantifiers.{all_pairs_push}}
 use Rattle.pmf_verdict.specs.Checked.{Checked}
-use Rattle.pmf_ledger.specs.Joining.{IsMerged, IsMerging}
-use Rattle.pmf_ledger.specs.Names.{ComesBefore, Rises}
-use Rattle.pmf_ledger.proofs.lemmas.NameLemmas.{before-trans}
+use Rattle.pmf_ledger.{specs.Joining.{IsMerged, IsMerging}, specs.Names.{ComesBefore, Rises}, proofs.lemmas.NameLemmas.{before-trans}}
 
 -- where each pair of a list is related, so is each pair of its front
 AllPairs-front : {X : Type 0} (R : X → X → Type 0) (xs ys : List X) → AllPairs R (xs ++ ys) → AllPairs R xs

@@ -1,5 +1,5 @@
 -- The order of names is one, and a section that is put where its name belongs leaves the names rising.
-use Rattle.pmf_event.proofs.Common.{◌≡◌, ℕ, ◌+◌, ◌-◌, ◌<◌, ◌≤◌, List, length, refl, sym, ◌∙◌, ap, subst, arith, inl, inr, get_or, ◌⊎◌, AllPairs, insert, Ordering, Less, Equal, Greater, cases_order, length-insert, get_or-insert_below, get_or-insert_at, get_or-insert_above}
+use Rattle.std.proofs.{Common.{◌≡◌, ℕ, ◌+◌, ◌-◌, ◌<◌, ◌≤◌, List, length, refl, sym, ◌∙◌, ap, subst, arith, inl, inr, get_or, ◌⊎◌, AllPairs, insert, Ordering, Less, Equal, Greater}, lemmas.Bool.{cases_order}, lemmas.List.Edits.{length-insert, get_or-insert_below, get_or-insert_at, get_or-insert_above}}
 use Rattle.pmf_event.specs.declared.name.Name.{Name}
 use Rattle.pmf_ledger.specs.Names.{IsBefore}
 

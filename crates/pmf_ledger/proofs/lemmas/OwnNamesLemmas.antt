@@ -1,9 +1,7 @@
 -- The sections of a log are few enough for a board, and have names of their own.
-use Rattle.pmf_event.proofs.Common.{◌≡◌, ℕ, ◌+◌, ◌≤◌, Bool, true, false, List, [], ◌∷◌, length, map, refl, sym, ◌∙◌, ap, subst, arith, inl, inr, Ok, eqb-true, ◌&&◌, eqb, count_by, cond, cases_Bool, true≢false, length-map, sum_by-cons}
-use Rattle.pmf_event.specs.declared.name.Name.{Name}
-use Rattle.pmf_event.specs.Prelude.{Trace}
-use Rattle.pmf_storelog.specs.Prelude.{log_of, LogValue, IsBelow, Rises}
-use Rattle.pmf_storelog.proofs.RisingLemmas.{name_in, numbers_rise}
+use Rattle.std.proofs.{Common.{◌≡◌, ℕ, ◌+◌, ◌≤◌, Bool, true, false, List, [], ◌∷◌, length, map, refl, sym, ◌∙◌, ap, subst, arith, inl, inr, Ok, eqb-true, ◌&&◌, eqb, count_by, cond}, lemmas.Bool.{cases_Bool, true≢false}, lemmas.List.{length-map}, lemmas.List.Sums.{sum_by-cons}}
+use Rattle.pmf_event.specs.{declared.name.Name.{Name}, Section.{Trace}}
+use Rattle.pmf_storelog.{specs.LogText.{log_of}, specs.LogValue.{LogValue}, specs.Rising.{IsBelow, Rises}, proofs.RisingLemmas.{name_in, numbers_rise}}
 use Rattle.pmf_ledger.specs.Repeats.{StandsTwice, is_name}
 
 both_right : (x y : Bool) → (x && y) ≡ true → y ≡ true

@@ -1,11 +1,8 @@
 -- What is known of a name from the place where it belongs.
-use Rattle.pmf_event.proofs.Common.{◌≡◌, ℕ, ◌+◌, ◌<◌, ◌≤◌, List, [], length, sym, ◌∙◌, ap, subst, arith, inl, inr, get_or, ◌≢◌, cases_order, get_or_default, Contains-get_or}
-use Rattle.pmf_event.specs.declared.name.Name.{Name}
-use Rattle.pmf_event.specs.declared.profile.Profile.TheVariants.{One}
+use Rattle.std.proofs.{Common.{◌≡◌, ℕ, ◌+◌, ◌<◌, ◌≤◌, List, [], length, sym, ◌∙◌, ap, subst, arith, inl, inr, get_or, ◌≢◌}, lemmas.Bool.{cases_order}, lemmas.List.{get_or_default}, lemmas.List.Elements.{Contains-get_or}}
+use Rattle.pmf_event.specs.declared.{name.Name.{Name}, profile.Profile.TheVariants.{One}}
 use Rattle.pmf_verdict.specs.Checked.{Checked}
-use Rattle.pmf_ledger.specs.Names.{IsBefore, Rises}
-use Rattle.pmf_ledger.specs.Places.{HasName, IsPlaceOf, LacksName, StandsAt}
-use Rattle.pmf_ledger.proofs.lemmas.NameLemmas.{before-trans, before-itself}
+use Rattle.pmf_ledger.{specs.Names.{IsBefore, Rises}, specs.Places.{HasName, IsPlaceOf, LacksName, StandsAt}, proofs.lemmas.NameLemmas.{before-trans, before-itself}}
 
 -- a name that is not that of the section at its place is that of none
 pub LacksName-from_place : (sections : List Checked) (name : Name) (k : ℕ) → Rises sections → IsPlaceOf sections name k →

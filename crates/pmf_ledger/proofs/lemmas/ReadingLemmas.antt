@@ -1,26 +1,9 @@
 -- A reading after one step, where what is kept stood for it.
-use Rattle.pmf_event.proofs.Common.{◌≡◌, ℕ, zero, suc, ◌+◌, ◌-◌, ◌<◌, ◌≤◌, true, false, ◌==◌, List, [], ◌∷◌, ◌++◌, length, drop, get_or, Some, refl, sym, ◌∙◌, ap, subst, arith, inl, inr, Contains, Ok, codes, bytes_eq, drop_more, length_push, append_cancel_right, Contains-append_left, Contains-push, Contains-push_cases, bytes_eq-Decides, Decides-eqb}
-use Rattle.pmf_event.specs.declared.event.Event.{Event}
-use Rattle.pmf_event.specs.declared.name.Name.{Name}
-use Rattle.pmf_event.specs.declared.profile.Profile.{Profile}
-use Rattle.pmf_event.specs.declared.row.Row.{Row}
-use Rattle.pmf_event.specs.declared.section.TheConstants.{EVENT_LIMIT}
-use Rattle.pmf_event.specs.Prelude.{Trace}
-use Rattle.pmf_storelog.specs.declared.fault.Cause.TheVariants.{TooManyEvents}
-use Rattle.pmf_storelog.specs.declared.line.LineFault.{LineFault}
-use Rattle.pmf_storelog.specs.declared.line.LineFault.TheVariants.{NoEvent, Refused}
-use Rattle.pmf_storelog.specs.Prelude.{event_of_line}
-use Rattle.pmf_verdict.specs.Prelude.{Checked, checked_by, rows_of, text_of_row}
-use Rattle.pmf_ledger.specs.declared.blocks.Blocks.{Blocks}
-use Rattle.pmf_ledger.specs.declared.loading.LedgerFault.{LedgerFault}
-use Rattle.pmf_ledger.specs.declared.loading.LedgerFault.TheVariants.{NotALedger, FalseRows, Log}
-use Rattle.pmf_ledger.specs.Following.{HasRead, IsStoppedBy}
-use Rattle.pmf_ledger.specs.Gathered.{Gathers, HoldsOther, IsLedgerOf}
-use Rattle.pmf_ledger.specs.Gathering.{Agrees, HaveSameMembers}
-use Rattle.pmf_ledger.specs.LedgerValue.{LedgerValue}
-use Rattle.pmf_ledger.specs.Loading.{Reading, Stage, AtVersion, AtBlock, AtEvents, AtRows, AtEnd, AtFault, at, profile_of, head_of, after_version, after_head, after_end, fault_at, after_event, after_row, after_line, after_line_at, with_events, with_section, with_rows, IsFirstOther}
-use Rattle.pmf_ledger.proofs.lemmas.AddingLemmas.{Contains-cons, Contains-cons_cases}
-use Rattle.pmf_ledger.proofs.lemmas.StandingLemmas.{held-once}
+use Rattle.std.proofs.{Common.{◌≡◌, ℕ, zero, suc, ◌+◌, ◌-◌, ◌<◌, ◌≤◌, true, false, ◌==◌, List, [], ◌∷◌, ◌++◌, length, drop, get_or, Some, refl, sym, ◌∙◌, ap, subst, arith, inl, inr, Contains, Ok, codes, bytes_eq}, lemmas.List.{drop_more, length_push, append_cancel_right}, lemmas.List.Elements.{Contains-append_left, Contains-push, Contains-push_cases}, lemmas.Slice.Eq.{bytes_eq-Decides}, lemmas.Bool.Decides.{Decides-eqb}}
+use Rattle.pmf_event.specs.{declared.event.Event.{Event}, declared.name.Name.{Name}, declared.profile.Profile.{Profile}, declared.row.Row.{Row}, declared.section.TheConstants.{EVENT_LIMIT}, Section.{Trace}}
+use Rattle.pmf_storelog.specs.{declared.fault.Cause.TheVariants.{TooManyEvents}, declared.line.LineFault.{LineFault}, declared.line.LineFault.TheVariants.{NoEvent, Refused}, Lines.{event_of_line}}
+use Rattle.pmf_verdict.specs.{Checked.{Checked, checked_by}, Rows.{rows_of}, Text.{text_of_row}}
+use Rattle.pmf_ledger.{specs.declared.blocks.Blocks.{Blocks}, specs.declared.loading.LedgerFault.{LedgerFault}, specs.declared.loading.LedgerFault.TheVariants.{NotALedger, FalseRows, Log}, specs.Following.{HasRead, IsStoppedBy}, specs.Gathered.{Gathers, HoldsOther, IsLedgerOf}, specs.Gathering.{Agrees, HaveSameMembers}, specs.LedgerValue.{LedgerValue}, specs.Loading.{Reading, Stage, AtVersion, AtBlock, AtEvents, AtRows, AtEnd, AtFault, at, profile_of, head_of, after_version, after_head, after_end, fault_at, after_event, after_row, after_line, after_line_at, with_events, with_section, with_rows, IsFirstOther}, proofs.lemmas.AddingLemmas.{Contains-cons, Contains-cons_cases}, proofs.lemmas.StandingLemmas.{held-once}}
 
 -- the set of a ledger agrees
 pub Agrees-ledger : (profile : Profile) (set : List Trace) (ledger : LedgerValue) → IsLedgerOf profile set ledger → Agrees set

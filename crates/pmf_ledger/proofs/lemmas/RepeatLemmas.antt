@@ -1,11 +1,7 @@
 -- Names that stand twice in a list, which a sort has put in their order.
-use Rattle.pmf_event.proofs.Common.{◌≡◌, ℕ, zero, suc, ◌+◌, ◌-◌, ◌<◌, ◌≤◌, Bool, true, false, List, [], ◌∷◌, length, map, refl, sym, ◌∙◌, ap, subst, arith, inl, inr, get_or, eqb-true, eq-eqb, ◌⊎◌, ◌&&◌, eqb, count_by, cond, IsPermutation, MatchOption, Option, Some, None, is_lt, Less, Equal, nat_cmp_is, cases_order, cases_lt, cases_Bool, true≢false, sum_by-cons, sum_by-IsPermutation}
-use Rattle.std.specs.Ordering.{nat_cmp, ordering_then}
-use Rattle.pmf_event.specs.declared.name.Name.{Name}
-use Rattle.pmf_event.specs.Prelude.{Trace}
-use Rattle.pmf_ledger.specs.Names.{IsBefore}
-use Rattle.pmf_ledger.specs.Repeats.{AreOwn, DoNotFall, IsLeastTwiceIn, StandsTwiceIn, is_name, names_of}
-use Rattle.pmf_ledger.proofs.lemmas.NameLemmas.{before-trans, before-itself}
+use Rattle.std.{proofs.Common.{◌≡◌, ℕ, zero, suc, ◌+◌, ◌-◌, ◌<◌, ◌≤◌, Bool, true, false, List, [], ◌∷◌, length, map, refl, sym, ◌∙◌, ap, subst, arith, inl, inr, get_or, eqb-true, eq-eqb, ◌⊎◌, ◌&&◌, eqb, count_by, cond, IsPermutation, MatchOption, Option, Some, None, is_lt, Less, Equal}, specs.Cmp.{nat_cmp_is}, proofs.lemmas.Bool.{cases_order, cases_lt, cases_Bool, true≢false}, proofs.lemmas.List.Sums.{sum_by-cons}, proofs.lemmas.List.Sorted.{sum_by-IsPermutation}, specs.Ordering.{nat_cmp, ordering_then}}
+use Rattle.pmf_event.specs.{declared.name.Name.{Name}, Section.{Trace}}
+use Rattle.pmf_ledger.{specs.Names.{IsBefore}, specs.Repeats.{AreOwn, DoNotFall, IsLeastTwiceIn, StandsTwiceIn, is_name, names_of}, proofs.lemmas.NameLemmas.{before-trans, before-itself}}
 
 -- the order of names is that by which a sort compares them
 pub before-compares : (a b : Name) → IsBefore a b → is_lt (ordering_then (nat_cmp a.run b.run) (nat_cmp a.number b.number)) ≡ false → ⊥

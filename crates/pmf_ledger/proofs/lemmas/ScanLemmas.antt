@@ -1,10 +1,8 @@
 -- Two rising lists that are scanned side by side for names that both have.
-use Rattle.pmf_event.proofs.Common.{◌≡◌, ℕ, ◌+◌, ◌<◌, ◌≤◌, List, length, sym, ◌∙◌, ap, subst, refl, arith, inl, inr, get_or, Contains, cases_order, get_or_default, Contains-get_or}
+use Rattle.std.proofs.{Common.{◌≡◌, ℕ, ◌+◌, ◌<◌, ◌≤◌, List, length, sym, ◌∙◌, ap, subst, refl, arith, inl, inr, get_or, Contains}, lemmas.Bool.{cases_order}, lemmas.List.{get_or_default}, lemmas.List.Elements.{Contains-get_or}}
 use Rattle.pmf_event.specs.Section.{Trace}
 use Rattle.pmf_verdict.specs.Checked.{Checked}
-use Rattle.pmf_ledger.specs.Joining.{AgreeInNames, IsLeastDiffering}
-use Rattle.pmf_ledger.specs.Names.{ComesBefore, IsBefore, Rises}
-use Rattle.pmf_ledger.proofs.lemmas.NameLemmas.{before-itself, before-trans}
+use Rattle.pmf_ledger.{specs.Joining.{AgreeInNames, IsLeastDiffering}, specs.Names.{ComesBefore, IsBefore, Rises}, proofs.lemmas.NameLemmas.{before-itself, before-trans}}
 
 -- where the first i of the one list and any of the other have one name, they are one section
 abbrev pub FrontAgrees : List Checked → List Checked → ℕ → Type 0

@@ -1,15 +1,7 @@
 -- The text lines of what is spelled: where no line end stands in them, the text is split into them again.
-use Rattle.pmf_event.proofs.Common.{◌≡◌, ℕ, zero, suc, ◌+◌, ◌-◌, ◌%◌, ◌/◌, true, false, ◌==◌, List, [], ◌∷◌, ◌++◌, length, get_or, refl, sym, ◌∙◌, ap, arith, rules, inl, inr, append_assoc, length-append, codes, nat_lt, if◌then◌else◌, take_at, decimal, digits_onto, digit_glyph, slice_split, AllByRecursion, cases_eq, Decides-eqb, flat_map-append, All-from_recursion, recursion_from_All, slice_split_at}
-use Rattle.std.specs.Fmt.{digits}
-use Rattle.pmf_event.specs.declared.event.Event.{Event}
-use Rattle.pmf_event.specs.declared.finding.Finding.{Finding}
-use Rattle.pmf_event.specs.declared.finding.Finding.TheVariants.{PersistPass, PersistFail, PersistEmpty, OrderedPass, OrderedFail, OrderedSameLine, OrderedEmpty, FlushDoubled, FlushNeedless, NoBackup, DupLog, CheckPass, CheckFail, TxStillOpen, Unmatched, Outside, Nested, Unopened, Unclosed}
-use Rattle.pmf_event.specs.declared.row.Row.{Row}
-use Rattle.pmf_event.specs.Prelude.{address}
-use Rattle.pmf_storelog.specs.Prelude.{is_separator, AllValid}
-use Rattle.pmf_storelog.proofs.EventLineLemmas.{text-one_line}
-use Rattle.pmf_storelog.proofs.PlainRecordLemmas.{text_of_lines}
-use Rattle.pmf_storelog.proofs.PlainLemmas.{text_of_event}
+use Rattle.std.{proofs.Common.{◌≡◌, ℕ, zero, suc, ◌+◌, ◌-◌, ◌%◌, ◌/◌, true, false, ◌==◌, List, [], ◌∷◌, ◌++◌, length, get_or, refl, sym, ◌∙◌, ap, arith, rules, inl, inr, append_assoc, length-append, codes, nat_lt, if◌then◌else◌, take_at, decimal}, specs.Fmt.{digits_onto, digit_glyph, digits}, specs.List.{slice_split, AllByRecursion}, proofs.lemmas.Bool.{cases_eq}, proofs.lemmas.Bool.Decides.{Decides-eqb}, proofs.lemmas.Grind.{flat_map-append}, proofs.lemmas.List.Elements.{All-from_recursion, recursion_from_All}, proofs.lemmas.List.Splits.{slice_split_at}}
+use Rattle.pmf_event.specs.{declared.event.Event.{Event}, declared.finding.Finding.{Finding}, declared.finding.Finding.TheVariants.{PersistPass, PersistFail, PersistEmpty, OrderedPass, OrderedFail, OrderedSameLine, OrderedEmpty, FlushDoubled, FlushNeedless, NoBackup, DupLog, CheckPass, CheckFail, TxStillOpen, Unmatched, Outside, Nested, Unopened, Unclosed}, declared.row.Row.{Row}, Address.{address}}
+use Rattle.pmf_storelog.{specs.Separators.{is_separator}, specs.Spelling.{AllValid}, proofs.EventLineLemmas.{text-one_line}, proofs.PlainRecordLemmas.{text_of_lines}, proofs.PlainLemmas.{text_of_event}}
 use Rattle.pmf_verdict.specs.Text.{text_of_pair, text_of_finding}
 use Rattle.pmf_ledger.specs.Loading.{is_line_end, parts_of, lines_of, left_of}
 

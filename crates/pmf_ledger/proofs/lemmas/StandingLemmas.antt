@@ -1,17 +1,8 @@
 -- A section stands to a ledger in one way alone.
-use Rattle.pmf_event.proofs.Common.{◌≡◌, ℕ, ◌<◌, List, length, refl, sym, ◌∙◌, ap, subst, inl, inr, get_or, Contains, Result, Ok, Err, IfErr, IfOk, OnOk, cases_order, get_or_default}
+use Rattle.std.proofs.{Common.{◌≡◌, ℕ, ◌<◌, List, length, refl, sym, ◌∙◌, ap, subst, inl, inr, get_or, Contains, Result, Ok, Err, IfErr, IfOk, OnOk}, lemmas.Bool.{cases_order}, lemmas.List.{get_or_default}}
 use Rattle.pmf_event.specs.Section.{Trace}
 use Rattle.pmf_verdict.specs.Checked.{Checked, checked_by}
-use Rattle.pmf_ledger.specs.Gathered.{Holds, HoldsOther}
-use Rattle.pmf_ledger.specs.LedgerValue.{LedgerValue}
-use Rattle.pmf_ledger.specs.Names.{IsBefore, Rises}
-use Rattle.pmf_ledger.specs.Places.{LacksName}
-use Rattle.pmf_ledger.specs.Taking.{IsRefusedAs}
-use Rattle.pmf_ledger.specs.declared.taking.TakeFault.{TakeFault}
-use Rattle.pmf_ledger.specs.declared.taking.TakeFault.TheVariants.{Conflict, OutOfMemory}
-use Rattle.pmf_ledger.specs.declared.taking.Taken.{Taken}
-use Rattle.pmf_ledger.specs.declared.taking.Taken.TheVariants.{Added}
-use Rattle.pmf_ledger.proofs.lemmas.NameLemmas.{before-itself}
+use Rattle.pmf_ledger.{specs.Gathered.{Holds, HoldsOther}, specs.LedgerValue.{LedgerValue}, specs.Names.{IsBefore, Rises}, specs.Places.{LacksName}, specs.Taking.{IsRefusedAs}, specs.declared.taking.TakeFault.{TakeFault}, specs.declared.taking.TakeFault.TheVariants.{Conflict, OutOfMemory}, specs.declared.taking.Taken.{Taken}, specs.declared.taking.Taken.TheVariants.{Added}, proofs.lemmas.NameLemmas.{before-itself}}
 
 -- where names rise, an earlier section and a later one have different names
 apart-by_place : (sections : List Checked) → Rises sections → (a b : Checked) (i j : ℕ) → i < j → j < length sections →

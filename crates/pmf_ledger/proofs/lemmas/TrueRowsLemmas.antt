@@ -1,9 +1,6 @@
 -- The rows of every checked section are true, by the laws of verdicts.
 use Rattle.std.proofs.Common.{List, All}
-use Rattle.pmf_verdict.specs.Checked.{Checked}
-use Rattle.pmf_verdict.proofs.HoldingLemmas.{rows_exact, same_lines}
-use Rattle.pmf_verdict.proofs.FitLemmas.{failures_real}
-use Rattle.pmf_verdict.proofs.SoundLemmas.{passes_hold, orders_hold, scopes_hold}
+use Rattle.pmf_verdict.{specs.Checked.{Checked}, proofs.HoldingLemmas.{rows_exact, same_lines}, proofs.FitLemmas.{failures_real}, proofs.SoundLemmas.{passes_hold, orders_hold, scopes_hold}}
 use Rattle.pmf_ledger.specs.TrueRows.{HasTrueRows}
 
 pub rows_true : (checked : Checked) → HasTrueRows checked

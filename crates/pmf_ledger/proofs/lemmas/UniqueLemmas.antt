@@ -1,16 +1,8 @@
 -- A set has one ledger by a profile.
-use Rattle.pmf_event.proofs.Common.{◌≡◌, List, [], ◌∷◌, refl, sym, ◌∙◌, ap, subst, arith, inl, inr, suc, Contains, All-contains}
-use Rattle.pmf_event.specs.declared.profile.Profile.{Profile}
-use Rattle.pmf_event.specs.Prelude.{Trace}
+use Rattle.std.proofs.{Common.{◌≡◌, List, [], ◌∷◌, refl, sym, ◌∙◌, ap, subst, arith, inl, inr, suc, Contains}, lemmas.List.Elements.{All-contains}}
+use Rattle.pmf_event.specs.{declared.profile.Profile.{Profile}, Section.{Trace}}
 use Rattle.pmf_verdict.specs.Checked.{Checked, checked_by}
-use Rattle.pmf_ledger.specs.Gathered.{Holds, IsLedgerOf}
-use Rattle.pmf_ledger.specs.Gathering.{Agrees, HaveSameMembers}
-use Rattle.pmf_ledger.specs.LedgerValue.{LedgerValue}
-use Rattle.pmf_ledger.specs.Names.{ComesBefore, Rises}
-use Rattle.pmf_ledger.proofs.lemmas.AddingLemmas.{Contains-cons, Contains-cons_cases}
-use Rattle.pmf_ledger.proofs.lemmas.MergingLemmas.{none_of_empty}
-use Rattle.pmf_ledger.proofs.lemmas.NameLemmas.{before-itself, before-trans}
-use Rattle.pmf_ledger.proofs.lemmas.StandingLemmas.{held-once}
+use Rattle.pmf_ledger.{specs.Gathered.{Holds, IsLedgerOf}, specs.Gathering.{Agrees, HaveSameMembers}, specs.LedgerValue.{LedgerValue}, specs.Names.{ComesBefore, Rises}, proofs.lemmas.AddingLemmas.{Contains-cons, Contains-cons_cases}, proofs.lemmas.MergingLemmas.{none_of_empty}, proofs.lemmas.NameLemmas.{before-itself, before-trans}, proofs.lemmas.StandingLemmas.{held-once}}
 
 -- behind the first of a rising list the names rise
 pub Rises-rest : (x : Checked) (xs : List Checked) → Rises (x ∷ xs) → Rises xs

@@ -1,10 +1,8 @@
 -- The sections of a ledger, checked by profile Two.
-use Rattle.pmf_event.proofs.Common.{◌≡◌, ◌<◌, List, length, map, refl, sym, ◌∙◌, ap, subst, arith, get_or, Contains, All, get_or-map, length-map, All-map, All-contains, All-weaker, Contains-get_or, map_fixed}
+use Rattle.std.proofs.{Common.{◌≡◌, ◌<◌, List, length, map, refl, sym, ◌∙◌, ap, subst, arith, get_or, Contains, All}, lemmas.List.{get_or-map, length-map}, lemmas.List.Elements.{All-map, All-contains, All-weaker, Contains-get_or}, lemmas.List.Folds.{map_fixed}}
 use Rattle.pmf_event.specs.declared.profile.Profile.TheVariants.{Two}
 use Rattle.pmf_verdict.specs.Checked.{Checked, checked_by}
-use Rattle.pmf_ledger.specs.Gathered.{IsUpgradeOf, upgraded}
-use Rattle.pmf_ledger.specs.LedgerValue.{LedgerValue}
-use Rattle.pmf_ledger.specs.Names.{Rises}
+use Rattle.pmf_ledger.specs.{Gathered.{IsUpgradeOf, upgraded}, LedgerValue.{LedgerValue}, Names.{Rises}}
 
 Contains-upgraded : (sections : List Checked) (c : Checked) → Contains sections c → Contains (map upgraded sections) (upgraded c)
 Contains-upgraded sections c found =

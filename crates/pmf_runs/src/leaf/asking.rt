@@ -10,8 +10,7 @@ use crate::walk::{Counted, end_of, first_of_run, least_of_run, lesser, lines_of_
 
 impl<S: State> Leaf<S> {
     ghost use Rattle.pmf_event.specs.Ranges.{first_from, least_from, lesser};
-    ghost use Rattle.pmf_runs.specs.Leaves.{leaf_state};
-    ghost use Rattle.pmf_runs.specs.Lines.{counted_from};
+    ghost use Rattle.pmf_runs.specs.{Leaves.{leaf_state}, Lines.{counted_from}};
 
     /// The least number from `first` up to `end` whose state passes.
     pub(crate) fn find_first<T: Test<S>>(&self, first: u64, end: u64, test: &T) -> Option<u64>

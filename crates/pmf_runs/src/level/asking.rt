@@ -1,8 +1,7 @@
 //! Questions about the states of a range in a level, each one walk over its parts.
 
 ghost use Rattle.std.specs.Prelude.{◌≡◌, ◌<◌, ◌≤◌, ◌-◌, ℕ, false, get_or, vec_len};
-ghost use Rattle.pmf_runs.specs.Ranks.{rank};
-ghost use Rattle.pmf_runs.specs.Walks.{end_of};
+ghost use Rattle.pmf_runs.specs.{Ranks.{rank}, Walks.{end_of}};
 
 use crate::level::Level;
 use crate::part::Part;
@@ -11,8 +10,7 @@ use crate::walk::{Counted, end_of, start_of};
 
 impl<P> Level<P> {
     ghost use Rattle.pmf_event.specs.Ranges.{first_from, least_from, lesser};
-    ghost use Rattle.pmf_runs.specs.Levels.{level_state};
-    ghost use Rattle.pmf_runs.specs.Lines.{counted_from};
+    ghost use Rattle.pmf_runs.specs.{Levels.{level_state}, Lines.{counted_from}};
 
     /// The least number from `first` up to `end` whose state passes.
     pub(crate) fn find_first<S: State, T: Test<S>>(

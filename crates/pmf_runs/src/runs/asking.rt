@@ -7,10 +7,8 @@ use crate::state::{Key, State, Test};
 use crate::walk::{Counted, first_of_run, least_of_run, lines_of_run};
 
 impl<S: State> RunMap<S> {
-    ghost use Rattle.pmf_event.specs.declared.span.TheConstants.{LINE_SIZE};
-    ghost use Rattle.pmf_event.specs.Prelude.{first_from, count_from, least_from};
-    ghost use Rattle.pmf_runs.specs.Runs.{passing, keyed};
-    ghost use Rattle.pmf_runs.specs.Lines.{line_has};
+    ghost use Rattle.pmf_event.specs.{declared.span.TheConstants.{LINE_SIZE}, Ranges.{first_from, count_from, least_from}};
+    ghost use Rattle.pmf_runs.specs.{Runs.{passing, keyed}, Lines.{line_has}};
 
     /// The least number from `first` up to `end` whose state passes. An empty range has none, also one
     /// whose end is below its first number. The walk ends at the first run that passes.

@@ -1,9 +1,7 @@
 //! What questions ask of the state of a byte.
 
 ghost use Rattle.std.specs.Prelude.{◌≡◌, ◌||◌, not};
-ghost use Rattle.pmf_shadow.specs.Bounds.{may_be_late_for_any};
-ghost use Rattle.pmf_shadow.specs.EqualStates.{is_like};
-ghost use Rattle.pmf_shadow.specs.States.{any_store, checked_store, comes_after, has_one_by, holds_of, is_before, is_from, kept_opening, kept_place, lacks_write_back, late_for, opens_in, stored_by, stored_of, written_back_from};
+ghost use Rattle.pmf_shadow.specs.{Bounds.{may_be_late_for_any}, EqualStates.{is_like}, States.{any_store, checked_store, comes_after, has_one_by, holds_of, is_before, is_from, kept_opening, kept_place, lacks_write_back, late_for, opens_in, stored_by, stored_of, written_back_from}};
 
 use crate::byte::bounds::may_be_less;
 use crate::byte::{Bounds, ByteState, is_late};

@@ -1,9 +1,7 @@
 //! Bounds of the states of some bytes, which tell whether a change or a question may meet any of them.
 
 ghost use Rattle.std.specs.Prelude.{◌≡◌, true, ◌&&◌, Some};
-ghost use Rattle.pmf_shadow.specs.EqualStates.{equal_states};
-ghost use Rattle.pmf_shadow.specs.States.{is_unsettled};
-ghost use Rattle.pmf_shadow.specs.Bounds.{covers, covers_mark, covers_store, joined, may_be_checked, may_be_late, may_be_late_for_any, may_be_less, with_mark, with_store, with_write_back, without_unsettled};
+ghost use Rattle.pmf_shadow.specs.{EqualStates.{equal_states}, States.{is_unsettled}, Bounds.{covers, covers_mark, covers_store, joined, may_be_checked, may_be_late, may_be_late_for_any, may_be_less, with_mark, with_store, with_write_back, without_unsettled}};
 
 use crate::byte::{ByteState, Stored};
 use pmf_runs::State;

@@ -1,8 +1,7 @@
 -- What the writing of a command's text says of its answer.
 use Rattle.std.proofs.Common.{List, ℕ, subst, sym, Option, Result, Ok, Err}
-use Rattle.pmf_stream.specs.declared.fault.StreamFault.{StreamFault}
+use Rattle.pmf_stream.specs.{declared.fault.StreamFault.{StreamFault}, Answering.{Answers, Writes}}
 use Rattle.pmf_stream.specs.declared.fault.StreamFault.TheVariants as fault
-use Rattle.pmf_stream.specs.Answering.{Answers, Writes}
 
 pub Answers-written : {T E : Type 0} (IsText : T → List ℕ → Type 0) (IsRefusal : E → Type 0) (held holds : Option (List ℕ)) (done : T) (text : List ℕ) (result : Result T (StreamFault E)) →
     IsText done text → Writes done text held holds result → Answers IsText IsRefusal held holds result

@@ -1,7 +1,5 @@
 -- What the loop of reading has read and handed on so far.
-use Rattle.std.proofs.Common.{◌≡◌, ℕ, ◌+◌, ◌-◌, ◌≤◌, List, ◌++◌, length, arith, length-append, Option}
-use Rattle.std.specs.Io.KnownBytes.{Consumes}
-use Rattle.std.proofs.KnownBytes.{Consumes-trans}
+use Rattle.std.{proofs.Common.{◌≡◌, ℕ, ◌+◌, ◌-◌, ◌≤◌, List, ◌++◌, length, arith, length-append, Option}, specs.Io.KnownBytes.{Consumes}, proofs.KnownBytes.{Consumes-trans}}
 use Rattle.pmf_stream.specs.Reading.{HasReadBytes}
 
 -- the bytes that left the stream are those that were taken, and few enough

@@ -1,13 +1,7 @@
 -- A log that is read piece by piece, and what its end or its fault says.
 use Rattle.std.proofs.Common.{◌≡◌, ℕ, ◌≤◌, Bool, true, false, nat_lt, if◌then◌else◌, List, [], ◌++◌, length, refl, sym, ◌∙◌, ap, arith, inl, inr, ◌≢◌, Option, Some, None, Ok, Err, ltb-false, append-nil}
-use Rattle.pmf_storelog.specs.declared.fault.LogFault.{LogFault}
-use Rattle.pmf_storelog.specs.declared.fault.TheConstants.{LOG_LIMIT}
-use Rattle.pmf_storelog.specs.declared.reader.LogReader.{LogReader}
-use Rattle.pmf_storelog.specs.Prelude.{log_of, shown_fault, shown_within, too_long, or_else, first_fault, first_fault_among, out_of_memory, records_in, parts_of, ended_parts, LogValue, HasRead}
-use Rattle.pmf_storelog.proofs.CallerLemmas.{log_of-all}
-use Rattle.pmf_stream.specs.Checking.{IsLogOf, IsLogFaultOf}
-use Rattle.pmf_stream.specs.Reading.{HasReadAll, HasReadTo}
-use Rattle.pmf_stream.specs.Pieces.{Takes, Refuses}
+use Rattle.pmf_storelog.{specs.declared.fault.LogFault.{LogFault}, specs.declared.fault.TheConstants.{LOG_LIMIT}, specs.declared.reader.LogReader.{LogReader}, specs.LogText.{log_of, shown_fault, shown_within, too_long, or_else, first_fault, first_fault_among, out_of_memory}, specs.Separators.{records_in, parts_of, ended_parts}, specs.LogValue.{LogValue}, specs.Reader.{HasRead}, proofs.CallerLemmas.{log_of-all}}
+use Rattle.pmf_stream.specs.{Checking.{IsLogOf, IsLogFaultOf}, Reading.{HasReadAll, HasReadTo}, Pieces.{Takes, Refuses}}
 
 second-none : (first second : Option LogFault) → or_else first second ≡ None → second ≡ None
 second-none None second is = is

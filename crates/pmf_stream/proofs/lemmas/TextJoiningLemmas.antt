@@ -1,11 +1,7 @@
 -- Ledger texts joined one after another.
-use Rattle.pmf_event.proofs.Common.{◌≡◌, ℕ, List, [], ◌∷◌, ◌++◌, length, flat_map, refl, sym, ◌∙◌, ap, subst, ◌≢◌, ◌↔◌, All, append-nil, flat_map-append, All-cons, All-nil, All-push}
-use Rattle.pmf_event.specs.declared.name.Name.{Name}
-use Rattle.pmf_event.specs.declared.profile.Profile.{Profile}
-use Rattle.pmf_event.specs.declared.profile.Profile.TheVariants.{One, Two}
-use Rattle.pmf_ledger.specs.declared.joining.JoinFault.{JoinFault}
-use Rattle.pmf_ledger.specs.declared.joining.JoinFault.TheVariants.{ProfileMismatch, Conflict, OutOfMemory}
-use Rattle.pmf_ledger.specs.Prelude.{IsLeastClash, IsLedgerOf, LedgerValue, LoadsAs, reading_of}
+use Rattle.std.proofs.{Common.{◌≡◌, ℕ, List, [], ◌∷◌, ◌++◌, length, flat_map, refl, sym, ◌∙◌, ap, subst, ◌≢◌, ◌↔◌, All, append-nil}, lemmas.Grind.{flat_map-append}, lemmas.List.Elements.{All-cons, All-nil, All-push}}
+use Rattle.pmf_event.specs.declared.{name.Name.{Name}, profile.Profile.{Profile}, profile.Profile.TheVariants.{One, Two}}
+use Rattle.pmf_ledger.specs.{declared.joining.JoinFault.{JoinFault}, declared.joining.JoinFault.TheVariants.{ProfileMismatch, Conflict, OutOfMemory}, Gathered.{IsLeastClash, IsLedgerOf}, LedgerValue.{LedgerValue}, Loading.{LoadsAs, reading_of}}
 use Rattle.pmf_stream.specs.Joining.{IsJoinFaultOf, IsJoinOf, IsJoinedAt, IsOfProfile, blocks_of}
 
 -- profiles that don't differ are the same

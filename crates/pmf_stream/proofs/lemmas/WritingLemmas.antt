@@ -1,7 +1,5 @@
 -- What several writes of one text append together.
-use Rattle.pmf_event.proofs.Common.{ℕ, ◌+◌, ◌-◌, List, Option, length, take, drop, ap, subst, take-add, take_rest}
-use Rattle.std.proofs.KnownBytes.{Appends-trans}
-use Rattle.std.specs.Io.KnownBytes.{Appends}
+use Rattle.std.{proofs.Common.{ℕ, ◌+◌, ◌-◌, List, Option, length, take, drop, ap, subst}, proofs.Math.Seq.{take-add}, proofs.lemmas.List.{take_rest}, proofs.KnownBytes.{Appends-trans}, specs.Io.KnownBytes.{Appends}}
 
 -- the front of a text, and then some of what is left of it, make a longer front
 pub appends_more : (a b c : Option (List ℕ)) (text : List ℕ) (written count : ℕ) → Appends a b (take written text)

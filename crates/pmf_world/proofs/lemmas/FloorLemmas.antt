@@ -1,17 +1,11 @@
 -- What the floor of a world keeps, after each change of it.
-use Rattle.pmf_event.proofs.Common.{◌≡◌, ℕ, zero, suc, ◌<◌, ◌≤◌, List, [], ◌∷◌, ◌++◌, length, map, set, get_or, slice_get, refl, sym, ◌∙◌, ap, subst, Some, None, arith, replicate, Option, option_map, get_or-map, get_or_default, map-set, length-map, length-set, length-append, All-get_or, All-push, All-set, sum_by-le, sum_by-set, get_or_from_slice_get, none-some, same_Some, slice_get-map, slice_get_within}
-use Rattle.pmf_event.specs.declared.profile.Profile.{Profile}
-use Rattle.pmf_event.specs.Prelude.{Trace}
+use Rattle.std.proofs.{Common.{◌≡◌, ℕ, zero, suc, ◌<◌, ◌≤◌, List, [], ◌∷◌, ◌++◌, length, map, set, get_or, slice_get, refl, sym, ◌∙◌, ap, subst, Some, None, arith, replicate, Option, option_map, length-set, length-append}, lemmas.List.{get_or-map, get_or_default, map-set, length-map}, lemmas.List.Elements.{All-get_or, All-push, All-set}, lemmas.List.Sums.{sum_by-le, sum_by-set}, lemmas.Option.{get_or_from_slice_get, none-some, same_Some, slice_get-map, slice_get_within}}
+use Rattle.pmf_event.specs.{declared.profile.Profile.{Profile}, Section.{Trace}}
 use Rattle.pmf_verdict.specs.Checked.{Checked}
-use Rattle.pmf_board.specs.declared.entry.Entry.{Entry}
-use Rattle.pmf_board.specs.Machine.{entry_at, finished, opening, untouched}
+use Rattle.pmf_board.specs.{declared.entry.Entry.{Entry}, Machine.{entry_at, finished, opening, untouched}}
 use Rattle.pmf_ledger.specs.Repeats.{no_section, section_at}
-use Rattle.pmf_world.specs.declared.doing.Doing.{Doing}
+use Rattle.pmf_world.specs.{declared.doing.Doing.{Doing}, declared.floor.Message.{Message}, declared.floor.Worker.{Worker}, Turns.{FarmState}, Floors.{FloorValue, HasWhatItSays, IsFloor, IsSent, IsWorker, IsMessage, idle, in_hand, verdict_at, Becomes}}
 use Rattle.pmf_world.specs.declared.doing.Doing.TheVariants as doing
-use Rattle.pmf_world.specs.declared.floor.Message.{Message}
-use Rattle.pmf_world.specs.declared.floor.Worker.{Worker}
-use Rattle.pmf_world.specs.Turns.{FarmState}
-use Rattle.pmf_world.specs.Floors.{FloorValue, HasWhatItSays, IsFloor, IsSent, IsWorker, IsMessage, idle, in_hand, verdict_at, Becomes}
 
 -- the farm that a floor shows
 abbrev pub shown : List Entry → List Worker → List Message → FarmState

@@ -1,13 +1,8 @@
 -- What is kept of a ledger, and what was gathered there.
-use Rattle.pmf_event.proofs.Common.{◌≡◌, ℕ, zero, suc, List, [], ◌∷◌, ◌++◌, map, get_or, set, replicate, Some, None, refl, sym, ◌∙◌, ap, subst, inl, inr, ◌⊎◌, ◌↔◌, slice_get, Contains, Option, Ok, Err, IsOk, get_or-set_same, Contains-append_left, Contains-append_right, Contains-append_cases, same_Some, slice_get_within, get_or_from_slice_get}
-use Rattle.pmf_ledger.proofs.lemmas.AddingLemmas.{Contains-cons, Contains-cons_cases}
-use Rattle.pmf_ledger.proofs.lemmas.MergingLemmas.{none_of_empty}
-use Rattle.pmf_ledger.specs.Repeats.{section_at}
-use Rattle.pmf_world.specs.declared.step.WorldStep.{WorldStep}
+use Rattle.std.proofs.{Common.{◌≡◌, ℕ, zero, suc, List, [], ◌∷◌, ◌++◌, map, get_or, set, replicate, Some, None, refl, sym, ◌∙◌, ap, subst, inl, inr, ◌⊎◌, ◌↔◌, slice_get, Contains, Option, Ok, Err, IsOk, get_or-set_same}, lemmas.List.Elements.{Contains-append_left, Contains-append_right, Contains-append_cases}, lemmas.Option.{same_Some, slice_get_within, get_or_from_slice_get}}
+use Rattle.pmf_ledger.{proofs.lemmas.AddingLemmas.{Contains-cons, Contains-cons_cases}, proofs.lemmas.MergingLemmas.{none_of_empty}, specs.Repeats.{section_at}}
+use Rattle.pmf_world.specs.{declared.step.WorldStep.{WorldStep}, Turns.{Turned}, Steps.{WorldState, after, arrive_found, join_found, opening_of, set_at, stepped, turned, with_set, world_of}, Laws.{Brings, IsGathered, LedgersAreOfTheGathered, SetsAreOfTheGathered}}
 use Rattle.pmf_world.specs.declared.step.WorldStep.TheVariants as step
-use Rattle.pmf_world.specs.Turns.{Turned}
-use Rattle.pmf_world.specs.Steps.{WorldState, after, arrive_found, join_found, opening_of, set_at, stepped, turned, with_set, world_of}
-use Rattle.pmf_world.specs.Laws.{Brings, IsGathered, LedgersAreOfTheGathered, SetsAreOfTheGathered}
 
 -- after a set a place is the one that was set and has the new element, or it has what it had
 pub get_or-set_cases : {X : Type 0} (xs : List X) (i j : ℕ) (y d : X) → ((j ≡ i) × (get_or (set xs i y) j d ≡ y)) ⊎ (get_or (set xs i y) j d ≡ get_or xs j d)

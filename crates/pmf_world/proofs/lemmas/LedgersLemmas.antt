@@ -1,11 +1,8 @@
 -- The reports of ledgers, one by one; and how many ledgers there are.
-use Rattle.pmf_event.proofs.Common.{◌≡◌, ◌≤◌, ℕ, suc, ◌+◌, List, [], ◌∷◌, ◌++◌, inl, inr, length, take, slice_get, Option, Some, None, codes, refl, sym, ap, ◌∙◌, append_assoc, arith, Ok, Err, decimal, append-nil, length-set, length-take-le, take_more, take_all, slice_get_within, slice_get_cases, get_or_from_slice_get}
-use Rattle.pmf_ledger.specs.Prelude.{LedgerValue, report_of}
-use Rattle.pmf_world.specs.declared.step.WorldStep.{WorldStep}
+use Rattle.std.proofs.{Common.{◌≡◌, ◌≤◌, ℕ, suc, ◌+◌, List, [], ◌∷◌, ◌++◌, inl, inr, length, take, slice_get, Option, Some, None, codes, refl, sym, ap, ◌∙◌, append_assoc, arith, Ok, Err, decimal, append-nil, length-set, length-take-le, take_all}, lemmas.List.{take_more}, lemmas.Option.{slice_get_within, slice_get_cases, get_or_from_slice_get}}
+use Rattle.pmf_ledger.specs.{LedgerValue.{LedgerValue}, Report.{report_of}}
+use Rattle.pmf_world.specs.{declared.step.WorldStep.{WorldStep}, Turns.{Turned, take_turn, check_where, send_where, mark_where, lose_where}, Steps.{WorldState, stepped, turned, arrive_found, join_found, world_of, after}, Lines.{text_of_ledgers}}
 use Rattle.pmf_world.specs.declared.step.WorldStep.TheVariants as step
-use Rattle.pmf_world.specs.Turns.{Turned, take_turn, check_where, send_where, mark_where, lose_where}
-use Rattle.pmf_world.specs.Steps.{WorldState, stepped, turned, arrive_found, join_found, world_of, after}
-use Rattle.pmf_world.specs.Lines.{text_of_ledgers}
 
 -- the text line of ledger k, and its report
 abbrev text_of : ℕ → LedgerValue → List ℕ

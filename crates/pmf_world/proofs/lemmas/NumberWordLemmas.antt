@@ -1,6 +1,5 @@
 -- A word is a number where the decimal digits at its front are all of it.
-use Rattle.pmf_event.proofs.Common.{◌≡◌, ℕ, ◌^◌, ◌<◌, ◌≤◌, Bool, true, false, cond, ◌&&◌, nat_lt, nat_le, List, [], inl, inr, length, take, drop, Option, Some, None, refl, sym, ap, ◌∙◌, arith, Result, Ok, Err, list_all, digits_value, cases_lt, lt-ltb, le-ltb, lt-leb, le-leb, take_all, drop_all, length-drop, list_all_at, prefix_len_stops}
-use Rattle.std.specs.Result.{OkIff, result_ok}
+use Rattle.std.{proofs.Common.{◌≡◌, ℕ, ◌^◌, ◌<◌, ◌≤◌, Bool, true, false, cond, ◌&&◌, nat_lt, nat_le, List, [], inl, inr, length, take, drop, Option, Some, None, refl, sym, ap, ◌∙◌, arith, Result, Ok, Err, lt-ltb, le-ltb, le-leb, take_all, length-drop}, specs.List.{list_all}, specs.Str.Parse.{digits_value}, proofs.lemmas.Bool.{cases_lt, lt-leb}, proofs.lemmas.List.{drop_all}, proofs.lemmas.List.Folds.{list_all_at}, proofs.lemmas.List.Sums.{prefix_len_stops}, specs.Result.{OkIff, result_ok}}
 use Rattle.pmf_storelog.specs.Numbers.{is_digit_in, is_numeral, numeral_of, digits_in_front, number_before, number_in_front}
 use Rattle.pmf_world.specs.Schedule.{number_of}
 

@@ -1,13 +1,7 @@
 -- A schedule played step by step.
-use Rattle.pmf_event.proofs.Common.{◌≡◌, ◌≢◌, ℕ, ◌+◌, ◌<◌, List, [], ◌∷◌, ◌++◌, length, take, get_or, reverse, refl, sym, ap, subst, ◌∙◌, append_assoc, arith, Result, Ok, Err, OnOk, append-nil, length-reverse, length-take-le, reverse-append, take_more}
-use Rattle.pmf_world.specs.declared.step.WorldAnswer.{WorldAnswer}
-use Rattle.pmf_world.specs.declared.step.WorldFault.{WorldFault}
+use Rattle.std.proofs.{Common.{◌≡◌, ◌≢◌, ℕ, ◌+◌, ◌<◌, List, [], ◌∷◌, ◌++◌, length, take, get_or, reverse, refl, sym, ap, subst, ◌∙◌, append_assoc, arith, Result, Ok, Err, OnOk, append-nil, length-take-le}, lemmas.List.{length-reverse, reverse-append, take_more}}
+use Rattle.pmf_world.specs.{declared.step.WorldAnswer.{WorldAnswer}, declared.step.WorldFault.{WorldFault}, declared.step.WorldStep.{WorldStep}, Steps.{WorldState, stepped, world_of, after}, Worlds.{WorldValue, StandsFor, Steps, Refuses}, Lines.{outcome_of, text_of_step, text_of_steps}, Playing.{PlaysStep, PlaysAll}}
 use Rattle.pmf_world.specs.declared.step.WorldFault.TheVariants as fault
-use Rattle.pmf_world.specs.declared.step.WorldStep.{WorldStep}
-use Rattle.pmf_world.specs.Steps.{WorldState, stepped, world_of, after}
-use Rattle.pmf_world.specs.Worlds.{WorldValue, StandsFor, Steps, Refuses}
-use Rattle.pmf_world.specs.Lines.{outcome_of, text_of_step, text_of_steps}
-use Rattle.pmf_world.specs.Playing.{PlaysStep, PlaysAll}
 
 after-more : (first : WorldState) (before : List WorldStep) (step : WorldStep) → after first (step ∷ before) ≡ world_of (after first before) (stepped (after first before) step)
 unfolding after

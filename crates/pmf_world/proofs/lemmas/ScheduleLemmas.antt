@@ -1,7 +1,6 @@
 -- A schedule read text line by text line.
-use Rattle.pmf_event.proofs.Common.{◌≡◌, ℕ, suc, ◌+◌, ◌<◌, ◌≤◌, List, [], ◌∷◌, ◌++◌, length, drop, get_or, Some, None, refl, sym, ap, ◌∙◌, append_assoc, arith, Result, Ok, Err, slice_split, append-nil, drop_more, drop_all}
-use Rattle.pmf_world.specs.declared.step.WorldStep.{WorldStep}
-use Rattle.pmf_world.specs.Schedule.{is_line_end, step_of_line, step_before, line_before, steps_of_lines, schedule_of}
+use Rattle.std.{proofs.Common.{◌≡◌, ℕ, suc, ◌+◌, ◌<◌, ◌≤◌, List, [], ◌∷◌, ◌++◌, length, drop, get_or, Some, None, refl, sym, ap, ◌∙◌, append_assoc, arith, Result, Ok, Err, append-nil}, specs.List.{slice_split}, proofs.lemmas.List.{drop_more, drop_all}}
+use Rattle.pmf_world.specs.{declared.step.WorldStep.{WorldStep}, Schedule.{is_line_end, step_of_line, step_before, line_before, steps_of_lines, schedule_of}}
 
 -- these steps in front of what the rest tells
 abbrev pub steps_then : List WorldStep → Result (List WorldStep) ℕ → Result (List WorldStep) ℕ

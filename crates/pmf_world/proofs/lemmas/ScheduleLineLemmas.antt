@@ -1,8 +1,5 @@
 -- The words of a text line, taken off one by one.
-use Rattle.pmf_event.proofs.Common.{◌≡◌, ◌<◌, List, [], ◌∷◌, length, get_or, Option, Some, None, refl, sym, ap, ℕ, slice_split}
-use Rattle.std.proofs.lemmas.Iterator.{YieldsList}
-use Rattle.std.proofs.lemmas.Iterator.Consumers.{YieldsList-turn, YieldsList-end}
-use Rattle.std.specs.Iterator.{Yields}
+use Rattle.std.{proofs.Common.{◌≡◌, ◌<◌, List, [], ◌∷◌, length, get_or, Option, Some, None, refl, sym, ap, ℕ}, specs.List.{slice_split}, proofs.lemmas.Iterator.{YieldsList}, proofs.lemmas.Iterator.Consumers.{YieldsList-turn, YieldsList-end}, specs.Iterator.{Yields}}
 use Rattle.pmf_world.specs.Schedule.{is_blank, number_of, step_of_one, step_of_two, step_of_line}
 
 -- one item comes: the list begins with it, and the rest is left

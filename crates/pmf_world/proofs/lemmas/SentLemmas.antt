@@ -1,16 +1,9 @@
 -- Of each section that is done, and of each whose verdict a worker has just sent, a message was sent.
-use Rattle.pmf_event.proofs.Common.{◌≡◌, ℕ, true, List, [], ◌∷◌, ◌++◌, set, Some, None, refl, sym, ◌∙◌, ap, subst, inl, inr, slice_get, Contains, Option, Ok, All, All-replicate, All-set, All-weaker, Contains-append_left, Contains-push, slice_get_within, get_or_from_slice_get}
-use Rattle.pmf_board.specs.declared.entry.Entry.{Entry}
-use Rattle.pmf_board.specs.Machine.{untouched, entry_at, handed_out, finished}
-use Rattle.pmf_world.specs.declared.doing.Doing.{Doing}
+use Rattle.std.proofs.{Common.{◌≡◌, ℕ, true, List, [], ◌∷◌, ◌++◌, set, Some, None, refl, sym, ◌∙◌, ap, subst, inl, inr, slice_get, Contains, Option, Ok, All}, lemmas.List.Elements.{All-replicate, All-set, All-weaker, Contains-append_left, Contains-push}, lemmas.Option.{slice_get_within, get_or_from_slice_get}}
+use Rattle.pmf_board.specs.{declared.entry.Entry.{Entry}, Machine.{untouched, entry_at, handed_out, finished}}
+use Rattle.pmf_world.{specs.declared.doing.Doing.{Doing}, specs.declared.step.WorldStep.{WorldStep}, specs.Turns.{FarmState, check_where, lose_where, mark_where, send_where, take_found, taken_by}, specs.Steps.{WorldState, after, arrive_found, join_found, opening_of, stepped, turned, world_of}, specs.Laws.{DoneWasSent}, proofs.lemmas.GatheredLemmas.{get_or-set_cases, get_or-replicate_default}, proofs.lemmas.TaskLemmas.{take_cases}}
 use Rattle.pmf_world.specs.declared.doing.Doing.TheVariants as doing
-use Rattle.pmf_world.specs.declared.step.WorldStep.{WorldStep}
 use Rattle.pmf_world.specs.declared.step.WorldStep.TheVariants as step
-use Rattle.pmf_world.specs.Turns.{FarmState, check_where, lose_where, mark_where, send_where, take_found, taken_by}
-use Rattle.pmf_world.specs.Steps.{WorldState, after, arrive_found, join_found, opening_of, stepped, turned, world_of}
-use Rattle.pmf_world.specs.Laws.{DoneWasSent}
-use Rattle.pmf_world.proofs.lemmas.GatheredLemmas.{get_or-set_cases, get_or-replicate_default}
-use Rattle.pmf_world.proofs.lemmas.TaskLemmas.{take_cases}
 
 -- if it has just sent a verdict, a message of that section is among these
 abbrev HasToldTruly : List ℕ → Doing → Type 0

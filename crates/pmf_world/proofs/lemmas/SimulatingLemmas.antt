@@ -1,21 +1,10 @@
 -- From a log and a schedule to the text of the simulation.
-use Rattle.pmf_event.proofs.Common.{◌≡◌, ◌≤◌, ◌<◌, ℕ, suc, ◌+◌, ◌^◌, List, [], ◌∷◌, ◌++◌, length, take, reverse, Option, Some, None, ap, subst, ◌∙◌, arith, Result, Ok, Err, slice_split, length-replicate, take_all, length-slice_split, count_by-le-length}
-use Rattle.pmf_event.specs.declared.profile.Profile.TheVariants.{One}
-use Rattle.pmf_event.specs.Prelude.{Trace}
-use Rattle.pmf_storelog.specs.Prelude.{log_of, LogValue}
-use Rattle.pmf_ledger.specs.Repeats.{StandsTwice}
-use Rattle.pmf_ledger.proofs.lemmas.OwnNamesLemmas.{own_names, few_sections}
-use Rattle.pmf_world.specs.declared.fault.WorldNewFault.{WorldNewFault}
+use Rattle.std.{proofs.Common.{◌≡◌, ◌≤◌, ◌<◌, ℕ, suc, ◌+◌, ◌^◌, List, [], ◌∷◌, ◌++◌, length, take, reverse, Option, Some, None, ap, subst, ◌∙◌, arith, Result, Ok, Err, take_all}, specs.List.{slice_split}, proofs.lemmas.List.{length-replicate}, proofs.lemmas.List.Splits.{length-slice_split}, proofs.lemmas.List.Sums.{count_by-le-length}}
+use Rattle.pmf_event.specs.{declared.profile.Profile.TheVariants.{One}, Section.{Trace}}
+use Rattle.pmf_storelog.specs.{LogText.{log_of}, LogValue.{LogValue}}
+use Rattle.pmf_ledger.{specs.Repeats.{StandsTwice}, proofs.lemmas.OwnNamesLemmas.{own_names, few_sections}}
+use Rattle.pmf_world.{specs.declared.fault.WorldNewFault.{WorldNewFault}, specs.declared.step.WorldStep.{WorldStep}, specs.Opening.{IsMade, IsNotMade, IsOpening}, specs.Steps.{opening_of}, specs.Worlds.{WorldValue, StandsFor}, specs.Lines.{text_of_ledgers, text_of_steps}, specs.Playing.{PlaysAll}, specs.Schedule.{is_line_end, step_of_line, step_before, line_before, steps_of_lines, schedule_of}, specs.Simulation.{IsNumbersFault, IsSchedule, IsSimulation}, proofs.lemmas.LedgersLemmas.{after-sets}}
 use Rattle.pmf_world.specs.declared.fault.WorldNewFault.TheVariants as new
-use Rattle.pmf_world.specs.declared.step.WorldStep.{WorldStep}
-use Rattle.pmf_world.specs.Opening.{IsMade, IsNotMade, IsOpening}
-use Rattle.pmf_world.specs.Steps.{opening_of}
-use Rattle.pmf_world.specs.Worlds.{WorldValue, StandsFor}
-use Rattle.pmf_world.specs.Lines.{text_of_ledgers, text_of_steps}
-use Rattle.pmf_world.specs.Playing.{PlaysAll}
-use Rattle.pmf_world.specs.Schedule.{is_line_end, step_of_line, step_before, line_before, steps_of_lines, schedule_of}
-use Rattle.pmf_world.specs.Simulation.{IsNumbersFault, IsSchedule, IsSimulation}
-use Rattle.pmf_world.proofs.lemmas.LedgersLemmas.{after-sets}
 
 -- what the rest tells is at most so many steps
 abbrev AtMost : ℕ → Result (List WorldStep) ℕ → Type 0

@@ -1,17 +1,10 @@
 -- The numbers of tasks: a task's number is one above the hand-outs that its section had before, and hand-outs never fall.
-use Rattle.pmf_event.proofs.Common.{◌≡◌, ℕ, ◌+◌, ◌<◌, ◌≤◌, true, false, if◌then◌else◌, List, [], ◌∷◌, ◌++◌, set, Some, None, refl, sym, ap, subst, arith, inl, inr, ◌≢◌, slice_get, eqb, Option, Ok, get_or-set_same, All, AllPairs, list_any, All-nil, All-cons, All-weaker, slice_get_within, get_or_from_slice_get}
-use Rattle.std.proofs.lemmas.List.Kept.{AllPairs-cons}
-use Rattle.pmf_board.specs.declared.entry.Entry.{Entry}
-use Rattle.pmf_board.specs.Machine.{untouched, entry_at, is_on_offer, handed_out, finished, hand_out, take_below, taken}
-use Rattle.pmf_world.specs.declared.doing.Doing.{Doing}
+use Rattle.std.{proofs.Common.{◌≡◌, ℕ, ◌+◌, ◌<◌, ◌≤◌, true, false, if◌then◌else◌, List, [], ◌∷◌, ◌++◌, set, Some, None, refl, sym, ap, subst, arith, inl, inr, ◌≢◌, slice_get, eqb, Option, Ok, get_or-set_same, All, AllPairs}, specs.List.{list_any}, proofs.lemmas.List.Elements.{All-nil, All-cons, All-weaker}, proofs.lemmas.Option.{slice_get_within, get_or_from_slice_get}, proofs.lemmas.List.Kept.{AllPairs-cons}}
+use Rattle.pmf_board.specs.{declared.entry.Entry.{Entry}, Machine.{untouched, entry_at, is_on_offer, handed_out, finished, hand_out, take_below, taken}}
+use Rattle.pmf_world.{specs.declared.doing.Doing.{Doing}, specs.declared.step.WorldStep.{WorldStep}, specs.Turns.{check_where, lose_where, mark_where, send_where, take_found, taken_by}, specs.Steps.{WorldState, Stepped, after, arrive_found, join_found, opening_of, stepped, turned, with_set, world_of}, specs.Laws.{TasksDiffer, task_in, tasks_in}, proofs.lemmas.GatheredLemmas.{get_or-set_cases}}
 use Rattle.pmf_world.specs.declared.doing.Doing.TheVariants as doing
-use Rattle.pmf_world.specs.declared.step.WorldStep.{WorldStep}
 use Rattle.pmf_world.specs.declared.step.WorldStep.TheVariants as step
 use Rattle.pmf_world.specs.declared.step.WorldAnswer.TheVariants as answer
-use Rattle.pmf_world.specs.Turns.{check_where, lose_where, mark_where, send_where, take_found, taken_by}
-use Rattle.pmf_world.specs.Steps.{WorldState, Stepped, after, arrive_found, join_found, opening_of, stepped, turned, with_set, world_of}
-use Rattle.pmf_world.specs.Laws.{TasksDiffer, task_in, tasks_in}
-use Rattle.pmf_world.proofs.lemmas.GatheredLemmas.{get_or-set_cases}
 
 -- what holds of no take and of the hand-out of a section that is there, holds of a take of it
 pub take_cases : (P : Option (ℕ × List Entry) → Type 0) (limit : ℕ) (board : List Entry) (s : ℕ) (e : Entry) → slice_get board s ≡ Some e →

@@ -1,19 +1,10 @@
 -- A turn of a worker, on the floor of a world, as a step of the world.
-use Rattle.pmf_event.proofs.Common.{◌≡◌, ℕ, List, [], refl, sym, subst, Ok, Err, rules, IfOk, Result, replicate, All, All-replicate}
-use Rattle.pmf_event.specs.declared.profile.Profile.{Profile}
-use Rattle.pmf_event.specs.Prelude.{Trace}
+use Rattle.std.proofs.{Common.{◌≡◌, ℕ, List, [], refl, sym, subst, Ok, Err, rules, IfOk, Result, replicate, All}, lemmas.List.Elements.{All-replicate}}
+use Rattle.pmf_event.specs.{declared.profile.Profile.{Profile}, Section.{Trace}}
 use Rattle.pmf_verdict.specs.Checked.{checked_by}
-use Rattle.pmf_ledger.specs.Prelude.{LedgerValue, HaveOwnNames}
-use Rattle.pmf_ledger.proofs.lemmas.MergingLemmas.{none_of_empty}
-use Rattle.pmf_world.specs.declared.step.WorldAnswer.{WorldAnswer}
-use Rattle.pmf_world.specs.declared.step.WorldFault.{WorldFault}
+use Rattle.pmf_ledger.{specs.LedgerValue.{LedgerValue}, specs.Repeats.{HaveOwnNames}, proofs.lemmas.MergingLemmas.{none_of_empty}}
+use Rattle.pmf_world.{specs.declared.step.WorldAnswer.{WorldAnswer}, specs.declared.step.WorldFault.{WorldFault}, specs.declared.step.WorldStep.{WorldStep}, specs.Turns.{FarmState, Turned}, specs.Floors.{FloorValue, IsTurned, IsTurnedIfRoom}, specs.Steps.{WorldState, stepped, turned}, specs.Worlds.{IsOfWorld, Steps, WorldValue}, proofs.lemmas.WorldStandsLemmas.{steps-turned}}
 use Rattle.pmf_world.specs.declared.step.WorldFault.TheVariants as fault
-use Rattle.pmf_world.specs.declared.step.WorldStep.{WorldStep}
-use Rattle.pmf_world.specs.Turns.{FarmState, Turned}
-use Rattle.pmf_world.specs.Floors.{FloorValue, IsTurned, IsTurnedIfRoom}
-use Rattle.pmf_world.specs.Steps.{WorldState, stepped, turned}
-use Rattle.pmf_world.specs.Worlds.{IsOfWorld, Steps, WorldValue}
-use Rattle.pmf_world.proofs.lemmas.WorldStandsLemmas.{steps-turned}
 
 -- a floor and ledgers, as a world
 abbrev pub world_on : FloorValue → List LedgerValue → WorldValue

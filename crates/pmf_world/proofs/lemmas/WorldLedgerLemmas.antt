@@ -1,22 +1,12 @@
 -- What one ledger of a world takes or is joined with, and the world after it.
-use Rattle.pmf_event.proofs.Common.{rules, ◌≡◌, ℕ, zero, suc, ◌+◌, ◌<◌, ◌≤◌, true, List, [], ◌∷◌, ◌++◌, length, set, get_or, slice_get, refl, sym, ◌∙◌, ap, subst, Some, Ok, inl, inr, arith, if◌then◌else◌, eqb, eqb-true, ◌↔◌, cond, count_by, Contains, IfOk, OnOk, OnErr, Result, Err, All, list_any, cases_Bool, eq-eqb, get_or_default, map-append, set-get_or, All-append, All-cons, All-get_or, Contains-append_cases, Contains-append_left, Contains-get_or, Any-from_list_any, list_any_at, get_or-le-sum_by, sum_by-cons, slice_get-get_or}
-use Rattle.pmf_event.specs.declared.name.Name.{Name}
-use Rattle.pmf_event.specs.declared.profile.Profile.{Profile}
-use Rattle.pmf_event.specs.Prelude.{Trace}
-use Rattle.pmf_ledger.specs.declared.taking.Taken.{Taken}
-use Rattle.pmf_ledger.specs.Prelude.{ClashesAt, Gains, Gathers, GathersBoth, Holds, HoldsOther, IsLedgerOf, Unites, LedgerValue, HaveOwnNames, is_name, names_of, no_section, section_at}
-use Rattle.pmf_ledger.specs.declared.taking.Taken.TheVariants as taken
-use Rattle.pmf_ledger.proofs.lemmas.AddingLemmas.{Contains-cons_cases}
-use Rattle.pmf_ledger.proofs.lemmas.MergingLemmas.{none_of_empty}
+use Rattle.std.{proofs.Common.{rules, ◌≡◌, ℕ, zero, suc, ◌+◌, ◌<◌, ◌≤◌, true, List, [], ◌∷◌, ◌++◌, length, set, get_or, slice_get, refl, sym, ◌∙◌, ap, subst, Some, Ok, inl, inr, arith, if◌then◌else◌, eqb, eqb-true, ◌↔◌, cond, count_by, Contains, IfOk, OnOk, OnErr, Result, Err, All, eq-eqb}, specs.List.{list_any}, proofs.lemmas.Bool.{cases_Bool}, proofs.lemmas.List.{get_or_default, map-append, set-get_or}, proofs.lemmas.List.Elements.{All-append, All-cons, All-get_or, Contains-append_cases, Contains-append_left, Contains-get_or}, proofs.lemmas.List.Folds.{Any-from_list_any, list_any_at}, proofs.lemmas.List.Sums.{get_or-le-sum_by, sum_by-cons}, proofs.lemmas.Option.{slice_get-get_or}}
+use Rattle.pmf_event.specs.{declared.name.Name.{Name}, declared.profile.Profile.{Profile}, Section.{Trace}}
+use Rattle.pmf_ledger.{specs.declared.taking.Taken.{Taken}, specs.Gathered.{ClashesAt, Gains, Gathers, GathersBoth, Holds, HoldsOther, IsLedgerOf, Unites}, specs.LedgerValue.{LedgerValue}, specs.Repeats.{HaveOwnNames, is_name, names_of, no_section, section_at}, proofs.lemmas.AddingLemmas.{Contains-cons_cases}, proofs.lemmas.MergingLemmas.{none_of_empty}}
 use Rattle.pmf_verdict.specs.Checked.{Checked}
+use Rattle.pmf_world.{specs.Floors.{IsSent}, specs.Steps.{WorldState, set_at, with_set, arrive_found, join_found}, specs.Worlds.{IsOfWorld, StandsFor, Steps, WorldValue, ledger_at, sections_at}, specs.Gatherings.{JoinsAt, TakesAt, answer_of, with_ledger}, proofs.lemmas.GatheredLemmas.{from_map, to_map}, proofs.lemmas.WorldStandsLemmas.{StandsFor-set}}
+use Rattle.pmf_ledger.specs.declared.taking.Taken.TheVariants as taken
 use Rattle.pmf_world.specs.declared.step.WorldAnswer.TheVariants as answer
 use Rattle.pmf_world.specs.declared.step.WorldStep.TheVariants as step
-use Rattle.pmf_world.specs.Floors.{IsSent}
-use Rattle.pmf_world.specs.Steps.{WorldState, set_at, with_set, arrive_found, join_found}
-use Rattle.pmf_world.specs.Worlds.{IsOfWorld, StandsFor, Steps, WorldValue, ledger_at, sections_at}
-use Rattle.pmf_world.specs.Gatherings.{JoinsAt, TakesAt, answer_of, with_ledger}
-use Rattle.pmf_world.proofs.lemmas.GatheredLemmas.{from_map, to_map}
-use Rattle.pmf_world.proofs.lemmas.WorldStandsLemmas.{StandsFor-set}
 
 has_its_name : (name : Name) → is_name name name ≡ true
 has_its_name name = rw (eq-eqb name.run name.run refl, eq-eqb name.number name.number refl) refl

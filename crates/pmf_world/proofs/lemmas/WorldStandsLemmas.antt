@@ -1,12 +1,8 @@
 -- What a world stands for, after a turn of a worker and after a change of one ledger.
-use Rattle.pmf_event.proofs.Common.{◌≡◌, ℕ, ◌<◌, List, [], length, set, get_or, sym, ◌∙◌, ap, subst, Ok, inl, inr, All, get_or-set_same, get_or-set_other, length-set, cases_eq, All-set}
-use Rattle.pmf_ledger.specs.Prelude.{IsLedgerOf, LedgerValue}
-use Rattle.pmf_world.specs.declared.step.WorldAnswer.{WorldAnswer}
+use Rattle.std.proofs.{Common.{◌≡◌, ℕ, ◌<◌, List, [], length, set, get_or, sym, ◌∙◌, ap, subst, Ok, inl, inr, All, get_or-set_same, get_or-set_other, length-set}, lemmas.Bool.{cases_eq}, lemmas.List.Elements.{All-set}}
+use Rattle.pmf_ledger.specs.{Gathered.{IsLedgerOf}, LedgerValue.{LedgerValue}}
+use Rattle.pmf_world.specs.{declared.step.WorldAnswer.{WorldAnswer}, declared.step.WorldStep.{WorldStep}, Turns.{FarmState, Turned}, Steps.{WorldState, stepped, turned, with_set, set_at}, Worlds.{WorldValue, StandsFor, Steps, sections_at}}
 use Rattle.pmf_world.specs.declared.step.WorldFault.TheVariants as fault
-use Rattle.pmf_world.specs.declared.step.WorldStep.{WorldStep}
-use Rattle.pmf_world.specs.Turns.{FarmState, Turned}
-use Rattle.pmf_world.specs.Steps.{WorldState, stepped, turned, with_set, set_at}
-use Rattle.pmf_world.specs.Worlds.{WorldValue, StandsFor, Steps, sections_at}
 
 -- the worlds differ in the farm alone
 pub StandsFor-turned : (old new : WorldValue) (state : WorldState) (farm : FarmState) → new.profile ≡ old.profile → new.sections ≡ old.sections → new.farm ≡ farm → new.ledgers ≡ old.ledgers →

@@ -1,7 +1,5 @@
 use Rattle.std.proofs.Common.{refl, sym, ◌∙◌, ap, Some, None}
-use Rattle.pmf_event.proofs.LeastPairLemmas.{fewer-none, certified-unordered}
-use Rattle.pmf_event.specs.declared.finding.Finding.TheVariants.{OrderedFail}
-use Rattle.pmf_event.specs.Prelude.{is_unordered, is_certified, least_pair}
+use Rattle.pmf_event.{proofs.LeastPairLemmas.{fewer-none, certified-unordered}, specs.declared.finding.Finding.TheVariants.{OrderedFail}, specs.Order.{is_unordered, is_certified, least_pair}}
 use Rattle.pmf_shadow.specs.Told.{finding_as_told}
 use Rattle.pmf_asserts.proofs.FindingLemmas.{ordered-empty, ordered-empty-second, ordered-found, certified-written}
 use Rattle.pmf_asserts.proofs.ordering.check_ordered.Goals as goal

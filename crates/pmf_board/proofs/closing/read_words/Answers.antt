@@ -1,7 +1,5 @@
-use Rattle.std.proofs.Common.{rules, ◌≡◌, ◌<◌, ◌++◌, ◌∷◌, [], length, ◌∙◌, subst}
-use Rattle.std.specs.Mem.Slots.{slots_items}
-use Rattle.pmf_board.specs.Rule.{entry_of}
-use Rattle.pmf_board.proofs.lemmas.CloseLemmas.{read_more}
+use Rattle.std.{proofs.Common.{rules, ◌≡◌, ◌<◌, ◌++◌, ◌∷◌, [], length, ◌∙◌, subst}, specs.Mem.Slots.{slots_items}}
+use Rattle.pmf_board.{specs.Rule.{entry_of}, proofs.lemmas.CloseLemmas.{read_more}}
 use Rattle.pmf_board.proofs.closing.read_words.Goals as goal
 
 pub loop-section-preserved : goal.loop-section-preserved

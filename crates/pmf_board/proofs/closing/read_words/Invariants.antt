@@ -1,5 +1,4 @@
-use Rattle.std.proofs.Common.{◌≡◌, ◌-◌, ◌≤◌, map, take, vec_capacity}
-use Rattle.std.specs.Mem.Slots.{slots_items}
+use Rattle.std.{proofs.Common.{◌≡◌, ◌-◌, ◌≤◌, map, take, vec_capacity}, specs.Mem.Slots.{slots_items}}
 use Rattle.pmf_board.specs.Rule.{entry_of}
 use Rattle.pmf_board.proofs.closing.read_words.Given as goal
 

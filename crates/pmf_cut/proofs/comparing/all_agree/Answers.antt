@@ -1,5 +1,4 @@
-use Rattle.std.proofs.Common.{◌≡◌, ◌+◌, ◌&&◌, ◌<◌, ℕ, List, length, drop, get_or, sym, ◌∙◌, ap, arith}
-use Rattle.std.proofs.lemmas.List.{drop_more, drop_all}
+use Rattle.std.proofs.{Common.{◌≡◌, ◌+◌, ◌&&◌, ◌<◌, ℕ, List, length, drop, get_or, sym, ◌∙◌, ap, arith}, lemmas.List.{drop_more, drop_all}}
 use Rattle.pmf_cut.specs.Comparing.{agrees, is_same_order}
 use Rattle.pmf_cut.proofs.comparing.all_agree.Goals as goal
 

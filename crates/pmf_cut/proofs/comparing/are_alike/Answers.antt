@@ -1,6 +1,5 @@
 use Rattle.std.proofs.Common.{◌∙◌, sym, subst, arith}
-use Rattle.pmf_cut.specs.Comparing.{Compared, Extends}
-use Rattle.pmf_cut.proofs.ComparingLemmas.{compared-more}
+use Rattle.pmf_cut.{specs.Comparing.{Compared, Extends}, proofs.ComparingLemmas.{compared-more}}
 use Rattle.pmf_cut.proofs.comparing.are_alike.Goals as goal
 
 pub loop-at-preserved : goal.loop-at-preserved

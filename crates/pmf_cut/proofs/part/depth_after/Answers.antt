@@ -1,5 +1,4 @@
-use Rattle.std.proofs.Common.{◌∙◌, ap, arith}
-use Rattle.std.specs.Prelude.{Some}
+use Rattle.std.proofs.Common.{◌∙◌, ap, arith, Some}
 use Rattle.pmf_cut.proofs.PartLemmas.{depth-begin, depth-end, depth-other}
 use Rattle.pmf_cut.proofs.part.depth_after.Goals as goal
 

@@ -1,5 +1,4 @@
-use Rattle.std.proofs.Common.{sym, ◌∙◌, ap}
-use Rattle.std.specs.Prelude.{Some}
+use Rattle.std.proofs.Common.{sym, ◌∙◌, ap, Some}
 use Rattle.pmf_cut.proofs.PartLemmas.{scope-start, scope-end, scope-other}
 use Rattle.pmf_cut.proofs.part.scope_after.Goals as goal
 

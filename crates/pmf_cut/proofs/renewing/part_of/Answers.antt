@@ -1,6 +1,4 @@
-use Rattle.std.proofs.Common.{◌≡◌, suc, length, refl, ◌∙◌, subst, arith, add-one}
-use Rattle.std.specs.Prelude.{Some}
-use Rattle.std.proofs.lemmas.Option.{slice_get_read}
+use Rattle.std.proofs.{Common.{◌≡◌, suc, length, refl, ◌∙◌, subst, arith, add-one, Some}, lemmas.Option.{slice_get_read}}
 use Rattle.pmf_event.specs.Store.{event_at}
 use Rattle.pmf_cut.specs.Parts.{Stands}
 use Rattle.pmf_cut.proofs.renewing.part_of.Goals as goal

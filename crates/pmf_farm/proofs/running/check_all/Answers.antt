@@ -1,7 +1,6 @@
 use Rattle.std.proofs.Common.{map, subst, IsPermutation}
 use Rattle.pmf_ledger.specs.Gathered.{IsLedgerOf}
-use Rattle.pmf_farm.specs.Rolls.{sections_of}
-use Rattle.pmf_farm.proofs.lemmas.GatherLemmas.{IsLedgerOf-permuted, checked-values}
+use Rattle.pmf_farm.{specs.Rolls.{sections_of}, proofs.lemmas.GatherLemmas.{IsLedgerOf-permuted, checked-values}}
 use Rattle.pmf_farm.proofs.running.check_all.Goals as goal
 
 pub returns-clause-ledger : goal.returns-clause-ledger

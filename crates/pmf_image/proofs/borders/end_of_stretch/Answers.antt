@@ -1,7 +1,6 @@
 use Rattle.std.proofs.Common.{◌≡◌, suc, arith, add-one, Some}
 use Rattle.pmf_event.specs.Store.{event_at}
-use Rattle.pmf_image.proofs.BorderLemmas.{event-read, stretch-start, stretch-span, stretch-other, stretch-alike}
-use Rattle.pmf_image.proofs.borders.end_of_stretch.Goals.{in_default, in-Store2}
+use Rattle.pmf_image.proofs.{BorderLemmas.{event-read, stretch-start, stretch-span, stretch-other, stretch-alike}, borders.end_of_stretch.Goals.{in_default, in-Store2}}
 use Rattle.pmf_image.proofs.borders.end_of_stretch.Goals as goal
 
 pub loop-event-init : goal.loop-event-init

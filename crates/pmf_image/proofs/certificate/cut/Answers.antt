@@ -1,8 +1,6 @@
 use Rattle.std.proofs.Common.{◌≡◌, ◌-◌, suc, arith, add-one, sym, ◌∙◌, ap, if◌then◌else◌, length, Some, take, length-take-le}
-use Rattle.pmf_event.specs.Prelude.{greatest, event_at}
-use Rattle.pmf_image.specs.Image.{count_of, is_fenced, floor_of}
-use Rattle.pmf_image.proofs.CertificateLemmas.{event-taken, Carried-none, Carried-store, Carried-flush, Carried-fence, Carried-other, count_of-none, count_of-bound, count_of-next, count_of-kept, no_store-flush, no_store-fence, floor-is, cut-is}
-use Rattle.pmf_image.proofs.certificate.cut.Goals.{in-Store+then-meets_line, in-Store+else-meets_line, in-Flush+then-meets_line-2, in-Flush+else-meets_line-2, in-Fence, in_default}
+use Rattle.pmf_event.specs.{Places.{greatest}, Store.{event_at}}
+use Rattle.pmf_image.{specs.Image.{count_of, is_fenced, floor_of}, proofs.CertificateLemmas.{event-taken, Carried-none, Carried-store, Carried-flush, Carried-fence, Carried-other, count_of-none, count_of-bound, count_of-next, count_of-kept, no_store-flush, no_store-fence, floor-is, cut-is}, proofs.certificate.cut.Goals.{in-Store+then-meets_line, in-Store+else-meets_line, in-Flush+then-meets_line-2, in-Flush+else-meets_line-2, in-Fence, in_default}}
 use Rattle.pmf_image.proofs.certificate.cut.Goals as goal
 
 pub loop-event-init : goal.loop-event-init

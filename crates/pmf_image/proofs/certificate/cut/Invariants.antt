@@ -1,5 +1,4 @@
-use Rattle.pmf_image.specs.Image.{count_of}
-use Rattle.pmf_image.proofs.CertificateLemmas.{Carried}
+use Rattle.pmf_image.{specs.Image.{count_of}, proofs.CertificateLemmas.{Carried}}
 use Rattle.pmf_image.proofs.certificate.cut.Given as goal
 
 abbrev pub invariant-loop-event : goal.invariant-loop-event

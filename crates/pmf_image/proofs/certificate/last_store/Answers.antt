@@ -1,8 +1,6 @@
 use Rattle.std.proofs.Common.{◌≡◌, suc, add-one, sym, ◌∙◌, ap, if◌then◌else◌, Some}
-use Rattle.pmf_event.specs.Store.{event_at, stores}
-use Rattle.pmf_event.proofs.EventLemmas.{last-none}
-use Rattle.pmf_image.proofs.CertificateLemmas.{event-taken, last_store-next, stores-is, stores-other}
-use Rattle.pmf_image.proofs.certificate.last_store.Goals.{in-Store+then-covers, in-Store+else-covers, in_default}
+use Rattle.pmf_event.{specs.Store.{event_at, stores}, proofs.EventLemmas.{last-none}}
+use Rattle.pmf_image.proofs.{CertificateLemmas.{event-taken, last_store-next, stores-is, stores-other}, certificate.last_store.Goals.{in-Store+then-covers, in-Store+else-covers, in_default}}
 use Rattle.pmf_image.proofs.certificate.last_store.Goals as goal
 
 pub loop-index-init : goal.loop-index-init

@@ -1,9 +1,6 @@
-use Rattle.pmf_event.proofs.Common.{◌≡◌, ◌-◌, suc, arith, add-one, sym, ◌∙◌, ap, if◌then◌else◌, Some, nat_eq, length-take-le, option_eq}
-use Rattle.pmf_event.specs.Prelude.{line_of_byte, meets_line, greatest, Extent, event_at, stores, last_store}
-use Rattle.pmf_event.proofs.EventLemmas.{last-none}
-use Rattle.pmf_image.specs.Image.{is_fenced}
-use Rattle.pmf_image.proofs.CertificateLemmas.{event-taken, Carried-none, Carried-store, Carried-flush, Carried-fence, Carried-other, last_store-next, last_store-kept, stores-is, no_store-flush, no_store-fence, shows-is}
-use Rattle.pmf_image.proofs.certificate.shows.Goals.{in-Store+then-covers, in-Store+else-covers, in-Flush+then-meets_line, in-Flush+else-meets_line, in-Fence, in_default}
+use Rattle.std.{proofs.Common.{◌≡◌, ◌-◌, suc, arith, add-one, sym, ◌∙◌, ap, if◌then◌else◌, Some, nat_eq, length-take-le}, specs.Option.{option_eq}}
+use Rattle.pmf_event.{specs.Line.{line_of_byte, meets_line}, specs.Places.{greatest}, specs.Span.{Extent}, specs.Store.{event_at, stores, last_store}, proofs.EventLemmas.{last-none}}
+use Rattle.pmf_image.{specs.Image.{is_fenced}, proofs.CertificateLemmas.{event-taken, Carried-none, Carried-store, Carried-flush, Carried-fence, Carried-other, last_store-next, last_store-kept, stores-is, no_store-flush, no_store-fence, shows-is}, proofs.certificate.shows.Goals.{in-Store+then-covers, in-Store+else-covers, in-Flush+then-meets_line, in-Flush+else-meets_line, in-Fence, in_default}}
 use Rattle.pmf_image.proofs.certificate.shows.Goals as goal
 
 pub loop-index-init : goal.loop-index-init

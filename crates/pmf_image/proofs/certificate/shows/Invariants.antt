@@ -1,4 +1,4 @@
-use Rattle.pmf_event.specs.Prelude.{line_of_byte, last_store}
+use Rattle.pmf_event.specs.{Line.{line_of_byte}, Store.{last_store}}
 use Rattle.pmf_image.proofs.CertificateLemmas.{Carried}
 use Rattle.pmf_image.proofs.certificate.shows.Given as goal
 

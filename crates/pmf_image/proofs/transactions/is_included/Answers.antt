@@ -1,8 +1,6 @@
 use Rattle.std.proofs.Common.{◌≡◌, suc, add-one, sym, ◌∙◌, ap, true, false, if◌then◌else◌, Some}
-use Rattle.pmf_event.specs.Prelude.{event_at, is_included}
-use Rattle.pmf_image.proofs.CertificateLemmas.{event-taken}
-use Rattle.pmf_image.proofs.ScopeLemmas.{included-start, included-excluded, included-included, included-kept}
-use Rattle.pmf_image.proofs.transactions.is_included.Goals.{in-Exclude+then-covers, in-Exclude+else-covers, in-Include+then-covers-2, in-Include+else-covers-2, in_default}
+use Rattle.pmf_event.specs.{Store.{event_at}, Exclusion.{is_included}}
+use Rattle.pmf_image.proofs.{CertificateLemmas.{event-taken}, ScopeLemmas.{included-start, included-excluded, included-included, included-kept}, transactions.is_included.Goals.{in-Exclude+then-covers, in-Exclude+else-covers, in-Include+then-covers-2, in-Include+else-covers-2, in_default}}
 use Rattle.pmf_image.proofs.transactions.is_included.Goals as goal
 
 pub loop-event-init : goal.loop-event-init

@@ -1,9 +1,6 @@
 use Rattle.std.proofs.Common.{◌≡◌, suc, arith, add-one, sym, ◌∙◌, length, Some, take, length-take-le}
-use Rattle.pmf_event.specs.Prelude.{event_at}
-use Rattle.pmf_event.proofs.TransactionLemmas.{depth-bound}
-use Rattle.pmf_image.proofs.CertificateLemmas.{event-taken}
-use Rattle.pmf_image.proofs.ScopeLemmas.{tracked-none, tracked-begun, tracked-ended, tracked-opened, tracked-closed, tracked-stored, tracked-uncovered, tracked-outside, tracked-unscoped, tracked-other}
-use Rattle.pmf_image.proofs.transactions.scope_at.Goals.{in-Store+then-is_open+then-depth-gt0+then-covers, in-Store+else-is_open, else-is_open-via-then-is_open+then-depth-gt0+else-covers, else-is_open-via-then-is_open+else-depth-gt0, else-is_open-via-else-is_open, in-TxBegin, in-TxEnd, in-CheckStart, in-CheckEnd, in_default}
+use Rattle.pmf_event.{specs.Store.{event_at}, proofs.TransactionLemmas.{depth-bound}}
+use Rattle.pmf_image.proofs.{CertificateLemmas.{event-taken}, ScopeLemmas.{tracked-none, tracked-begun, tracked-ended, tracked-opened, tracked-closed, tracked-stored, tracked-uncovered, tracked-outside, tracked-unscoped, tracked-other}, transactions.scope_at.Goals.{in-Store+then-is_open+then-depth-gt0+then-covers, in-Store+else-is_open, else-is_open-via-then-is_open+then-depth-gt0+else-covers, else-is_open-via-then-is_open+else-depth-gt0, else-is_open-via-else-is_open, in-TxBegin, in-TxEnd, in-CheckStart, in-CheckEnd, in_default}}
 use Rattle.pmf_image.proofs.transactions.scope_at.Goals as goal
 
 pub loop-event-init : goal.loop-event-init

@@ -1,4 +1,4 @@
-use Rattle.pmf_event.proofs.Common.{◌∷◌, [], ◌++◌, sym, ◌∙◌, ap, bytes_eq, Decides-eqb, strip_suffix_is}
+use Rattle.std.proofs.{Common.{◌∷◌, [], ◌++◌, sym, ◌∙◌, ap, bytes_eq}, lemmas.Bool.Decides.{Decides-eqb}, lemmas.Slice.Eq.{strip_suffix_is}}
 use Rattle.pmf_ledger.proofs.lemmas.ReadingLemmas.{ended-same, ended-other}
 use Rattle.pmf_ledger.proofs.blocks.is_line.Goals as goal
 

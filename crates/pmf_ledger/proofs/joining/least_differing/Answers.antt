@@ -1,7 +1,5 @@
 use Rattle.std.proofs.Common.{rules, ◌≡◌, sym, ◌∙◌, subst, arith, IsTrue, false}
-use Rattle.pmf_ledger.specs.Joining.{IsLeastDiffering}
-use Rattle.pmf_ledger.specs.Names.{ComesBefore, IsBefore}
-use Rattle.pmf_ledger.proofs.lemmas.ScanLemmas.{AreRead, Scanned-first, Scanned-second, Scanned-both, Scanned-ends, least_here}
+use Rattle.pmf_ledger.{specs.Joining.{IsLeastDiffering}, specs.Names.{ComesBefore, IsBefore}, proofs.lemmas.ScanLemmas.{AreRead, Scanned-first, Scanned-second, Scanned-both, Scanned-ends, least_here}}
 use Rattle.pmf_ledger.proofs.joining.least_differing.Goals as goal
 
 pub loop-i-preserved-in-Less : goal.loop-i-preserved-in-Less

@@ -1,6 +1,5 @@
 use Rattle.std.proofs.Common.{rules, ◌≡◌, [], length, sym, subst}
-use Rattle.pmf_ledger.specs.Joining.{IsMerged, IsMerging}
-use Rattle.pmf_ledger.proofs.lemmas.MergingLemmas.{Merged-turned, empty_is}
+use Rattle.pmf_ledger.{specs.Joining.{IsMerged, IsMerging}, proofs.lemmas.MergingLemmas.{Merged-turned, empty_is}}
 use Rattle.pmf_ledger.proofs.joining.merge.Goals as goal
 
 pub loop-second-preserved : goal.loop-second-preserved

@@ -1,7 +1,6 @@
 use Rattle.std.proofs.Common.{rules, ◌≡◌, ◌-◌, ◌<◌, length, sym, ◌∙◌, ap, subst, get_or}
 use Rattle.pmf_verdict.specs.Checked.{Checked}
-use Rattle.pmf_ledger.specs.Names.{ComesBefore, IsBefore}
-use Rattle.pmf_ledger.proofs.lemmas.MergingLemmas.{Merging-left, Merging-right, Merging-drop, all_before, read_is_held, last_is, none_of_empty}
+use Rattle.pmf_ledger.{specs.Names.{ComesBefore, IsBefore}, proofs.lemmas.MergingLemmas.{Merging-left, Merging-right, Merging-drop, all_before, read_is_held, last_is, none_of_empty}}
 use Rattle.pmf_ledger.proofs.joining.merge_last.Goals as goal
 
 pub returns-then-is_empty-clause-merging : goal.returns-then-is_empty-clause-merging

@@ -1,8 +1,6 @@
 use Rattle.std.proofs.Common.{take, drop, ◌+◌, refl, sym, ◌∙◌, subst}
 use Rattle.memchr.specs.Find.{IsFirstByte, is_byte}
-use Rattle.pmf_ledger.specs.Following.{Reaches}
-use Rattle.pmf_ledger.specs.Loading.{unread, after_line}
-use Rattle.pmf_ledger.proofs.lemmas.LinesLemmas.{IsAt, IsAt-start, IsAt-next, refused-long, refused-at, loads-at, refused-end}
+use Rattle.pmf_ledger.{specs.Following.{Reaches}, specs.Loading.{unread, after_line}, proofs.lemmas.LinesLemmas.{IsAt, IsAt-start, IsAt-next, refused-long, refused-at, loads-at, refused-end}}
 use Rattle.pmf_ledger.proofs.loading.load_ledger.Goals as goal
 
 pub returns-then-text-gt-LEDGER_LIMIT : goal.returns-then-text-gt-LEDGER_LIMIT

@@ -1,7 +1,5 @@
 use Rattle.std.proofs.Common.{length}
-use Rattle.pmf_ledger.specs.Following.{StandsFor}
-use Rattle.pmf_ledger.specs.Loading.{Reading}
-use Rattle.pmf_ledger.proofs.lemmas.LinesLemmas.{IsAt}
+use Rattle.pmf_ledger.{specs.Following.{StandsFor}, specs.Loading.{Reading}, proofs.lemmas.LinesLemmas.{IsAt}}
 use Rattle.pmf_ledger.proofs.loading.load_ledger.Given as goal
 
 abbrev pub invariant-loop-end : goal.invariant-loop-end

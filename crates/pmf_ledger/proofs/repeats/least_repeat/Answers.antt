@@ -1,6 +1,5 @@
 use Rattle.std.proofs.Common.{map, subst, IsPermutation, MatchOption}
-use Rattle.pmf_ledger.specs.Repeats.{AreOwn, IsLeastTwiceIn, names_of}
-use Rattle.pmf_ledger.proofs.lemmas.RepeatLemmas.{names-values, repeats-permuted}
+use Rattle.pmf_ledger.{specs.Repeats.{AreOwn, IsLeastTwiceIn, names_of}, proofs.lemmas.RepeatLemmas.{names-values, repeats-permuted}}
 use Rattle.pmf_ledger.proofs.repeats.least_repeat.Goals as goal
 
 pub returns : goal.returns

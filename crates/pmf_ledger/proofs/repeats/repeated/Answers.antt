@@ -1,7 +1,6 @@
 use Rattle.std.proofs.Common.{arith, refl, length, ◌<◌, ◌≡◌, ◌+◌, ◌-◌, ◌∙◌, sym, ap, subst}
 use Rattle.pmf_event.specs.declared.name.Name.{Name}
-use Rattle.pmf_ledger.specs.Repeats.{IsLeastTwiceIn}
-use Rattle.pmf_ledger.proofs.lemmas.RepeatLemmas.{least-twice, own-names, RisesTo, name_at}
+use Rattle.pmf_ledger.{specs.Repeats.{IsLeastTwiceIn}, proofs.lemmas.RepeatLemmas.{least-twice, own-names, RisesTo, name_at}}
 use Rattle.pmf_ledger.proofs.repeats.repeated.Goals as goal
 
 pub returns-then-is_same : goal.returns-then-is_same

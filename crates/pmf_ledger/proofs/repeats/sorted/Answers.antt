@@ -1,4 +1,4 @@
-use Rattle.pmf_event.proofs.Common.{rules, arith, answers_always}
+use Rattle.std.proofs.{Common.{rules, arith}, lemmas.List.Sorted.{answers_always}}
 use Rattle.pmf_ledger.proofs.lemmas.RepeatLemmas.{before-compares}
 use Rattle.pmf_ledger.proofs.repeats.sorted.Goals as goal
 

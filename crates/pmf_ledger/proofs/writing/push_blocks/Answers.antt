@@ -1,4 +1,4 @@
-use Rattle.pmf_event.proofs.Common.{◌++◌, ◌∷◌, [], take, ◌∙◌, sym, ap, subst, flat_map, string_bytes, flat_map_more, take_more, All-more}
+use Rattle.std.proofs.{Common.{◌++◌, ◌∷◌, [], take, ◌∙◌, sym, ap, subst, flat_map, string_bytes}, lemmas.List.{flat_map_more, take_more}, lemmas.List.Elements.{All-more}}
 use Rattle.pmf_ledger.specs.LedgerText.{IsSpelled, text_of_block}
 use Rattle.pmf_ledger.proofs.writing.push_blocks.Goals as goal
 

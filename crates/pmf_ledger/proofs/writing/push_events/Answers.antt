@@ -1,5 +1,5 @@
-use Rattle.pmf_event.proofs.Common.{◌++◌, ◌∷◌, [], take, ◌∙◌, sym, ap, subst, flat_map, string_bytes, flat_map_more, take_more, All-more}
-use Rattle.pmf_storelog.specs.Prelude.{line_of_event, AllValid}
+use Rattle.std.proofs.{Common.{◌++◌, ◌∷◌, [], take, ◌∙◌, sym, ap, subst, flat_map, string_bytes}, lemmas.List.{flat_map_more, take_more}, lemmas.List.Elements.{All-more}}
+use Rattle.pmf_storelog.specs.{Canonical.{line_of_event}, Spelling.{AllValid}}
 use Rattle.pmf_ledger.proofs.writing.push_events.Goals as goal
 
 pub loop-event-preserved : goal.loop-event-preserved

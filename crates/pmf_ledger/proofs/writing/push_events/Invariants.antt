@@ -1,5 +1,5 @@
 use Rattle.std.proofs.Common.{◌≡◌, ◌++◌, take, All, flat_map, string_bytes}
-use Rattle.pmf_storelog.specs.Prelude.{line_of_event, AllValid}
+use Rattle.pmf_storelog.specs.{Canonical.{line_of_event}, Spelling.{AllValid}}
 use Rattle.pmf_ledger.proofs.writing.push_events.Given as goal
 
 abbrev pub invariant-loop-event : goal.invariant-loop-event

@@ -1,8 +1,6 @@
 use Rattle.std.proofs.Common.{◌≡◌, ◌+◌, ◌-◌, ◌<◌, suc, length, ◌∙◌, ap, subst, arith}
 use Rattle.pmf_event.specs.Places.{count}
-use Rattle.pmf_query.specs.Covering.{is_inside, is_uncovered, StandsAfter}
-use Rattle.pmf_query.proofs.CoverLemmas.{counted_all, counted_more, few_more}
-use Rattle.pmf_query.proofs.InsideLemmas.{event_here}
+use Rattle.pmf_query.{specs.Covering.{is_inside, is_uncovered, StandsAfter}, proofs.CoverLemmas.{counted_all, counted_more, few_more}, proofs.InsideLemmas.{event_here}}
 use Rattle.pmf_query.proofs.covering.count_uncovered.Goals as goal
 
 pub loop-left-preserved : goal.loop-left-preserved

@@ -1,7 +1,6 @@
 use Rattle.std.proofs.Common.{◌||◌, ◌∙◌, ap, sym}
 use Rattle.pmf_runs.specs.Runs.{state_at}
-use Rattle.pmf_query.specs.Covering.{is_in}
-use Rattle.pmf_query.proofs.CoverLemmas.{put_there}
+use Rattle.pmf_query.{specs.Covering.{is_in}, proofs.CoverLemmas.{put_there}}
 use Rattle.pmf_query.proofs.covering.put_in.Goals as goal
 
 pub returns-in_ok-change-in-Some : goal.returns-in_ok-change-in-Some

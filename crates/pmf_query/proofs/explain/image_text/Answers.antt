@@ -1,8 +1,7 @@
 use Rattle.std.proofs.Common.{◌∙◌, ap, string_bytes}
 use Rattle.pmf_verdict.proofs.TextLemmas.{text-here, text-elsewhere}
-use Rattle.pmf_query.specs.Explanation.{text_of_bytes, text_of_image}
+use Rattle.pmf_query.{specs.Explanation.{text_of_bytes, text_of_image}, proofs.explain.image_text.Goals.{then-row-place+in_ok-push_bytes, else-row-place}}
 use Rattle.pmf_query.proofs.explain.image_text.Goals as goal
-use Rattle.pmf_query.proofs.explain.image_text.Goals.{then-row-place+in_ok-push_bytes, else-row-place}
 
 pub loop-row-preserved : goal.loop-row-preserved
 loop-row-preserved c =

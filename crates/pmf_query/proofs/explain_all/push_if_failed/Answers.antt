@@ -1,8 +1,6 @@
 use Rattle.std.proofs.Common.{◌≡◌, ◌++◌, sym, ◌∙◌, ap, subst, OnOk, append-nil, string_bytes}
-use Rattle.pmf_verdict.specs.declared.outcome.Outcome.TheVariants.{Fail}
-use Rattle.pmf_verdict.specs.Prelude.{outcome_of}
-use Rattle.pmf_query.specs.AllExplained.{text_if, text_if_failed, text_of_failed}
-use Rattle.pmf_query.proofs.RowFitsLemmas.{nothing-unless}
+use Rattle.pmf_verdict.specs.{declared.outcome.Outcome.TheVariants.{Fail}, Outcome.{outcome_of}}
+use Rattle.pmf_query.{specs.AllExplained.{text_if, text_if_failed, text_of_failed}, proofs.RowFitsLemmas.{nothing-unless}}
 use Rattle.pmf_query.proofs.explain_all.push_if_failed.Goals as goal
 
 pub returns-in-Fail : goal.returns-in-Fail

@@ -1,4 +1,4 @@
-use Rattle.pmf_event.proofs.Common.{◌≡◌, ◌+◌, sym, ◌∙◌, ap, length, arith, suc, List, Bool, get_or, length_push}
+use Rattle.std.proofs.{Common.{◌≡◌, ◌+◌, sym, ◌∙◌, ap, length, arith, suc, List, Bool, get_or}, lemmas.List.{length_push}}
 use Rattle.pmf_event.specs.Transactions.{depth_at, in_scope}
 use Rattle.pmf_query.proofs.InsideLemmas.{each_more, event_here, inside_from, starts_outside, starts_unscoped}
 use Rattle.pmf_query.proofs.inside.places_inside.Goals as goal

@@ -1,8 +1,6 @@
 use Rattle.std.proofs.Common.{[], length-append, take, sym, subst, arith, ◌∷◌}
 use Rattle.pmf_storelog.specs.Separators.{records_of}
-use Rattle.pmf_query.specs.Counting.{Tallies}
-use Rattle.pmf_query.proofs.CursorLemmas.{anew_first, records_of-nil}
-use Rattle.pmf_query.proofs.LintLemmas.{tallied_next}
+use Rattle.pmf_query.{specs.Counting.{Tallies}, proofs.CursorLemmas.{anew_first, records_of-nil}, proofs.LintLemmas.{tallied_next}}
 use Rattle.pmf_query.proofs.lint.count_names.Goals as goal
 
 pub loop-found-init : goal.loop-found-init

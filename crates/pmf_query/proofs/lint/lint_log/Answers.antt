@@ -1,10 +1,7 @@
-use Rattle.pmf_event.proofs.Common.{◌∙◌, length, sym, ap, subst, List, length-map}
+use Rattle.std.proofs.{Common.{◌∙◌, length, sym, ap, subst, List}, lemmas.List.{length-map}}
 use Rattle.pmf_event.specs.Section.{Trace}
 use Rattle.pmf_storelog.specs.Separators.{records_of}
-use Rattle.pmf_query.specs.Linting.{IsLint}
-use Rattle.pmf_query.specs.Summing.{sums_of}
-use Rattle.pmf_query.proofs.NumberFoundLemmas.{read_so}
-use Rattle.pmf_query.proofs.LintLemmas.{sections_long, skipped_so, told_so}
+use Rattle.pmf_query.{specs.Linting.{IsLint}, specs.Summing.{sums_of}, proofs.NumberFoundLemmas.{read_so}, proofs.LintLemmas.{sections_long, skipped_so, told_so}}
 use Rattle.pmf_query.proofs.lint.lint_log.Goals as goal
 
 pub returns-in-Ok-count_names : goal.returns-in-Ok-count_names

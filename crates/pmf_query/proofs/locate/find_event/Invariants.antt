@@ -1,7 +1,6 @@
 use Rattle.std.proofs.Common.{length, ◌-◌, ◌≤◌, ◌<◌, take}
 use Rattle.pmf_storelog.specs.Separators.{records_of}
-use Rattle.pmf_query.specs.Walking.{BeginsAnew}
-use Rattle.pmf_query.specs.Passing.{HasPassed}
+use Rattle.pmf_query.specs.{Walking.{BeginsAnew}, Passing.{HasPassed}}
 use Rattle.pmf_query.proofs.locate.find_event.Given as goal
 
 abbrev pub invariant-loop-found : goal.invariant-loop-found

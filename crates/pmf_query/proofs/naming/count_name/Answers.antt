@@ -1,4 +1,4 @@
-use Rattle.pmf_event.proofs.Common.{◌∙◌, ap, slice_set, arith, map_over_more}
+use Rattle.std.proofs.{Common.{◌∙◌, ap, slice_set, arith}, lemmas.List.Edits.{map_over_more}}
 use Rattle.pmf_query.specs.Naming.{counting}
 use Rattle.pmf_query.proofs.naming.count_name.Goals as goal
 

@@ -1,6 +1,5 @@
 use Rattle.std.proofs.Common.{◌∙◌, ◌+◌, ◌*◌, ◌^◌, sym, ap, subst}
-use Rattle.pmf_query.specs.Summing.{IsWithin, both}
-use Rattle.pmf_query.proofs.TallySumLemmas.{none_within, sums_more, within_both}
+use Rattle.pmf_query.{specs.Summing.{IsWithin, both}, proofs.TallySumLemmas.{none_within, sums_more, within_both}}
 use Rattle.pmf_query.proofs.summing.sum.Goals as goal
 
 pub loop-section-init : goal.loop-section-init

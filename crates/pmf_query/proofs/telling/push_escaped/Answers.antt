@@ -1,4 +1,4 @@
-use Rattle.pmf_event.proofs.Common.{false, ◌∙◌, ◌∷◌, ◌++◌, ap, List, ℕ, arith, string_bytes, hex_byte}
+use Rattle.std.proofs.{Common.{false, ◌∙◌, ◌∷◌, ◌++◌, ap, List, ℕ, arith, string_bytes}, lemmas.Fmt.{hex_byte}}
 use Rattle.pmf_query.proofs.telling.push_escaped.Goals as goal
 
 pub returns : goal.returns

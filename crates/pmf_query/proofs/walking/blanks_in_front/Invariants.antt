@@ -1,4 +1,4 @@
-use Rattle.pmf_event.proofs.Common.{length, ◌-◌, ◌+◌, ◌≡◌, ◌≤◌, drop, prefix_len}
+use Rattle.std.{proofs.Common.{length, ◌-◌, ◌+◌, ◌≡◌, ◌≤◌, drop}, specs.List.{prefix_len}}
 use Rattle.pmf_storelog.specs.Separators.{is_blank}
 use Rattle.pmf_query.proofs.walking.blanks_in_front.Given as goal
 

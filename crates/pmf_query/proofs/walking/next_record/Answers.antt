@@ -1,4 +1,4 @@
-use Rattle.pmf_event.proofs.Common.{◌≡◌, ◌<◌, length, ℕ, List, sym, ap, ◌∙◌, arith, common_steps}
+use Rattle.std.proofs.{Common.{◌≡◌, ◌<◌, length, ℕ, List, sym, ap, ◌∙◌, arith}, lemmas.Grind.{common_steps}}
 use Rattle.pmf_storelog.specs.Separators.{trimmed}
 use Rattle.pmf_query.proofs.CursorLemmas.{few_blanks, next_blank, next_here, part_taken}
 use Rattle.pmf_query.proofs.walking.next_record.Goals as goal

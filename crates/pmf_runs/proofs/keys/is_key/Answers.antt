@@ -1,4 +1,4 @@
-use Rattle.pmf_event.proofs.Common.{◌≡◌, ◌-◌, get_or, arith, nat_tests}
+use Rattle.std.proofs.{Common.{◌≡◌, ◌-◌, get_or, arith}, lemmas.Bool.Decides.{nat_tests}}
 use Rattle.pmf_runs.proofs.RankLemmas.{rank-is, key-found, key-missing}
 use Rattle.pmf_runs.proofs.keys.is_key.Goals as goal
 

@@ -1,6 +1,5 @@
 use Rattle.std.proofs.Common.{◌-◌, ◌/◌, refl, arith}
-use Rattle.pmf_runs.proofs.AskingLemmas.{lines-law, run-none}
-use Rattle.pmf_runs.proofs.LineCountLemmas.{run-fails, run-old, run-new}
+use Rattle.pmf_runs.proofs.{AskingLemmas.{lines-law, run-none}, LineCountLemmas.{run-fails, run-old, run-new}}
 use Rattle.pmf_runs.proofs.walk.lines_of_run.Goals as goal
 
 pub returns-then-end-first-clause-is : goal.returns-then-end-first-clause-is

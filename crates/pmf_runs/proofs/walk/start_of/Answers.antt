@@ -1,4 +1,4 @@
-use Rattle.pmf_event.proofs.Common.{◌≡◌, length, arith, nat_tests}
+use Rattle.std.proofs.{Common.{◌≡◌, length, arith}, lemmas.Bool.Decides.{nat_tests}}
 use Rattle.pmf_runs.proofs.AskingLemmas.{rank-front}
 use Rattle.pmf_runs.proofs.walk.start_of.Goals as goal
 

@@ -1,4 +1,4 @@
-use Rattle.pmf_event.proofs.Common.{length, ◌-◌, ◌+◌, ◌≡◌, ◌≤◌, drop, prefix_len}
+use Rattle.std.{proofs.Common.{length, ◌-◌, ◌+◌, ◌≡◌, ◌≤◌, drop}, specs.List.{prefix_len}}
 use Rattle.pmf_storelog.specs.Numbers.{is_digit_in}
 use Rattle.pmf_storelog.proofs.number.count_digits.Given as goal
 

@@ -1,7 +1,6 @@
-use Rattle.pmf_event.proofs.Common.{◌≡◌, ◌<◌, ◌+◌, ◌*◌, length, get_or, arith, sym, common_steps, digit_value}
-use Rattle.pmf_storelog.proofs.NumberLemmas.{numeral_of-empty, numeral_of-long, at_other, at_digit, at_large, at_end}
+use Rattle.std.{proofs.Common.{◌≡◌, ◌<◌, ◌+◌, ◌*◌, length, get_or, arith, sym}, proofs.lemmas.Grind.{common_steps}, specs.Char.{digit_value}}
+use Rattle.pmf_storelog.proofs.{NumberLemmas.{numeral_of-empty, numeral_of-long, at_other, at_digit, at_large, at_end}, number.read_numeral.Goals.{then-is_empty-via-then-is_empty, then-is_empty-via-else-is_empty+then-text-most}}
 use Rattle.pmf_storelog.proofs.number.read_numeral.Goals as goal
-use Rattle.pmf_storelog.proofs.number.read_numeral.Goals.{then-is_empty-via-then-is_empty, then-is_empty-via-else-is_empty+then-text-most}
 
 pub returns-then-is_empty : goal.returns-then-is_empty
 returns-then-is_empty c = elim c.then-is_empty.branch [

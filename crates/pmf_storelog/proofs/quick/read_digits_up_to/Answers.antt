@@ -1,5 +1,4 @@
-use Rattle.pmf_event.proofs.Common.{◌≡◌, get_or, arith, digit_value}
-use Rattle.std.proofs.lemmas.Int.Digits.{digits_more, digits_value_more}
+use Rattle.std.{proofs.Common.{◌≡◌, get_or, arith}, specs.Char.{digit_value}, proofs.lemmas.Int.Digits.{digits_more, digits_value_more}}
 use Rattle.pmf_storelog.proofs.QuickLemmas.{room_for_a_digit, begins_with_digits}
 use Rattle.pmf_storelog.proofs.quick.read_digits_up_to.Goals as goal
 

@@ -1,4 +1,4 @@
-use Rattle.pmf_event.proofs.Common.{◌-◌, ◌≡◌, ◌≤◌, take, AllDigits, digits_value}
+use Rattle.std.{proofs.Common.{◌-◌, ◌≡◌, ◌≤◌, take}, specs.Str.Parse.{AllDigits, digits_value}}
 use Rattle.pmf_storelog.proofs.quick.read_digits_up_to.Given as goal
 
 abbrev pub invariant-loop-count : goal.invariant-loop-count

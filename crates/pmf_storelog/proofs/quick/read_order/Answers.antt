@@ -1,7 +1,6 @@
 use Rattle.std.proofs.Common.{◌≡◌, List, ℕ, Ok, sym, subst}
 use Rattle.pmf_event.specs.Span.{extent_of}
-use Rattle.pmf_storelog.specs.Quick.{BeginsWithNumber}
-use Rattle.pmf_storelog.proofs.QuickLemmas.{order_found}
+use Rattle.pmf_storelog.{specs.Quick.{BeginsWithNumber}, proofs.QuickLemmas.{order_found}}
 use Rattle.pmf_storelog.proofs.quick.read_order.Goals as goal
 
 pub returns-in-Ok-Ok : goal.returns-in-Ok-Ok

@@ -1,6 +1,5 @@
 use Rattle.std.proofs.Common.{List, ℕ, sym, subst}
-use Rattle.pmf_storelog.specs.Quick.{BeginsWithNumber}
-use Rattle.pmf_storelog.proofs.QuickLemmas.{span_found}
+use Rattle.pmf_storelog.{specs.Quick.{BeginsWithNumber}, proofs.QuickLemmas.{span_found}}
 use Rattle.pmf_storelog.proofs.quick.read_span.Goals as goal
 
 pub returns-in-Ok : goal.returns-in-Ok

@@ -1,5 +1,4 @@
-use Rattle.std.proofs.Common.{arith}
-use Rattle.std.proofs.lemmas.Int.Digits.{digits_more}
+use Rattle.std.proofs.{Common.{arith}, lemmas.Int.Digits.{digits_more}}
 use Rattle.pmf_storelog.proofs.quick.skip_field.Goals as goal
 
 pub loop-end-preserved : goal.loop-end-preserved

@@ -1,4 +1,4 @@
-use Rattle.pmf_event.proofs.Common.{length, ◌-◌, ◌≤◌, take, AllDigits}
+use Rattle.std.{proofs.Common.{length, ◌-◌, ◌≤◌, take}, specs.Str.Parse.{AllDigits}}
 use Rattle.pmf_storelog.proofs.quick.skip_field.Given as goal
 
 abbrev pub invariant-loop-end : goal.invariant-loop-end

@@ -1,6 +1,5 @@
-use Rattle.pmf_event.proofs.Common.{[], sym, ap, ◌∙◌, append-nil, err_from_is_err_and}
-use Rattle.pmf_storelog.specs.LogText.{fault_of}
-use Rattle.pmf_storelog.proofs.ReaderLemmas.{log_of-shown}
+use Rattle.std.proofs.{Common.{[], sym, ap, ◌∙◌, append-nil}, lemmas.Result.{err_from_is_err_and}}
+use Rattle.pmf_storelog.{specs.LogText.{fault_of}, proofs.ReaderLemmas.{log_of-shown}}
 use Rattle.pmf_storelog.proofs.reading.read_log.Goals as goal
 
 pub returns-in_err-feed : goal.returns-in_err-feed

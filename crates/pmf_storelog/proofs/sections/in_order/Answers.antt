@@ -1,6 +1,4 @@
-use Rattle.pmf_event.proofs.Common.{◌≡◌, map, get_or, rules, ap, ◌∙◌, nat_cmp_total}
-use Rattle.std.specs.Map.Iter.{deref_pair}
-use Rattle.std.proofs.lemmas.Map.Iter.{btree_map_turn, rest_more, rest_all}
+use Rattle.std.{proofs.Common.{◌≡◌, map, get_or, rules, ap, ◌∙◌}, specs.Cmp.{nat_cmp_total}, specs.Map.Iter.{deref_pair}, proofs.lemmas.Map.Iter.{btree_map_turn, rest_more, rest_all}}
 use Rattle.pmf_storelog.proofs.SectionLemmas.{next_listed, all_listed}
 use Rattle.pmf_storelog.proofs.sections.in_order.Goals as goal
 

@@ -1,4 +1,4 @@
-use Rattle.pmf_event.proofs.Common.{length, ◌+◌, ◌≡◌, ◌≤◌, take, suffix_len}
+use Rattle.std.{proofs.Common.{length, ◌+◌, ◌≡◌, ◌≤◌, take}, specs.List.{suffix_len}}
 use Rattle.pmf_storelog.specs.Separators.{is_blank}
 use Rattle.pmf_storelog.proofs.trimming.trim_end.Given as goal
 

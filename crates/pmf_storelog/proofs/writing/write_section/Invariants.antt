@@ -1,6 +1,5 @@
 use Rattle.std.proofs.Common.{◌≡◌, ◌++◌, take, All, flat_map, string_bytes}
-use Rattle.pmf_storelog.specs.Canonical.{line_of_event, line_of_marker}
-use Rattle.pmf_storelog.specs.Spelling.{AllValid}
+use Rattle.pmf_storelog.specs.{Canonical.{line_of_event, line_of_marker}, Spelling.{AllValid}}
 use Rattle.pmf_storelog.proofs.writing.write_section.Given as goal
 
 abbrev pub invariant-loop-event : goal.invariant-loop-event

@@ -1,5 +1,4 @@
-use Rattle.pmf_stream.specs.Asked.{IsAnswerOf, IsRefusalOf}
-use Rattle.pmf_stream.proofs.lemmas.AnsweringLemmas.{Answers-written}
+use Rattle.pmf_stream.{specs.Asked.{IsAnswerOf, IsRefusalOf}, proofs.lemmas.AnsweringLemmas.{Answers-written}}
 use Rattle.pmf_stream.proofs.answering.answer_stream.Goals as goal
 
 pub returns-clause-answer : goal.returns-clause-answer

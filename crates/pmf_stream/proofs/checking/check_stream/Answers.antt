@@ -1,8 +1,6 @@
 use Rattle.std.proofs.Common.{subst}
 use Rattle.pmf_farm.specs.Running.{IsRefused}
-use Rattle.pmf_stream.proofs.lemmas.TakenLemmas.{refuses-workers}
-use Rattle.pmf_stream.specs.Checking.{IsCheckFaultOf, IsReportOf}
-use Rattle.pmf_stream.proofs.lemmas.AnsweringLemmas.{Answers-written}
+use Rattle.pmf_stream.{proofs.lemmas.TakenLemmas.{refuses-workers}, specs.Checking.{IsCheckFaultOf, IsReportOf}, proofs.lemmas.AnsweringLemmas.{Answers-written}}
 use Rattle.pmf_stream.proofs.checking.check_stream.Goals as goal
 
 pub returns-clause-answer : goal.returns-clause-answer

@@ -1,6 +1,5 @@
-use Rattle.pmf_event.proofs.Common.{◌≡◌, ◌<◌, ◌++◌, ◌∷◌, [], length, map, take, sym, ◌∙◌, ap, subst, arith, get_or-map, length-map, length-take-le, take_more}
-use Rattle.pmf_stream.specs.Joining.{IsJoinOf, IsJoinedAt}
-use Rattle.pmf_stream.proofs.lemmas.TextJoiningLemmas.{IsJoinOf-more}
+use Rattle.std.proofs.{Common.{◌≡◌, ◌<◌, ◌++◌, ◌∷◌, [], length, map, take, sym, ◌∙◌, ap, subst, arith, length-take-le}, lemmas.List.{get_or-map, length-map, take_more}}
+use Rattle.pmf_stream.{specs.Joining.{IsJoinOf, IsJoinedAt}, proofs.lemmas.TextJoiningLemmas.{IsJoinOf-more}}
 use Rattle.pmf_stream.proofs.joining.join_texts.Goals as goal
 
 pub loop-index-preserved : goal.loop-index-preserved

@@ -1,6 +1,5 @@
 use Rattle.std.proofs.Common.{map}
-use Rattle.pmf_stream.specs.Joining.{IsJoinedText, IsRefusalOfTexts}
-use Rattle.pmf_stream.proofs.lemmas.AnsweringLemmas.{Answers-written}
+use Rattle.pmf_stream.{specs.Joining.{IsJoinedText, IsRefusalOfTexts}, proofs.lemmas.AnsweringLemmas.{Answers-written}}
 use Rattle.pmf_stream.proofs.joining.join_to.Goals as goal
 
 pub returns-clause-answer : goal.returns-clause-answer

@@ -1,5 +1,4 @@
-use Rattle.pmf_stream.proofs.lemmas.AnsweringLemmas.{Answers-written}
-use Rattle.pmf_stream.specs.Simulated.{IsSimRefusalOf, IsSimulationOf}
+use Rattle.pmf_stream.{proofs.lemmas.AnsweringLemmas.{Answers-written}, specs.Simulated.{IsSimRefusalOf, IsSimulationOf}}
 use Rattle.pmf_stream.proofs.simulating.sim_to.Goals as goal
 
 pub returns-clause-answer : goal.returns-clause-answer

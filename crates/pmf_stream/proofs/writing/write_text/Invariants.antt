@@ -1,5 +1,4 @@
-use Rattle.std.proofs.Common.{length, ◌-◌, ◌≡◌, ◌≤◌, take}
-use Rattle.std.specs.Io.KnownBytes.{Appends}
+use Rattle.std.{proofs.Common.{length, ◌-◌, ◌≡◌, ◌≤◌, take}, specs.Io.KnownBytes.{Appends}}
 use Rattle.pmf_stream.proofs.writing.write_text.Given as goal
 
 abbrev pub invariant-loop-written : goal.invariant-loop-written

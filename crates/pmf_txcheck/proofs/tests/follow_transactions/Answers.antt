@@ -1,11 +1,6 @@
 use Rattle.std.proofs.Common.{◌≡◌, true, refl, sym, subst, arith}
-use Rattle.pmf_event.specs.declared.event.Event.{Event}
-use Rattle.pmf_event.specs.declared.event.Event.TheVariants.{Store, Flush, Fence, Persist, Ordered, Exclude, Include, TxBegin, TxAdd, TxEnd, CheckStart, CheckEnd}
-use Rattle.pmf_event.specs.Prelude.{Extent}
-use Rattle.pmf_event.proofs.TransactionLemmas.{depth-bound}
-use Rattle.pmf_txcheck.specs.Laws.{is_untracked}
-use Rattle.pmf_txcheck.specs.Tracking.{FollowsAt}
-use Rattle.pmf_txcheck.proofs.TrackLemmas.{untracked-follows}
+use Rattle.pmf_event.{specs.declared.event.Event.{Event}, specs.declared.event.Event.TheVariants.{Store, Flush, Fence, Persist, Ordered, Exclude, Include, TxBegin, TxAdd, TxEnd, CheckStart, CheckEnd}, specs.Span.{Extent}, proofs.TransactionLemmas.{depth-bound}}
+use Rattle.pmf_txcheck.{specs.Laws.{is_untracked}, specs.Tracking.{FollowsAt}, proofs.TrackLemmas.{untracked-follows}}
 use Rattle.pmf_txcheck.proofs.tests.follow_transactions.Goals as goal
 
 untracked-unless : (e : Event) → ((s : Extent) → e ≡ Store s → ⊥) → (e ≡ TxBegin → ⊥) → ((s : Extent) → e ≡ TxAdd s → ⊥) → (e ≡ TxEnd → ⊥) → (e ≡ CheckStart → ⊥) → (e ≡ CheckEnd → ⊥) →

@@ -1,4 +1,4 @@
-use Rattle.pmf_event.proofs.Common.{◌≡◌, suc, ◌+◌, length, refl, sym, add-one, arith, Some, slice_get_read}
+use Rattle.std.proofs.{Common.{◌≡◌, suc, ◌+◌, length, refl, sym, add-one, arith, Some}, lemmas.Option.{slice_get_read}}
 use Rattle.pmf_event.specs.Store.{event_at}
 use Rattle.pmf_shadow.proofs.StandsLemmas.{follows-within}
 use Rattle.pmf_txcheck.proofs.TrackLemmas.{follows-within as tracks-within}

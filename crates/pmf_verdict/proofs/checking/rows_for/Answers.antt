@@ -1,8 +1,6 @@
-use Rattle.pmf_event.proofs.Common.{◌≡◌, suc, ◌+◌, length, ◌++◌, map, refl, ◌∙◌, ap, arith, add-one, Some, slice_get_read}
-use Rattle.pmf_event.specs.Prelude.{if_any, event_at, close_finding}
-use Rattle.pmf_verdict.specs.declared.checking.Walk.{Walk}
-use Rattle.pmf_verdict.specs.Rows.{row_at, rows_upto, rows_at_end, rows_of}
-use Rattle.pmf_verdict.proofs.WalkLemmas.{if_any-as_told-same}
+use Rattle.std.proofs.{Common.{◌≡◌, suc, ◌+◌, length, ◌++◌, map, refl, ◌∙◌, ap, arith, add-one, Some}, lemmas.Option.{slice_get_read}}
+use Rattle.pmf_event.specs.{FlushWarnings.{if_any}, Store.{event_at}, Transactions.{close_finding}}
+use Rattle.pmf_verdict.{specs.declared.checking.Walk.{Walk}, specs.Rows.{row_at, rows_upto, rows_at_end, rows_of}, proofs.WalkLemmas.{if_any-as_told-same}}
 use Rattle.pmf_verdict.proofs.checking.rows_for.Goals as goal
 
 pub loop-index-init : goal.loop-index-init

@@ -1,8 +1,6 @@
 use Rattle.std.proofs.Common.{[], ◌∙◌, ap, string_bytes}
-use Rattle.pmf_verdict.specs.Text.{text_of_row}
-use Rattle.pmf_verdict.proofs.TextLemmas.{text-here, text-elsewhere}
+use Rattle.pmf_verdict.{specs.Text.{text_of_row}, proofs.TextLemmas.{text-here, text-elsewhere}, proofs.text.write_rows_at.Goals.{then-row-place+in_ok-push_row, else-row-place}}
 use Rattle.pmf_verdict.proofs.text.write_rows_at.Goals as goal
-use Rattle.pmf_verdict.proofs.text.write_rows_at.Goals.{then-row-place+in_ok-push_row, else-row-place}
 
 pub loop-row-preserved : goal.loop-row-preserved
 loop-row-preserved c = elim c.if-row-place.branch [

@@ -1,6 +1,5 @@
 use Rattle.std.proofs.Common.{◌++◌, map, ◌∙◌, ap, codes}
-use Rattle.clap.specs.Words.{found_of}
-use Rattle.clap.proofs.WalkLemmas.{raw_values-rows}
+use Rattle.clap.{specs.Words.{found_of}, proofs.WalkLemmas.{raw_values-rows}}
 use Rattle.pmf_words.proofs.RequestLemmas.{flag-named, texts-named}
 use Rattle.pmf_words.proofs.request.files_of.Goals as goal
 

@@ -1,4 +1,4 @@
-use Rattle.pmf_event.proofs.Common.{◌≡◌, false, take, codes, bytes_eq, string_bytes, list_any}
+use Rattle.std.{proofs.Common.{◌≡◌, false, take, codes, bytes_eq, string_bytes}, specs.List.{list_any}}
 use Rattle.pmf_words.proofs.request.names_all.Given as goal
 
 abbrev pub invariant-loop-word : goal.invariant-loop-word

@@ -1,7 +1,6 @@
 use Rattle.std.proofs.Common.{◌≡◌, ◌∙◌, ap, subst, codes, map, bytes_eq, string_bytes}
 use Rattle.clap.specs.Words.{is_simple, subcommand_of}
-use Rattle.pmf_words.specs.Words.{IsRequestBy, names_all, pmfarm_words}
-use Rattle.pmf_words.proofs.RequestLemmas.{is_simple-words, any-map}
+use Rattle.pmf_words.{specs.Words.{IsRequestBy, names_all, pmfarm_words}, proofs.RequestLemmas.{is_simple-words, any-map}}
 use Rattle.pmf_words.proofs.request.request_of.Goals as goal
 
 pub returns : goal.returns

@@ -1,6 +1,5 @@
 use Rattle.std.proofs.Common.{◌∙◌, arith, codes}
-use Rattle.clap.specs.Words.{found_of}
-use Rattle.clap.proofs.WalkLemmas.{first_value-rows}
+use Rattle.clap.{specs.Words.{found_of}, proofs.WalkLemmas.{first_value-rows}}
 use Rattle.pmf_words.proofs.RequestLemmas.{number-named, flag-named}
 use Rattle.pmf_words.proofs.request.settings_of.Goals as goal
 

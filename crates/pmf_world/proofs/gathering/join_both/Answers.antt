@@ -1,6 +1,5 @@
 use Rattle.std.proofs.Common.{rules}
-use Rattle.pmf_ledger.specs.declared.joining.JoinFault.TheVariants.{Conflict}
-use Rattle.pmf_ledger.specs.Prelude.{AreRefusedAs}
+use Rattle.pmf_ledger.specs.{declared.joining.JoinFault.TheVariants.{Conflict}, Joining.{AreRefusedAs}}
 use Rattle.pmf_world.proofs.gathering.join_both.Goals as goal
 
 pub unreachable-requires-in-Err-Conflict-default-default : goal.unreachable-requires-in-Err-Conflict-default-default

@@ -1,6 +1,5 @@
 use Rattle.std.proofs.Common.{[], sym, subst, string_bytes}
-use Rattle.pmf_world.specs.Playing.{PlaysAll}
-use Rattle.pmf_world.proofs.lemmas.PlayingLemmas.{PlaysAll-start, PlaysAll-at}
+use Rattle.pmf_world.{specs.Playing.{PlaysAll}, proofs.lemmas.PlayingLemmas.{PlaysAll-start, PlaysAll-at}}
 use Rattle.pmf_world.proofs.playing.play_all.Goals as goal
 
 pub loop-index-init : goal.loop-index-init

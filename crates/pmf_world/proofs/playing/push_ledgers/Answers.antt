@@ -1,7 +1,6 @@
 use Rattle.std.proofs.Common.{ap, ◌∙◌}
-use Rattle.pmf_world.proofs.lemmas.LedgersLemmas.{ledger-more, ledger-none, ledgers-start}
+use Rattle.pmf_world.proofs.{lemmas.LedgersLemmas.{ledger-more, ledger-none, ledgers-start}, playing.push_ledgers.Goals.{in-Some+in_ok-push_ledger, in_default}}
 use Rattle.pmf_world.proofs.playing.push_ledgers.Goals as goal
-use Rattle.pmf_world.proofs.playing.push_ledgers.Goals.{in-Some+in_ok-push_ledger, in_default}
 
 pub loop-number-init : goal.loop-number-init
 loop-number-init c = ledgers-start c.args.text.now.items c.args.world.now.ledgers

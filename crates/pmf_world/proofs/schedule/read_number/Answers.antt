@@ -1,4 +1,4 @@
-use Rattle.pmf_event.proofs.Common.{sym, ◌∙◌, arith, rules, nat_tests}
+use Rattle.std.proofs.{Common.{sym, ◌∙◌, arith, rules}, lemmas.Bool.Decides.{nat_tests}}
 use Rattle.pmf_world.proofs.lemmas.NumberWordLemmas.{number_of-long, number_of-none, number_of-some, number_of-rest, narrowed-cast}
 use Rattle.pmf_world.proofs.schedule.read_number.Goals as goal
 

@@ -1,11 +1,7 @@
 -- The text lines are those of the definition, read one by one.
-use Rattle.pmf_event.proofs.Common.{◌≡◌, ◌<◌, length, sym, ap, subst, ◌∙◌, arith, rules, tests, slice_split, nat_tests, length_push}
-use Rattle.std.proofs.lemmas.Iterator.Splits.{YieldsList-from_slice_split}
-use Rattle.pmf_world.specs.Schedule.{is_line_end}
-use Rattle.pmf_world.proofs.lemmas.ScheduleLineLemmas.{turned, ended}
-use Rattle.pmf_world.proofs.lemmas.ScheduleLemmas.{IsAt, IsAt-start, at_empty, at_step, at_bad, at_end, told}
+use Rattle.std.{proofs.Common.{◌≡◌, ◌<◌, length, sym, ap, subst, ◌∙◌, arith, rules, tests}, specs.List.{slice_split}, proofs.lemmas.Bool.Decides.{nat_tests}, proofs.lemmas.List.{length_push}, proofs.lemmas.Iterator.Splits.{YieldsList-from_slice_split}}
+use Rattle.pmf_world.{specs.Schedule.{is_line_end}, proofs.lemmas.ScheduleLineLemmas.{turned, ended}, proofs.lemmas.ScheduleLemmas.{IsAt, IsAt-start, at_empty, at_step, at_bad, at_end, told}, proofs.schedule.read_schedule.Goals.{then-not-is_empty+in-Some-read_step+in_ok-push-in-Some-read_step, else-not-is_empty}}
 use Rattle.pmf_world.proofs.schedule.read_schedule.Goals as goal
-use Rattle.pmf_world.proofs.schedule.read_schedule.Goals.{then-not-is_empty+in-Some-read_step+in_ok-push-in-Some-read_step, else-not-is_empty}
 
 pub loop-line-init : goal.loop-line-init
 loop-line-init c = subst (IsAt (slice_split is_line_end c.args.text.now) 0 1) (sym c.new-steps.ensures.items) (IsAt-start (slice_split is_line_end c.args.text.now))

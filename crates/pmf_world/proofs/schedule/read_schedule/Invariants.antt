@@ -1,6 +1,5 @@
-use Rattle.pmf_event.proofs.Common.{length, slice_split}
-use Rattle.pmf_world.specs.Schedule.{is_line_end}
-use Rattle.pmf_world.proofs.lemmas.ScheduleLemmas.{IsAt}
+use Rattle.std.{proofs.Common.{length}, specs.List.{slice_split}}
+use Rattle.pmf_world.{specs.Schedule.{is_line_end}, proofs.lemmas.ScheduleLemmas.{IsAt}}
 use Rattle.pmf_world.proofs.schedule.read_schedule.Given as goal
 
 abbrev pub invariant-loop-line : goal.invariant-loop-line

@@ -1,8 +1,6 @@
 -- The words are those of the definition, taken off one by one.
-use Rattle.std.proofs.Common.{sym, ap, ◌∙◌, rules, tests}
-use Rattle.std.proofs.lemmas.Iterator.Splits.{YieldsList-from_slice_split}
-use Rattle.pmf_world.specs.Schedule.{is_blank, number_of, step_of_one, step_of_two}
-use Rattle.pmf_world.proofs.lemmas.ScheduleLineLemmas.{taken, over, one_word, two_words, three_words, more_words}
+use Rattle.std.proofs.{Common.{sym, ap, ◌∙◌, rules, tests}, lemmas.Iterator.Splits.{YieldsList-from_slice_split}}
+use Rattle.pmf_world.{specs.Schedule.{is_blank, number_of, step_of_one, step_of_two}, proofs.lemmas.ScheduleLineLemmas.{taken, over, one_word, two_words, three_words, more_words}}
 use Rattle.pmf_world.proofs.schedule.read_step.Goals as goal
 
 pub returns-in_err-first : goal.returns-in_err-first

@@ -1,7 +1,5 @@
 use Rattle.std.proofs.Common.{◌≡◌, ◌<◌, ◌++◌, length, take, sym, subst, rules, string_bytes}
-use Rattle.pmf_world.specs.Lines.{text_of_ledgers}
-use Rattle.pmf_world.specs.Playing.{PlaysAll}
-use Rattle.pmf_world.proofs.lemmas.SimulatingLemmas.{few_steps, refuses-numbers, simulated}
+use Rattle.pmf_world.{specs.Lines.{text_of_ledgers}, specs.Playing.{PlaysAll}, proofs.lemmas.SimulatingLemmas.{few_steps, refuses-numbers, simulated}}
 use Rattle.pmf_world.proofs.simulating.sim_text.Goals as goal
 
 pub returns-in-Err-new : goal.returns-in-Err-new

@@ -1,8 +1,5 @@
-use Rattle.std.proofs.Common.{rules, ◌≡◌, sym, subst}
-use Rattle.std.specs.Mem.Slots.{slots_items}
-use Rattle.pmf_board.specs.Calls.{IsTallied}
-use Rattle.pmf_board.specs.Passes.{PassValue}
-use Rattle.pmf_board.proofs.lemmas.CloseLemmas.{closed-tallied}
+use Rattle.std.{proofs.Common.{rules, ◌≡◌, sym, subst}, specs.Mem.Slots.{slots_items}}
+use Rattle.pmf_board.{specs.Calls.{IsTallied}, specs.Passes.{PassValue}, proofs.lemmas.CloseLemmas.{closed-tallied}}
 use Rattle.pmf_board.proofs.board.Board.close.Goals as goal
 
 pub returns-clause-tallied : goal.returns-clause-tallied

@@ -1,9 +1,7 @@
 use Rattle.std.proofs.Common.{rules, ◌+◌, ◌<◌}
+use Rattle.pmf_board.{specs.Rule.{entry_of}, proofs.lemmas.StepLemmas.{exchanges}, proofs.lemmas.PassLemmas.{at-equal, after-seen, after-took}}
 use mathlib.Core.Logic.{dite}
 use native.Mathlib.Decide.{ℕ_discrete}
-use Rattle.pmf_board.specs.Rule.{entry_of}
-use Rattle.pmf_board.proofs.lemmas.StepLemmas.{exchanges}
-use Rattle.pmf_board.proofs.lemmas.PassLemmas.{at-equal, after-seen, after-took}
 use Rattle.pmf_board.proofs.board.Board.exchange.Goals as goal
 
 pub compare_exchange-requires : goal.compare_exchange-requires

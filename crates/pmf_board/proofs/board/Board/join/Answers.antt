@@ -1,11 +1,5 @@
 use Rattle.std.proofs.Common.{rules, ◌≡◌, ◌+◌, ◌≤◌, ap, sym, subst, ◌∙◌, arith}
-use Rattle.pmf_board.specs.Passes.{PassValue}
-use Rattle.pmf_board.specs.Views.{times, both, NeverFalls}
-use Rattle.pmf_board.specs.Steps.{Mine}
-use Rattle.pmf_board.proofs.lemmas.StepLemmas.{joins, counts}
-use Rattle.pmf_board.proofs.lemmas.KeepLemmas.{times-both}
-use Rattle.pmf_board.proofs.lemmas.CallLemmas.{NeverFalls-left, NeverFalls-right}
-use Rattle.pmf_board.proofs.lemmas.PassLemmas.{at-equal, after-join}
+use Rattle.pmf_board.{specs.Passes.{PassValue}, specs.Views.{times, both, NeverFalls}, specs.Steps.{Mine}, proofs.lemmas.StepLemmas.{joins, counts}, proofs.lemmas.KeepLemmas.{times-both}, proofs.lemmas.CallLemmas.{NeverFalls-left, NeverFalls-right}, proofs.lemmas.PassLemmas.{at-equal, after-join}}
 use Rattle.pmf_board.proofs.board.Board.join.Goals as goal
 
 pub join_seat-requires : goal.join_seat-requires

@@ -1,7 +1,5 @@
 use Rattle.std.proofs.Common.{rules}
-use Rattle.pmf_board.specs.Rule.{entry_of}
-use Rattle.pmf_board.proofs.lemmas.StepLemmas.{looks}
-use Rattle.pmf_board.proofs.lemmas.PassLemmas.{at-equal, after-seen}
+use Rattle.pmf_board.{specs.Rule.{entry_of}, proofs.lemmas.StepLemmas.{looks}, proofs.lemmas.PassLemmas.{at-equal, after-seen}}
 use Rattle.pmf_board.proofs.board.Board.look.Goals as goal
 
 pub load-requires : goal.load-requires

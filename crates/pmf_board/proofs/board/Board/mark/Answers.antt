@@ -1,9 +1,5 @@
 use Rattle.std.proofs.Common.{rules, ◌≡◌, ◌<◌, subst, sym}
-use Rattle.pmf_board.specs.Passes.{PassValue, BoardId}
-use Rattle.pmf_board.specs.Rule.{entry_of}
-use Rattle.pmf_board.specs.Views.{HasTaken}
-use Rattle.pmf_board.proofs.lemmas.StepLemmas.{raises}
-use Rattle.pmf_board.proofs.lemmas.PassLemmas.{at-equal, after-marked}
+use Rattle.pmf_board.{specs.Passes.{PassValue, BoardId}, specs.Rule.{entry_of}, specs.Views.{HasTaken}, proofs.lemmas.StepLemmas.{raises}, proofs.lemmas.PassLemmas.{at-equal, after-marked}}
 use Rattle.pmf_board.proofs.board.Board.mark.Goals as goal
 
 pub fetch_or-requires : goal.fetch_or-requires

@@ -1,6 +1,5 @@
 use Rattle.std.proofs.Common.{rules, ◌≡◌, replicate, subst, sym}
-use Rattle.pmf_board.specs.Rule.{Rules}
-use Rattle.pmf_board.proofs.lemmas.StepLemmas.{opens}
+use Rattle.pmf_board.{specs.Rule.{Rules}, proofs.lemmas.StepLemmas.{opens}}
 use Rattle.pmf_board.proofs.board.Board.new.Goals as goal
 
 pub of_words-requires : goal.of_words-requires

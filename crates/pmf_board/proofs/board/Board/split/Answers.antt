@@ -1,6 +1,5 @@
 use Rattle.std.proofs.Common.{rules}
-use Rattle.pmf_board.proofs.lemmas.StepLemmas.{splits}
-use Rattle.pmf_board.proofs.lemmas.PassLemmas.{at-equal, after-split}
+use Rattle.pmf_board.proofs.lemmas.{StepLemmas.{splits}, PassLemmas.{at-equal, after-split}}
 use Rattle.pmf_board.proofs.board.Board.split.Goals as goal
 
 pub split_seat-seat-requires : goal.split_seat-seat-requires

@@ -1,8 +1,5 @@
 use Rattle.std.proofs.Common.{rules, ◌≡◌, ◌+◌, ◌%◌, ◌<◌, ◌≤◌, refl, subst, arith}
-use Rattle.pmf_board.specs.Calls.{Takes}
-use Rattle.pmf_board.specs.Views.{task}
-use Rattle.pmf_board.specs.Rule.{Agrees, entry_of}
-use Rattle.pmf_board.proofs.lemmas.CallLemmas.{Stays-seen, Stays-both, Takes-took, Takes-after, Known-seen, closed-known, low-not_done}
+use Rattle.pmf_board.{specs.Calls.{Takes}, specs.Views.{task}, specs.Rule.{Agrees, entry_of}, proofs.lemmas.CallLemmas.{Stays-seen, Stays-both, Takes-took, Takes-after, Known-seen, closed-known, low-not_done}}
 use Rattle.pmf_board.proofs.board.Board.take_at.Goals as goal
 
 pub returns-then-found-word-clause-some : goal.returns-then-found-word-clause-some

@@ -1,6 +1,5 @@
 use Rattle.std.proofs.Common.{◌≡◌, ◌-◌}
-use Rattle.pmf_board.specs.Calls.{Stays}
-use Rattle.pmf_board.proofs.lemmas.CallLemmas.{Known}
+use Rattle.pmf_board.{specs.Calls.{Stays}, proofs.lemmas.CallLemmas.{Known}}
 use Rattle.pmf_board.proofs.board.Board.take_at.Given as goal
 
 abbrev pub invariant-loop-word : goal.invariant-loop-word

@@ -1,6 +1,5 @@
 use Rattle.std.proofs.Common.{◌≡◌, ◌-◌, ◌≤◌, ◌<◌, ℕ}
-use Rattle.pmf_board.specs.Calls.{Stays}
-use Rattle.pmf_board.specs.Views.{HasSeenClosed}
+use Rattle.pmf_board.specs.{Calls.{Stays}, Views.{HasSeenClosed}}
 use Rattle.pmf_board.proofs.board.Board.take_between.Given as goal
 
 abbrev pub invariant-loop-section : goal.invariant-loop-section

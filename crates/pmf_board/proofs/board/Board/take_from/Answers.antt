@@ -1,6 +1,5 @@
 use Rattle.std.proofs.Common.{rules, ◌≡◌, ◌%◌, false, is_some, subst}
-use Rattle.pmf_board.specs.Calls.{PassesOver, PassesOverAll}
-use Rattle.pmf_board.proofs.lemmas.CallLemmas.{Stays-both, Takes-after, passes-round, all-round, IfSome-then, IfNone-of, IfNone-then}
+use Rattle.pmf_board.{specs.Calls.{PassesOver, PassesOverAll}, proofs.lemmas.CallLemmas.{Stays-both, Takes-after, passes-round, all-round, IfSome-then, IfNone-of, IfNone-then}}
 use Rattle.pmf_board.proofs.board.Board.take_from.Goals as goal
 
 pub returns-clause-some : goal.returns-clause-some

@@ -1,5 +1,4 @@
-use Rattle.std.proofs.Common.{sym, ◌∙◌, arith, inl, inr}
-use Rattle.std.proofs.lemmas.Bool.{cases_lt}
+use Rattle.std.proofs.{Common.{sym, ◌∙◌, arith, inl, inr}, lemmas.Bool.{cases_lt}}
 use Rattle.pmf_event.specs.declared.span.TheConstants.{ADDRESS_LIMIT}
 use Rattle.pmf_cut.proofs.LostLemmas.{put-kept, put-new, unknown-run}
 use Rattle.pmf_cut.proofs.lost.Past.add.Goals as goal

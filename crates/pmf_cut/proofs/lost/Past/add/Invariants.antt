@@ -1,6 +1,5 @@
 use Rattle.std.proofs.Common.{◌≡◌, ◌⊎◌, ◌-◌, ◌<◌, ◌≤◌, ℕ, List, true}
-use Rattle.pmf_event.specs.declared.event.Event.{Event}
-use Rattle.pmf_event.specs.Store.{last_store}
+use Rattle.pmf_event.specs.{declared.event.Event.{Event}, Store.{last_store}}
 use Rattle.pmf_runs.specs.Runs.{state_at}
 use Rattle.pmf_cut.specs.Parts.{Stands}
 use Rattle.pmf_cut.proofs.lost.Past.add.Given as goal

@@ -1,6 +1,5 @@
 use Rattle.std.proofs.Common.{◌-◌, ◌+◌, sym, ◌∙◌, subst, arith}
-use Rattle.pmf_cut.specs.Lost.{NoneOld}
-use Rattle.pmf_cut.proofs.LostLemmas.{member-first, none-old-rest, none-old-run}
+use Rattle.pmf_cut.{specs.Lost.{NoneOld}, proofs.LostLemmas.{member-first, none-old-rest, none-old-run}}
 use Rattle.pmf_cut.proofs.lost.Past.has_old.Goals as goal
 
 pub standing_from-until-requires : goal.standing_from-until-requires

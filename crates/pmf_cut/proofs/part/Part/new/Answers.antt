@@ -1,6 +1,5 @@
 use Rattle.std.proofs.Common.{refl, arith}
-use Rattle.pmf_cut.proofs.PartLemmas.{list-none, stands-none}
-use Rattle.pmf_cut.proofs.WholeLemmas.{part-first}
+use Rattle.pmf_cut.proofs.{PartLemmas.{list-none, stands-none}, WholeLemmas.{part-first}}
 use Rattle.pmf_cut.proofs.part.Part.new.Goals as goal
 
 pub invariant_of-result : goal.invariant_of-result

@@ -1,10 +1,6 @@
-use Rattle.std.proofs.Common.{List, length, subst}
-use Rattle.std.specs.Prelude.{Option, Some, IfSome}
+use Rattle.std.proofs.Common.{List, length, subst, Option, Some, IfSome}
 use Rattle.pmf_event.specs.declared.event.Event.{Event}
-use Rattle.pmf_cut.specs.declared.part.Part.{Part}
-use Rattle.pmf_cut.specs.Parts.{BeginsWith, Stands}
-use Rattle.pmf_cut.proofs.PartLemmas.{renews-by}
-use Rattle.pmf_cut.proofs.WholeLemmas.{part-cut}
+use Rattle.pmf_cut.{specs.declared.part.Part.{Part}, specs.Parts.{BeginsWith, Stands}, proofs.PartLemmas.{renews-by}, proofs.WholeLemmas.{part-cut}}
 use Rattle.pmf_cut.proofs.part.Part.renewed_by.Goals as goal
 
 abbrev StandsBehind : Part → List Event → Type 0

@@ -1,6 +1,5 @@
 use Rattle.std.proofs.Common.{◌+◌, refl, arith}
-use Rattle.pmf_cut.proofs.PartLemmas.{room-from, list-kept, list-next, follows-part}
-use Rattle.pmf_cut.proofs.WholeLemmas.{part-next}
+use Rattle.pmf_cut.proofs.{PartLemmas.{room-from, list-kept, list-next, follows-part}, WholeLemmas.{part-next}}
 use Rattle.pmf_cut.proofs.part.Part.take.Goals as goal
 
 pub follow-requires : goal.follow-requires

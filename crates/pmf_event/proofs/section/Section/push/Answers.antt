@@ -1,6 +1,5 @@
-use Rattle.pmf_event.proofs.Common.{[], ◌∷◌, ◌≤◌, length, arith, length-append, sym, ◌∙◌, ap, subst, All, All-append, All-cons, All-nil}
-use Rattle.pmf_event.specs.Section.{IsValidEvent}
-use Rattle.pmf_event.specs.declared.section.TheConstants.{EVENT_LIMIT}
+use Rattle.std.proofs.{Common.{[], ◌∷◌, ◌≤◌, length, arith, length-append, sym, ◌∙◌, ap, subst, All}, lemmas.List.Elements.{All-append, All-cons, All-nil}}
+use Rattle.pmf_event.specs.{Section.{IsValidEvent}, declared.section.TheConstants.{EVENT_LIMIT}}
 use Rattle.pmf_event.proofs.section.Section.push.Goals as goal
 
 pub invariant_of-self-2 : goal.invariant_of-self-2

@@ -1,9 +1,6 @@
 -- Equal names and equal events are equal sections, and the other way round.
-use Rattle.pmf_event.proofs.Common.{rules, ◌≡◌, ap, sym, ◌∙◌, List, Decides, Decides-eqb, Decides-and, slice_eq-Decides}
-use Rattle.pmf_event.specs.declared.name.Name.{Name}
-use Rattle.pmf_event.specs.declared.event.Event.{Event}
-use Rattle.pmf_event.specs.contracts.event.EventPartialEq.TheImpl.{eq-value}
-use Rattle.pmf_event.specs.Section.{Trace}
+use Rattle.std.proofs.{Common.{rules, ◌≡◌, ap, sym, ◌∙◌, List, Decides}, lemmas.Bool.Decides.{Decides-eqb, Decides-and}, lemmas.Slice.Eq.{slice_eq-Decides}}
+use Rattle.pmf_event.specs.{declared.name.Name.{Name}, declared.event.Event.{Event}, contracts.event.EventPartialEq.TheImpl.{eq-value}, Section.{Trace}}
 use Rattle.pmf_event.proofs.section.Section.same_as.Goals as goal
 
 event_Decides : (a b : Event) → Decides (eq-value.it a b) (a ≡ b)

@@ -1,6 +1,5 @@
 use Rattle.std.proofs.Common.{◌≡◌, map}
-use Rattle.pmf_farm.specs.Working.{HasWorked}
-use Rattle.pmf_farm.proofs.lemmas.WorkingLemmas.{unmarked}
+use Rattle.pmf_farm.{specs.Working.{HasWorked}, proofs.lemmas.WorkingLemmas.{unmarked}}
 use Rattle.pmf_farm.proofs.working.Worker.serve_all.Given as goal
 
 abbrev pub invariant-loop-task : goal.invariant-loop-task

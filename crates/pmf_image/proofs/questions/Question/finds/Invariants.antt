@@ -1,6 +1,5 @@
 use Rattle.std.proofs.Common.{◌-◌}
-use Rattle.pmf_image.specs.Questions.{answer_of}
-use Rattle.pmf_image.proofs.ByteSearchLemmas.{NoByte}
+use Rattle.pmf_image.{specs.Questions.{answer_of}, proofs.ByteSearchLemmas.{NoByte}}
 use Rattle.pmf_image.proofs.questions.Question.finds.Given as goal
 
 abbrev pub invariant-loop-byte : goal.invariant-loop-byte

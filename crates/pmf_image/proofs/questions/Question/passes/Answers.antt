@@ -1,6 +1,5 @@
 use Rattle.std.proofs.Common.{sym, ◌∙◌, ap}
-use Rattle.pmf_image.specs.Questions.{compares}
-use Rattle.pmf_image.proofs.ByteSearchLemmas.{answer-none, answer-asked}
+use Rattle.pmf_image.{specs.Questions.{compares}, proofs.ByteSearchLemmas.{answer-none, answer-asked}}
 use Rattle.pmf_image.proofs.questions.Question.passes.Goals as goal
 
 pub returns-then-is_asked : goal.returns-then-is_asked

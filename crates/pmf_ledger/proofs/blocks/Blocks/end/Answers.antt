@@ -1,6 +1,5 @@
 use Rattle.std.proofs.Common.{sym, ◌∙◌, ap}
-use Rattle.pmf_ledger.specs.Loading.{after_end}
-use Rattle.pmf_ledger.proofs.lemmas.ReadingLemmas.{stopped, end-otherwise}
+use Rattle.pmf_ledger.{specs.Loading.{after_end}, proofs.lemmas.ReadingLemmas.{stopped, end-otherwise}}
 use Rattle.pmf_ledger.proofs.blocks.Blocks.end.Goals as goal
 
 pub returns-else-blocks-self : goal.returns-else-blocks-self

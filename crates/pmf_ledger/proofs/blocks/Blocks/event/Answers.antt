@@ -1,8 +1,6 @@
 use Rattle.std.proofs.Common.{sym, ◌∙◌, ap, subst, Err}
 use Rattle.pmf_storelog.specs.Lines.{event_of_line}
-use Rattle.pmf_ledger.specs.Following.{IsStoppedBy}
-use Rattle.pmf_ledger.specs.Loading.{after_event}
-use Rattle.pmf_ledger.proofs.lemmas.ReadingLemmas.{stopped, event-refused, event-too_many}
+use Rattle.pmf_ledger.{specs.Following.{IsStoppedBy}, specs.Loading.{after_event}, proofs.lemmas.ReadingLemmas.{stopped, event-refused, event-too_many}}
 use Rattle.pmf_ledger.proofs.blocks.Blocks.event.Goals as goal
 
 pub returns-in-Err-TooManyEvents : goal.returns-in-Err-TooManyEvents

@@ -1,6 +1,5 @@
 use Rattle.std.proofs.Common.{sym, subst}
-use Rattle.pmf_ledger.specs.Following.{Reaches, StandsFor}
-use Rattle.pmf_ledger.proofs.lemmas.ReadingLemmas.{stopped, line-version, line-block, line-event, line-row, line-end}
+use Rattle.pmf_ledger.{specs.Following.{Reaches, StandsFor}, proofs.lemmas.ReadingLemmas.{stopped, line-version, line-block, line-event, line-row, line-end}}
 use Rattle.pmf_ledger.proofs.blocks.Blocks.follow.Goals as goal
 
 pub returns-in-Version : goal.returns-in-Version

@@ -1,9 +1,7 @@
 use Rattle.std.proofs.Common.{◌≡◌, ◌++◌, true, false, get_or, List, sym, ◌∙◌, ap, subst, codes, bytes_eq}
-use Rattle.pmf_event.specs.declared.finding.Finding.TheVariants.{PersistPass}
-use Rattle.pmf_event.specs.declared.row.Row.{Row}
-use Rattle.pmf_verdict.specs.Prelude.{rows_in, text_of_row}
-use Rattle.pmf_ledger.specs.Following.{Reaches}
-use Rattle.pmf_ledger.proofs.lemmas.ReadingLemmas.{HasRead-same, stopped, row-same, row-other}
+use Rattle.pmf_event.specs.declared.{finding.Finding.TheVariants.{PersistPass}, row.Row.{Row}}
+use Rattle.pmf_verdict.specs.{Checked.{rows_in}, Text.{text_of_row}}
+use Rattle.pmf_ledger.{specs.Following.{Reaches}, proofs.lemmas.ReadingLemmas.{HasRead-same, stopped, row-same, row-other}}
 use Rattle.pmf_ledger.proofs.blocks.Blocks.row.Goals as goal
 
 pub returns-in-Ok-true : goal.returns-in-Ok-true

@@ -1,6 +1,5 @@
 use Rattle.std.proofs.Common.{refl, sym, subst}
-use Rattle.pmf_ledger.specs.Following.{Reaches}
-use Rattle.pmf_ledger.proofs.lemmas.ReadingLemmas.{HasRead-at, events-more, events-none}
+use Rattle.pmf_ledger.{specs.Following.{Reaches}, proofs.lemmas.ReadingLemmas.{HasRead-at, events-more, events-none}}
 use Rattle.pmf_ledger.proofs.blocks.Blocks.with_events.Goals as goal
 
 pub returns-then-more-gt0 : goal.returns-then-more-gt0

@@ -1,9 +1,7 @@
 use Rattle.std.proofs.Common.{◌≡◌, length, sym, ◌∙◌, ap, subst, List}
 use Rattle.pmf_event.specs.declared.row.Row.{Row}
-use Rattle.pmf_verdict.specs.Prelude.{Checked, rows_in, rows_of}
-use Rattle.pmf_ledger.specs.Following.{Reaches}
-use Rattle.pmf_ledger.specs.Loading.{with_rows}
-use Rattle.pmf_ledger.proofs.lemmas.ReadingLemmas.{stopped, rows-told, rows-false, verdict_is}
+use Rattle.pmf_verdict.specs.{Checked.{Checked, rows_in}, Rows.{rows_of}}
+use Rattle.pmf_ledger.{specs.Following.{Reaches}, specs.Loading.{with_rows}, proofs.lemmas.ReadingLemmas.{stopped, rows-told, rows-false, verdict_is}}
 use Rattle.pmf_ledger.proofs.blocks.Blocks.with_section.Goals as goal
 
 pub returns-then-rows-told : goal.returns-then-rows-told

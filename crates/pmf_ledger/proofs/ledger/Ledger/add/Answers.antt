@@ -1,8 +1,6 @@
 use Rattle.std.proofs.Common.{◌≡◌, refl, sym, ◌∙◌, ap, subst, insert}
 use Rattle.pmf_verdict.specs.Checked.{Checked}
-use Rattle.pmf_ledger.specs.LedgerValue.{LedgerValue}
-use Rattle.pmf_ledger.specs.Places.{IsPlaceOf, LacksName}
-use Rattle.pmf_ledger.proofs.lemmas.AddingLemmas.{Rises-insert, All-insert, Gains-insert}
+use Rattle.pmf_ledger.{specs.LedgerValue.{LedgerValue}, specs.Places.{IsPlaceOf, LacksName}, proofs.lemmas.AddingLemmas.{Rises-insert, All-insert, Gains-insert}}
 use Rattle.pmf_ledger.proofs.ledger.Ledger.add.Goals as goal
 
 pub invariant_of-self-2 : goal.invariant_of-self-2

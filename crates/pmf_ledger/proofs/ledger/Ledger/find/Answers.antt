@@ -1,8 +1,6 @@
-use Rattle.pmf_event.proofs.Common.{◌≡◌, sym, ◌∙◌, ap, subst, get_or, IsTrue, false, get_or_default}
+use Rattle.std.proofs.{Common.{◌≡◌, sym, ◌∙◌, ap, subst, get_or, IsTrue, false}, lemmas.List.{get_or_default}}
 use Rattle.pmf_verdict.specs.Checked.{Checked}
-use Rattle.pmf_ledger.specs.LedgerValue.{LedgerValue}
-use Rattle.pmf_ledger.specs.Names.{Rises}
-use Rattle.pmf_ledger.proofs.lemmas.PlaceLemmas.{LacksName-from_place}
+use Rattle.pmf_ledger.{specs.LedgerValue.{LedgerValue}, specs.Names.{Rises}, proofs.lemmas.PlaceLemmas.{LacksName-from_place}}
 use Rattle.pmf_ledger.proofs.ledger.Ledger.find.Goals as goal
 
 pub returns-else-is_same : goal.returns-else-is_same

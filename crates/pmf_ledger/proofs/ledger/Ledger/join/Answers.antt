@@ -1,7 +1,5 @@
 use Rattle.std.proofs.Common.{rules, ◌≡◌, ap, subst}
-use Rattle.pmf_ledger.specs.Gathered.{IsLeastClash}
-use Rattle.pmf_ledger.specs.declared.joining.JoinFault.TheVariants.{Conflict}
-use Rattle.pmf_ledger.proofs.lemmas.JoiningLemmas.{IfOk-gathers, least_clash_once}
+use Rattle.pmf_ledger.{specs.Gathered.{IsLeastClash}, specs.declared.joining.JoinFault.TheVariants.{Conflict}, proofs.lemmas.JoiningLemmas.{IfOk-gathers, least_clash_once}}
 use Rattle.pmf_ledger.proofs.ledger.Ledger.join.Goals as goal
 
 pub returns-in-Some-clause-conflict : goal.returns-in-Some-clause-conflict

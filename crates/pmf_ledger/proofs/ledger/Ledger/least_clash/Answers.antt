@@ -1,7 +1,5 @@
 use Rattle.std.proofs.Common.{◌≡◌, ◌∙◌, ap, subst, MatchOption}
-use Rattle.pmf_ledger.specs.Joining.{AgreeInNames, IsLeastDiffering}
-use Rattle.pmf_ledger.specs.LedgerValue.{LedgerValue}
-use Rattle.pmf_ledger.proofs.lemmas.JoiningLemmas.{AreBy, clash_found}
+use Rattle.pmf_ledger.{specs.Joining.{AgreeInNames, IsLeastDiffering}, specs.LedgerValue.{LedgerValue}, proofs.lemmas.JoiningLemmas.{AreBy, clash_found}}
 use Rattle.pmf_ledger.proofs.ledger.Ledger.least_clash.Goals as goal
 
 pub returns : goal.returns

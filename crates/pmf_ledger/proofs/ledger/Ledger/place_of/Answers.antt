@@ -1,12 +1,8 @@
 use Rattle.std.proofs.Common.{◌≡◌, ℕ, ◌+◌, ◌-◌, ◌/◌, ◌<◌, ◌≤◌, List, ◌∙◌, sym, ap, subst, arith, get_or}
 use Rattle.pmf_event.specs.declared.name.Name.{Name}
 use Rattle.pmf_verdict.specs.Checked.{Checked}
-use Rattle.pmf_ledger.specs.LedgerValue.{LedgerValue}
-use Rattle.pmf_ledger.specs.Names.{IsBefore, Rises}
-use Rattle.pmf_ledger.proofs.lemmas.NameLemmas.{before-unless_less}
-use Rattle.pmf_ledger.proofs.lemmas.PlaceLemmas.{Window, Window-up, Window-down}
+use Rattle.pmf_ledger.{specs.LedgerValue.{LedgerValue}, specs.Names.{IsBefore, Rises}, proofs.lemmas.NameLemmas.{before-unless_less}, proofs.lemmas.PlaceLemmas.{Window, Window-up, Window-down}, proofs.ledger.Ledger.place_of.Goals.{in-Less, in_default}}
 use Rattle.pmf_ledger.proofs.ledger.Ledger.place_of.Goals as goal
-use Rattle.pmf_ledger.proofs.ledger.Ledger.place_of.Goals.{in-Less, in_default}
 
 -- the middle of what is left
 settled : (sections : List Checked) (name : Name) (low high : ℕ) → Window sections name low high →

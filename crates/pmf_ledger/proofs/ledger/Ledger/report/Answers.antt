@@ -1,6 +1,5 @@
-use Rattle.pmf_event.proofs.Common.{◌+◌, ◌<◌, ◌^◌, ◌++◌, ◌∷◌, [], take, sym, ◌∙◌, ap, subst, rules, flat_map, flat_map_more, take_more}
-use Rattle.pmf_ledger.specs.Report.{IsWithin, both, text_of_section}
-use Rattle.pmf_ledger.proofs.lemmas.CountLemmas.{IsWithin-all, Sums, Sums-more, Sums-none}
+use Rattle.std.proofs.{Common.{◌+◌, ◌<◌, ◌^◌, ◌++◌, ◌∷◌, [], take, sym, ◌∙◌, ap, subst, rules, flat_map}, lemmas.List.{flat_map_more, take_more}}
+use Rattle.pmf_ledger.{specs.Report.{IsWithin, both, text_of_section}, proofs.lemmas.CountLemmas.{IsWithin-all, Sums, Sums-more, Sums-none}}
 use Rattle.pmf_ledger.proofs.ledger.Ledger.report.Goals as goal
 
 pub loop-verdict-init : goal.loop-verdict-init

@@ -1,12 +1,7 @@
 use Rattle.std.proofs.Common.{◌≡◌, ◌∙◌, subst, All}
 use Rattle.pmf_event.specs.Section.{Trace}
 use Rattle.pmf_verdict.specs.Checked.{Checked}
-use Rattle.pmf_ledger.specs.Gathered.{Holds, HoldsOther}
-use Rattle.pmf_ledger.specs.LedgerValue.{LedgerValue}
-use Rattle.pmf_ledger.specs.Names.{Rises}
-use Rattle.pmf_ledger.specs.Places.{LacksName}
-use Rattle.pmf_ledger.proofs.lemmas.AddingLemmas.{Gains-held, Gathers-gains}
-use Rattle.pmf_ledger.proofs.lemmas.StandingLemmas.{held-not_other, absent-not_held, absent-not_other, memory-no_conflict, OnOk-added}
+use Rattle.pmf_ledger.{specs.Gathered.{Holds, HoldsOther}, specs.LedgerValue.{LedgerValue}, specs.Names.{Rises}, specs.Places.{LacksName}, proofs.lemmas.AddingLemmas.{Gains-held, Gathers-gains}, proofs.lemmas.StandingLemmas.{held-not_other, absent-not_held, absent-not_other, memory-no_conflict, OnOk-added}}
 use Rattle.pmf_ledger.proofs.ledger.Ledger.take.Goals as goal
 
 pub add-requires-clause-absent : goal.add-requires-clause-absent

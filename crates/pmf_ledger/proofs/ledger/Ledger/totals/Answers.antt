@@ -1,6 +1,5 @@
 use Rattle.std.proofs.Common.{◌+◌, ◌<◌, ◌^◌, sym, ◌∙◌, ap, subst, rules}
-use Rattle.pmf_ledger.specs.Report.{IsWithin, both}
-use Rattle.pmf_ledger.proofs.lemmas.CountLemmas.{IsWithin-all, Sums, Sums-more, Sums-none}
+use Rattle.pmf_ledger.{specs.Report.{IsWithin, both}, proofs.lemmas.CountLemmas.{IsWithin-all, Sums, Sums-more, Sums-none}}
 use Rattle.pmf_ledger.proofs.ledger.Ledger.totals.Goals as goal
 
 pub loop-verdict-init : goal.loop-verdict-init

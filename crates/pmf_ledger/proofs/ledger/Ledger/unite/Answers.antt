@@ -1,7 +1,5 @@
 use Rattle.std.proofs.Common.{◌≡◌, sym, ◌∙◌, ap, subst}
-use Rattle.pmf_ledger.specs.Joining.{Agree, IsMerged}
-use Rattle.pmf_ledger.specs.LedgerValue.{LedgerValue}
-use Rattle.pmf_ledger.proofs.lemmas.JoiningLemmas.{AreBy, AreBy-merged, Unites-merged, agree_checked}
+use Rattle.pmf_ledger.{specs.Joining.{Agree, IsMerged}, specs.LedgerValue.{LedgerValue}, proofs.lemmas.JoiningLemmas.{AreBy, AreBy-merged, Unites-merged, agree_checked}}
 use Rattle.pmf_ledger.proofs.ledger.Ledger.unite.Goals as goal
 
 pub merge-requires-clause-agree : goal.merge-requires-clause-agree

@@ -1,10 +1,7 @@
 use Rattle.std.proofs.Common.{◌≡◌, map, refl, sym, ◌∙◌, ap, subst, All}
 use Rattle.pmf_event.specs.declared.profile.Profile.TheVariants.{Two}
 use Rattle.pmf_verdict.specs.Checked.{Checked}
-use Rattle.pmf_ledger.specs.Gathered.{upgraded}
-use Rattle.pmf_ledger.specs.LedgerValue.{LedgerValue}
-use Rattle.pmf_ledger.specs.Names.{Rises}
-use Rattle.pmf_ledger.proofs.lemmas.UpgradeLemmas.{All-upgraded, IsUpgradeOf-itself, IsUpgradeOf-upgraded, Rises-upgraded}
+use Rattle.pmf_ledger.{specs.Gathered.{upgraded}, specs.LedgerValue.{LedgerValue}, specs.Names.{Rises}, proofs.lemmas.UpgradeLemmas.{All-upgraded, IsUpgradeOf-itself, IsUpgradeOf-upgraded, Rises-upgraded}}
 use Rattle.pmf_ledger.proofs.ledger.Ledger.upgrade.Goals as goal
 
 pub returns-in-Two : goal.returns-in-Two

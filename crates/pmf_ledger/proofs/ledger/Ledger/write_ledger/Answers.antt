@@ -1,7 +1,5 @@
 use Rattle.std.proofs.Common.{◌≤◌, length, sym, subst}
-use Rattle.pmf_ledger.specs.declared.loading.TheConstants.{LEDGER_LIMIT}
-use Rattle.pmf_ledger.specs.Loading.{LoadsAs}
-use Rattle.pmf_ledger.proofs.lemmas.LedgerTextLemmas.{loads-written}
+use Rattle.pmf_ledger.{specs.declared.loading.TheConstants.{LEDGER_LIMIT}, specs.Loading.{LoadsAs}, proofs.lemmas.LedgerTextLemmas.{loads-written}}
 use Rattle.pmf_ledger.proofs.ledger.Ledger.write_ledger.Goals as goal
 
 pub returns-clause-loads_back : goal.returns-clause-loads_back

@@ -1,7 +1,6 @@
 use Rattle.std.proofs.Common.{◌≡◌, take, sym, ◌∙◌, arith, take_all}
-use Rattle.pmf_ledger.proofs.lemmas.CountLemmas.{Counted-none, Counted-pass, Counted-fail, Counted-warn, Counted-empty, totals_of-one}
+use Rattle.pmf_ledger.proofs.{lemmas.CountLemmas.{Counted-none, Counted-pass, Counted-fail, Counted-warn, Counted-empty, totals_of-one}, totals.Totals.of.Goals.{in-Pass, in-Fail, in-Warn, in-Empty}}
 use Rattle.pmf_ledger.proofs.totals.Totals.of.Goals as goal
-use Rattle.pmf_ledger.proofs.totals.Totals.of.Goals.{in-Pass, in-Fail, in-Warn, in-Empty}
 
 pub loop-row-init : goal.loop-row-init
 loop-row-init c = Counted-none c.rows-row-items.result.now

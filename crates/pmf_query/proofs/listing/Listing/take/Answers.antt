@@ -1,7 +1,5 @@
 use Rattle.std.proofs.Common.{sym, ap, ◌∙◌, refl, arith, List, Bool, not, ◌||◌}
-use Rattle.pmf_query.specs.declared.naming.Named.{Named}
-use Rattle.pmf_query.specs.Naming.{is_among, names_in}
-use Rattle.pmf_query.proofs.NamingLemmas.{lists_again, lists_new, lists_other, others_few, small_counts}
+use Rattle.pmf_query.{specs.declared.naming.Named.{Named}, specs.Naming.{is_among, names_in}, proofs.NamingLemmas.{lists_again, lists_new, lists_other, others_few, small_counts}}
 use Rattle.pmf_query.proofs.listing.Listing.take.Goals as goal
 
 pub count_name-requires : goal.count_name-requires

@@ -1,8 +1,6 @@
 use Rattle.std.proofs.Common.{◌∙◌, ap, length, count_by}
 use Rattle.pmf_event.specs.Section.{Trace}
-use Rattle.pmf_query.specs.Covering.{uncovered_of}
-use Rattle.pmf_query.specs.Summing.{asserts, is_store}
-use Rattle.pmf_query.proofs.TallySumLemmas.{sums_one}
+use Rattle.pmf_query.{specs.Covering.{uncovered_of}, specs.Summing.{asserts, is_store}, proofs.TallySumLemmas.{sums_one}}
 use Rattle.pmf_query.proofs.summing.Sums.of.Goals as goal
 
 pub returns-clause-value : goal.returns-clause-value

@@ -1,6 +1,5 @@
-use Rattle.std.specs.Prelude.{Some}
-use Rattle.pmf_runs.specs.Pages.{pages_state}
-use Rattle.pmf_runs.proofs.ChangingLemmas.{covers-same, covers-changed}
+use Rattle.std.proofs.Common.{Some}
+use Rattle.pmf_runs.{specs.Pages.{pages_state}, proofs.ChangingLemmas.{covers-same, covers-changed}}
 use Rattle.pmf_runs.proofs.group.Group.change_range.Goals as goal
 
 pub invariant_of-self : goal.invariant_of-self

@@ -1,6 +1,5 @@
 use Rattle.std.proofs.Common.{sym, subst, None}
-use Rattle.pmf_runs.specs.Pages.{pages_state, pages_joined}
-use Rattle.pmf_runs.proofs.ChangingLemmas.{covers-same, splits-same}
+use Rattle.pmf_runs.{specs.Pages.{pages_state, pages_joined}, proofs.ChangingLemmas.{covers-same, splits-same}}
 use Rattle.pmf_runs.proofs.group.Group.halve.Goals as goal
 
 pub invariant_of-self : goal.invariant_of-self

@@ -1,6 +1,5 @@
 use Rattle.std.proofs.Common.{◌-◌, sym}
-use Rattle.pmf_runs.specs.Pages.{pages_state}
-use Rattle.pmf_runs.proofs.LineCountLemmas.{counted-none}
+use Rattle.pmf_runs.{specs.Pages.{pages_state}, proofs.LineCountLemmas.{counted-none}}
 use Rattle.pmf_runs.proofs.group.GroupPart.count_lines.Goals as goal
 
 pub returns-then-not-may_pass-clause-is : goal.returns-then-not-may_pass-clause-is

@@ -1,5 +1,4 @@
-use Rattle.pmf_runs.specs.Pages.{pages_state}
-use Rattle.pmf_runs.proofs.ChangingLemmas.{covers-same}
+use Rattle.pmf_runs.{specs.Pages.{pages_state}, proofs.ChangingLemmas.{covers-same}}
 use Rattle.pmf_runs.proofs.group.GroupPart.cut.Goals as goal
 
 pub invariant_of-self : goal.invariant_of-self

@@ -1,6 +1,5 @@
 use Rattle.std.proofs.Common.{◌-◌, sym}
-use Rattle.pmf_runs.specs.Pages.{pages_state}
-use Rattle.pmf_runs.proofs.SkipLemmas.{first-none}
+use Rattle.pmf_runs.{specs.Pages.{pages_state}, proofs.SkipLemmas.{first-none}}
 use Rattle.pmf_runs.proofs.group.GroupPart.first_where.Goals as goal
 
 pub returns-then-not-may_pass : goal.returns-then-not-may_pass

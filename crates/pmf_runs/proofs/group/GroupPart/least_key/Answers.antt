@@ -1,6 +1,5 @@
 use Rattle.std.proofs.Common.{◌-◌, sym}
-use Rattle.pmf_runs.specs.Pages.{pages_state}
-use Rattle.pmf_runs.proofs.SkipLemmas.{least-none}
+use Rattle.pmf_runs.{specs.Pages.{pages_state}, proofs.SkipLemmas.{least-none}}
 use Rattle.pmf_runs.proofs.group.GroupPart.least_key.Goals as goal
 
 pub returns-then-not-may_lower : goal.returns-then-not-may_lower

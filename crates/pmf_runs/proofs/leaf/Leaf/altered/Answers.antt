@@ -1,8 +1,5 @@
 use Rattle.std.proofs.Common.{refl, ◌∙◌, ap, subst, arith}
-use Rattle.pmf_runs.specs.Ranks.{rank, IsStop}
-use Rattle.pmf_runs.specs.Leaves.{leaf_state}
-use Rattle.pmf_runs.proofs.LeafLemmas.{rank-bound}
-use Rattle.pmf_runs.proofs.ChangingLemmas.{run-is, leaf-run, alters-none, alters-more, sees-low, sees-upto}
+use Rattle.pmf_runs.{specs.Ranks.{rank, IsStop}, specs.Leaves.{leaf_state}, proofs.LeafLemmas.{rank-bound}, proofs.ChangingLemmas.{run-is, leaf-run, alters-none, alters-more, sees-low, sees-upto}}
 use Rattle.pmf_runs.proofs.leaf.Leaf.altered.Goals as goal
 
 pub loop-start-init : goal.loop-start-init

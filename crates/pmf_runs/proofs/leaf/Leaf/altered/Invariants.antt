@@ -1,6 +1,5 @@
 use Rattle.std.proofs.Common.{◌-◌, ◌≡◌, ◌<◌, ◌≤◌, ◌+◌, vec_len}
-use Rattle.pmf_runs.specs.Ranks.{rank, AltersWithin}
-use Rattle.pmf_runs.specs.Leaves.{leaf_state}
+use Rattle.pmf_runs.specs.{Ranks.{rank, AltersWithin}, Leaves.{leaf_state}}
 use Rattle.pmf_runs.proofs.leaf.Leaf.altered.Given as goal
 
 abbrev pub invariant-loop-start : goal.invariant-loop-start

@@ -1,6 +1,5 @@
 use Rattle.std.proofs.Common.{subst}
-use Rattle.pmf_runs.specs.Ranks.{HasKey}
-use Rattle.pmf_runs.proofs.LeafLemmas.{begins-is}
+use Rattle.pmf_runs.{specs.Ranks.{HasKey}, proofs.LeafLemmas.{begins-is}}
 use Rattle.pmf_runs.proofs.leaf.Leaf.begin.Goals as goal
 
 pub returns-then-is_key-clause-begins : goal.returns-then-is_key-clause-begins

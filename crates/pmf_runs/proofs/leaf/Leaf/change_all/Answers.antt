@@ -1,8 +1,5 @@
-use Rattle.pmf_event.proofs.Common.{◌≡◌, length, arith, refl, ap, subst, ◌∙◌, sym, with_items_is}
-use Rattle.pmf_runs.specs.Ranks.{low_rank, high_rank, ChangesItems}
-use Rattle.pmf_runs.proofs.RankLemmas.{high_rank-bound}
-use Rattle.pmf_runs.proofs.LeafLemmas.{leaf-counted, changes-rewritten}
-use Rattle.pmf_runs.proofs.JoinedLemmas.{joined-rewritten}
+use Rattle.std.proofs.{Common.{◌≡◌, length, arith, refl, ap, subst, ◌∙◌, sym}, lemmas.List.{with_items_is}}
+use Rattle.pmf_runs.{specs.Ranks.{low_rank, high_rank, ChangesItems}, proofs.RankLemmas.{high_rank-bound}, proofs.LeafLemmas.{leaf-counted, changes-rewritten}, proofs.JoinedLemmas.{joined-rewritten}}
 use Rattle.pmf_runs.proofs.leaf.Leaf.change_all.Goals as goal
 
 pub change_between-requires : goal.change_between-requires

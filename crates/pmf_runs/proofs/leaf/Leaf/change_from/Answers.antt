@@ -1,9 +1,5 @@
 use Rattle.std.proofs.Common.{refl, None, Some}
-use Rattle.pmf_runs.specs.Leaves.{leaf_state}
-use Rattle.pmf_runs.proofs.LeafLemmas.{same-items, same-both}
-use Rattle.pmf_runs.proofs.ChangingLemmas.{changes-after}
-use Rattle.pmf_runs.proofs.RunLemmas.{on-err}
-use Rattle.pmf_runs.proofs.JoinedLemmas.{joined-same, joined-swap}
+use Rattle.pmf_runs.{specs.Leaves.{leaf_state}, proofs.LeafLemmas.{same-items, same-both}, proofs.ChangingLemmas.{changes-after}, proofs.RunLemmas.{on-err}, proofs.JoinedLemmas.{joined-same, joined-swap}}
 use Rattle.pmf_runs.proofs.leaf.Leaf.change_from.Goals as goal
 
 pub returns-in_err-begin-clause-unchanged : goal.returns-in_err-begin-clause-unchanged

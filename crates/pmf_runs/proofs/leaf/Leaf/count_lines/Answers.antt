@@ -1,9 +1,5 @@
 use Rattle.std.proofs.Common.{◌+◌, ◌-◌, ◌≤◌, length, ◌∙◌, ap, arith}
-use Rattle.pmf_runs.specs.Ranks.{rank}
-use Rattle.pmf_runs.specs.Walks.{end_of}
-use Rattle.pmf_runs.specs.Leaves.{leaf_state}
-use Rattle.pmf_runs.proofs.AskingLemmas.{lines-law, lines-past, asked-start, asked-more, asked-past, asked-end, walks-more, past-more, run-asked, fails-past}
-use Rattle.pmf_runs.proofs.LeafLemmas.{leaf-counted}
+use Rattle.pmf_runs.{specs.Ranks.{rank}, specs.Walks.{end_of}, specs.Leaves.{leaf_state}, proofs.AskingLemmas.{lines-law, lines-past, asked-start, asked-more, asked-past, asked-end, walks-more, past-more, run-asked, fails-past}, proofs.LeafLemmas.{leaf-counted}}
 use Rattle.pmf_runs.proofs.leaf.Leaf.count_lines.Goals as goal
 
 pub loop-start-init : goal.loop-start-init

@@ -1,9 +1,5 @@
 use Rattle.std.proofs.Common.{sym, ◌∙◌, ap, subst, arith, None}
-use Rattle.pmf_runs.specs.Ranks.{rank, IsBeyond}
-use Rattle.pmf_runs.specs.Walks.{end_of}
-use Rattle.pmf_runs.specs.Leaves.{leaf_state}
-use Rattle.pmf_runs.proofs.RankLemmas.{none-is-any}
-use Rattle.pmf_runs.proofs.AskingLemmas.{first-law, asked-start, asked-more, asked-end, walks-more, asked-found, run-asked}
+use Rattle.pmf_runs.{specs.Ranks.{rank, IsBeyond}, specs.Walks.{end_of}, specs.Leaves.{leaf_state}, proofs.RankLemmas.{none-is-any}, proofs.AskingLemmas.{first-law, asked-start, asked-more, asked-end, walks-more, asked-found, run-asked}}
 use Rattle.pmf_runs.proofs.leaf.Leaf.find_first.Goals as goal
 
 pub loop-start-init : goal.loop-start-init

@@ -1,7 +1,6 @@
 use Rattle.std.proofs.Common.{◌-◌, None}
 use Rattle.pmf_event.specs.Ranges.{first_from}
-use Rattle.pmf_runs.specs.Leaves.{leaf_state}
-use Rattle.pmf_runs.proofs.AskingLemmas.{Asked, first_found}
+use Rattle.pmf_runs.{specs.Leaves.{leaf_state}, proofs.AskingLemmas.{Asked, first_found}}
 use Rattle.pmf_runs.proofs.leaf.Leaf.find_first.Given as goal
 
 abbrev pub invariant-loop-start : goal.invariant-loop-start

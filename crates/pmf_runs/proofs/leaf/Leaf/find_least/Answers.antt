@@ -1,9 +1,6 @@
 use Rattle.std.proofs.Common.{◌∙◌, ap, arith}
 use Rattle.pmf_event.specs.Ranges.{lesser}
-use Rattle.pmf_runs.specs.Ranks.{rank}
-use Rattle.pmf_runs.specs.Walks.{end_of}
-use Rattle.pmf_runs.specs.Leaves.{leaf_state}
-use Rattle.pmf_runs.proofs.AskingLemmas.{least-law, asked-start, asked-more, asked-end, walks-more, run-asked}
+use Rattle.pmf_runs.{specs.Ranks.{rank}, specs.Walks.{end_of}, specs.Leaves.{leaf_state}, proofs.AskingLemmas.{least-law, asked-start, asked-more, asked-end, walks-more, run-asked}}
 use Rattle.pmf_runs.proofs.leaf.Leaf.find_least.Goals as goal
 
 pub loop-start-init : goal.loop-start-init

@@ -1,6 +1,5 @@
 use Rattle.std.proofs.Common.{arith}
-use Rattle.pmf_runs.proofs.LeafLemmas.{leaf-counted, rank-bound}
-use Rattle.pmf_runs.proofs.OnwardLemmas.{onward-none, onward-first, onward-later}
+use Rattle.pmf_runs.proofs.{LeafLemmas.{leaf-counted, rank-bound}, OnwardLemmas.{onward-none, onward-first, onward-later}}
 use Rattle.pmf_runs.proofs.leaf.Leaf.first_onward.Goals as goal
 
 pub next_passing-next-requires : goal.next_passing-next-requires

@@ -1,7 +1,5 @@
 use Rattle.std.proofs.Common.{◌+◌, ◌-◌, ◌<◌, length, ◌∙◌, ap, arith}
-use Rattle.pmf_runs.specs.Ranks.{parting}
-use Rattle.pmf_runs.proofs.LeafLemmas.{parts-low, parts-high, rest-copied, middle-is}
-use Rattle.pmf_runs.proofs.JoinedLemmas.{joined-low, joined-high}
+use Rattle.pmf_runs.{specs.Ranks.{parting}, proofs.LeafLemmas.{parts-low, parts-high, rest-copied, middle-is}, proofs.JoinedLemmas.{joined-low, joined-high}}
 use Rattle.pmf_runs.proofs.leaf.Leaf.halve.Goals as goal
 
 pub returns-clause-ok : goal.returns-clause-ok

@@ -1,7 +1,5 @@
 use Rattle.std.proofs.Common.{◌≤◌, vec_len}
-use Rattle.pmf_runs.specs.Ranks.{SameStates}
-use Rattle.pmf_runs.specs.Leaves.{leaf_state}
-use Rattle.pmf_runs.specs.Joined.{JoinedBeside}
+use Rattle.pmf_runs.specs.{Ranks.{SameStates}, Leaves.{leaf_state}, Joined.{JoinedBeside}}
 use Rattle.pmf_runs.proofs.leaf.Leaf.join_between.Given as goal
 
 abbrev pub invariant-loop-key : goal.invariant-loop-key

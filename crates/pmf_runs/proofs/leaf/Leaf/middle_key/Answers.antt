@@ -1,6 +1,5 @@
-use Rattle.pmf_event.proofs.Common.{◌∙◌, ap, arith, length, get_or_read}
-use Rattle.pmf_runs.specs.Ranks.{parting}
-use Rattle.pmf_runs.proofs.LeafLemmas.{middle-is}
+use Rattle.std.proofs.{Common.{◌∙◌, ap, arith, length}, lemmas.List.{get_or_read}}
+use Rattle.pmf_runs.{specs.Ranks.{parting}, proofs.LeafLemmas.{middle-is}}
 use Rattle.pmf_runs.proofs.leaf.Leaf.middle_key.Goals as goal
 
 pub returns : goal.returns

@@ -1,8 +1,5 @@
 use Rattle.std.proofs.Common.{◌+◌, refl, sym, ◌∙◌, ap, subst, arith, vec_len, if◌then◌else◌, insert}
-use Rattle.pmf_runs.specs.Ranks.{Rises}
-use Rattle.pmf_runs.proofs.RankLemmas.{rank-is, insert-fresh}
-use Rattle.pmf_runs.proofs.LeafLemmas.{rank-bound, same-items, begins-kept, begins-put, begins-put_kept, same-put}
-use Rattle.pmf_runs.proofs.JoinedLemmas.{joined-put, joined-swap}
+use Rattle.pmf_runs.{specs.Ranks.{Rises}, proofs.RankLemmas.{rank-is, insert-fresh}, proofs.LeafLemmas.{rank-bound, same-items, begins-kept, begins-put, begins-put_kept, same-put}, proofs.JoinedLemmas.{joined-put, joined-swap}}
 use Rattle.pmf_runs.proofs.leaf.Leaf.put_key.Goals as goal
 
 pub index-state-requires : goal.index-state-requires

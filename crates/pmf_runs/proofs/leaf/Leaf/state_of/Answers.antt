@@ -1,6 +1,5 @@
 use Rattle.std.proofs.Common.{◌∙◌, ap, arith}
-use Rattle.pmf_runs.specs.Ranks.{rank}
-use Rattle.pmf_runs.proofs.LeafLemmas.{rank-bound, state-read}
+use Rattle.pmf_runs.{specs.Ranks.{rank}, proofs.LeafLemmas.{rank-bound, state-read}}
 use Rattle.pmf_runs.proofs.leaf.Leaf.state_of.Goals as goal
 
 pub index-requires : goal.index-requires

@@ -1,8 +1,5 @@
 use Rattle.std.proofs.Common.{◌<◌, length, sym, ◌∙◌, arith, refl, subst}
-use Rattle.pmf_runs.specs.Ranks.{Rises}
-use Rattle.pmf_runs.proofs.RankLemmas.{remove-rises}
-use Rattle.pmf_runs.proofs.LeafLemmas.{same-joined}
-use Rattle.pmf_runs.proofs.JoinedLemmas.{beside-taken}
+use Rattle.pmf_runs.{specs.Ranks.{Rises}, proofs.RankLemmas.{remove-rises}, proofs.LeafLemmas.{same-joined}, proofs.JoinedLemmas.{beside-taken}}
 use Rattle.pmf_runs.proofs.leaf.Leaf.take_out.Goals as goal
 
 pub invariant_of-self : goal.invariant_of-self

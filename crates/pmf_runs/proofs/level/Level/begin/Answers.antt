@@ -1,7 +1,5 @@
 use Rattle.std.proofs.Common.{◌∙◌, ap, arith, refl, subst}
-use Rattle.pmf_runs.specs.Ranks.{rank, HasKey, IsFresh}
-use Rattle.pmf_runs.proofs.LevelLemmas.{level-bound, level-has, level-begun, level-kept, level-set}
-use Rattle.pmf_runs.proofs.JoinedLevelLemmas.{parts-begun, parts-begun_too, parts-cut, parts-cut_too}
+use Rattle.pmf_runs.{specs.Ranks.{rank, HasKey, IsFresh}, proofs.LevelLemmas.{level-bound, level-has, level-begun, level-kept, level-set}, proofs.JoinedLevelLemmas.{parts-begun, parts-begun_too, parts-cut, parts-cut_too}}
 use Rattle.pmf_runs.proofs.level.Level.begin.Goals as goal
 
 pub returns-then-is_key-clause-begins : goal.returns-then-is_key-clause-begins

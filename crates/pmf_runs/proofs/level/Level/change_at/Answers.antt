@@ -1,7 +1,5 @@
 use Rattle.std.proofs.Common.{◌<◌, ◌≤◌, length, get_or, refl, subst, arith}
-use Rattle.pmf_runs.proofs.LevelLemmas.{level-bound, level-set}
-use Rattle.pmf_runs.proofs.ChangingLemmas.{level-changed, on-ok, on-error}
-use Rattle.pmf_runs.proofs.JoinedLevelLemmas.{parts-kept}
+use Rattle.pmf_runs.proofs.{LevelLemmas.{level-bound, level-set}, ChangingLemmas.{level-changed, on-ok, on-error}, JoinedLevelLemmas.{parts-kept}}
 use Rattle.pmf_runs.proofs.level.Level.change_at.Goals as goal
 
 pub index_mut-requires : goal.index_mut-requires

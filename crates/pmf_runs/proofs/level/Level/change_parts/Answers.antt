@@ -1,7 +1,5 @@
 use Rattle.std.proofs.Common.{◌∙◌, arith, refl, sym, subst, None}
-use Rattle.pmf_runs.specs.Ranks.{ChangesWithin, bound_at}
-use Rattle.pmf_runs.proofs.LevelLemmas.{begins-bound, rewrites-more, rest-more}
-use Rattle.pmf_runs.proofs.JoinedLevelLemmas.{order-bound, joins-more}
+use Rattle.pmf_runs.{specs.Ranks.{ChangesWithin, bound_at}, proofs.LevelLemmas.{begins-bound, rewrites-more, rest-more}, proofs.JoinedLevelLemmas.{order-bound, joins-more}}
 use Rattle.pmf_runs.proofs.level.Level.change_parts.Goals as goal
 
 pub rewrite-requires-clause-from : goal.rewrite-requires-clause-from

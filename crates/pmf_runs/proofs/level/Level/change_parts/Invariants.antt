@@ -1,6 +1,5 @@
 use Rattle.std.proofs.Common.{◌≡◌, ℕ, get_or, ◌+◌, ◌<◌, ◌≤◌}
-use Rattle.pmf_runs.specs.Levels.{Rewrites}
-use Rattle.pmf_runs.specs.Joined.{JoinsParts}
+use Rattle.pmf_runs.specs.{Levels.{Rewrites}, Joined.{JoinsParts}}
 use Rattle.pmf_runs.proofs.level.Level.change_parts.Given as goal
 
 abbrev pub invariant-loop-i : goal.invariant-loop-i

@@ -1,11 +1,5 @@
 use Rattle.std.proofs.Common.{◌+◌, ◌-◌, ◌≤◌, length, ◌∙◌, ap, arith}
-use Rattle.pmf_runs.specs.Ranks.{rank}
-use Rattle.pmf_runs.specs.Walks.{end_of}
-use Rattle.pmf_runs.specs.Levels.{level_state}
-use Rattle.pmf_runs.proofs.AskingLemmas.{lines-law, lines-past, asked-start, asked-more, asked-past, asked-end, walks-more, past-more}
-use Rattle.pmf_runs.proofs.ChangingLemmas.{parts-past}
-use Rattle.pmf_runs.proofs.LevelLemmas.{level-counted}
-use Rattle.pmf_runs.proofs.LevelAskingLemmas.{part-asked}
+use Rattle.pmf_runs.{specs.Ranks.{rank}, specs.Walks.{end_of}, specs.Levels.{level_state}, proofs.AskingLemmas.{lines-law, lines-past, asked-start, asked-more, asked-past, asked-end, walks-more, past-more}, proofs.ChangingLemmas.{parts-past}, proofs.LevelLemmas.{level-counted}, proofs.LevelAskingLemmas.{part-asked}}
 use Rattle.pmf_runs.proofs.level.Level.count_lines.Goals as goal
 
 pub loop-start-init : goal.loop-start-init

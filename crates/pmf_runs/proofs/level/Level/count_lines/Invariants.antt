@@ -1,7 +1,5 @@
 use Rattle.std.proofs.Common.{◌-◌, ◌≤◌}
-use Rattle.pmf_runs.specs.Levels.{level_state}
-use Rattle.pmf_runs.specs.Lines.{counted_from}
-use Rattle.pmf_runs.proofs.AskingLemmas.{Asked}
+use Rattle.pmf_runs.{specs.Levels.{level_state}, specs.Lines.{counted_from}, proofs.AskingLemmas.{Asked}}
 use Rattle.pmf_runs.proofs.level.Level.count_lines.Given as goal
 
 abbrev pub invariant-loop-start : goal.invariant-loop-start

@@ -1,10 +1,5 @@
-use Rattle.pmf_event.proofs.Common.{refl, sym, ◌∙◌, ap, arith, get_or_read}
-use Rattle.pmf_runs.specs.Ranks.{rank}
-use Rattle.pmf_runs.specs.Walks.{end_of}
-use Rattle.pmf_runs.specs.Levels.{level_state}
-use Rattle.pmf_runs.proofs.RankLemmas.{none-is-any, rank-is}
-use Rattle.pmf_runs.proofs.AskingLemmas.{asked-found}
-use Rattle.pmf_runs.proofs.LevelAskingLemmas.{sought-start, sought-asked, sought-rank, sought-more, sought-last, sought-end}
+use Rattle.std.proofs.{Common.{refl, sym, ◌∙◌, ap, arith}, lemmas.List.{get_or_read}}
+use Rattle.pmf_runs.{specs.Ranks.{rank}, specs.Walks.{end_of}, specs.Levels.{level_state}, proofs.RankLemmas.{none-is-any, rank-is}, proofs.AskingLemmas.{asked-found}, proofs.LevelAskingLemmas.{sought-start, sought-asked, sought-rank, sought-more, sought-last, sought-end}}
 use Rattle.pmf_runs.proofs.level.Level.find_first.Goals as goal
 
 pub loop-start-init : goal.loop-start-init

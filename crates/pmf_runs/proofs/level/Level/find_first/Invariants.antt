@@ -1,6 +1,5 @@
 use Rattle.std.proofs.Common.{◌-◌, ◌≤◌, length}
-use Rattle.pmf_runs.specs.Levels.{level_state}
-use Rattle.pmf_runs.proofs.LevelAskingLemmas.{Sought}
+use Rattle.pmf_runs.{specs.Levels.{level_state}, proofs.LevelAskingLemmas.{Sought}}
 use Rattle.pmf_runs.proofs.level.Level.find_first.Given as goal
 
 abbrev pub invariant-loop-start : goal.invariant-loop-start

@@ -1,10 +1,6 @@
 use Rattle.std.proofs.Common.{◌∙◌, ap, arith}
 use Rattle.pmf_event.specs.Ranges.{lesser}
-use Rattle.pmf_runs.specs.Ranks.{rank}
-use Rattle.pmf_runs.specs.Walks.{end_of}
-use Rattle.pmf_runs.specs.Levels.{level_state}
-use Rattle.pmf_runs.proofs.AskingLemmas.{least-law, asked-start, asked-more, asked-end, walks-more}
-use Rattle.pmf_runs.proofs.LevelAskingLemmas.{part-asked}
+use Rattle.pmf_runs.{specs.Ranks.{rank}, specs.Walks.{end_of}, specs.Levels.{level_state}, proofs.AskingLemmas.{least-law, asked-start, asked-more, asked-end, walks-more}, proofs.LevelAskingLemmas.{part-asked}}
 use Rattle.pmf_runs.proofs.level.Level.find_least.Goals as goal
 
 pub loop-start-init : goal.loop-start-init

@@ -1,7 +1,6 @@
 use Rattle.std.proofs.Common.{◌-◌}
 use Rattle.pmf_event.specs.Ranges.{least_from, lesser}
-use Rattle.pmf_runs.specs.Levels.{level_state}
-use Rattle.pmf_runs.proofs.AskingLemmas.{Asked}
+use Rattle.pmf_runs.{specs.Levels.{level_state}, proofs.AskingLemmas.{Asked}}
 use Rattle.pmf_runs.proofs.level.Level.find_least.Given as goal
 
 abbrev pub invariant-loop-start : goal.invariant-loop-start

@@ -1,8 +1,6 @@
 use Rattle.std.proofs.Common.{◌-◌, ◌∙◌, ap, arith}
 use Rattle.pmf_event.specs.Ranges.{first_from}
-use Rattle.pmf_runs.specs.Walks.{end_of}
-use Rattle.pmf_runs.proofs.LevelLemmas.{level-bound}
-use Rattle.pmf_runs.proofs.LevelAskingLemmas.{start-asked, start-none}
+use Rattle.pmf_runs.{specs.Walks.{end_of}, proofs.LevelLemmas.{level-bound}, proofs.LevelAskingLemmas.{start-asked, start-none}}
 use Rattle.pmf_runs.proofs.level.Level.first_in_part.Goals as goal
 
 pub index-part-requires : goal.index-part-requires

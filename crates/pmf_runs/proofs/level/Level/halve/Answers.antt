@@ -1,8 +1,5 @@
 use Rattle.std.proofs.Common.{◌+◌, ◌-◌, ◌<◌, length, ◌∙◌, ap, arith}
-use Rattle.pmf_runs.specs.Ranks.{parting}
-use Rattle.pmf_runs.proofs.LeafLemmas.{rest-copied}
-use Rattle.pmf_runs.proofs.LevelLemmas.{level-low, level-high, level-middle-is}
-use Rattle.pmf_runs.proofs.JoinedLevelLemmas.{parts-low, parts-high}
+use Rattle.pmf_runs.{specs.Ranks.{parting}, proofs.LeafLemmas.{rest-copied}, proofs.LevelLemmas.{level-low, level-high, level-middle-is}, proofs.JoinedLevelLemmas.{parts-low, parts-high}}
 use Rattle.pmf_runs.proofs.level.Level.halve.Goals as goal
 
 pub returns-clause-ok : goal.returns-clause-ok

@@ -1,7 +1,5 @@
 use Rattle.std.proofs.Common.{◌<◌, length, sym, arith, subst}
-use Rattle.pmf_runs.specs.Ranks.{Rises}
-use Rattle.pmf_runs.proofs.RankLemmas.{remove-rises}
-use Rattle.pmf_runs.proofs.LevelLemmas.{level-joined}
+use Rattle.pmf_runs.{specs.Ranks.{Rises}, proofs.RankLemmas.{remove-rises}, proofs.LevelLemmas.{level-joined}}
 use Rattle.pmf_runs.proofs.level.Level.join_at.Goals as goal
 
 pub invariant_of-self : goal.invariant_of-self

@@ -1,7 +1,5 @@
 use Rattle.std.proofs.Common.{◌≤◌, vec_len, None}
-use Rattle.pmf_runs.specs.Ranks.{SameStates}
-use Rattle.pmf_runs.specs.Levels.{level_state}
-use Rattle.pmf_runs.specs.Joined.{PartsJoined}
+use Rattle.pmf_runs.specs.{Ranks.{SameStates}, Levels.{level_state}, Joined.{PartsJoined}}
 use Rattle.pmf_runs.proofs.level.Level.join_between.Given as goal
 
 abbrev pub invariant-loop-key : goal.invariant-loop-key

@@ -1,8 +1,5 @@
 use Rattle.std.proofs.Common.{◌≡◌, ◌+◌, ◌-◌, ◌∙◌, ap, arith, sym, subst}
-use Rattle.pmf_runs.specs.Ranks.{low_rank, high_rank, IsInner}
-use Rattle.pmf_runs.proofs.RankLemmas.{low-law, high-law_none, high-law_is, none-is, inner-within, high-some, high_rank-bound, at-low, at-high}
-use Rattle.pmf_runs.proofs.LevelLemmas.{inner-begins, level-rewritten}
-use Rattle.pmf_runs.proofs.JoinedLevelLemmas.{parts-rewritten_some, parts-rewritten_none}
+use Rattle.pmf_runs.{specs.Ranks.{low_rank, high_rank, IsInner}, proofs.RankLemmas.{low-law, high-law_none, high-law_is, none-is, inner-within, high-some, high_rank-bound, at-low, at-high}, proofs.LevelLemmas.{inner-begins, level-rewritten}, proofs.JoinedLevelLemmas.{parts-rewritten_some, parts-rewritten_none}}
 use Rattle.pmf_runs.proofs.level.Level.rewrite_all.Goals as goal
 
 pub change_parts-requires-clause-high : goal.change_parts-requires-clause-high

@@ -1,6 +1,5 @@
 use Rattle.std.proofs.Common.{ap, arith, refl}
-use Rattle.pmf_runs.specs.Ranks.{rank}
-use Rattle.pmf_runs.proofs.LevelLemmas.{level-bound, level-set, same-both}
+use Rattle.pmf_runs.{specs.Ranks.{rank}, proofs.LevelLemmas.{level-bound, level-set, same-both}}
 use Rattle.pmf_runs.proofs.level.Level.space_for.Goals as goal
 
 pub split_full-requires : goal.split_full-requires

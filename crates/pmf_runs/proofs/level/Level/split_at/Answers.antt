@@ -1,7 +1,5 @@
 use Rattle.std.proofs.Common.{◌≡◌, ◌+◌, ◌∙◌, get_or, set, ap, arith, refl, sym, subst, vec_len, if◌then◌else◌, insert}
-use Rattle.pmf_runs.specs.Ranks.{Rises, Splits}
-use Rattle.pmf_runs.proofs.RankLemmas.{insert-fresh}
-use Rattle.pmf_runs.proofs.LevelLemmas.{level-same, level-set, level-split}
+use Rattle.pmf_runs.{specs.Ranks.{Rises, Splits}, proofs.RankLemmas.{insert-fresh}, proofs.LevelLemmas.{level-same, level-set, level-split}}
 use Rattle.pmf_runs.proofs.level.Level.split_at.Goals as goal
 
 pub returns-in_err-make_room-clause-same : goal.returns-in_err-make_room-clause-same

@@ -1,6 +1,5 @@
 use Rattle.std.proofs.Common.{◌∙◌, ap, arith}
-use Rattle.pmf_runs.specs.Ranks.{rank}
-use Rattle.pmf_runs.proofs.LevelLemmas.{level-bound, level-read}
+use Rattle.pmf_runs.{specs.Ranks.{rank}, proofs.LevelLemmas.{level-bound, level-read}}
 use Rattle.pmf_runs.proofs.level.Level.state_of.Goals as goal
 
 pub index-requires : goal.index-requires

@@ -1,6 +1,5 @@
 use Rattle.std.proofs.Common.{◌≡◌, length, ◌∙◌, ap, arith}
-use Rattle.pmf_runs.specs.Ranks.{rank}
-use Rattle.pmf_runs.proofs.LevelLemmas.{level-tail}
+use Rattle.pmf_runs.{specs.Ranks.{rank}, proofs.LevelLemmas.{level-tail}}
 use Rattle.pmf_runs.proofs.level.Level.tail.Goals as goal
 
 pub returns-then-is_rank : goal.returns-then-is_rank

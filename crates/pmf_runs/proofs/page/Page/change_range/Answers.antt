@@ -1,7 +1,5 @@
 use Rattle.std.proofs.Common.{arith}
-use Rattle.pmf_runs.specs.Leaves.{leaf_state}
-use Rattle.pmf_runs.proofs.LeafLemmas.{same-none}
-use Rattle.pmf_runs.proofs.ChangingLemmas.{changes-none, changes-altered}
+use Rattle.pmf_runs.{specs.Leaves.{leaf_state}, proofs.LeafLemmas.{same-none}, proofs.ChangingLemmas.{changes-none, changes-altered}}
 use Rattle.pmf_runs.proofs.page.Page.change_range.Goals as goal
 
 pub returns-then-altered-clause-ok : goal.returns-then-altered-clause-ok

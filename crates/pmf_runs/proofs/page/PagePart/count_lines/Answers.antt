@@ -1,6 +1,5 @@
 use Rattle.std.proofs.Common.{◌-◌, sym}
-use Rattle.pmf_runs.specs.Leaves.{leaf_state}
-use Rattle.pmf_runs.proofs.LineCountLemmas.{counted-none}
+use Rattle.pmf_runs.{specs.Leaves.{leaf_state}, proofs.LineCountLemmas.{counted-none}}
 use Rattle.pmf_runs.proofs.page.PagePart.count_lines.Goals as goal
 
 pub returns-then-not-may_pass-clause-is : goal.returns-then-not-may_pass-clause-is

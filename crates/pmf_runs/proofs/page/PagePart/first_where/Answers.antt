@@ -1,6 +1,5 @@
 use Rattle.std.proofs.Common.{◌-◌, sym}
-use Rattle.pmf_runs.specs.Leaves.{leaf_state}
-use Rattle.pmf_runs.proofs.SkipLemmas.{first-none}
+use Rattle.pmf_runs.{specs.Leaves.{leaf_state}, proofs.SkipLemmas.{first-none}}
 use Rattle.pmf_runs.proofs.page.PagePart.first_where.Goals as goal
 
 pub returns-then-not-may_pass : goal.returns-then-not-may_pass

@@ -1,6 +1,5 @@
 use Rattle.std.proofs.Common.{◌-◌, sym}
-use Rattle.pmf_runs.specs.Leaves.{leaf_state}
-use Rattle.pmf_runs.proofs.SkipLemmas.{least-none}
+use Rattle.pmf_runs.{specs.Leaves.{leaf_state}, proofs.SkipLemmas.{least-none}}
 use Rattle.pmf_runs.proofs.page.PagePart.least_key.Goals as goal
 
 pub returns-then-not-may_lower : goal.returns-then-not-may_lower

@@ -1,6 +1,5 @@
 use Rattle.std.proofs.Common.{refl}
-use Rattle.pmf_runs.proofs.RunLemmas.{on-err, keeps-root, changes-root}
-use Rattle.pmf_runs.proofs.RunJoinedLemmas.{joined-root, root-joined}
+use Rattle.pmf_runs.proofs.{RunLemmas.{on-err, keeps-root, changes-root}, RunJoinedLemmas.{joined-root, root-joined}}
 use Rattle.pmf_runs.proofs.runs.RunMap.change_root.Goals as goal
 
 pub returns-in_err-change_range-in-Some-clause-unchanged : goal.returns-in_err-change_range-in-Some-clause-unchanged

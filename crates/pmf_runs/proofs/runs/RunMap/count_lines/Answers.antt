@@ -1,9 +1,5 @@
 use Rattle.std.proofs.Common.{◌-◌, ◌∙◌, ap}
-use Rattle.pmf_runs.specs.declared.walk.Counted.{Counted}
-use Rattle.pmf_runs.specs.Runs.{passing}
-use Rattle.pmf_runs.proofs.AskingLemmas.{lines-law}
-use Rattle.pmf_runs.proofs.LineCountLemmas.{lines-counted}
-use Rattle.pmf_runs.proofs.RunAskingLemmas.{passing-is, gap-asked, root-asked}
+use Rattle.pmf_runs.{specs.declared.walk.Counted.{Counted}, specs.Runs.{passing}, proofs.AskingLemmas.{lines-law}, proofs.LineCountLemmas.{lines-counted}, proofs.RunAskingLemmas.{passing-is, gap-asked, root-asked}}
 use Rattle.pmf_runs.proofs.runs.RunMap.count_lines.Goals as goal
 
 pub returns-in-None : goal.returns-in-None

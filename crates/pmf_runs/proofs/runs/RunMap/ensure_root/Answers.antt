@@ -1,6 +1,5 @@
 use Rattle.std.proofs.Common.{sym, ◌∙◌, refl}
-use Rattle.pmf_runs.proofs.RunLemmas.{keeps-made}
-use Rattle.pmf_runs.proofs.RunJoinedLemmas.{joined-root}
+use Rattle.pmf_runs.proofs.{RunLemmas.{keeps-made}, RunJoinedLemmas.{joined-root}}
 use Rattle.pmf_runs.proofs.runs.RunMap.ensure_root.Goals as goal
 
 pub returns-clause-same : goal.returns-clause-same

@@ -1,6 +1,5 @@
 use Rattle.std.proofs.Common.{sym, ◌∙◌, subst, None}
-use Rattle.pmf_runs.specs.Joined.{JoinedBut}
-use Rattle.pmf_runs.specs.Pages.{pages_joined}
+use Rattle.pmf_runs.specs.{Joined.{JoinedBut}, Pages.{pages_joined}}
 use Rattle.pmf_runs.proofs.runs.RunMap.first_root.Goals as goal
 
 pub returns-clause-states : goal.returns-clause-states

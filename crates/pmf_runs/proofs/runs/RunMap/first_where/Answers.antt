@@ -1,8 +1,5 @@
 use Rattle.std.proofs.Common.{◌-◌, ◌∙◌, arith}
-use Rattle.pmf_runs.proofs.SkipLemmas.{first-empty}
-use Rattle.pmf_runs.specs.Runs.{passing}
-use Rattle.pmf_runs.proofs.AskingLemmas.{first-law}
-use Rattle.pmf_runs.proofs.RunAskingLemmas.{passing-is, gap-asked, root-asked}
+use Rattle.pmf_runs.{proofs.SkipLemmas.{first-empty}, specs.Runs.{passing}, proofs.AskingLemmas.{first-law}, proofs.RunAskingLemmas.{passing-is, gap-asked, root-asked}}
 use Rattle.pmf_runs.proofs.runs.RunMap.first_where.Goals as goal
 
 pub returns-in-None : goal.returns-in-None

@@ -1,8 +1,5 @@
 use Rattle.std.proofs.Common.{◌-◌, ◌∙◌, arith}
-use Rattle.pmf_runs.proofs.SkipLemmas.{least-empty}
-use Rattle.pmf_runs.specs.Runs.{keyed}
-use Rattle.pmf_runs.proofs.AskingLemmas.{least-law}
-use Rattle.pmf_runs.proofs.RunAskingLemmas.{keyed-is, gap-asked, root-asked}
+use Rattle.pmf_runs.{proofs.SkipLemmas.{least-empty}, specs.Runs.{keyed}, proofs.AskingLemmas.{least-law}, proofs.RunAskingLemmas.{keyed-is, gap-asked, root-asked}}
 use Rattle.pmf_runs.proofs.runs.RunMap.least_key.Goals as goal
 
 pub returns-in-None : goal.returns-in-None

@@ -1,7 +1,6 @@
 use Rattle.std.proofs.Common.{◌≡◌, ◌-◌, ◌*◌, ◌/◌, ◌∙◌, ap, arith}
 use Rattle.pmf_event.specs.Ranges.{count_from}
-use Rattle.pmf_runs.specs.Lines.{line_has}
-use Rattle.pmf_runs.specs.Runs.{passing}
+use Rattle.pmf_runs.specs.{Lines.{line_has}, Runs.{passing}}
 use Rattle.pmf_shadow.proofs.shadow.Shadow.count_with.Goals as goal
 
 pub returns : goal.returns

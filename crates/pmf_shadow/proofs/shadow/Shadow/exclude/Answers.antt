@@ -1,6 +1,5 @@
 use Rattle.std.proofs.Common.{◌+◌, true, refl}
-use Rattle.pmf_shadow.specs.States.{after_mark}
-use Rattle.pmf_shadow.proofs.StandsLemmas.{stands-exclude, follows-from, changes-at}
+use Rattle.pmf_shadow.{specs.States.{after_mark}, proofs.StandsLemmas.{stands-exclude, follows-from, changes-at}}
 use Rattle.pmf_shadow.proofs.shadow.Shadow.exclude.Goals as goal
 
 pub returns-clause-follows : goal.returns-clause-follows

@@ -1,6 +1,5 @@
 use Rattle.std.proofs.Common.{◌+◌, ◌-◌, ◌*◌, ◌/◌, refl, ap}
-use Rattle.pmf_shadow.specs.States.{after_write_back}
-use Rattle.pmf_shadow.proofs.StandsLemmas.{stands-flush, follows-from, changes-at}
+use Rattle.pmf_shadow.{specs.States.{after_write_back}, proofs.StandsLemmas.{stands-flush, follows-from, changes-at}}
 use Rattle.pmf_shadow.proofs.shadow.Shadow.flush.Goals as goal
 
 pub returns-clause-follows : goal.returns-clause-follows

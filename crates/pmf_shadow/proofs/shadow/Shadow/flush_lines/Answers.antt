@@ -1,6 +1,5 @@
 use Rattle.std.proofs.Common.{◌∙◌}
-use Rattle.pmf_shadow.specs.States.{stored_of}
-use Rattle.pmf_shadow.proofs.QuestionLemmas.{lacks-late, late-alone, pending-same, clean-same}
+use Rattle.pmf_shadow.{specs.States.{stored_of}, proofs.QuestionLemmas.{lacks-late, late-alone, pending-same, clean-same}}
 use Rattle.pmf_shadow.proofs.shadow.Shadow.flush_lines.Goals as goal
 
 pub lines_apart-pending-requires-clause-both : goal.lines_apart-pending-requires-clause-both

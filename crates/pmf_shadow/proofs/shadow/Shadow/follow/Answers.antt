@@ -1,10 +1,6 @@
 use Rattle.std.proofs.Common.{◌≡◌, true, refl, sym, subst}
-use Rattle.pmf_event.specs.declared.event.Event.{Event}
-use Rattle.pmf_event.specs.declared.event.Event.TheVariants.{Store, Flush, Fence, Persist, Ordered, Exclude, Include, TxBegin, TxAdd, TxEnd, CheckStart, CheckEnd}
-use Rattle.pmf_event.specs.Prelude.{Extent}
-use Rattle.pmf_shadow.specs.Laws.{is_unseen}
-use Rattle.pmf_shadow.specs.Shadow.{FollowsAt}
-use Rattle.pmf_shadow.proofs.StandsLemmas.{unseen-follows}
+use Rattle.pmf_event.specs.{declared.event.Event.{Event}, declared.event.Event.TheVariants.{Store, Flush, Fence, Persist, Ordered, Exclude, Include, TxBegin, TxAdd, TxEnd, CheckStart, CheckEnd}, Span.{Extent}}
+use Rattle.pmf_shadow.{specs.Laws.{is_unseen}, specs.Shadow.{FollowsAt}, proofs.StandsLemmas.{unseen-follows}}
 use Rattle.pmf_shadow.proofs.shadow.Shadow.follow.Goals as goal
 
 unseen-unless : (e : Event) → ((s : Extent) → e ≡ Store s → ⊥) → ((s : Extent) → e ≡ Flush s → ⊥) → (e ≡ Fence → ⊥) → ((s : Extent) → e ≡ Exclude s → ⊥) → ((s : Extent) → e ≡ Include s → ⊥) →

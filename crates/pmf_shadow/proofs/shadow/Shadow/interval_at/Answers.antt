@@ -1,6 +1,5 @@
 use Rattle.std.proofs.Common.{sym, ◌∙◌, ap, Some}
-use Rattle.pmf_shadow.specs.States.{stored_of}
-use Rattle.pmf_shadow.proofs.QuestionLemmas.{interval-same-some, interval-same-none}
+use Rattle.pmf_shadow.{specs.States.{stored_of}, proofs.QuestionLemmas.{interval-same-some, interval-same-none}}
 use Rattle.pmf_shadow.proofs.shadow.Shadow.interval_at.Goals as goal
 
 pub returns-in-Some : goal.returns-in-Some

@@ -1,11 +1,7 @@
 use Rattle.std.proofs.Common.{◌≡◌, refl, sym, ◌∙◌, ap, Some, None}
-use Rattle.pmf_event.specs.Order.{paired, with_partner}
-use Rattle.pmf_event.proofs.RangeLemmas.{first-passes}
+use Rattle.pmf_event.{specs.Order.{paired, with_partner}, proofs.RangeLemmas.{first-passes}}
 use Rattle.pmf_runs.specs.Runs.{passing, keyed}
-use Rattle.pmf_shadow.specs.States.{kept_opening, checked_store, late_for}
-use Rattle.pmf_shadow.specs.Pairs.{kept, by_epochs}
-use Rattle.pmf_shadow.proofs.PieceLemmas.{least-of_span}
-use Rattle.pmf_shadow.proofs.UnorderedLemmas.{epochs-none, epochs-found, epochs-partner, never-lost}
+use Rattle.pmf_shadow.{specs.States.{kept_opening, checked_store, late_for}, specs.Pairs.{kept, by_epochs}, proofs.PieceLemmas.{least-of_span}, proofs.UnorderedLemmas.{epochs-none, epochs-found, epochs-partner, never-lost}}
 use Rattle.pmf_shadow.proofs.shadow.Shadow.least_by_epochs.Goals as goal
 
 pub returns-in_err-epoch : goal.returns-in_err-epoch

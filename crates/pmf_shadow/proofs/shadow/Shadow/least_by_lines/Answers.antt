@@ -1,12 +1,7 @@
 use Rattle.std.proofs.Common.{◌≡◌, refl, sym, ◌∙◌, ap, subst, arith, Some, None}
-use Rattle.pmf_event.specs.Order.{paired, with_partner}
-use Rattle.pmf_event.proofs.LineLemmas.{line-bounds}
-use Rattle.pmf_event.proofs.RangeLemmas.{first-passes}
+use Rattle.pmf_event.{specs.Order.{paired, with_partner}, proofs.LineLemmas.{line-bounds}, proofs.RangeLemmas.{first-passes}}
 use Rattle.pmf_runs.specs.Runs.{passing, keyed}
-use Rattle.pmf_shadow.specs.States.{kept_opening, kept_place, checked_store, late_for, has_one_by}
-use Rattle.pmf_shadow.specs.Pairs.{kept, by_lines, on_line, IsLeastValue}
-use Rattle.pmf_shadow.proofs.PieceLemmas.{least-of_span}
-use Rattle.pmf_shadow.proofs.UnorderedLemmas.{lines-none, lines-found-at, lines-partner-at, early-found, place-found, found-kept, opens-from}
+use Rattle.pmf_shadow.{specs.States.{kept_opening, kept_place, checked_store, late_for, has_one_by}, specs.Pairs.{kept, by_lines, on_line, IsLeastValue}, proofs.PieceLemmas.{least-of_span}, proofs.UnorderedLemmas.{lines-none, lines-found-at, lines-partner-at, early-found, place-found, found-kept, opens-from}}
 use Rattle.pmf_shadow.proofs.shadow.Shadow.least_by_lines.Goals as goal
 
 pub returns-in_err-epoch : goal.returns-in_err-epoch

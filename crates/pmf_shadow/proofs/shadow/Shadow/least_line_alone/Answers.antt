@@ -1,6 +1,5 @@
 use Rattle.std.proofs.Common.{sym, ◌∙◌, arith}
-use Rattle.pmf_runs.specs.Runs.{passing, state_at}
-use Rattle.pmf_runs.specs.Lines.{line_has}
+use Rattle.pmf_runs.specs.{Runs.{passing, state_at}, Lines.{line_has}}
 use Rattle.pmf_shadow.proofs.StretchLemmas.{alone-none, alone-from, found-below}
 use Rattle.pmf_shadow.proofs.shadow.Shadow.least_line_alone.Goals as goal
 

@@ -1,8 +1,6 @@
 use Rattle.std.proofs.Common.{sym, ◌∙◌, arith}
-use Rattle.pmf_runs.specs.Runs.{passing}
-use Rattle.pmf_runs.specs.Lines.{line_has}
-use Rattle.pmf_shadow.specs.Stretches.{line_lacks, line_has_but}
-use Rattle.pmf_shadow.proofs.StretchLemmas.{found-below, but-none, but-upto, but-here, but-never, none_before-found, none_before-more, none_before-end}
+use Rattle.pmf_runs.specs.{Runs.{passing}, Lines.{line_has}}
+use Rattle.pmf_shadow.{specs.Stretches.{line_lacks, line_has_but}, proofs.StretchLemmas.{found-below, but-none, but-upto, but-here, but-never, none_before-found, none_before-more, none_before-end}}
 use Rattle.pmf_shadow.proofs.shadow.Shadow.least_line_but.Goals as goal
 
 pub least_line_with-requires-clause-ordered : goal.least_line_with-requires-clause-ordered

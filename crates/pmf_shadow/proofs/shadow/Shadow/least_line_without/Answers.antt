@@ -1,7 +1,6 @@
 use Rattle.std.proofs.Common.{sym, arith}
 use Rattle.pmf_runs.specs.Runs.{passing}
-use Rattle.pmf_shadow.specs.Stretches.{line_lacks}
-use Rattle.pmf_shadow.proofs.StretchLemmas.{lacks-from, stretch-fails, none_before-found, none_before-more, none_before-end}
+use Rattle.pmf_shadow.{specs.Stretches.{line_lacks}, proofs.StretchLemmas.{lacks-from, stretch-fails, none_before-found, none_before-more, none_before-end}}
 use Rattle.pmf_shadow.proofs.shadow.Shadow.least_line_without.Goals as goal
 
 pub returns-then-not-has_on : goal.returns-then-not-has_on

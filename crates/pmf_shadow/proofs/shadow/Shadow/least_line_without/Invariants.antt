@@ -1,7 +1,6 @@
 use Rattle.std.proofs.Common.{◌-◌}
 use Rattle.pmf_runs.specs.Runs.{passing}
-use Rattle.pmf_shadow.specs.Stretches.{line_lacks}
-use Rattle.pmf_shadow.proofs.StretchLemmas.{NoneBefore}
+use Rattle.pmf_shadow.{specs.Stretches.{line_lacks}, proofs.StretchLemmas.{NoneBefore}}
 use Rattle.pmf_shadow.proofs.shadow.Shadow.least_line_without.Given as goal
 
 abbrev pub invariant-loop-line : goal.invariant-loop-line

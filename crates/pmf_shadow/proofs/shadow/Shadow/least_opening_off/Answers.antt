@@ -1,9 +1,7 @@
 use Rattle.std.proofs.Common.{◌≡◌, ◌+◌, ◌-◌, min, max, sym, ◌∙◌, ap, subst}
 use Rattle.pmf_event.specs.Ranges.{lesser, least_from}
 use Rattle.pmf_runs.specs.Runs.{keyed}
-use Rattle.pmf_shadow.specs.States.{kept_opening}
-use Rattle.pmf_shadow.specs.Pairs.{off_line, IsLeastValue}
-use Rattle.pmf_shadow.proofs.PieceLemmas.{least-off}
+use Rattle.pmf_shadow.{specs.States.{kept_opening}, specs.Pairs.{off_line, IsLeastValue}, proofs.PieceLemmas.{least-off}}
 use Rattle.pmf_shadow.proofs.shadow.Shadow.least_opening_off.Goals as goal
 
 pub returns : goal.returns

@@ -1,9 +1,6 @@
 use Rattle.std.proofs.Common.{true, false, sym, ◌∙◌, ap}
-use Rattle.pmf_event.proofs.LeastPairLemmas.{least_pair-same}
-use Rattle.pmf_event.specs.declared.profile.Profile.TheVariants.{Two}
-use Rattle.pmf_event.specs.Prelude.{is_unordered, is_certified, least_pair}
-use Rattle.pmf_shadow.specs.Pairs.{by_epochs, by_lines, kept, pairs_of}
-use Rattle.pmf_shadow.proofs.UnorderedLemmas.{epochs-is, unordered-two-is, certified-is}
+use Rattle.pmf_event.{proofs.LeastPairLemmas.{least_pair-same}, specs.declared.profile.Profile.TheVariants.{Two}, specs.Order.{is_unordered, is_certified, least_pair}}
+use Rattle.pmf_shadow.{specs.Pairs.{by_epochs, by_lines, kept, pairs_of}, proofs.UnorderedLemmas.{epochs-is, unordered-two-is, certified-is}}
 use Rattle.pmf_shadow.proofs.shadow.Shadow.least_pair.Goals as goal
 
 pub returns-in-true-default : goal.returns-in-true-default

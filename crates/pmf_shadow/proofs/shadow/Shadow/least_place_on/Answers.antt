@@ -1,9 +1,7 @@
 use Rattle.std.proofs.Common.{◌≡◌, ◌+◌, ◌-◌, min, max, sym, ◌∙◌, ap, subst}
 use Rattle.pmf_event.specs.Ranges.{least_from}
 use Rattle.pmf_runs.specs.Runs.{keyed}
-use Rattle.pmf_shadow.specs.States.{kept_place}
-use Rattle.pmf_shadow.specs.Pairs.{on_line, IsLeastValue}
-use Rattle.pmf_shadow.proofs.PieceLemmas.{least-on}
+use Rattle.pmf_shadow.{specs.States.{kept_place}, specs.Pairs.{on_line, IsLeastValue}, proofs.PieceLemmas.{least-on}}
 use Rattle.pmf_shadow.proofs.shadow.Shadow.least_place_on.Goals as goal
 
 pub returns : goal.returns

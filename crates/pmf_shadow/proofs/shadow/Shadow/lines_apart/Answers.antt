@@ -1,7 +1,6 @@
 use Rattle.std.proofs.Common.{sym, ◌∙◌}
 use Rattle.pmf_runs.specs.Runs.{passing, state_at}
-use Rattle.pmf_shadow.specs.Stretches.{line_has_but, line_lacks}
-use Rattle.pmf_shadow.proofs.StretchLemmas.{lines_by-is, one-but, one-lacks}
+use Rattle.pmf_shadow.{specs.Stretches.{line_has_but, line_lacks}, proofs.StretchLemmas.{lines_by-is, one-but, one-lacks}}
 use Rattle.pmf_shadow.proofs.shadow.Shadow.lines_apart.Goals as goal
 
 pub returns-then-has_on-clause-but : goal.returns-then-has_on-clause-but

@@ -1,7 +1,6 @@
 use Rattle.std.proofs.Common.{sym, ◌∙◌, arith, ◌-◌}
 use Rattle.pmf_runs.specs.Runs.{passing, state_at}
-use Rattle.pmf_shadow.specs.Stretches.{line_has_but}
-use Rattle.pmf_shadow.proofs.StretchLemmas.{found-below, count-but, lines-none, lines-some}
+use Rattle.pmf_shadow.{specs.Stretches.{line_has_but}, proofs.StretchLemmas.{found-below, count-but, lines-none, lines-some}}
 use Rattle.pmf_shadow.proofs.shadow.Shadow.lines_with_but.Goals as goal
 
 pub returns-in_err-least : goal.returns-in_err-least

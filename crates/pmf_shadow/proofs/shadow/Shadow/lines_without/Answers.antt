@@ -1,7 +1,6 @@
 use Rattle.std.proofs.Common.{sym, ◌∙◌, arith, ◌-◌}
 use Rattle.pmf_runs.specs.Runs.{passing}
-use Rattle.pmf_shadow.specs.Stretches.{line_lacks}
-use Rattle.pmf_shadow.proofs.StretchLemmas.{found-below, count-lacks, lines-none, lines-some}
+use Rattle.pmf_shadow.{specs.Stretches.{line_lacks}, proofs.StretchLemmas.{found-below, count-lacks, lines-none, lines-some}}
 use Rattle.pmf_shadow.proofs.shadow.Shadow.lines_without.Goals as goal
 
 pub returns-in_err-least : goal.returns-in_err-least

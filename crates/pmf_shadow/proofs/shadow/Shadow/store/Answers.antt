@@ -1,6 +1,5 @@
 use Rattle.std.proofs.Common.{◌+◌, refl}
-use Rattle.pmf_shadow.specs.States.{after_store}
-use Rattle.pmf_shadow.proofs.StandsLemmas.{stands-store, follows-from, changes-at}
+use Rattle.pmf_shadow.{specs.States.{after_store}, proofs.StandsLemmas.{stands-store, follows-from, changes-at}}
 use Rattle.pmf_shadow.proofs.shadow.Shadow.store.Goals as goal
 
 pub returns-clause-follows : goal.returns-clause-follows

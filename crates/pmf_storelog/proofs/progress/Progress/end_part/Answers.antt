@@ -1,4 +1,4 @@
-use Rattle.pmf_event.proofs.Common.{◌≡◌, ◌++◌, [], ◌∙◌, arith, common_steps, err_from_is_err_and, nil_from_length}
+use Rattle.std.proofs.{Common.{◌≡◌, ◌++◌, [], ◌∙◌, arith}, lemmas.Grind.{common_steps}, lemmas.Result.{err_from_is_err_and}, lemmas.List.{nil_from_length}}
 use Rattle.pmf_storelog.proofs.ProgressLemmas.{first_ended_ok, first_ended_err, parsed_ended, shown_ended}
 use Rattle.pmf_storelog.proofs.progress.Progress.end_part.Goals as goal
 

@@ -1,4 +1,4 @@
-use Rattle.pmf_event.proofs.Common.{◌-◌, length, take, drop, arith, err_from_is_err_and, take_rest, take-append-drop, length-drop, length-take-le}
+use Rattle.std.proofs.{Common.{◌-◌, length, take, drop, arith, take-append-drop, length-drop, length-take-le}, lemmas.Result.{err_from_is_err_and}, lemmas.List.{take_rest}}
 use Rattle.pmf_storelog.proofs.ProgressLemmas.{front_longer, next_part, shown_in_piece}
 use Rattle.pmf_storelog.proofs.progress.Progress.read_ended.Goals as goal
 

@@ -1,6 +1,5 @@
-use Rattle.pmf_event.proofs.Common.{◌++◌, refl, err_from_is_err_and}
-use Rattle.pmf_storelog.proofs.LogLemmas.{shown_of_all}
-use Rattle.pmf_storelog.proofs.ReaderLemmas.{fed_faulty, fed_long, fed_whole, fed_length, fed_none}
+use Rattle.std.proofs.{Common.{◌++◌, refl}, lemmas.Result.{err_from_is_err_and}}
+use Rattle.pmf_storelog.proofs.{LogLemmas.{shown_of_all}, ReaderLemmas.{fed_faulty, fed_long, fed_whole, fed_length, fed_none}}
 use Rattle.pmf_storelog.proofs.reader.LogReader.feed.Goals as goal
 
 pub returns-in_err-rest-clause-err : goal.returns-in_err-rest-clause-err

@@ -1,6 +1,5 @@
-use Rattle.pmf_event.proofs.Common.{◌≤◌, length, arith, err_from_is_err_and}
-use Rattle.pmf_storelog.specs.declared.fault.TheConstants.{LOG_LIMIT}
-use Rattle.pmf_storelog.proofs.ReaderLemmas.{end_faulty, end_ok}
+use Rattle.std.proofs.{Common.{◌≤◌, length, arith}, lemmas.Result.{err_from_is_err_and}}
+use Rattle.pmf_storelog.{specs.declared.fault.TheConstants.{LOG_LIMIT}, proofs.ReaderLemmas.{end_faulty, end_ok}}
 use Rattle.pmf_storelog.proofs.reader.LogReader.finish.Goals as goal
 
 pub returns-in_err-take_part-clause-answers : goal.returns-in_err-take_part-clause-answers

@@ -1,7 +1,5 @@
-use Rattle.pmf_event.proofs.Common.{◌≡◌, length, arith, common_steps}
-use Rattle.pmf_storelog.specs.Sections.{Opens}
-use Rattle.pmf_storelog.proofs.SectionLemmas.{first_begun, first_ok}
-use Rattle.pmf_storelog.proofs.sections.OpenSections.add.Goals.{then-is_empty+in_ok-open, else-is_empty}
+use Rattle.std.proofs.{Common.{◌≡◌, length, arith}, lemmas.Grind.{common_steps}}
+use Rattle.pmf_storelog.{specs.Sections.{Opens}, proofs.SectionLemmas.{first_begun, first_ok}, proofs.sections.OpenSections.add.Goals.{then-is_empty+in_ok-open, else-is_empty}}
 use Rattle.pmf_storelog.proofs.sections.OpenSections.add.Goals as goal
 
 pub returns-clause-ok : goal.returns-clause-ok

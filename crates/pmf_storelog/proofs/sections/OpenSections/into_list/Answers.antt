@@ -1,4 +1,4 @@
-use Rattle.pmf_event.proofs.Common.{length, map, ap, arith, length-map}
+use Rattle.std.proofs.{Common.{length, map, ap, arith}, lemmas.List.{length-map}}
 use Rattle.pmf_storelog.proofs.SectionLemmas.{listed_ok}
 use Rattle.pmf_storelog.proofs.sections.OpenSections.into_list.Goals as goal
 

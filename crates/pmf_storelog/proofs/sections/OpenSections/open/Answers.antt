@@ -1,6 +1,4 @@
-use Rattle.pmf_event.proofs.Common.{length, sym, ap, ◌∙◌, arith, nat_cmp, common_steps}
-use Rattle.std.specs.Map.{lookup}
-use Rattle.std.specs.BTreeMap.{is_at, get}
+use Rattle.std.{proofs.Common.{length, sym, ap, ◌∙◌, arith, nat_cmp}, proofs.lemmas.Grind.{common_steps}, specs.Map.{lookup}, specs.BTreeMap.{is_at, get}}
 use Rattle.pmf_storelog.proofs.SectionLemmas.{one_longer, inside_either}
 use Rattle.pmf_storelog.proofs.sections.OpenSections.open.Goals as goal
 

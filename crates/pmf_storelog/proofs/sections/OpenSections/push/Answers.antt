@@ -1,7 +1,6 @@
 use Rattle.std.proofs.Common.{◌≡◌, ◌++◌, [], ◌∷◌, set, refl, ap, ◌∙◌}
 use Rattle.pmf_event.specs.Section.{Trace}
-use Rattle.pmf_storelog.specs.LogText.{section_named}
-use Rattle.pmf_storelog.proofs.SectionLemmas.{taken, current_stands}
+use Rattle.pmf_storelog.{specs.LogText.{section_named}, proofs.SectionLemmas.{taken, current_stands}}
 use Rattle.pmf_storelog.proofs.sections.OpenSections.push.Goals as goal
 
 pub returns-in-Ok-clause-ok : goal.returns-in-Ok-clause-ok

@@ -1,4 +1,4 @@
-use Rattle.pmf_event.proofs.Common.{◌≡◌, ◌<◌, ℕ, List, length, sym, ap, ◌∙◌, arith, subst, common_steps}
+use Rattle.std.proofs.{Common.{◌≡◌, ◌<◌, ℕ, List, length, sym, ap, ◌∙◌, arith, subst}, lemmas.Grind.{common_steps}}
 use Rattle.pmf_storelog.proofs.TallyLemmas.{taken_blank, records_in-filled}
 use Rattle.pmf_storelog.proofs.tally.Tally.take_part.Goals as goal
 

@@ -1,7 +1,5 @@
 use Rattle.std.proofs.Common.{◌≡◌, Ok, Err, Some, sym, ap, ◌∙◌, refl}
-use Rattle.pmf_storelog.specs.declared.record.Saying.TheVariants.{Happens, Enters, Skipped}
-use Rattle.pmf_storelog.specs.Records.{record_of}
-use Rattle.pmf_storelog.proofs.TallyLemmas.{entered_ok, entered_err, taken_nothing, shown_cause}
+use Rattle.pmf_storelog.{specs.declared.record.Saying.TheVariants.{Happens, Enters, Skipped}, specs.Records.{record_of}, proofs.TallyLemmas.{entered_ok, entered_err, taken_nothing, shown_cause}}
 use Rattle.pmf_storelog.proofs.tally.Tally.take_record.Goals as goal
 
 pub returns-in-Ok-Happens-clause-err : goal.returns-in-Ok-Happens-clause-err

@@ -1,6 +1,5 @@
 use Rattle.std.proofs.Common.{◌∙◌, sym, arith, Some, None}
-use Rattle.pmf_txcheck.proofs.TrackLemmas.{tracks-outside, tracks-added, add-outside, add-unscoped, add-found, in_scope-by, follows-from}
-use Rattle.pmf_txcheck.proofs.state.TxState.add.Goals.{in-None, in-Some+in-None-first_where, in-Some+in-Some-first_where}
+use Rattle.pmf_txcheck.proofs.{TrackLemmas.{tracks-outside, tracks-added, add-outside, add-unscoped, add-found, in_scope-by, follows-from}, state.TxState.add.Goals.{in-None, in-Some+in-None-first_where, in-Some+in-Some-first_where}}
 use Rattle.pmf_txcheck.proofs.state.TxState.add.Goals as goal
 
 pub returns-then-self-eq0-clause-follows : goal.returns-then-self-eq0-clause-follows

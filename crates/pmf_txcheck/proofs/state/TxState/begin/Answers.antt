@@ -1,6 +1,5 @@
 use Rattle.std.proofs.Common.{sym, subst, arith}
-use Rattle.pmf_txcheck.proofs.TrackLemmas.{Begun, begun-outermost, begun-nested, tracks-begun, follows-from}
-use Rattle.pmf_txcheck.proofs.state.TxState.begin.Goals.{then-self-eq0+in-None-1, then-self-eq0+in-Some-1, else-self-eq0}
+use Rattle.pmf_txcheck.proofs.{TrackLemmas.{Begun, begun-outermost, begun-nested, tracks-begun, follows-from}, state.TxState.begin.Goals.{then-self-eq0+in-None-1, then-self-eq0+in-Some-1, else-self-eq0}}
 use Rattle.pmf_txcheck.proofs.state.TxState.begin.Goals as goal
 
 pub returns : goal.returns

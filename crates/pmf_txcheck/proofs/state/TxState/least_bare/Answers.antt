@@ -1,9 +1,6 @@
 use Rattle.std.proofs.Common.{◌-◌, min, sym, ◌∙◌, ap, arith}
-use Rattle.pmf_event.specs.declared.span.TheConstants.{SPAN_LIMIT}
-use Rattle.pmf_event.specs.Prelude.{Extent, first_byte, is_included}
-use Rattle.pmf_txcheck.specs.Findings.{lacks_backup_by}
-use Rattle.pmf_event.proofs.RangeLemmas.{first-passes}
-use Rattle.pmf_txcheck.proofs.SearchLemmas.{run-of_others, no-others, none-from_none_up_to, first-from_none_up_to, bare-over_backed, bare-over_excluded, bare-all_excluded, bare-here}
+use Rattle.pmf_event.{specs.declared.span.TheConstants.{SPAN_LIMIT}, specs.Span.{Extent}, specs.Ranges.{first_byte}, specs.Exclusion.{is_included}, proofs.RangeLemmas.{first-passes}}
+use Rattle.pmf_txcheck.{specs.Findings.{lacks_backup_by}, proofs.SearchLemmas.{run-of_others, no-others, none-from_none_up_to, first-from_none_up_to, bare-over_backed, bare-over_excluded, bare-all_excluded, bare-here}}
 use Rattle.pmf_txcheck.proofs.state.TxState.least_bare.Goals as goal
 
 pub between-requires-clause-some : goal.between-requires-clause-some

@@ -1,9 +1,6 @@
 use Rattle.std.proofs.Common.{◌≡◌, ◌+◌, ◌-◌, min, sym, ◌∙◌, ap, arith}
-use Rattle.pmf_event.specs.declared.span.TheConstants.{ADDRESS_LIMIT, SPAN_LIMIT}
-use Rattle.pmf_event.specs.Prelude.{Extent, first_byte, is_exposed}
-use Rattle.pmf_txcheck.specs.Findings.{is_left_open_by}
-use Rattle.pmf_event.proofs.RangeLemmas.{none-passes, first-passes}
-use Rattle.pmf_txcheck.proofs.SearchLemmas.{run-of_members, no-members, none-from_none_up_to, first-from_none_up_to, open-over_others, open-over_closed, open-here}
+use Rattle.pmf_event.{specs.declared.span.TheConstants.{ADDRESS_LIMIT, SPAN_LIMIT}, specs.Span.{Extent}, specs.Ranges.{first_byte}, specs.Persist.{is_exposed}, proofs.RangeLemmas.{none-passes, first-passes}}
+use Rattle.pmf_txcheck.{specs.Findings.{is_left_open_by}, proofs.SearchLemmas.{run-of_members, no-members, none-from_none_up_to, first-from_none_up_to, open-over_others, open-over_closed, open-here}}
 use Rattle.pmf_txcheck.proofs.state.TxState.least_left_open.Goals as goal
 
 pub between-span-requires-clause-some : goal.between-span-requires-clause-some

@@ -1,7 +1,6 @@
 use Rattle.std.proofs.Common.{sym, ◌∙◌, ap, arith, Some, None, not}
 use Rattle.pmf_event.proofs.RangeLemmas.{none-from}
-use Rattle.pmf_txcheck.proofs.TrackLemmas.{inside-by, in_scope-by_some, tracks-stored, tracks-store_outside, tracks-store_unscoped, store-outside, store-unscoped, store-found, follows-from}
-use Rattle.pmf_txcheck.proofs.state.TxState.store.Goals.{then-self-eq0-via-then-self-eq0, then-self-eq0-via-else-self-eq0+then-is_none, in-None, in-Some}
+use Rattle.pmf_txcheck.proofs.{TrackLemmas.{inside-by, in_scope-by_some, tracks-stored, tracks-store_outside, tracks-store_unscoped, store-outside, store-unscoped, store-found, follows-from}, state.TxState.store.Goals.{then-self-eq0-via-then-self-eq0, then-self-eq0-via-else-self-eq0+then-is_none, in-None, in-Some}}
 use Rattle.pmf_txcheck.proofs.state.TxState.store.Goals as goal
 
 pub returns-then-self-eq0-clause-follows : goal.returns-then-self-eq0-clause-follows

@@ -1,13 +1,8 @@
 use Rattle.std.proofs.Common.{suc, [], ◌∷◌, refl, sym, ◌∙◌, ap, arith, Some}
-use Rattle.pmf_event.specs.declared.event.Event.TheVariants.{Fence, TxBegin, TxEnd, CheckStart, CheckEnd}
-use Rattle.pmf_event.specs.Prelude.{if_any}
-use Rattle.pmf_event.proofs.TransactionLemmas.{depth-bound}
-use Rattle.pmf_shadow.specs.Laws.{is_unseen}
-use Rattle.pmf_shadow.proofs.StandsLemmas.{stands-fences}
-use Rattle.pmf_txcheck.specs.Laws.{is_untracked}
-use Rattle.pmf_txcheck.proofs.TrackLemmas.{one-list}
-use Rattle.pmf_verdict.specs.Rows.{findings_of}
-use Rattle.pmf_verdict.proofs.WalkLemmas.{walks-said, walks-silent, stands-next, stands-still, as_told-same, tracks-still, tracks-next, found-end, found-start, found-check}
+use Rattle.pmf_event.{specs.declared.event.Event.TheVariants.{Fence, TxBegin, TxEnd, CheckStart, CheckEnd}, specs.FlushWarnings.{if_any}, proofs.TransactionLemmas.{depth-bound}}
+use Rattle.pmf_shadow.{specs.Laws.{is_unseen}, proofs.StandsLemmas.{stands-fences}}
+use Rattle.pmf_txcheck.{specs.Laws.{is_untracked}, proofs.TrackLemmas.{one-list}}
+use Rattle.pmf_verdict.{specs.Rows.{findings_of}, proofs.WalkLemmas.{walks-said, walks-silent, stands-next, stands-still, as_told-same, tracks-still, tracks-next, found-end, found-start, found-check}}
 use Rattle.pmf_verdict.proofs.checking.Walk.follow.Goals as goal
 
 pub fence-requires : goal.fence-requires

@@ -1,13 +1,8 @@
 use Rattle.std.proofs.Common.{◌≡◌, suc, ◌++◌, map, sym, ◌∙◌, ap, subst, refl, Option}
-use Rattle.pmf_event.specs.declared.finding.Finding.{Finding}
-use Rattle.pmf_event.specs.Prelude.{is_pending, lines_where, doubled_finding, if_any, flush_findings}
+use Rattle.pmf_event.specs.{declared.finding.Finding.{Finding}, FlushWarnings.{is_pending, lines_where, doubled_finding, if_any, flush_findings}}
 use Rattle.pmf_shadow.specs.Shadow.{StandsFor}
-use Rattle.pmf_txcheck.specs.Laws.{is_untracked}
-use Rattle.pmf_txcheck.specs.Tracking.{Tracks}
-use Rattle.pmf_verdict.specs.declared.checking.Walk.{Walk}
-use Rattle.pmf_verdict.specs.Rows.{row_at, rows_upto}
-use Rattle.pmf_verdict.proofs.RowsLemmas.{rows_upto-flush}
-use Rattle.pmf_verdict.proofs.WalkLemmas.{stands-next, tracks-still}
+use Rattle.pmf_txcheck.specs.{Laws.{is_untracked}, Tracking.{Tracks}}
+use Rattle.pmf_verdict.{specs.declared.checking.Walk.{Walk}, specs.Rows.{row_at, rows_upto}, proofs.RowsLemmas.{rows_upto-flush}, proofs.WalkLemmas.{stands-next, tracks-still}}
 use Rattle.pmf_verdict.proofs.checking.Walk.write_back.Goals as goal
 
 pub returns-clause-walks : goal.returns-clause-walks

@@ -1,11 +1,5 @@
 use Rattle.std.proofs.Common.{sym, ◌∙◌, ap, subst}
-use Rattle.pmf_verdict.specs.Checked.{Checked, rows_in}
-use Rattle.pmf_verdict.specs.Explained.{FailuresAreReal}
-use Rattle.pmf_verdict.specs.Sound.{PersistsHold, OrdersHold, ScopesHold}
-use Rattle.pmf_verdict.specs.Exact.{IsExact, SameLinesAreOneStore}
-use Rattle.pmf_verdict.proofs.HoldingLemmas.{rows_exact, same_lines}
-use Rattle.pmf_verdict.proofs.FitLemmas.{failures_real}
-use Rattle.pmf_verdict.proofs.SoundLemmas.{passes_hold, orders_hold, scopes_hold}
+use Rattle.pmf_verdict.{specs.Checked.{Checked, rows_in}, specs.Explained.{FailuresAreReal}, specs.Sound.{PersistsHold, OrdersHold, ScopesHold}, specs.Exact.{IsExact, SameLinesAreOneStore}, proofs.HoldingLemmas.{rows_exact, same_lines}, proofs.FitLemmas.{failures_real}, proofs.SoundLemmas.{passes_hold, orders_hold, scopes_hold}}
 use Rattle.pmf_verdict.proofs.verdict.Verdict.rows.Goals as goal
 
 pub returns : goal.returns

@@ -1,8 +1,7 @@
-use Rattle.pmf_event.proofs.Common.{rules, ◌≡◌, ◌<◌, length, map, ap, subst, sym, ◌∙◌, length-map}
+use Rattle.std.proofs.{Common.{rules, ◌≡◌, ◌<◌, length, map, ap, subst, sym, ◌∙◌}, lemmas.List.{length-map}}
 use Rattle.pmf_verdict.specs.Checked.{checked_by}
+use Rattle.pmf_world.{specs.Floors.{FloorValue, verdict_at}, proofs.lemmas.FloorLemmas.{is-worker, section-is}}
 use Rattle.pmf_world.specs.declared.doing.Doing.TheVariants as doing
-use Rattle.pmf_world.specs.Floors.{FloorValue, verdict_at}
-use Rattle.pmf_world.proofs.lemmas.FloorLemmas.{is-worker, section-is}
 use Rattle.pmf_world.proofs.floor.Floor.check.Goals as goal
 
 pub index-requires : goal.index-requires

@@ -1,7 +1,6 @@
 use Rattle.std.proofs.Common.{rules, refl}
+use Rattle.pmf_world.{specs.Turns.{with_worker}, proofs.lemmas.FloorLemmas.{IsFloor-given, alike, becomes, doing-set}}
 use Rattle.pmf_world.specs.declared.doing.Doing.TheVariants as doing
-use Rattle.pmf_world.specs.Turns.{with_worker}
-use Rattle.pmf_world.proofs.lemmas.FloorLemmas.{IsFloor-given, alike, becomes, doing-set}
 use Rattle.pmf_world.proofs.floor.Floor.give.Goals as goal
 
 pub invariant_of-self : goal.invariant_of-self

@@ -1,7 +1,7 @@
 use Rattle.std.proofs.Common.{rules, ◌<◌, length, set, ap, refl}
 use Rattle.pmf_board.specs.Machine.{hand_out, handed_out}
-use Rattle.pmf_world.specs.declared.doing.Doing.TheVariants as doing
 use Rattle.pmf_world.proofs.lemmas.FloorLemmas.{alike, becomes, doing-set, entry-is}
+use Rattle.pmf_world.specs.declared.doing.Doing.TheVariants as doing
 use Rattle.pmf_world.proofs.floor.Floor.hand_out.Goals as goal
 
 pub returns : goal.returns

@@ -1,7 +1,6 @@
 use Rattle.std.proofs.Common.{refl}
+use Rattle.pmf_world.{specs.Turns.{with_worker}, proofs.lemmas.FloorLemmas.{alike, becomes, doing-set}}
 use Rattle.pmf_world.specs.declared.doing.Doing.TheVariants as doing
-use Rattle.pmf_world.specs.Turns.{with_worker}
-use Rattle.pmf_world.proofs.lemmas.FloorLemmas.{alike, becomes, doing-set}
 use Rattle.pmf_world.proofs.floor.Floor.lose.Goals as goal
 
 pub returns : goal.returns

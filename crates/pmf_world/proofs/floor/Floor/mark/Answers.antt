@@ -1,7 +1,7 @@
 use Rattle.std.proofs.Common.{rules, ◌<◌, set, ap, refl, subst, sym}
 use Rattle.pmf_board.specs.Machine.{finished, mark}
-use Rattle.pmf_world.specs.declared.doing.Doing.TheVariants as doing
 use Rattle.pmf_world.proofs.lemmas.FloorLemmas.{IsFloor-marked, alike, becomes, doing-set, entry-is, section-within, worker-within}
+use Rattle.pmf_world.specs.declared.doing.Doing.TheVariants as doing
 use Rattle.pmf_world.proofs.floor.Floor.mark.Goals as goal
 
 pub index_mut-requires : goal.index_mut-requires

@@ -1,7 +1,6 @@
-use Rattle.pmf_event.proofs.Common.{rules, ◌≡◌, ◌<◌, ◌++◌, [], ◌∷◌, map, set, ap, refl, subst, sym, ◌∙◌, map-append, none-some, same_Some}
+use Rattle.std.proofs.{Common.{rules, ◌≡◌, ◌<◌, ◌++◌, [], ◌∷◌, map, set, ap, refl, subst, sym, ◌∙◌}, lemmas.List.{map-append}, lemmas.Option.{none-some, same_Some}}
+use Rattle.pmf_world.{specs.Floors.{IsFloor}, proofs.lemmas.FloorLemmas.{IsFloor-posted, alike, becomes, doing-set, few-messages, has-verdict, worker-within}}
 use Rattle.pmf_world.specs.declared.doing.Doing.TheVariants as doing
-use Rattle.pmf_world.specs.Floors.{IsFloor}
-use Rattle.pmf_world.proofs.lemmas.FloorLemmas.{IsFloor-posted, alike, becomes, doing-set, few-messages, has-verdict, worker-within}
 use Rattle.pmf_world.proofs.floor.Floor.post.Goals as goal
 
 pub overflow_cast-number : goal.overflow_cast-number

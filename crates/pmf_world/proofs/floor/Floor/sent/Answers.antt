@@ -1,6 +1,5 @@
-use Rattle.pmf_event.proofs.Common.{rules, ◌≡◌, ◌<◌, length, get_or, refl, subst, slice_get_read}
-use Rattle.pmf_world.specs.Floors.{FloorValue, IsSent}
-use Rattle.pmf_world.proofs.lemmas.FloorLemmas.{is-sent}
+use Rattle.std.proofs.{Common.{rules, ◌≡◌, ◌<◌, length, get_or, refl, subst}, lemmas.Option.{slice_get_read}}
+use Rattle.pmf_world.{specs.Floors.{FloorValue, IsSent}, proofs.lemmas.FloorLemmas.{is-sent}}
 use Rattle.pmf_world.proofs.floor.Floor.sent.Goals as goal
 
 pub returns : goal.returns

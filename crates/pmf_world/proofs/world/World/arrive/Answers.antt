@@ -1,10 +1,7 @@
 use Rattle.std.proofs.Common.{rules, ◌<◌, length, subst}
 use Rattle.pmf_ledger.specs.Repeats.{HaveOwnNames}
+use Rattle.pmf_world.{specs.Floors.{IsSent}, specs.Gatherings.{TakesAt}, specs.Worlds.{WorldValue}, proofs.lemmas.WorldLedgerLemmas.{arrive-steps}}
 use Rattle.pmf_ledger.specs.declared.taking.Taken.TheVariants as taken
-use Rattle.pmf_world.specs.Floors.{IsSent}
-use Rattle.pmf_world.specs.Gatherings.{TakesAt}
-use Rattle.pmf_world.specs.Worlds.{WorldValue}
-use Rattle.pmf_world.proofs.lemmas.WorldLedgerLemmas.{arrive-steps}
 use Rattle.pmf_world.proofs.world.World.arrive.Goals as goal
 
 pub returns-in-Added-clause-steps : goal.returns-in-Added-clause-steps

@@ -1,8 +1,5 @@
 use Rattle.std.proofs.Common.{rules, ◌≡◌, ◌<◌, length, subst}
-use Rattle.pmf_world.specs.declared.step.WorldAnswer.TheVariants.{Joined}
-use Rattle.pmf_world.specs.declared.step.WorldStep.TheVariants.{Join}
-use Rattle.pmf_world.specs.Worlds.{Steps}
-use Rattle.pmf_world.proofs.lemmas.WorldLedgerLemmas.{join-itself, join-steps}
+use Rattle.pmf_world.{specs.declared.step.WorldAnswer.TheVariants.{Joined}, specs.declared.step.WorldStep.TheVariants.{Join}, specs.Worlds.{Steps}, proofs.lemmas.WorldLedgerLemmas.{join-itself, join-steps}}
 use Rattle.pmf_world.proofs.world.World.join.Goals as goal
 
 pub returns-in_ok-join_at-clause-steps : goal.returns-in_ok-join_at-clause-steps

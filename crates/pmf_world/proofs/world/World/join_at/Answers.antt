@@ -1,6 +1,5 @@
-use Rattle.pmf_event.proofs.Common.{rules, ◌≡◌, ◌<◌, length, set, ap, subst, sym, ◌∙◌, All, set-get_or, All-set}
-use Rattle.pmf_world.specs.Worlds.{IsOfWorld}
-use Rattle.pmf_world.proofs.lemmas.WorldLedgerLemmas.{clash_nowhere, is_ours-joined, joins-at, ledger-is, ledger-ours, set-again}
+use Rattle.std.proofs.{Common.{rules, ◌≡◌, ◌<◌, length, set, ap, subst, sym, ◌∙◌, All}, lemmas.List.{set-get_or}, lemmas.List.Elements.{All-set}}
+use Rattle.pmf_world.{specs.Worlds.{IsOfWorld}, proofs.lemmas.WorldLedgerLemmas.{clash_nowhere, is_ours-joined, joins-at, ledger-is, ledger-ours, set-again}}
 use Rattle.pmf_world.proofs.world.World.join_at.Goals as goal
 
 pub join_both-requires-clause-agree : goal.join_both-requires-clause-agree

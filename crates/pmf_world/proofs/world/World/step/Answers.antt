@@ -1,7 +1,5 @@
 use Rattle.std.proofs.Common.{refl, slice_get, subst, sym, IfOk}
-use Rattle.pmf_world.specs.Turns.{check_where, lose_where, mark_where, send_where, take_turn}
-use Rattle.pmf_world.specs.Worlds.{Steps}
-use Rattle.pmf_world.proofs.lemmas.TurningLemmas.{kept-turned, kept-turned_if_room, turn-steps, turn-steps_if_room, world_on}
+use Rattle.pmf_world.{specs.Turns.{check_where, lose_where, mark_where, send_where, take_turn}, specs.Worlds.{Steps}, proofs.lemmas.TurningLemmas.{kept-turned, kept-turned_if_room, turn-steps, turn-steps_if_room, world_on}}
 use Rattle.pmf_world.proofs.world.World.step.Goals as goal
 
 pub invariant_of-self : goal.invariant_of-self

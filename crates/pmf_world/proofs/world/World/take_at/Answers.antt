@@ -1,6 +1,5 @@
-use Rattle.pmf_event.proofs.Common.{rules, ◌<◌, length, subst, sym, Contains, All-set}
-use Rattle.pmf_world.specs.Worlds.{IsOfWorld, WorldValue}
-use Rattle.pmf_world.proofs.lemmas.WorldLedgerLemmas.{holds_no_other, is_ours-after, ledger-is, ledger-ours, takes-at}
+use Rattle.std.proofs.{Common.{rules, ◌<◌, length, subst, sym, Contains}, lemmas.List.Elements.{All-set}}
+use Rattle.pmf_world.{specs.Worlds.{IsOfWorld, WorldValue}, proofs.lemmas.WorldLedgerLemmas.{holds_no_other, is_ours-after, ledger-is, ledger-ours, takes-at}}
 use Rattle.pmf_world.proofs.world.World.take_at.Goals as goal
 
 pub take_into-requires-clause-agrees : goal.take_into-requires-clause-agrees

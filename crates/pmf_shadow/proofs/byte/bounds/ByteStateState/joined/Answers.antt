@@ -1,7 +1,5 @@
 use Rattle.std.proofs.Common.{sym, subst, true, ◌≡◌}
-use Rattle.pmf_shadow.specs.declared.byte.bounds.Bounds.{Bounds}
-use Rattle.pmf_shadow.specs.Bounds.{covers}
-use Rattle.pmf_shadow.proofs.BoundsLemmas.{joined-left, joined-right}
+use Rattle.pmf_shadow.{specs.declared.byte.bounds.Bounds.{Bounds}, specs.Bounds.{covers}, proofs.BoundsLemmas.{joined-left, joined-right}}
 use Rattle.pmf_shadow.proofs.byte.bounds.ByteStateState.joined.Goals as goal
 
 pub returns-clause-left : goal.returns-clause-left
