@@ -1,54 +1,34 @@
 //! What a ledger writes, counts, copies and upgrades.
 
-use super::{name, taken, verdict_of};
+use super::{assert_text, ledger_of, name};
 use crate::{Ledger, Totals};
-use pmf_event::{Event, Profile, Section, Span};
+use pmf_event::Profile;
+use pmf_fixtures::{FENCE, FLUSH, STORE, Step};
 use std::alloc::Global;
-use std::process::Abort;
 use std::test::Fail;
 
 // Two stores of one line and an assertion of their order, which the profiles judge differently.
-fn two_stores(alloc: Global) -> Result<Section, Fail> {
-    let first = Span::make(0x1000, 8)?;
-    let second = Span::make(0x1008, 8)?;
-    let mut section = Section::new(alloc, name(0, 0));
-    for event in [
-        Event::Store(first),
-        Event::Store(second),
-        Event::Ordered(first, second),
-    ] {
-        section.push(event)?;
-    }
-    Ok(section)
-}
+const TWO_STORES: &[Step] = &[
+    STORE,
+    Step::Store(0x1008, 8),
+    Step::Ordered((0x1000, 8), (0x1008, 8)),
+];
 
 // A row of each kind: a write-back twice over, a pass, a failure and an assertion of nothing.
-fn one_of_each(alloc: Global) -> Result<Section, Fail> {
-    let bytes = Span::make(0x1000, 8)?;
-    let line = Span::make(0x1000, 0x40)?;
-    let mut section = Section::new(alloc, name(3, 7));
-    for event in [
-        Event::Store(bytes),
-        Event::Flush(line),
-        Event::Flush(line),
-        Event::Fence,
-        Event::Persist(bytes),
-        Event::Store(bytes),
-        Event::Persist(bytes),
-        Event::Persist(Span::make(0x2000, 8)?),
-    ] {
-        section.push(event)?;
-    }
-    Ok(section)
-}
+const ONE_OF_EACH: &[Step] = &[
+    STORE,
+    FLUSH,
+    FLUSH,
+    FENCE,
+    Step::Persist(0x1000, 8),
+    STORE,
+    Step::Persist(0x1000, 8),
+    Step::Persist(0x2000, 8),
+];
 
-fn ledger_of_both(rt: &impl Abort, alloc: Global, profile: Profile) -> Result<Ledger, Fail> {
-    let mut ledger = Ledger::new(alloc, profile);
-    for section in [one_of_each(alloc)?, two_stores(alloc)?] {
-        let _ = taken(&mut ledger, verdict_of(alloc, section, profile)?)?;
-    }
-    assert_eq!(rt; ledger.len(), 2);
-    Ok(ledger)
+fn ledger_of_both(alloc: Global) -> Result<Ledger, Fail> {
+    let sections = [(name(3, 7), ONE_OF_EACH), (name(0, 0), TWO_STORES)];
+    ledger_of(alloc, Profile::One, &sections)
 }
 
 const REPORT: &[u8] = b"\
@@ -97,7 +77,7 @@ end verdicts=1
 
 #[test]
 fn the_report_counts_each_section_and_all_of_them(rt: HostRuntime) -> Result<(), Fail> {
-    let ledger = ledger_of_both(&rt, rt.alloc(), Profile::One)?;
+    let ledger = ledger_of_both(rt.alloc())?;
     let want = Totals {
         sections: 2,
         pass: 1,
@@ -114,58 +94,32 @@ fn the_report_counts_each_section_and_all_of_them(rt: HostRuntime) -> Result<(),
 }
 
 #[test]
-fn the_text_has_the_events_in_canonical_spelling_and_the_rows(rt: HostRuntime) -> Result<(), Fail> {
-    let ledger = ledger_of_both(&rt, rt.alloc(), Profile::One)?;
-    assert!(rt; ledger.write_ledger(rt.alloc())?.as_slice() == TEXT);
-    Ok(())
-}
-
-#[test]
-fn the_empty_ledger_has_its_texts(rt: HostRuntime) -> Result<(), Fail> {
-    for (profile, text) in [
-        (
-            Profile::One,
-            b"PMFARM-LEDGER 1\nend verdicts=0\n".as_slice(),
-        ),
-        (
-            Profile::Two,
-            b"PMFARM-LEDGER 2\nend verdicts=0\n".as_slice(),
-        ),
-    ] {
-        let ledger = Ledger::new(rt.alloc(), profile);
-        assert!(rt; ledger.write_ledger(rt.alloc())?.as_slice() == text);
-        let report = b"total sections=0 pass=0 fail=0 warn=0 empty=0\n";
-        assert!(rt; ledger.write_report(rt.alloc())?.as_slice() == report.as_slice());
-    }
-    Ok(())
-}
-
-#[test]
-fn a_copy_has_the_same_text(rt: HostRuntime) -> Result<(), Fail> {
-    let ledger = ledger_of_both(&rt, rt.alloc(), Profile::One)?;
-    let copy = ledger.copy(rt.alloc())?;
-    assert_eq!(rt; copy.profile(), Profile::One);
-    assert!(rt; copy.write_ledger(rt.alloc())?.as_slice() == TEXT);
-    assert!(rt; ledger.write_ledger(rt.alloc())?.as_slice() == TEXT);
+fn a_ledger_and_its_copy_have_their_text_and_so_has_the_empty_one(
+    rt: HostRuntime,
+) -> Result<(), Fail> {
+    let alloc = rt.alloc();
+    let ledger = ledger_of_both(alloc)?;
+    let copy = ledger.copy(alloc)?;
+    assert_text(&rt, alloc, &ledger, TEXT)?;
+    assert_text(&rt, alloc, &copy, TEXT)?;
+    let empty = Ledger::new(alloc, Profile::Two);
+    assert_text(&rt, alloc, &empty, b"PMFARM-LEDGER 2\nend verdicts=0\n")?;
+    let report = b"total sections=0 pass=0 fail=0 warn=0 empty=0\n";
+    assert!(rt; empty.write_report(alloc)?.as_slice() == report.as_slice());
     Ok(())
 }
 
 #[test]
 fn an_upgrade_judges_by_profile_two(rt: HostRuntime) -> Result<(), Fail> {
     let alloc = rt.alloc();
-    let mut ledger = Ledger::new(alloc, Profile::One);
-    let verdict = verdict_of(alloc, two_stores(alloc)?, Profile::One)?;
-    let _ = taken(&mut ledger, verdict)?;
-    let upgraded = match ledger.upgrade(alloc) {
-        Ok(upgraded) => upgraded,
-        Err((refused, _)) => return Err(refused.into()),
-    };
-    assert_eq!(rt; upgraded.profile(), Profile::Two);
-    assert!(rt; upgraded.write_ledger(alloc)?.as_slice() == TEXT_OF_TWO);
-    // A ledger of profile Two is its own upgrade.
-    match upgraded.upgrade(alloc) {
-        Ok(again) => assert!(rt; again.write_ledger(alloc)?.as_slice() == TEXT_OF_TWO),
-        Err((refused, _)) => return Err(refused.into()),
+    let ledger = ledger_of(alloc, Profile::One, &[(name(0, 0), TWO_STORES)])?;
+    let before = ledger.write_ledger(alloc)?;
+    match ledger.upgrade(alloc) {
+        Ok(upgraded) => assert_text(&rt, alloc, &upgraded, TEXT_OF_TWO)?,
+        Err((refused, ledger)) => {
+            assert_text(&rt, alloc, &ledger, &before)?;
+            return Err(refused.into());
+        }
     }
     Ok(())
 }
