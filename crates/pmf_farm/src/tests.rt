@@ -4,7 +4,6 @@ ghost use Rattle.std.specs.Prelude.{◌≡◌, vec_len, IfOk};
 
 use super::{FarmFault, Gate, run};
 use pmf_event::{Event, Name, Profile, Section, Span};
-use pmf_ledger::Ledger;
 use std::alloc::Global;
 use std::process::Abort;
 use std::sync::{Arc, Wait};
@@ -31,40 +30,25 @@ fn fences(alloc: Global, name: Name, count: usize) -> Result<Arc<Section>, Fail>
     Ok(Arc::new(alloc, section)?)
 }
 
-// A section of one fence for each of the names.
-fn sections_named(alloc: Global, names: &[Name]) -> Result<Vec<Arc<Section>>, Fail> {
-    let mut sections = Vec::new(alloc);
-    for name in names {
-        sections.push(fences(alloc, *name, 1)?)?;
+// A section of this name and these events.
+fn section_of(alloc: Global, name: Name, events: &[Event]) -> Result<Arc<Section>, Fail> {
+    let mut section = Section::new(alloc, name);
+    for event in events {
+        section.push(*event)?;
     }
-    Ok(sections)
-}
-
-// Section 0.1: a store, its write-back, a fence, and the assertion that it is durable.
-fn persisted(alloc: Global) -> Result<Arc<Section>, Fail> {
-    let word = Span::make(0x1000, 8)?;
-    let mut section = Section::new(alloc, name(0, 1));
-    section.push(Event::Store(word))?;
-    section.push(Event::Flush(Span::make(0x1000, 64)?))?;
-    section.push(Event::Fence)?;
-    section.push(Event::Persist(word))?;
     Ok(Arc::new(alloc, section)?)
 }
 
-// Section 0.2: a store, and the assertion that it is durable.
-fn not_persisted(alloc: Global) -> Result<Arc<Section>, Fail> {
-    let word = Span::make(0x1000, 8)?;
-    let mut section = Section::new(alloc, name(0, 2));
-    section.push(Event::Store(word))?;
-    section.push(Event::Persist(word))?;
-    Ok(Arc::new(alloc, section)?)
-}
-
-// Sections 0.1 and 0.2.
+// Section 0.1 has a store, its write-back, a fence, and the assertion that it is durable; 0.2 lacks what is between.
 fn both(alloc: Global) -> Result<Vec<Arc<Section>>, Fail>
     ensures { IfOk result (λ sections. vec_len sections ≡ 2) }
 {
-    Ok(Vec::from_array(alloc, [persisted(alloc)?, not_persisted(alloc)?])?)
+    let word = Span::make(0x1000, 8)?;
+    let flush = Event::Flush(Span::make(0x1000, 64)?);
+    let (store, persist) = (Event::Store(word), Event::Persist(word));
+    let persisted = section_of(alloc, name(0, 1), &[store, flush, Event::Fence, persist])?;
+    let not_persisted = section_of(alloc, name(0, 2), &[store, persist])?;
+    Ok(Vec::from_array(alloc, [persisted, not_persisted])?)
 }
 
 // What the ledger of sections 0.1 and 0.2 reports, by either profile.
@@ -88,12 +72,4 @@ fn assert_both<R: Threads + Wait + Sync + Abort, G: Gate + Sync>(
     let report = ledger.write_report(alloc)?;
     assert!(rt; report.as_slice() == REPORT, "{workers} workers");
     Ok(())
-}
-
-// The ledger holds sections of these names, in this order.
-fn assert_names(rt: &impl Abort, ledger: &Ledger, names: &[Name]) {
-    assert_eq!(rt; ledger.len(), names.len());
-    for (verdict, name) in ledger.verdicts().iter().zip(names.iter()) {
-        assert_eq!(rt; verdict.name(), *name);
-    }
 }

@@ -1,22 +1,19 @@
 //! What an outbox sends through a channel.
 
-use super::{name, not_persisted, persisted};
+use super::{fences, name};
 use crate::{ChannelOutbox, Outbox};
 use crossbeam_channel::unbounded;
-use pmf_event::{Profile, Section};
-use pmf_verdict::{Verdict, check};
+use pmf_event::{Name, Profile};
+use pmf_verdict::check;
 use std::alloc::Global;
-use std::sync::Arc;
 use std::test::Fail;
 
-fn verdict(alloc: Global, section: Arc<Section>) -> Result<Verdict, Fail> {
-    match check(alloc, section, Profile::One) {
-        Ok(verdict) => Ok(verdict),
-        Err((fault, _)) => Err(fault.into()),
-    }
-}
-
-fn put(outbox: &mut impl Outbox, verdict: Verdict) -> Result<(), Fail> {
+// Puts the verdict of a section of this name.
+fn put(outbox: &mut impl Outbox, alloc: Global, name: Name) -> Result<(), Fail> {
+    let verdict = match check(alloc, fences(alloc, name, 1)?, Profile::One) {
+        Ok(verdict) => verdict,
+        Err((fault, _)) => return Err(fault.into()),
+    };
     match outbox.put(verdict) {
         Ok(()) => Ok(()),
         Err((refused, _)) => Err(refused.into()),
@@ -28,8 +25,8 @@ fn verdicts_arrive_in_the_order_in_which_they_were_put(rt: HostRuntime) -> Resul
     let alloc = rt.alloc();
     let (sender, receiver) = unbounded(alloc)?;
     let mut outbox = ChannelOutbox::new(&rt, alloc, sender);
-    put(&mut outbox, verdict(alloc, not_persisted(alloc)?)?)?;
-    put(&mut outbox, verdict(alloc, persisted(alloc)?)?)?;
+    put(&mut outbox, alloc, name(0, 2))?;
+    put(&mut outbox, alloc, name(0, 1))?;
     drop(outbox);
     let mut names = Vec::new(alloc);
     for verdict in receiver.iter(&rt) {
@@ -45,5 +42,5 @@ fn a_verdict_that_nobody_receives_counts_as_sent(rt: HostRuntime) -> Result<(), 
     let (sender, receiver) = unbounded(alloc)?;
     drop(receiver);
     let mut outbox = ChannelOutbox::new(&rt, alloc, sender);
-    put(&mut outbox, verdict(alloc, persisted(alloc)?)?)
+    put(&mut outbox, alloc, name(0, 1))
 }

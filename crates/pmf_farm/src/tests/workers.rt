@@ -1,16 +1,15 @@
 //! What a worker puts, marks and answers, on a board of two sections.
 
-ghost use Rattle.std.specs.Prelude.{◌≡◌, [], vec_len, IfOk};
+ghost use Rattle.std.specs.Prelude.{◌≡◌, []};
 
 use super::gates::LosesAll;
 use super::{both, name};
-use crate::{Ended, Gate, OpenGate, Outbox, work};
+use crate::{Ended, OpenGate, Outbox, work};
 use pmf_board::{Board, Pass};
-use pmf_event::{Name, Profile, Section};
+use pmf_event::{Name, Profile};
 use pmf_verdict::Verdict;
 use std::alloc::{AllocError, Global};
 use std::process::Abort;
-use std::sync::Arc;
 use std::test::Fail;
 
 // Keeps the verdicts in memory.
@@ -51,81 +50,25 @@ fn assert_put(rt: &impl Abort, outbox: &MemoryOutbox, names: &[Name]) {
     }
 }
 
-// A worker of this number, and sections 0.1 and 0.2.
-#[derive(Drop)]
-struct Case {
-    alloc: Global,
-    sections: Vec<Arc<Section>>,
-    worker: u32,
-}
-
-fn case_of(alloc: Global, worker: u32) -> Result<Case, Fail>
-    ensures { IfOk result (λ case. vec_len case.sections ≡ 2) }
-{
-    let sections = both(alloc)?;
-    Ok(Case {
-        alloc,
-        sections,
-        worker,
-    })
-}
-
-impl Case {
-    // How the worker ends.
-    fn work<O: Outbox, G: Gate>(
-        &self,
-        board: &Board,
-        pass: &mut Pass,
-        outbox: &mut O,
-        gate: &G,
-    ) -> Result<Ended, AllocError>
-        requires own { pass.old.board ≡ board.now }
-        requires all { vec_len self.now.sections ≡ board.now.words }
-        ensures same { pass.new.board ≡ pass.old.board }
-    {
-        let sections = self.sections.as_slice();
-        let profile = Profile::One;
-        work(
-            self.alloc,
-            board,
-            pass,
-            sections,
-            self.worker,
-            profile,
-            outbox,
-            gate,
-        )
-    }
-
-    // The worker ends with nothing left to take, and these names are put.
-    fn assert_all(
-        &self,
-        rt: &impl Abort,
-        board: &Board,
-        pass: &mut Pass,
-        outbox: &mut MemoryOutbox,
-        names: &[Name],
-    ) -> Result<(), Fail>
-        requires own { pass.old.board ≡ board.now }
-        requires all { vec_len self.now.sections ≡ board.now.words }
-        ensures same { pass.new.board ≡ pass.old.board }
-    {
-        let ended = self.work(board, pass, outbox, &OpenGate)?;
-        assert_eq!(rt; ended, Ended::All);
-        assert_put(rt, outbox, names);
-        Ok(())
-    }
-}
-
-// The worker does both sections, puts these names, and then finds nothing to do.
+// The worker does both sections, and puts these names.
 fn assert_done(rt: &impl Abort, alloc: Global, worker: u32, names: &[Name]) -> Result<(), Fail> {
-    let case = case_of(alloc, worker)?;
+    let sections = both(alloc)?;
     let (board, mut pass) = Board::new(alloc, 2)?;
     let mut outbox = MemoryOutbox {
         verdicts: Vec::new(alloc),
     };
-    case.assert_all(rt, &board, &mut pass, &mut outbox, names)?;
-    case.assert_all(rt, &board, &mut pass, &mut outbox, names)?;
+    let ended = work(
+        alloc,
+        &board,
+        &mut pass,
+        sections.as_slice(),
+        worker,
+        Profile::One,
+        &mut outbox,
+        &OpenGate,
+    )?;
+    assert_eq!(rt; ended, Ended::All);
+    assert_put(rt, &outbox, names);
     assert!(rt; board.is_done(&mut pass, 0) && board.is_done(&mut pass, 1));
     Ok(())
 }
@@ -160,12 +103,22 @@ fn assert_left(rt: &impl Abort, board: Board, pass: Pass)
 fn a_worker_that_its_gate_loses_at_once_puts_and_marks_nothing(
     rt: HostRuntime,
 ) -> Result<(), Fail> {
-    let case = case_of(rt.alloc(), 0)?;
-    let (board, mut pass) = Board::new(rt.alloc(), 2)?;
+    let alloc = rt.alloc();
+    let sections = both(alloc)?;
+    let (board, mut pass) = Board::new(alloc, 2)?;
     let mut outbox = MemoryOutbox {
-        verdicts: Vec::new(rt.alloc()),
+        verdicts: Vec::new(alloc),
     };
-    let ended = case.work(&board, &mut pass, &mut outbox, &LosesAll)?;
+    let ended = work(
+        alloc,
+        &board,
+        &mut pass,
+        sections.as_slice(),
+        0,
+        Profile::One,
+        &mut outbox,
+        &LosesAll,
+    )?;
     assert_eq!(rt; ended, Ended::Lost);
     assert_put(&rt, &outbox, &[]);
     assert_left(&rt, board, pass);
@@ -174,9 +127,19 @@ fn a_worker_that_its_gate_loses_at_once_puts_and_marks_nothing(
 
 #[test]
 fn a_worker_whose_outbox_refuses_marks_nothing(rt: HostRuntime) -> Result<(), Fail> {
-    let case = case_of(rt.alloc(), 0)?;
-    let (board, mut pass) = Board::new(rt.alloc(), 2)?;
-    let ended = case.work(&board, &mut pass, &mut RefusingOutbox, &OpenGate);
+    let alloc = rt.alloc();
+    let sections = both(alloc)?;
+    let (board, mut pass) = Board::new(alloc, 2)?;
+    let ended = work(
+        alloc,
+        &board,
+        &mut pass,
+        sections.as_slice(),
+        0,
+        Profile::One,
+        &mut RefusingOutbox,
+        &OpenGate,
+    );
     assert!(rt; ended.is_err());
     assert_left(&rt, board, pass);
     Ok(())
