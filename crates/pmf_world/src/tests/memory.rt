@@ -3,11 +3,39 @@
 
 ghost use Rattle.std.specs.Prelude.{◌≡◌, length};
 
-use super::{Told, again, arrive, check, fresh, join, mark, see, send, sent, task, world_of_two};
+use super::{Told, again, arrive, check, fresh, join, mark, send, sent, task, world_of_two};
 use crate::{World, WorldAnswer, WorldFault, WorldStep};
 use std::alloc::AllocError;
 use std::process::Abort;
 use std::test::Fail;
+
+// What can be seen of a world of two sections, two ledgers, and at most two messages.
+#[derive(Clone, Copy, Debug, PartialEq, Eq)]
+struct Seen {
+    handouts: (u32, u32),
+    done: (bool, bool),
+    sent: (bool, bool),
+    ledgers: (Option<usize>, Option<usize>),
+}
+
+// How many sections a ledger holds, if it is there.
+fn length_of(world: &World, ledger: u32) -> Option<usize> {
+    match world.ledger(ledger) {
+        Some(ledger) => Some(ledger.len()),
+        None => None,
+    }
+}
+
+fn see(world: &World) -> Seen
+    requires { length world.now.sections ≡ 2 }
+{
+    Seen {
+        handouts: (world.handouts(0), world.handouts(1)),
+        done: (world.done(0), world.done(1)),
+        sent: (world.sent(0).is_some(), world.sent(1).is_some()),
+        ledgers: (length_of(world, 0), length_of(world, 1)),
+    }
+}
 
 // The step tells this, at once or after a refusal that left the world as it was. Answers whether there was one.
 fn assert_told(rt: &impl Abort, world: &mut World, step: WorldStep, want: Told) -> bool
@@ -60,7 +88,8 @@ fn a_step_without_memory_leaves_the_world_as_it_was(rt: HostRuntime) -> Result<(
     let refused = assert_all_told(&rt, &mut world, &steps);
     let told = see(&world);
     assert_eq!(rt; (told.handouts, told.done), ((1, 1), (true, false)));
-    assert_eq!(rt; (told.messages, told.ledgers), (2, (Some(2), Some(2))));
+    assert_eq!(rt; told.sent, (true, true));
+    assert_eq!(rt; told.ledgers, (Some(2), Some(2)));
     if refused {
         return Err(AllocError.into());
     }

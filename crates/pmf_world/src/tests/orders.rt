@@ -1,13 +1,11 @@
-//! Random schedules: each ledger holds what the steps brought there, and the order of joins doesn't count.
+//! Random schedules: each ledger holds what the steps brought there.
 
 use super::{
-    again, arrive, assert_steps, check, fresh, join, lose, mark, name, not_persisted, persisted,
-    send,
+    NOT_PERSISTED, PERSISTED, again, arrive, check, fresh, join, lose, mark, name, section_of, send,
 };
 use crate::{World, WorldAnswer, WorldFault, WorldStep};
 use pmf_event::{Profile, Section};
 use pmf_fixtures::Numbers;
-use pmf_ledger::Ledger;
 use std::alloc::{AllocError, Global};
 use std::process::Abort;
 use std::sync::Arc;
@@ -107,16 +105,6 @@ impl Kept {
         }
     }
 
-    // Whether the same was gathered at both.
-    fn are_equal(&self, one: u32, other: u32) -> bool {
-        for section in 0..SECTIONS {
-            if self.is_gathered(one, section) != self.is_gathered(other, section) {
-                return false;
-            }
-        }
-        true
-    }
-
     fn takes(&mut self, worker: u32, answer: WorldAnswer) {
         if let WorldAnswer::Task { section, .. } = answer {
             if let Some(hand) = self.hands.get_mut(worker as usize) {
@@ -186,8 +174,8 @@ impl Kept {
 fn six_sections(alloc: Global) -> Result<Vec<Arc<Section>>, Fail> {
     let mut sections = Vec::new(alloc);
     for number in [1, 3, 5] {
-        sections.push(persisted(alloc, name(0, number))?)?;
-        sections.push(not_persisted(alloc, name(0, number + 1))?)?;
+        sections.push(section_of(alloc, name(0, number), PERSISTED)?)?;
+        sections.push(section_of(alloc, name(0, number + 1), NOT_PERSISTED)?)?;
     }
     Ok(sections)
 }
@@ -213,16 +201,11 @@ fn world_after(
     Ok((world, kept))
 }
 
-fn ledger_of<'a>(rt: &impl Abort, world: &'a World, ledger: u32) -> &'a Ledger {
-    match world.ledger(ledger) {
-        Some(ledger) => ledger,
-        None => panic!(rt; "no ledger {ledger}"),
-    }
-}
-
 // The ledger holds what was gathered there, and nothing else.
 fn assert_gathered(rt: &impl Abort, world: &World, kept: &Kept, number: u32) {
-    let ledger = ledger_of(rt, world, number);
+    let Some(ledger) = world.ledger(number) else {
+        panic!(rt; "no ledger {number}")
+    };
     let mut length: usize = 0;
     for section in 0..SECTIONS {
         let want = kept.is_gathered(number, section);
@@ -245,67 +228,16 @@ fn assert_gathered(rt: &impl Abort, world: &World, kept: &Kept, number: u32) {
     );
 }
 
-// The ledgers report the same.
-fn assert_same(
-    rt: &impl Abort,
-    alloc: Global,
-    one: &Ledger,
-    other: &Ledger,
-    schedule: u64,
-) -> Result<(), AllocError> {
-    let told = one.write_report(alloc)?;
-    let want = other.write_report(alloc)?;
-    assert!(rt; told.as_slice() == want.as_slice(), "schedule {schedule}");
-    Ok(())
-}
-
-// All ledgers are joined into ledger 0 by these two joins.
-fn join_by(rt: &impl Abort, world: &mut World, joins: [WorldStep; 2]) {
-    let [first, second] = joins;
-    let steps = [
-        (first, Ok(WorldAnswer::Joined)),
-        (second, Ok(WorldAnswer::Joined)),
-    ];
-    assert_steps(rt, world, &steps);
-}
-
-// Three worlds of a schedule hold what was gathered, and join their ledgers in three orders. Answers what was told.
-fn assert_schedule(
-    rt: &impl Abort,
-    alloc: Global,
-    sections: &[Arc<Section>],
-    schedule: u64,
-) -> Result<u32, Fail> {
-    let (mut world, mut kept) = world_after(rt, alloc, sections, schedule)?;
-    for ledger in 0..LEDGERS {
-        assert_gathered(rt, &world, &kept, ledger);
-    }
-    for (one, other) in [(0, 1), (0, 2), (1, 2)] {
-        if kept.are_equal(one, other) {
-            let one = ledger_of(rt, &world, one);
-            let other = ledger_of(rt, &world, other);
-            assert_same(rt, alloc, one, other, schedule)?;
-        }
-    }
-    join_by(rt, &mut world, [join(0, 1), join(0, 2)]);
-    kept.gather_all(0, 1);
-    kept.gather_all(0, 2);
-    assert_gathered(rt, &world, &kept, 0);
-    for joins in [[join(0, 2), join(0, 1)], [join(1, 2), join(0, 1)]] {
-        let (mut other, _) = world_after(rt, alloc, sections, schedule)?;
-        join_by(rt, &mut other, joins);
-        let told = ledger_of(rt, &other, 0);
-        assert_same(rt, alloc, told, ledger_of(rt, &world, 0), schedule)?;
-    }
-    Ok(kept.told)
-}
-
 #[test]
 fn random_schedules_gather_what_their_steps_brought(rt: HostRuntime) -> Result<(), Fail> {
     let sections = six_sections(rt.alloc())?;
     let mut told = 0;
     for schedule in 1..1001 {
-        told |= assert_schedule(&rt, rt.alloc(), sections.as_slice(), schedule)?;
+        let (world, kept) = world_after(&rt, rt.alloc(), sections.as_slice(), schedule)?;
+        for ledger in 0..LEDGERS {
+            assert_gathered(&rt, &world, &kept, ledger);
+        }
+        told |= kept.told;
     }
     assert_eq!(rt; told, 511, "each kind of answer was told");
     Ok(())

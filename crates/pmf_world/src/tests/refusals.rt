@@ -1,23 +1,19 @@
 //! What worlds refuse, and the order of their refusals.
 
-ghost use Rattle.std.specs.Prelude.{◌≡◌, length, IfOk};
-
 use super::{
-    again, arrive, assert_steps, bare, check, fresh, join, lose, mark, name, see, send, sent, task,
-    world_of_two,
+    again, arrive, assert_steps, check, fresh, join, lose, mark, name, section_of, send, sent,
+    task, world_of_two,
 };
-use crate::{MOST_LEDGERS, World, WorldAnswer, WorldFault, WorldNewFault, WorldStep};
+use crate::{MOST_LEDGERS, World, WorldAnswer, WorldFault, WorldNewFault};
 use pmf_event::{Name, Profile, Section};
 use std::alloc::Global;
 use std::process::Abort;
 use std::sync::Arc;
 use std::test::Fail;
 
-// A world of two sections and two ledgers, whose workers are idle, have a task, a verdict, and have sent that of section
-// 0, in this order, and of which the last, worker 4, is gone.
-fn world_of_five(rt: &impl Abort, alloc: Global) -> Result<World, Fail>
-    ensures { IfOk result (λ world. length world.sections ≡ 2) }
-{
+// Of two sections, two ledgers and one message. The workers are idle, have a task, a verdict, and have sent that of
+// section 0, in this order, and the last, worker 4, is gone.
+fn world_of_five(rt: &impl Abort, alloc: Global) -> Result<World, Fail> {
     let mut world = world_of_two(alloc, 5, 2)?;
     let steps = [
         (fresh(3, 0), task(0, 1)),
@@ -27,82 +23,30 @@ fn world_of_five(rt: &impl Abort, alloc: Global) -> Result<World, Fail>
         (check(2), Ok(WorldAnswer::Checked)),
         (again(1, 0), task(0, 3)),
         (lose(4), Ok(WorldAnswer::WorkerLost)),
-        (arrive(0, 0), Ok(WorldAnswer::Added)),
     ];
     assert_steps(rt, &mut world, &steps);
     Ok(world)
 }
 
-// The step is refused so, and the world is as it was.
-fn assert_refused(rt: &impl Abort, world: &mut World, step: WorldStep, want: WorldFault)
-    requires { length world.old.sections ≡ 2 }
-    ensures { world.new.sections ≡ world.old.sections }
-{
-    let before = see(world);
-    assert_steps(rt, world, &[(step, Err(want))]);
-    assert_eq!(rt; see(world), before, "{step:?}");
-}
-
-fn assert_all_refused(rt: &impl Abort, world: &mut World, table: &[(WorldStep, WorldFault)])
-    requires { length world.old.sections ≡ 2 }
-    ensures { world.new.sections ≡ world.old.sections }
-{
-    for (step, want) in table {
-        assert_refused(rt, world, *step, *want);
-    }
-}
-
-// The workers are still doing what they did.
-fn assert_still_at_work(rt: &impl Abort, world: &mut World) {
-    let steps = [
-        (fresh(0, 1), task(1, 1)),
-        (check(1), Ok(WorldAnswer::Checked)),
-        (send(2), sent(1)),
-        (mark(3), Ok(WorldAnswer::Marked)),
-        (lose(4), Err(WorldFault::Gone)),
-        (again(3, 0), Ok(WorldAnswer::NoTask)),
-    ];
-    assert_steps(rt, world, &steps);
-}
-
 #[test]
-fn a_take_looks_for_the_worker_then_the_section_then_what_it_does(
+fn a_step_looks_for_what_it_names_then_whether_its_worker_is_gone_then_what_it_does(
     rt: HostRuntime,
 ) -> Result<(), Fail> {
     let mut world = world_of_five(&rt, rt.alloc())?;
-    for (worker, section, want) in [
-        (5, 2, WorldFault::NoSuchWorker),
-        (5, 0, WorldFault::NoSuchWorker),
-        (u32::MAX, 1, WorldFault::NoSuchWorker),
-        (4, 2, WorldFault::NoSuchSection),
-        (1, 2, WorldFault::NoSuchSection),
-        (0, 2, WorldFault::NoSuchSection),
-        (0, u32::MAX, WorldFault::NoSuchSection),
-        (4, 0, WorldFault::Gone),
-        (4, 1, WorldFault::Gone),
-        (1, 0, WorldFault::Misplaced),
-        (1, 1, WorldFault::Misplaced),
-        (2, 1, WorldFault::Misplaced),
-        (3, 1, WorldFault::Misplaced),
-    ] {
-        let both = [
-            (fresh(worker, section), want),
-            (again(worker, section), want),
-        ];
-        assert_all_refused(&rt, &mut world, &both);
-    }
-    assert_still_at_work(&rt, &mut world);
-    Ok(())
-}
-
-#[test]
-fn a_turn_looks_for_the_worker_then_whether_it_is_gone_then_what_it_does(
-    rt: HostRuntime,
-) -> Result<(), Fail> {
-    let mut world = world_of_five(&rt, rt.alloc())?;
-    let steps = [
+    for (step, want) in [
+        (fresh(5, 2), WorldFault::NoSuchWorker),
+        (fresh(4, 2), WorldFault::NoSuchSection),
+        (fresh(4, 1), WorldFault::Gone),
+        (fresh(1, 1), WorldFault::Misplaced),
+        (fresh(2, 1), WorldFault::Misplaced),
+        (fresh(3, 1), WorldFault::Misplaced),
+        (again(u32::MAX, 0), WorldFault::NoSuchWorker),
+        (again(4, u32::MAX), WorldFault::NoSuchSection),
+        (again(4, 0), WorldFault::Gone),
+        (again(1, 0), WorldFault::Misplaced),
+        (again(2, 0), WorldFault::Misplaced),
+        (again(3, 0), WorldFault::Misplaced),
         (check(5), WorldFault::NoSuchWorker),
-        (check(u32::MAX), WorldFault::NoSuchWorker),
         (check(4), WorldFault::Gone),
         (check(0), WorldFault::Misplaced),
         (check(2), WorldFault::Misplaced),
@@ -119,49 +63,22 @@ fn a_turn_looks_for_the_worker_then_whether_it_is_gone_then_what_it_does(
         (mark(2), WorldFault::Misplaced),
         (lose(5), WorldFault::NoSuchWorker),
         (lose(4), WorldFault::Gone),
-    ];
-    assert_all_refused(&rt, &mut world, &steps);
-    assert_still_at_work(&rt, &mut world);
-    Ok(())
-}
-
-#[test]
-fn an_arrival_looks_for_the_message_then_the_ledger_and_a_join_for_both(
-    rt: HostRuntime,
-) -> Result<(), Fail> {
-    let mut world = world_of_five(&rt, rt.alloc())?;
-    let steps = [
         (arrive(1, 2), WorldFault::NoSuchMessage),
-        (arrive(1, 0), WorldFault::NoSuchMessage),
-        (arrive(u32::MAX, 0), WorldFault::NoSuchMessage),
         (arrive(0, 2), WorldFault::NoSuchLedger),
-        (arrive(0, u32::MAX), WorldFault::NoSuchLedger),
         (join(2, 0), WorldFault::NoSuchLedger),
         (join(0, 2), WorldFault::NoSuchLedger),
-        (join(2, 2), WorldFault::NoSuchLedger),
-        (join(2, 3), WorldFault::NoSuchLedger),
-        (join(u32::MAX, u32::MAX), WorldFault::NoSuchLedger),
-    ];
-    assert_all_refused(&rt, &mut world, &steps);
-    assert_still_at_work(&rt, &mut world);
+    ] {
+        assert_steps(&rt, &mut world, &[(step, Err(want))]);
+    }
     Ok(())
 }
 
 // So many times one section, 0.1.
 fn of_one(alloc: Global, count: usize) -> Result<Vec<Arc<Section>>, Fail> {
-    let section = bare(alloc, name(0, 1))?;
+    let section = section_of(alloc, name(0, 1), &[])?;
     let mut sections = Vec::with_capacity(alloc, count)?;
     for _ in 0..count {
         sections.push(Arc::try_clone(&section)?)?;
-    }
-    Ok(sections)
-}
-
-// Sections of no event and of these numbers.
-fn of_numbers(alloc: Global, numbers: &[u64]) -> Result<Vec<Arc<Section>>, Fail> {
-    let mut sections = Vec::new(alloc);
-    for number in numbers {
-        sections.push(bare(alloc, name(0, *number))?)?;
     }
     Ok(sections)
 }
@@ -170,80 +87,32 @@ fn twice(name: Name) -> WorldNewFault {
     WorldNewFault::TwiceNamed { name }
 }
 
-// There is a world of the sections, or there is none for this fault.
-fn assert_new(
-    rt: &impl Abort,
-    alloc: Global,
-    sections: &[Arc<Section>],
-    numbers: (u32, u32),
-    want: Option<WorldNewFault>,
-) {
-    let (workers, ledgers) = numbers;
-    let told = match World::new(alloc, sections, workers, ledgers, Profile::One) {
-        Ok(_) => None,
-        Err(fault) => Some(fault),
-    };
-    assert_eq!(rt; told, want, "{workers} workers, {ledgers} ledgers");
-}
-
-#[test]
-fn a_world_has_1_to_64_workers_and_0_to_64_ledgers(rt: HostRuntime) -> Result<(), Fail> {
-    let alloc = rt.alloc();
-    assert_eq!(rt; MOST_LEDGERS, 64);
-    for numbers in [[].as_slice(), [1].as_slice(), [2, 1, 3].as_slice()] {
-        let sections = of_numbers(alloc, numbers)?;
-        for (numbers, want) in [
-            ((0, 1), Some(WorldNewFault::NoWorkers)),
-            ((1, 0), None),
-            ((1, 64), None),
-            ((64, 0), None),
-            ((64, 64), None),
-            ((65, 0), Some(WorldNewFault::TooManyWorkers)),
-            ((u32::MAX, 0), Some(WorldNewFault::TooManyWorkers)),
-            ((1, 65), Some(WorldNewFault::TooManyLedgers)),
-            ((64, u32::MAX), Some(WorldNewFault::TooManyLedgers)),
-        ] {
-            assert_new(&rt, alloc, sections.as_slice(), numbers, want);
-        }
-    }
-    Ok(())
-}
-
-// All but the last of these refusals hide one that would apply too.
+// Each of these refusals but the last hides one that would apply too.
 #[test]
 fn workers_are_looked_at_before_sections_then_names_then_ledgers(
     rt: HostRuntime,
 ) -> Result<(), Fail> {
-    let alloc = rt.alloc();
-    for (count, workers, want) in [
-        (65_537, 0, Some(WorldNewFault::NoWorkers)),
-        (65_537, 65, Some(WorldNewFault::TooManyWorkers)),
-        (65_537, 1, Some(WorldNewFault::TooManySections)),
-        (65_537, 64, Some(WorldNewFault::TooManySections)),
-        (65_536, 64, Some(twice(name(0, 1)))),
-        (2, 0, Some(WorldNewFault::NoWorkers)),
-        (2, 65, Some(WorldNewFault::TooManyWorkers)),
-        (2, 1, Some(twice(name(0, 1)))),
-        (1, 1, Some(WorldNewFault::TooManyLedgers)),
+    assert_eq!(rt; MOST_LEDGERS, 64);
+    for (count, workers, ledgers, want) in [
+        (0, 64, 64, None),
+        (1, 1, 0, None),
+        (65_537, 0, 65, Some(WorldNewFault::NoWorkers)),
+        (65_537, 65, 65, Some(WorldNewFault::TooManyWorkers)),
+        (65_537, 64, 65, Some(WorldNewFault::TooManySections)),
+        (65_536, 64, 65, Some(twice(name(0, 1)))),
+        (1, 1, 65, Some(WorldNewFault::TooManyLedgers)),
     ] {
-        let sections = of_one(alloc, count)?;
-        assert_new(&rt, alloc, sections.as_slice(), (workers, 65), want);
-    }
-    Ok(())
-}
-
-#[test]
-fn the_least_name_that_stands_twice_is_told(rt: HostRuntime) -> Result<(), Fail> {
-    let alloc = rt.alloc();
-    for (numbers, least) in [
-        ([1, 1].as_slice(), 1),
-        ([5, 5, 3, 3].as_slice(), 3),
-        ([3, 5, 3, 5].as_slice(), 3),
-        ([1, 5, 2, 5].as_slice(), 5),
-    ] {
-        let sections = of_numbers(alloc, numbers)?;
-        let want = Some(twice(name(0, least)));
-        assert_new(&rt, alloc, sections.as_slice(), (1, 1), want);
+        let sections = of_one(rt.alloc(), count)?;
+        let sections = sections.as_slice();
+        let told = match World::new(rt.alloc(), sections, workers, ledgers, Profile::One) {
+            Ok(_) => None,
+            Err(fault) => Some(fault),
+        };
+        assert_eq!(rt;
+            told,
+            want,
+            "{count} sections, {workers} workers, {ledgers} ledgers"
+        );
     }
     Ok(())
 }
