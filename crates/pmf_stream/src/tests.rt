@@ -3,9 +3,7 @@
 mod asked;
 mod checks;
 mod cutting;
-mod devices;
 mod fakes;
 mod joining;
 mod simulating;
 mod streams;
-mod workers;

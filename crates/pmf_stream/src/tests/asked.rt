@@ -2,16 +2,13 @@
 
 ghost use Rattle.std.specs.Prelude.{◌≡◌};
 
-use super::checks::failed_calls;
-use super::fakes::PieceSource;
+use super::fakes::{PieceSource, failed_calls};
 use crate::answering::answer_stream;
 use crate::device::Device;
 use crate::fault::StreamFault;
 use crate::memory::ByteSink;
 use pmf_event::Profile;
-use pmf_query::{
-    EventFault, EventRefusal, Linted, LogRefusal, Overview, Query, Question, Sought, Whole,
-};
+use pmf_query::{EventFault, EventRefusal, Linted, Overview, Query, Question, Sought, Whole};
 use pmf_storelog::{Cause, LogFault};
 use std::alloc::Global;
 use std::fmt::{Debug, Display};
@@ -86,77 +83,64 @@ fn answers<
     assert_eq!(rt; failed, failed_calls(&want), "at {case}");
 }
 
-// What is told, and the text that is written; a log in pieces has the answer of the whole, a refusal and a failed read write
-// nothing, and a writer that fails after n bytes holds the first n.
-fn goes_through_streams<
+// A log in pieces has the answer of the whole.
+fn tells<
     T: PartialEq + Debug + Copy + Drop,
-    E: PartialEq + Debug + Copy + Drop,
+    E: PartialEq + Debug + Drop,
     Q: Query<Told = T, Refusal = E>,
->(rt: &impl Abort, alloc: Global, query: &Q, told: T, text: &[u8], refusal: E) {
-    let pieces = [LOG];
+>(rt: &impl Abort, alloc: Global, query: &Q, told: T, text: &[u8]) {
     for most in [1, 7, 64, 65_536] {
-        let source = PieceSource::new(&pieces).giving(most);
+        let source = PieceSource::new(LOG).giving(most);
         let sink = ByteSink::new(alloc).taking(most);
         answers(rt, alloc, most, source, sink, query, Ok(told), text);
     }
-    for room in 0..text.len() {
-        let source = PieceSource::new(&pieces);
-        let sink = ByteSink::new(alloc).failing_after(room);
-        let cut = Err(StreamFault::WriteFault {
-            written: room as u64,
-        });
-        answers(rt, alloc, room, source, sink, query, cut, &text[..room]);
-    }
-    let faulty = [FAULTY];
-    let source = PieceSource::new(&faulty);
-    let refused = Err(StreamFault::Refused(refusal));
-    let sink = ByteSink::new(alloc);
-    answers(rt, alloc, "a fault", source, sink, query, refused, b"");
-    let source = PieceSource::failing(&faulty);
-    let unread = Err(StreamFault::ReadFault);
-    let sink = ByteSink::new(alloc);
-    answers(rt, alloc, "a read", source, sink, query, unread, b"");
 }
 
 #[test]
-fn an_explanation_goes_through_streams(rt: HostRuntime) {
+fn what_is_told_of_a_log_and_the_text_that_is_written(rt: HostRuntime) {
     let question = Question {
         run: SOUGHT.run,
         profile: Profile::One,
         section: SOUGHT.section,
         event: SOUGHT.event,
     };
-    let refusal = EventRefusal {
-        sought: SOUGHT,
-        fault: EventFault::Log(FAULT),
-    };
-    goes_through_streams(&rt, rt.alloc(), &question, (), EXPLAINED, refusal);
-}
-
-#[test]
-fn an_explanation_of_all_goes_through_streams(rt: HostRuntime) {
     let whole = Whole {
         run: 7,
         profile: Profile::One,
     };
-    let refusal = LogRefusal::Log(FAULT);
-    goes_through_streams(&rt, rt.alloc(), &whole, (), ALL_EXPLAINED, refusal);
-}
-
-#[test]
-fn a_location_goes_through_streams(rt: HostRuntime) {
-    let refusal = EventRefusal {
-        sought: SOUGHT,
-        fault: EventFault::Log(FAULT),
-    };
-    goes_through_streams(&rt, rt.alloc(), &SOUGHT, (), LOCATED, refusal);
-}
-
-#[test]
-fn an_overview_goes_through_streams(rt: HostRuntime) {
-    let told = Linted {
+    let linted = Linted {
         is_suspicious: false,
     };
-    let refusal = LogRefusal::Log(FAULT);
-    goes_through_streams(&rt, rt.alloc(), &Overview, told, HELD, refusal);
+    tells(&rt, rt.alloc(), &question, (), EXPLAINED);
+    tells(&rt, rt.alloc(), &whole, (), ALL_EXPLAINED);
+    tells(&rt, rt.alloc(), &SOUGHT, (), LOCATED);
+    tells(&rt, rt.alloc(), &Overview, linted, HELD);
+}
+
+#[test]
+fn a_writer_that_fails_after_n_bytes_holds_the_first_n(rt: HostRuntime) {
+    for room in 0..LOCATED.len() {
+        let source = PieceSource::new(LOG);
+        let sink = ByteSink::new(rt.alloc()).failing_after(room);
+        let written = room as u64;
+        let cut = Err(StreamFault::WriteFault { written });
+        let text = &LOCATED[..room];
+        answers(&rt, rt.alloc(), room, source, sink, &SOUGHT, cut, text);
+    }
+}
+
+#[test]
+fn a_refusal_and_a_failed_read_write_nothing(rt: HostRuntime) {
+    let alloc = rt.alloc();
+    let refused = Err(StreamFault::Refused(EventRefusal {
+        sought: SOUGHT,
+        fault: EventFault::Log(FAULT),
+    }));
+    let source = PieceSource::new(FAULTY);
+    let sink = ByteSink::new(alloc);
+    answers(&rt, alloc, "a fault", source, sink, &SOUGHT, refused, b"");
+    let unread = Err(StreamFault::ReadFault);
+    let source = PieceSource::new(FAULTY).failing(true);
+    let sink = ByteSink::new(alloc);
+    answers(&rt, alloc, "a read", source, sink, &SOUGHT, unread, b"");
 }

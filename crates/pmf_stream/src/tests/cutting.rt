@@ -1,6 +1,8 @@
 //! A log that is cut over a source and a sink: in pieces, and where a read, the log or a write fails.
 
-use super::fakes::PieceSource;
+ghost use Rattle.std.specs.Prelude.{◌≡◌};
+
+use super::fakes::{PieceSource, failed_calls};
 use crate::cutting::{Notes, Pieces, cut_stream};
 use crate::device::Device;
 use crate::fault::StreamFault;
@@ -8,6 +10,8 @@ use crate::memory::ByteSink;
 use pmf_cut::CutFault;
 use pmf_request::Lengths;
 use pmf_storelog::{Cause, LogFault};
+use std::alloc::Global;
+use std::process::Abort;
 
 const LOG: &[u8] = b"STORE;0;1;8|FLUSH;0;1|FENCE|STORE;64;1;8|PMT.ORDERED;64;8;0;8\n";
 
@@ -28,51 +32,54 @@ impl Notes for Lines {
     }
 }
 
+// The cut of the source answers so. Answers the sink, and how many lines were said.
+fn cuts(
+    rt: &impl Abort,
+    alloc: Global,
+    mut source: PieceSource,
+    mut sink: ByteSink,
+    want: Result<Pieces, StreamFault<CutFault>>,
+) -> (ByteSink, u64)
+    requires read { source.failures ≡ 0 }
+    requires write { sink.failures ≡ 0 }
+{
+    let mut lines = Lines { count: 0 };
+    let answer = cut_stream(alloc, &mut source, &mut sink, &mut lines, LENGTHS);
+    assert_eq!(rt; answer, want);
+    let failed = (source.failures(), sink.failures());
+    assert_eq!(rt; failed, failed_calls(&want), "{want:?}");
+    (sink, lines.count)
+}
+
 #[test]
 fn a_log_in_pieces_is_cut_as_the_whole(rt: HostRuntime) {
     for most in [1, 7, 65_536] {
-        let pieces = [LOG];
-        let mut source = PieceSource::new(&pieces).giving(most);
-        let mut sink = ByteSink::new(rt.alloc());
-        let mut lines = Lines { count: 0 };
-        let answer = cut_stream(rt.alloc(), &mut source, &mut sink, &mut lines, LENGTHS);
-        assert_eq!(rt; answer, Ok(Pieces { cuts: 1, told: 1 }));
+        let source = PieceSource::new(LOG).giving(most);
+        let want = Ok(Pieces { cuts: 1, told: 1 });
+        let (sink, said) = cuts(&rt, rt.alloc(), source, ByteSink::new(rt.alloc()), want);
         assert!(rt; sink.bytes() == TEXT);
-        assert_eq!(rt; lines.count, 1);
+        assert_eq!(rt; said, 1);
     }
 }
 
 #[test]
-fn devices_that_fail_are_told(rt: HostRuntime) {
+fn devices_that_fail_and_a_fault_of_the_log_are_told(rt: HostRuntime) {
+    let alloc = rt.alloc();
     for room in 0..TEXT.len() {
-        let pieces = [LOG];
-        let mut source = PieceSource::new(&pieces);
-        let mut sink = ByteSink::new(rt.alloc()).failing_after(room);
-        let mut lines = Lines { count: 0 };
-        let answer = cut_stream(rt.alloc(), &mut source, &mut sink, &mut lines, LENGTHS);
+        let sink = ByteSink::new(alloc).failing_after(room);
         let written = room as u64;
-        assert_eq!(rt; answer, Err(StreamFault::WriteFault { written }));
+        let cut = Err(StreamFault::WriteFault { written });
+        let (sink, _) = cuts(&rt, alloc, PieceSource::new(LOG), sink, cut);
         assert!(rt; sink.bytes() == &TEXT[..room]);
-        assert_eq!(rt; sink.failures(), 1);
     }
-    let pieces = [LOG];
-    let mut source = PieceSource::failing(&pieces);
-    let mut sink = ByteSink::new(rt.alloc());
-    let mut lines = Lines { count: 0 };
-    let answer = cut_stream(rt.alloc(), &mut source, &mut sink, &mut lines, LENGTHS);
-    assert_eq!(rt; answer, Err(StreamFault::ReadFault));
-}
-
-#[test]
-fn a_fault_of_the_log_refuses_it(rt: HostRuntime) {
-    let pieces = [b"FENCE|PMT.X".as_slice()];
-    let mut source = PieceSource::new(&pieces);
-    let mut sink = ByteSink::new(rt.alloc());
-    let mut lines = Lines { count: 0 };
-    let answer = cut_stream(rt.alloc(), &mut source, &mut sink, &mut lines, LENGTHS);
+    let source = PieceSource::new(LOG).failing(true);
+    let unread = Err(StreamFault::ReadFault);
+    let _ = cuts(&rt, alloc, source, ByteSink::new(alloc), unread);
     let fault = LogFault {
         at: 2,
         cause: Cause::UnknownMarker,
     };
-    assert_eq!(rt; answer, Err(StreamFault::Refused(CutFault::Log(fault))));
+    let source = PieceSource::new(b"FENCE|PMT.X");
+    let refused = Err(StreamFault::Refused(CutFault::Log(fault)));
+    let _ = cuts(&rt, alloc, source, ByteSink::new(alloc), refused);
 }

@@ -4,45 +4,40 @@ ghost use Rattle.std.specs.Prelude.{◌≡◌, None, Some, IfOk};
 
 use crate::device::Device;
 use crate::failed::Failed;
+use crate::fault::StreamFault;
 use crate::source::Source;
 use std::alloc::Global;
 use std::io;
 use std::io::{Error, ErrorKind, Read, Write};
 
-// Gives the pieces in turn, one a read, and then the end. A piece that does not fit into the
-// buffer, or has more than `most` bytes, is given in several reads. No piece but the last is empty, and
-// `most` is not 0.
+// Gives the text, in several reads where it does not fit into the buffer or has more than `most` bytes, which is not 0, and
+// then the end.
 #[derive(Drop)]
 pub struct PieceSource<'a> {
-    pieces: &'a [&'a [u8]],
     rest: &'a [u8],
-    next: usize,
     most: usize,
     fails_after: bool,
     failures: u64,
 }
 
 impl<'a> PieceSource<'a> {
-    pub fn new(pieces: &'a [&'a [u8]]) -> PieceSource<'a>
+    pub fn new(text: &'a [u8]) -> PieceSource<'a>
         ensures { result.failures ≡ 0 }
     {
         PieceSource {
-            pieces,
-            rest: b"",
-            next: 0,
+            rest: text,
             most: usize::MAX,
             fails_after: false,
             failures: 0,
         }
     }
 
-    // The pieces, and from then on each read fails in place of the end.
-    pub fn failing(pieces: &'a [&'a [u8]]) -> PieceSource<'a>
-        ensures { result.failures ≡ 0 }
+    // Where it fails, each read behind the text fails in place of the end.
+    pub fn failing(mut self, fails_after: bool) -> PieceSource<'a>
+        ensures { result.failures ≡ self.entry.failures }
     {
-        let mut source = PieceSource::new(pieces);
-        source.fails_after = true;
-        source
+        self.fails_after = fails_after;
+        self
     }
 
     // At most this many bytes a read.
@@ -66,10 +61,6 @@ impl<'a> Source for PieceSource<'a> {
     ghost left = { λ _. None };
 
     fn read(&mut self, buffer: &mut [u8]) -> Result<usize, Failed> {
-        if self.rest.is_empty() && self.next < self.pieces.len() {
-            self.rest = self.pieces[self.next];
-            self.next += 1;
-        }
         if self.rest.is_empty() && self.fails_after {
             self.failures += 1;
             return Err(Failed);
@@ -78,6 +69,15 @@ impl<'a> Source for PieceSource<'a> {
         buffer[..count].copy_from_slice(&self.rest[..count]);
         self.rest = &self.rest[count..];
         Ok(count)
+    }
+}
+
+// How many reads and how many writes have failed where a stream is answered so.
+pub fn failed_calls<T, E>(answer: &Result<T, StreamFault<E>>) -> (u64, u64) {
+    match answer {
+        Err(StreamFault::ReadFault) => (1, 0),
+        Err(StreamFault::WriteFault { .. }) => (0, 1),
+        _ => (0, 0),
     }
 }
 

@@ -2,7 +2,6 @@
 
 ghost use Rattle.std.specs.Prelude.{◌≡◌};
 
-use crate::device::Device;
 use crate::fault::StreamFault;
 use crate::joining::{JoinTextFault, Joined, join_texts, join_to};
 use crate::memory::ByteSink;
@@ -41,15 +40,12 @@ FENCE
 end verdicts=3
 ";
 
-// Section 0.0 is two fences, and 0.1 is one.
+// Section 0.1 is one fence.
 const OTHER: &str = "\
 PMFARM-LEDGER 1
-section 0.0 events=2 rows=0
-FENCE
-FENCE
 section 0.1 events=1 rows=0
 FENCE
-end verdicts=2
+end verdicts=1
 ";
 
 const EMPTY: &str = "PMFARM-LEDGER 1\nend verdicts=0\n";
@@ -98,143 +94,83 @@ fn bytes_of(alloc: Global, texts: &[&str]) -> Result<Vec<Vec<u8>>, AllocError> {
     Ok(list)
 }
 
-// The texts join to the ledger with this text.
-fn joins(rt: &impl Abort, alloc: Global, texts: &[&str], want: &str) -> Result<(), Fail> {
-    let joined = join_texts(alloc, &bytes_of(alloc, texts)?)?;
-    let text = joined.write_ledger(alloc)?;
-    assert!(rt; text.as_slice() == want.as_bytes(), "{want}");
-    Ok(())
-}
-
-#[test]
-fn texts_join_in_any_order_and_number_to_one(rt: HostRuntime) -> Result<(), Fail> {
-    let alloc = rt.alloc();
-    joins(&rt, alloc, &[LEDGER, SECOND], BOTH)?;
-    joins(&rt, alloc, &[SECOND, LEDGER], BOTH)?;
-    joins(&rt, alloc, &[LEDGER, LEDGER], LEDGER)?;
-    joins(&rt, alloc, &[SECOND, SECOND], SECOND)?;
-    joins(&rt, alloc, &[SECOND, BOTH, LEDGER, SECOND], BOTH)?;
-    joins(&rt, alloc, &[EMPTY, LEDGER], LEDGER)?;
-    joins(&rt, alloc, &[], EMPTY)?;
-    joins(&rt, alloc, &[EMPTY_OF_TWO], EMPTY_OF_TWO)?;
-    Ok(())
-}
-
-#[test]
-fn the_first_refusal_is_told(rt: HostRuntime) -> Result<(), Fail> {
-    let cases = [
-        (
-            &[LEDGER, FORGED][..],
-            JoinTextFault::Load {
-                index: 1,
-                fault: LedgerFault::FalseRows { name: SHARED },
-            },
-        ),
-        (
-            &["", FORGED][..],
-            JoinTextFault::Load {
-                index: 0,
-                fault: LedgerFault::NotALedger { line: 1 },
-            },
-        ),
-        (
-            &[LEDGER, SECOND, "PMFARM-LEDGER 1\n", FORGED][..],
-            JoinTextFault::Load {
-                index: 2,
-                fault: LedgerFault::NotALedger { line: 2 },
-            },
-        ),
-        (
-            &[SECOND, OTHER][..],
-            JoinTextFault::Join(JoinFault::Conflict { name: SHARED }),
-        ),
-        (
-            &[LEDGER, OTHER, FORGED][..],
-            JoinTextFault::Join(JoinFault::Conflict {
-                name: Name { run: 0, number: 0 },
-            }),
-        ),
-        (
-            &[LEDGER, EMPTY_OF_TWO][..],
-            JoinTextFault::Join(JoinFault::ProfileMismatch),
-        ),
-        (
-            &[EMPTY, EMPTY_OF_TWO][..],
-            JoinTextFault::Join(JoinFault::ProfileMismatch),
-        ),
-    ];
-    for (texts, want) in cases {
-        match join_texts(rt.alloc(), &bytes_of(rt.alloc(), texts)?) {
-            Ok(_) => return Err("they joined".into()),
-            Err(fault) => assert_eq!(rt; fault, want),
-        }
-    }
-    Ok(())
-}
-
 // The join of the texts answers so, and the sink holds these bytes.
 fn writes(
     rt: &impl Abort,
-    texts: &[Vec<u8>],
     alloc: Global,
+    texts: &[&str],
     mut sink: ByteSink,
     as_ledger: bool,
     want: Result<Joined, StreamFault<JoinTextFault>>,
     text: &[u8],
-)
+) -> Result<(), Fail>
     requires { sink.failures ≡ 0 }
 {
-    let answer = join_to(alloc, texts, &mut sink, as_ledger);
-    assert_eq!(rt; answer, want);
-    assert!(rt; sink.bytes() == text);
+    let texts = bytes_of(alloc, texts)?;
+    assert_eq!(rt; join_to(alloc, &texts, &mut sink, as_ledger), want);
+    assert!(rt; sink.bytes() == text, "{want:?}");
+    Ok(())
 }
 
 #[test]
 fn the_report_or_the_text_of_all_is_written(rt: HostRuntime) -> Result<(), Fail> {
     let alloc = rt.alloc();
-    let texts = bytes_of(alloc, &[LEDGER, FAILING])?;
-    let sink = ByteSink::new(alloc);
-    writes(
-        &rt,
-        &texts,
-        alloc,
-        sink,
-        false,
-        Ok(Joined { fails: 1 }),
-        REPORT,
-    );
-    let texts = bytes_of(alloc, &[LEDGER, SECOND])?;
-    let sink = ByteSink::new(alloc);
-    writes(
-        &rt,
-        &texts,
-        alloc,
-        sink,
-        true,
-        Ok(Joined { fails: 0 }),
-        BOTH.as_bytes(),
-    );
+    for (texts, as_ledger, fails, text) in [
+        ([LEDGER, SECOND].as_slice(), true, 0, BOTH.as_bytes()),
+        (&[SECOND, BOTH, LEDGER, SECOND], true, 0, BOTH.as_bytes()),
+        (&[EMPTY, LEDGER], true, 0, LEDGER.as_bytes()),
+        (&[], true, 0, EMPTY.as_bytes()),
+        (&[EMPTY_OF_TWO], true, 0, EMPTY_OF_TWO.as_bytes()),
+        (&[LEDGER, FAILING], false, 1, REPORT),
+    ] {
+        let sink = ByteSink::new(alloc);
+        let want = Ok(Joined { fails });
+        writes(&rt, alloc, texts, sink, as_ledger, want, text)?;
+    }
+    let joined = join_texts(alloc, &bytes_of(alloc, &[LEDGER, FAILING])?)?;
+    assert_eq!(rt; joined.len(), 3);
+    Ok(())
+}
+
+fn not_loaded(index: usize, fault: LedgerFault) -> JoinTextFault {
+    JoinTextFault::Load { index, fault }
+}
+
+#[test]
+fn the_first_refusal_is_told_and_nothing_is_written(rt: HostRuntime) -> Result<(), Fail> {
+    let alloc = rt.alloc();
+    let no_line = LedgerFault::NotALedger { line: 2 };
+    let conflict = JoinFault::Conflict { name: SHARED };
+    for (texts, fault) in [
+        (
+            [LEDGER, FORGED].as_slice(),
+            not_loaded(1, LedgerFault::FalseRows { name: SHARED }),
+        ),
+        (
+            &[LEDGER, SECOND, "PMFARM-LEDGER 1\n", FORGED],
+            not_loaded(2, no_line),
+        ),
+        (&[SECOND, OTHER, FORGED], JoinTextFault::Join(conflict)),
+        (
+            &[EMPTY, EMPTY_OF_TWO],
+            JoinTextFault::Join(JoinFault::ProfileMismatch),
+        ),
+    ] {
+        let sink = ByteSink::new(alloc);
+        let refused = Err(StreamFault::Refused(fault));
+        writes(&rt, alloc, texts, sink, false, refused, b"")?;
+    }
     Ok(())
 }
 
 #[test]
-fn a_refusal_writes_nothing_and_a_write_that_fails_is_told(rt: HostRuntime) -> Result<(), Fail> {
-    let alloc = rt.alloc();
-    let forged = JoinTextFault::Load {
-        index: 0,
-        fault: LedgerFault::FalseRows { name: SHARED },
-    };
-    let texts = bytes_of(alloc, &[FORGED])?;
-    let sink = ByteSink::new(alloc);
-    let refused = Err(StreamFault::Refused(forged));
-    writes(&rt, &texts, alloc, sink, false, refused, b"");
-    let texts = bytes_of(alloc, &[LEDGER, FAILING])?;
+fn a_write_that_fails_is_told(rt: HostRuntime) -> Result<(), Fail> {
     for room in [0, 10, REPORT.len() - 1] {
-        let sink = ByteSink::new(alloc).failing_after(room);
-        let cut = Err(StreamFault::WriteFault {
-            written: room as u64,
-        });
-        writes(&rt, &texts, alloc, sink, false, cut, &REPORT[..room]);
+        let sink = ByteSink::new(rt.alloc()).failing_after(room);
+        let written = room as u64;
+        let cut = Err(StreamFault::WriteFault { written });
+        let text = &REPORT[..room];
+        writes(&rt, rt.alloc(), &[LEDGER, FAILING], sink, false, cut, text)?;
     }
     Ok(())
 }

@@ -3,7 +3,7 @@
 ghost use Rattle.std.specs.Prelude.{◌≡◌, ◌<◌};
 ghost use Rattle.pmf_stream.specs.Failures.{CanCountOneMore};
 
-use super::fakes::PieceSource;
+use super::fakes::InterruptedOnce;
 use crate::device::Device;
 use crate::failed::Failed;
 use crate::memory::ByteSink;
@@ -25,55 +25,31 @@ fn writes(rt: &impl Abort, mut sink: ByteSink, text: &[u8], want: Result<(), Cut
 }
 
 #[test]
-fn a_sink_that_takes_one_byte_a_call_gets_the_whole_text(rt: HostRuntime) {
+fn a_sink_takes_the_whole_text_byte_by_byte_or_the_first_n_bytes(rt: HostRuntime) {
     writes(&rt, ByteSink::new(rt.alloc()).taking(1), TEXT, Ok(()), TEXT);
-}
-
-#[test]
-fn a_writer_that_takes_no_byte_cuts_the_text_at_0(rt: HostRuntime) -> Result<(), Fail> {
-    let mut room = [0u8; 0];
-    let mut sink = StdSink::new(&mut room[..]);
-    assert_eq!(rt; write_text(&mut sink, TEXT), Err(Cut { written: 0 }));
-    assert_eq!(rt; sink.failures(), 1);
-    Ok(())
-}
-
-#[test]
-fn a_writer_with_room_for_five_bytes_cuts_the_text_at_5(rt: HostRuntime) -> Result<(), Fail> {
-    let mut room = [0u8; 5];
-    let mut sink = StdSink::new(&mut room[..]);
-    assert_eq!(rt; write_text(&mut sink, TEXT), Err(Cut { written: 5 }));
-    assert_eq!(rt; sink.failures(), 1);
-    Ok(())
-}
-
-#[test]
-fn a_sink_that_fails_after_n_bytes_holds_the_first_n(rt: HostRuntime) {
     for room in 0..TEXT.len() {
         let sink = ByteSink::new(rt.alloc()).failing_after(room);
-        let cut = Cut {
-            written: room as u64,
-        };
-        writes(&rt, sink, TEXT, Err(cut), &TEXT[..room]);
+        let written = room as u64;
+        writes(&rt, sink, TEXT, Err(Cut { written }), &TEXT[..room]);
     }
+    let full = ByteSink::new(rt.alloc()).failing_after(0);
+    writes(&rt, full, b"", Ok(()), b"");
 }
 
 #[test]
-fn an_empty_text_is_written_in_no_call(rt: HostRuntime) {
-    writes(
-        &rt,
-        ByteSink::new(rt.alloc()).failing_after(0),
-        b"",
-        Ok(()),
-        b"",
-    );
-}
-
-#[test]
-fn a_writer_of_the_standard_library_holds_the_text(rt: HostRuntime) -> Result<(), Fail> {
+fn a_writer_of_the_standard_library_holds_what_there_is_room_for(
+    rt: HostRuntime,
+) -> Result<(), Fail> {
     let mut held = Vec::new(rt.alloc());
     assert_eq!(rt; write_text(&mut StdSink::new(&mut held), TEXT), Ok(()));
     assert!(rt; held.as_slice() == TEXT);
+    for count in [0, 5] {
+        let mut room = [0u8; 5];
+        let mut sink = StdSink::new(&mut room[..count]);
+        let written = count as u64;
+        assert_eq!(rt; write_text(&mut sink, TEXT), Err(Cut { written }));
+        assert_eq!(rt; sink.failures(), 1);
+    }
     Ok(())
 }
 
@@ -90,21 +66,6 @@ fn gives<S: Source>(rt: &impl Abort, source: &mut S, limit: usize, want: &[u8])
 }
 
 #[test]
-fn a_source_fails_at_each_call_in_turn(rt: HostRuntime) {
-    let pieces: [&[u8]; 3] = [b"FENCE|", b"FLUSH;0x0;0x40|", b"FENCE"];
-    for working in 0..=pieces.len() {
-        let mut source = PieceSource::failing(&pieces[..working]);
-        for piece in &pieces[..working] {
-            assert!(rt; source.failures() == 0);
-            gives(&rt, &mut source, 64, piece);
-        }
-        assert!(rt; source.failures() == 0);
-        assert_eq!(rt; source.read(&mut [0; 64]), Err(Failed), "call {working}");
-        assert_eq!(rt; source.failures(), 1);
-    }
-}
-
-#[test]
 fn a_reader_of_the_standard_library_gives_its_bytes_and_the_end(rt: HostRuntime) {
     let mut source = StdSource::new(TEXT);
     gives(&rt, &mut source, 4, &TEXT[..4]);
@@ -112,4 +73,21 @@ fn a_reader_of_the_standard_library_gives_its_bytes_and_the_end(rt: HostRuntime)
     gives(&rt, &mut source, 64, &TEXT[14..]);
     gives(&rt, &mut source, 64, b"");
     assert_eq!(rt; source.failures(), 0);
+}
+
+// An interrupted call is a failed one: it is counted, and not made again.
+#[test]
+fn an_interrupted_read_or_write_is_a_failed_one(rt: HostRuntime) {
+    let mut source = StdSource::new(InterruptedOnce::new());
+    let mut buffer = [0; 8];
+    assert_eq!(rt; source.read(&mut buffer), Err(Failed));
+    assert_eq!(rt; source.failures(), 1);
+    assert_eq!(rt; source.read(&mut buffer), Ok(0));
+    assert_eq!(rt; source.failures(), 1);
+
+    let mut sink = StdSink::new(InterruptedOnce::new());
+    assert_eq!(rt; sink.write(b"total"), Err(Failed));
+    assert_eq!(rt; sink.failures(), 1);
+    assert_eq!(rt; sink.write(b"total"), Ok(5));
+    assert_eq!(rt; sink.failures(), 1);
 }
