@@ -99,37 +99,26 @@ fn what_a_cut_may_change_is_said(rt: HostRuntime) -> Result<(), Fail> {
 }
 
 #[test]
-fn numbers_that_meet_are_refused(rt: HostRuntime) -> Result<(), Fail> {
-    let behind = cut(
-        rt.alloc(),
-        b"PMT.SECTION;3|PMT.SECTION;1|FENCE|FENCE|FENCE",
-        2,
-        2,
-        64,
-    )
-    .err();
-    assert!(rt;
-        behind
-            == Some(CutFault::Taken {
-                at: 5,
-                section: 3,
-                number: 3
-            })
-    );
-    let last = b"PMT.SECTION;18446744073709551614|FENCE|FENCE|FENCE";
-    let none = cut(rt.alloc(), last, 2, 2, 64).err();
-    assert!(rt;
-        none == Some(CutFault::NoNumber {
-            at: 4,
-            section: 18446744073709551614
-        })
-    );
-    let few = cut(rt.alloc(), b"FENCE||FLUSH;0", 2, 2, 64).err();
-    assert!(rt;
-        few == Some(CutFault::Log(LogFault {
-            at: 2,
-            cause: Cause::TooFewFields
-        }))
-    );
-    Ok(())
+fn numbers_that_meet_and_a_faulty_log_are_refused(rt: HostRuntime) {
+    let few = LogFault {
+        at: 2,
+        cause: Cause::TooFewFields,
+    };
+    let taken = CutFault::Taken {
+        at: 5,
+        section: 3,
+        number: 3,
+    };
+    let none = CutFault::NoNumber {
+        at: 4,
+        section: 18446744073709551614,
+    };
+    for (log, want) in [
+        ("PMT.SECTION;3|PMT.SECTION;1|FENCE|FENCE|FENCE", taken),
+        ("PMT.SECTION;18446744073709551614|FENCE|FENCE|FENCE", none),
+        ("FENCE||FLUSH;0", CutFault::Log(few)),
+    ] {
+        let found = cut(rt.alloc(), log.as_bytes(), 2, 2, 64).err();
+        assert!(rt; found == Some(want), "{log}");
+    }
 }
