@@ -37,29 +37,19 @@ fn ends(rt: &impl Abort, alloc: Global, words: &[String], want: Status) {
 
 #[test]
 fn check_takes_workers_a_run_a_profile_and_a_flag(rt: HostRuntime) -> Result<(), Fail> {
+    let (most_workers, most_run) = (
+        "check --workers=4294967295",
+        "check --run=18446744073709551615",
+    );
+    let (one, two) = (Profile::One, Profile::Two);
     for (line, workers, run, profile, ledger) in [
-        ("check", 1, 0, Profile::One, false),
-        ("check --run 7", 1, 7, Profile::One, false),
-        (
-            "check --run=18446744073709551615",
-            1,
-            u64::MAX,
-            Profile::One,
-            false,
-        ),
-        ("check --profile 1", 1, 0, Profile::One, false),
-        ("check --profile 2", 1, 0, Profile::Two, false),
-        ("check --profile=2", 1, 0, Profile::Two, false),
-        ("check --workers 64", 64, 0, Profile::One, false),
-        ("check --workers=0", 0, 0, Profile::One, false),
-        (
-            "check --workers=4294967295",
-            u32::MAX,
-            0,
-            Profile::One,
-            false,
-        ),
-        ("check --ledger --run 3", 1, 3, Profile::One, true),
+        ("check", 1, 0, one, false),
+        (most_run, 1, u64::MAX, one, false),
+        ("check --profile 1", 1, 0, one, false),
+        ("check --profile=2", 1, 0, two, false),
+        ("check --workers 0", 0, 0, one, false),
+        (most_workers, u32::MAX, 0, one, false),
+        ("check --ledger --run 3", 1, 3, one, true),
     ] {
         let settings = Settings {
             workers,
@@ -74,15 +64,10 @@ fn check_takes_workers_a_run_a_profile_and_a_flag(rt: HostRuntime) -> Result<(),
 
 #[test]
 fn explain_takes_a_section_and_an_event_or_all(rt: HostRuntime) -> Result<(), Fail> {
+    let most = "explain --profile=2 --event=4294967295 --section=18446744073709551615 --run=5";
     for (line, run, profile, section, event) in [
         ("explain --section 7 --event 3", 0, Profile::One, 7, 3),
-        (
-            "explain --profile=2 --event=4294967295 --section=18446744073709551615 --run=5",
-            5,
-            Profile::Two,
-            u64::MAX,
-            u32::MAX,
-        ),
+        (most, 5, Profile::Two, u64::MAX, u32::MAX),
     ] {
         let question = Question {
             run,
@@ -116,15 +101,10 @@ fn locate_takes_a_section_and_an_event_and_lint_nothing(rt: HostRuntime) -> Resu
 
 #[test]
 fn cut_takes_a_length_and_a_step(rt: HostRuntime) -> Result<(), Fail> {
+    let most = "cut --step 18446744073709551615 --events=4294967295";
     for (line, events, step) in [
         ("cut", 1_000_000, 1_000_000_000),
-        ("cut --events 5", 5, 1_000_000_000),
-        ("cut --step=7", 1_000_000, 7),
-        (
-            "cut --step 18446744073709551615 --events=4294967295",
-            u32::MAX,
-            u64::MAX,
-        ),
+        (most, u32::MAX, u64::MAX),
         ("cut --events 0 --step 0", 0, 0),
     ] {
         let lengths = Lengths { events, step };
@@ -136,37 +116,27 @@ fn cut_takes_a_length_and_a_step(rt: HostRuntime) -> Result<(), Fail> {
 #[test]
 fn join_takes_files_in_their_order(rt: HostRuntime) -> Result<(), Fail> {
     for (line, files, ledger) in [
-        ("join a", ["a"].as_slice(), false),
         ("join b a b", ["b", "a", "b"].as_slice(), false),
-        ("join --ledger a b", ["a", "b"].as_slice(), true),
         ("join a --ledger b", ["a", "b"].as_slice(), true),
         ("join -- --ledger", ["--ledger"].as_slice(), false),
     ] {
         let mut names = Vec::new(rt.alloc());
         names.extend_from_slice(files)?;
-        asks(
-            &rt,
-            rt.alloc(),
-            line,
-            Request::Join(Files { names, ledger }),
-        )?;
+        let files = Files { names, ledger };
+        asks(&rt, rt.alloc(), line, Request::Join(files))?;
     }
     Ok(())
 }
 
 #[test]
 fn sim_takes_a_log_workers_and_ledgers(rt: HostRuntime) -> Result<(), Fail> {
+    let most = "sim --ledgers=0 --log=a.log --workers=4294967295";
     for (line, workers, ledgers) in [
         ("sim --log a.log --workers 2 --ledgers 3", 2, 3),
-        (
-            "sim --ledgers=0 --log=a.log --workers=4294967295",
-            u32::MAX,
-            0,
-        ),
+        (most, u32::MAX, 0),
     ] {
-        let log = "a.log";
         let simulation = Simulation {
-            log,
+            log: "a.log",
             workers,
             ledgers,
         };
@@ -253,12 +223,8 @@ const HELP: &[&str] = &[
 fn words_that_are_no_request_are_refused_but_for_help(rt: HostRuntime) -> Result<(), Fail> {
     for (lines, want) in [(REFUSED, Status::Refused), (HELP, Status::NoFail)] {
         for line in lines {
-            ends(
-                &rt,
-                rt.alloc(),
-                words_of(rt.alloc(), *line)?.as_slice(),
-                want,
-            );
+            let words = words_of(rt.alloc(), *line)?;
+            ends(&rt, rt.alloc(), words.as_slice(), want);
         }
     }
     Ok(())
