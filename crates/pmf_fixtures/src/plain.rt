@@ -411,3 +411,8 @@ pub fn rows_of(alloc: Global, events: &[Event], profile: Profile) -> Result<Vec<
     }
     Ok(rows)
 }
+
+/// Whether the byte is backed up.
+pub fn is_backed_up(past: &[Event], byte: u64) -> bool {
+    is_backed(past, byte)
+}

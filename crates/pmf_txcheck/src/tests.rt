@@ -7,6 +7,7 @@ ghost use Rattle.pmf_txcheck.specs.Tracking.{Tracks, FollowsAt as FollowsTransac
 
 use crate::state::TxState;
 use pmf_event::{EVENT_LIMIT, Event, Finding, Span};
+use pmf_fixtures::plain::{depth, is_backed_up, is_scoped, scope};
 use pmf_fixtures::{Step, events_of};
 use pmf_shadow::Shadow;
 use std::alloc::{AllocError, Global};
@@ -14,20 +15,18 @@ use std::process::Abort;
 use std::test::Fail;
 
 mod memory;
-mod plain;
 
 use Step::{CheckEnd, CheckStart, Exclude, Fence, Flush, Include, Store, TxAdd, TxBegin, TxEnd};
-use plain::{BASE, BYTES, Plain};
 
-/// What is found of some events, each with its place, and where the section ends.
-#[derive(Debug, Drop)]
-struct Found {
-    rows: Vec<(u32, Finding)>,
-    close: Option<Finding>,
-    depth: u32,
-}
+/// The bytes that are looked at, from this one on.
+const BASE: u64 = 0x1000;
 
-/// What is found of the events. Where one of them is refused, the state is what it was before.
+const BYTES: u64 = 256;
+
+/// What is found of some events, each with its place, and last of the section's end.
+type Found = Vec<(u32, Finding)>;
+
+/// What is found of the events, by a state that keeps what the definitions say: also where one of them is refused.
 fn found_of(rt: &impl Abort, alloc: Global, events: &[Event]) -> Result<Found, AllocError> {
     if events.len() > EVENT_LIMIT {
         return Err(AllocError);
@@ -41,7 +40,7 @@ fn found_of(rt: &impl Abort, alloc: Global, events: &[Event]) -> Result<Found, A
         let finding = match follow_transactions(&mut state, &shadow, place, *event) {
             Ok(finding) => finding,
             Err(AllocError) => {
-                assert_kept(rt, &state, &Plain::of(&events[..index]));
+                assert_kept(rt, &state, &events[..index]);
                 return Err(AllocError);
             }
         };
@@ -49,11 +48,11 @@ fn found_of(rt: &impl Abort, alloc: Global, events: &[Event]) -> Result<Found, A
             rows.push((place, finding))?;
         }
     }
-    Ok(Found {
-        rows,
-        close: state.close_section(),
-        depth: state.depth(),
-    })
+    assert_kept(rt, &state, events);
+    if let Some(finding) = state.close_section() {
+        rows.push((events.len() as u32 + 1, finding))?;
+    }
+    Ok(rows)
 }
 
 /// Follows one event by the state.
@@ -82,31 +81,25 @@ fn follow_transactions(
     Ok(finding)
 }
 
-/// The state keeps what the definitions say.
-fn assert_kept(rt: &impl Abort, state: &TxState, plain: &Plain) {
-    assert_eq!(rt; state.depth(), plain.depth);
-    assert_eq!(rt; state.close_section(), plain.close_section());
+/// The state keeps what the definitions say of the events.
+fn assert_kept(rt: &impl Abort, state: &TxState, past: &[Event]) {
+    let (depth, start) = (depth(past), scope(past));
+    let unclosed = if start > 0 {
+        Some(Finding::Unclosed { start })
+    } else {
+        None
+    };
+    assert_eq!(rt; (state.depth(), state.close_section()), (depth, unclosed));
     for byte in BASE..BASE + BYTES {
-        if plain.depth > 0 {
-            assert_eq!(rt;
-                state.backup.at(byte),
-                plain.is_backed(byte),
-                "backup at {byte}"
-            );
+        if depth > 0 {
+            let backed = is_backed_up(past, byte);
+            assert_eq!(rt; state.backup.at(byte), backed, "backup at {byte}");
         }
-        if plain.scope.is_some() {
-            assert_eq!(rt;
-                state.stored.at(byte),
-                plain.is_scoped(byte),
-                "scope at {byte}"
-            );
+        if start > 0 {
+            let scoped = is_scoped(past, byte);
+            assert_eq!(rt; state.stored.at(byte), scoped, "scope at {byte}");
         }
     }
-}
-
-fn found_after(rt: &impl Abort, alloc: Global, steps: &[Step]) -> Result<Found, Fail> {
-    let events = events_of(alloc, steps)?;
-    Ok(found_of(rt, alloc, events.as_slice())?)
 }
 
 fn no_backup(byte: u64) -> Finding {
@@ -134,11 +127,6 @@ fn findings_are_those_of_worked_rows(rt: HostRuntime) -> Result<(), Fail> {
     for (steps, want, what) in [
         ([].as_slice(), [].as_slice(), "no event"),
         (
-            [CheckStart, CheckEnd].as_slice(),
-            [(2, pass)].as_slice(),
-            "an empty scope",
-        ),
-        (
             [CheckStart, TxBegin, half, both, TxEnd, CheckEnd].as_slice(),
             [(4, no_backup(0x1008)), (6, check_fail(0x1000))].as_slice(),
             "half of a store is backed up",
@@ -159,9 +147,15 @@ fn findings_are_those_of_worked_rows(rt: HostRuntime) -> Result<(), Fail> {
                 (2, Finding::Outside),
                 (3, Finding::Unopened),
                 (5, Finding::Nested),
+                (6, Finding::Unclosed { start: 4 }),
             ]
             .as_slice(),
             "markers out of place",
+        ),
+        (
+            [CheckStart, CheckEnd, CheckStart].as_slice(),
+            [(2, pass), (4, Finding::Unclosed { start: 3 })].as_slice(),
+            "a second scope",
         ),
         (
             [
@@ -251,51 +245,11 @@ fn findings_are_those_of_worked_rows(rt: HostRuntime) -> Result<(), Fail> {
             "stores outside of transactions are no bytes of the scope",
         ),
     ] {
-        let found = found_after(&rt, rt.alloc(), steps)?;
-        assert_eq!(rt; found.rows.as_slice(), want, "{what}");
+        let events = events_of(rt.alloc(), steps)?;
+        let found = found_of(&rt, rt.alloc(), events.as_slice())?;
+        assert_eq!(rt; found.as_slice(), want, "{what}");
     }
     Ok(())
-}
-
-#[test]
-fn a_section_ends_in_the_scope_that_is_open(rt: HostRuntime) -> Result<(), Fail> {
-    for (steps, want, depth, what) in [
-        ([].as_slice(), None, 0, "no event"),
-        (
-            [TxEnd, TxAdd(0, 1), CheckEnd, CheckStart, CheckStart].as_slice(),
-            Some(Finding::Unclosed { start: 4 }),
-            0,
-            "the first of two starts",
-        ),
-        (
-            [CheckStart, TxBegin, TxBegin, CheckEnd].as_slice(),
-            None,
-            2,
-            "closed inside a transaction",
-        ),
-        (
-            [CheckStart, CheckEnd, TxEnd, TxBegin, CheckStart].as_slice(),
-            Some(Finding::Unclosed { start: 5 }),
-            1,
-            "a second scope",
-        ),
-    ] {
-        let found = found_after(&rt, rt.alloc(), steps)?;
-        assert_eq!(rt; found.close, want, "{what}");
-        assert_eq!(rt; found.depth, depth, "{what}");
-    }
-    Ok(())
-}
-
-#[test]
-fn the_place_that_opened_a_scope_is_the_one_that_was_told(rt: HostRuntime) {
-    let mut state = TxState::new(rt.alloc());
-    assert_eq!(rt; state.check_start(70), None);
-    assert_eq!(rt; state.check_start(80), Some(Finding::Nested));
-    assert_eq!(rt;
-        state.close_section(),
-        Some(Finding::Unclosed { start: 70 })
-    );
 }
 
 #[test]

@@ -1,8 +1,7 @@
 //! Changes for which room is refused. With ample memory these tests only follow their events; under
 //! `tests/refuse-memory` each change fails in turn, and `found_of` then asks all that was kept before.
 
-use super::found_of;
-use super::plain::BASE;
+use super::{BASE, found_of};
 use pmf_event::{Event, Span};
 use std::test::Fail;
 
@@ -27,16 +26,6 @@ fn a_refused_store_changes_nothing(rt: HostRuntime) -> Result<(), Fail> {
     for index in 0..32 {
         events.push(Event::Store(Span::make(BASE + index * 37 % 256, 1)?))?;
         events.push(Event::TxAdd(Span::make(BASE + index * 8, 3)?))?;
-    }
-    found_of(&rt, rt.alloc(), events.as_slice())?;
-    Ok(())
-}
-
-#[test]
-fn a_refused_row_is_told(rt: HostRuntime) -> Result<(), Fail> {
-    let mut events = Vec::new(rt.alloc());
-    for _event in 0..16 {
-        events.push(Event::TxEnd)?;
     }
     found_of(&rt, rt.alloc(), events.as_slice())?;
     Ok(())
