@@ -1,7 +1,8 @@
-//! Verdicts, their rows and how they count.
+//! Verdicts and their rows.
 
 use super::*;
-use pmf_event::{Event, Finding, Name, Profile, Row, Section, Span, SpanFault};
+use pmf_event::{Event, Name, Profile, Section};
+use pmf_fixtures::{FENCE, FLUSH, STORE, Step, events_of};
 use std::alloc::Global;
 use std::sync::Arc;
 use std::test::Fail;
@@ -12,61 +13,6 @@ mod random;
 
 const NAME: Name = Name { run: 7, number: 3 };
 
-// How a row with each finding counts.
-const OUTCOMES: [(Finding, Outcome); 19] = [
-    (Finding::PersistPass, Outcome::Pass),
-    (Finding::PersistFail { byte: 0xff }, Outcome::Fail),
-    (Finding::PersistEmpty, Outcome::Empty),
-    (Finding::OrderedPass, Outcome::Pass),
-    (
-        Finding::OrderedFail {
-            byte: 0xff,
-            after: 0x1000,
-            crash: 2,
-        },
-        Outcome::Fail,
-    ),
-    (
-        Finding::OrderedSameLine {
-            byte: 0xff,
-            after: 0x1000,
-        },
-        Outcome::Fail,
-    ),
-    (Finding::OrderedEmpty, Outcome::Empty),
-    (
-        Finding::FlushDoubled {
-            line: 0x40,
-            lines: 3,
-        },
-        Outcome::Warn,
-    ),
-    (
-        Finding::FlushNeedless {
-            line: 0x40,
-            lines: 3,
-        },
-        Outcome::Warn,
-    ),
-    (Finding::NoBackup { byte: 0xff }, Outcome::Fail),
-    (Finding::DupLog { byte: 0xff }, Outcome::Warn),
-    (Finding::CheckPass, Outcome::Pass),
-    (Finding::CheckFail { byte: 0xff }, Outcome::Fail),
-    (Finding::TxStillOpen { depth: 2 }, Outcome::Fail),
-    (Finding::Unmatched, Outcome::Fail),
-    (Finding::Outside, Outcome::Fail),
-    (Finding::Nested, Outcome::Fail),
-    (Finding::Unopened, Outcome::Fail),
-    (Finding::Unclosed { start: 4 }, Outcome::Fail),
-];
-
-#[test]
-fn each_finding_counts_as_the_table_says(rt: HostRuntime) {
-    for (finding, want) in OUTCOMES {
-        assert_eq!(rt; outcome_of(finding), want, "at {finding:?}");
-    }
-}
-
 // The section of the events.
 fn section_of(alloc: Global, events: &[Event]) -> Result<Arc<Section>, Fail> {
     let mut section = Section::new(alloc, NAME);
@@ -76,20 +22,6 @@ fn section_of(alloc: Global, events: &[Event]) -> Result<Arc<Section>, Fail> {
     Ok(Arc::new(alloc, section)?)
 }
 
-// Two stores of one line: the first is written back and fenced, the second fenced alone, and a byte
-// that no store has covered.
-fn events() -> Result<[Event; 7], SpanFault> {
-    Ok([
-        Event::Store(Span::make(0x1000, 8)?),
-        Event::Flush(Span::make(0x1000, 0x40)?),
-        Event::Store(Span::make(0x1008, 8)?),
-        Event::Fence,
-        Event::Persist(Span::make(0x1000, 8)?),
-        Event::Persist(Span::make(0x1008, 8)?),
-        Event::Persist(Span::make(0x2000, 8)?),
-    ])
-}
-
 fn verdict_of(alloc: Global, events: &[Event], profile: Profile) -> Result<Verdict, Fail> {
     match check(alloc, section_of(alloc, events)?, profile) {
         Ok(verdict) => Ok(verdict),
@@ -97,192 +29,60 @@ fn verdict_of(alloc: Global, events: &[Event], profile: Profile) -> Result<Verdi
     }
 }
 
+// Two stores of one line: the first is written back and fenced, the second fenced alone; a byte that no store has
+// covered; and a write-back that meets a line that is pending, and two with nothing to write back.
+const STEPS: &[Step] = &[
+    STORE,
+    FLUSH,
+    Step::Store(0x1008, 8),
+    FENCE,
+    Step::Persist(0x1000, 8),
+    Step::Persist(0x1008, 8),
+    Step::Persist(0x2000, 8),
+    FLUSH,
+    Step::Flush(0x1000, 0xc0),
+];
+
+const ROWS: &str = "\
+5 PERSIST PASS
+6 PERSIST FAIL byte=0x1008 crash=6
+7 PERSIST EMPTY
+9 FLUSH DOUBLED line=0x1000 lines=1
+9 FLUSH NEEDLESS line=0x1040 lines=2
+";
+
+const LAST_ROWS: &str = "\
+9 FLUSH DOUBLED line=0x1000 lines=1
+9 FLUSH NEEDLESS line=0x1040 lines=2
+";
+
 #[test]
 fn a_verdict_tells_its_section_and_the_rows_of_its_events(rt: HostRuntime) -> Result<(), Fail> {
-    let section = section_of(rt.alloc(), events()?.as_slice())?;
-    let kept = Arc::try_clone(&section)?;
-    let verdict = match check(rt.alloc(), section, Profile::One) {
-        Ok(verdict) => verdict,
-        Err((fault, _)) => return Err(fault.into()),
-    };
+    let events = events_of(rt.alloc(), STEPS)?;
+    let section = section_of(rt.alloc(), events.as_slice())?;
+    let verdict = verdict_of(rt.alloc(), events.as_slice(), Profile::Two)?;
     assert_eq!(rt; verdict.name(), NAME);
-    assert!(rt; verdict.section().same_as(&kept));
-    let want = [
-        Row {
-            place: 5,
-            finding: Finding::PersistPass,
-        },
-        Row {
-            place: 6,
-            finding: Finding::PersistFail { byte: 0x1008 },
-        },
-        Row {
-            place: 7,
-            finding: Finding::PersistEmpty,
-        },
-    ];
-    assert!(rt; verdict.rows() == want.as_slice());
-    Ok(())
-}
-
-#[test]
-fn a_verdict_tells_its_profile(rt: HostRuntime) -> Result<(), Fail> {
-    for profile in [Profile::One, Profile::Two] {
-        let verdict = verdict_of(rt.alloc(), events()?.as_slice(), profile)?;
-        assert_eq!(rt; verdict.profile(), profile);
-    }
-    Ok(())
-}
-
-#[test]
-fn a_copy_is_of_the_same_section_with_the_same_rows(rt: HostRuntime) -> Result<(), Fail> {
-    let verdict = verdict_of(rt.alloc(), events()?.as_slice(), Profile::Two)?;
+    assert_eq!(rt; verdict.profile(), Profile::Two);
+    assert!(rt; verdict.section().same_as(&section));
+    let text = write_rows(rt.alloc(), &verdict)?;
+    assert!(rt; text.as_slice() == ROWS.as_bytes());
     let copy = verdict.copy(rt.alloc())?;
     assert!(rt; copy.same_section(&verdict));
     assert_eq!(rt; copy.profile(), Profile::Two);
     assert!(rt; copy.rows() == verdict.rows());
-    assert_eq!(rt; copy.rows().len(), 3);
+    let other = verdict_of(rt.alloc(), &[Event::Fence], Profile::Two)?;
+    assert!(rt; !other.same_section(&verdict));
     Ok(())
 }
 
-#[test]
-fn another_event_is_another_section(rt: HostRuntime) -> Result<(), Fail> {
-    let fence = verdict_of(rt.alloc(), &[Event::Fence], Profile::One)?;
-    let again = verdict_of(rt.alloc(), &[Event::Fence], Profile::Two)?;
-    let other = verdict_of(rt.alloc(), &[Event::TxBegin], Profile::One)?;
-    assert!(rt; fence.same_section(&again));
-    assert!(rt; !fence.same_section(&other));
-    Ok(())
-}
-
-// Two lines, of which the second write-back meets one that is pending and two with nothing to write
-// back.
-#[test]
-fn doubled_stands_before_needless(rt: HostRuntime) -> Result<(), Fail> {
-    let events = [
-        Event::Store(Span::make(0x1000, 8)?),
-        Event::Flush(Span::make(0x1000, 0x40)?),
-        Event::Flush(Span::make(0x1000, 0xc0)?),
-        Event::Fence,
-        Event::Persist(Span::make(0x1000, 8)?),
-    ];
-    let want = [
-        Row {
-            place: 3,
-            finding: Finding::FlushDoubled {
-                line: 0x1000,
-                lines: 1,
-            },
-        },
-        Row {
-            place: 3,
-            finding: Finding::FlushNeedless {
-                line: 0x1040,
-                lines: 2,
-            },
-        },
-        Row {
-            place: 5,
-            finding: Finding::PersistPass,
-        },
-    ];
-    for profile in [Profile::One, Profile::Two] {
-        let verdict = verdict_of(rt.alloc(), events.as_slice(), profile)?;
-        assert!(rt; verdict.rows() == want.as_slice(), "{profile:?}");
-    }
-    Ok(())
-}
-
-// Two stores of one line in order, and then one of another line.
-#[test]
-fn order_assertions_are_judged_by_the_profile(rt: HostRuntime) -> Result<(), Fail> {
-    let (first, next, other) = (
-        Span::make(0x1000, 8)?,
-        Span::make(0x1008, 8)?,
-        Span::make(0x2000, 8)?,
-    );
-    let events = [
-        Event::Store(first),
-        Event::Store(next),
-        Event::Ordered(first, next),
-        Event::Store(other),
-        Event::Ordered(next, other),
-        Event::Ordered(other, Span::make(0x3000, 1)?),
-    ];
-    for (profile, want) in [
-        (
-            Profile::One,
-            Finding::OrderedSameLine {
-                byte: 0x1000,
-                after: 0x1008,
-            },
-        ),
-        (Profile::Two, Finding::OrderedPass),
-    ] {
-        let verdict = verdict_of(rt.alloc(), events.as_slice(), profile)?;
-        let want = [
-            Row {
-                place: 3,
-                finding: want,
-            },
-            Row {
-                place: 5,
-                finding: Finding::OrderedFail {
-                    byte: 0x1008,
-                    after: 0x2000,
-                    crash: 4,
-                },
-            },
-            Row {
-                place: 6,
-                finding: Finding::OrderedEmpty,
-            },
-        ];
-        assert!(rt; verdict.rows() == want.as_slice(), "{profile:?}");
-    }
-    Ok(())
-}
-
-#[test]
-fn the_rows_of_a_verdict_are_written_a_text_line_each(rt: HostRuntime) -> Result<(), Fail> {
-    let verdict = verdict_of(rt.alloc(), events()?.as_slice(), Profile::One)?;
-    let text = write_rows(rt.alloc(), &verdict)?;
-    let want = b"5 PERSIST PASS\n6 PERSIST FAIL byte=0x1008 crash=6\n7 PERSIST EMPTY\n";
-    assert!(rt; text.as_slice() == want.as_slice());
-    Ok(())
-}
-
-// A write-back with two rows, and an assertion with one.
 #[test]
 fn the_rows_at_one_place_are_written_alone(rt: HostRuntime) -> Result<(), Fail> {
-    let events = [
-        Event::Store(Span::make(0x1000, 8)?),
-        Event::Flush(Span::make(0x1000, 0x40)?),
-        Event::Flush(Span::make(0x1000, 0xc0)?),
-        Event::Persist(Span::make(0x1000, 8)?),
-    ];
+    let events = events_of(rt.alloc(), STEPS)?;
     let verdict = verdict_of(rt.alloc(), events.as_slice(), Profile::One)?;
-    for (place, want) in [
-        (0, ""),
-        (2, ""),
-        (
-            3,
-            "3 FLUSH DOUBLED line=0x1000 lines=1\n3 FLUSH NEEDLESS line=0x1040 lines=2\n",
-        ),
-        (4, "4 PERSIST FAIL byte=0x1000 crash=4\n"),
-        (5, ""),
-    ] {
+    for (place, want) in [(0, ""), (5, "5 PERSIST PASS\n"), (9, LAST_ROWS), (10, "")] {
         let text = write_rows_at(rt.alloc(), &verdict, place)?;
         assert!(rt; text.as_slice() == want.as_bytes(), "at place {place}");
     }
-    Ok(())
-}
-
-#[test]
-fn a_section_without_assertions_has_no_rows(rt: HostRuntime) -> Result<(), Fail> {
-    let verdict = verdict_of(rt.alloc(), [Event::Fence].as_slice(), Profile::Two)?;
-    assert_eq!(rt; verdict.rows().len(), 0);
-    assert_eq!(rt; write_rows(rt.alloc(), &verdict)?.len(), 0);
     Ok(())
 }
 

@@ -221,69 +221,27 @@ fn is_explained(verdict: &Verdict, images: &Images, place: u32) -> bool {
     false
 }
 
-/// Which outcomes the test has met.
-#[derive(Clone, Copy, Debug, PartialEq, Eq)]
-struct Met {
-    persist_pass: bool,
-    persist_fail: bool,
-    persist_empty: bool,
-    ordered_pass: bool,
-    ordered_fail: bool,
-    ordered_empty: bool,
-    same_line: bool,
-    same_line_holds: bool,
-    check_pass: bool,
-    check_fail: bool,
-}
-
-const NONE: Met = Met {
-    persist_pass: false,
-    persist_fail: false,
-    persist_empty: false,
-    ordered_pass: false,
-    ordered_fail: false,
-    ordered_empty: false,
-    same_line: false,
-    same_line_holds: false,
-    check_pass: false,
-    check_fail: false,
-};
-
-const ALL: Met = Met {
-    persist_pass: true,
-    persist_fail: true,
-    persist_empty: true,
-    ordered_pass: true,
-    ordered_fail: true,
-    ordered_empty: true,
-    same_line: true,
-    same_line_holds: true,
-    check_pass: true,
-    check_fail: true,
-};
-
-impl Met {
-    fn meet(&mut self, finding: Finding, holds: bool) {
-        match finding {
-            Finding::PersistPass => self.persist_pass = true,
-            Finding::PersistFail { .. } => self.persist_fail = true,
-            Finding::PersistEmpty => self.persist_empty = true,
-            Finding::OrderedPass => self.ordered_pass = true,
-            Finding::OrderedFail { .. } => self.ordered_fail = true,
-            Finding::OrderedEmpty => self.ordered_empty = true,
-            Finding::OrderedSameLine { .. } if holds => self.same_line_holds = true,
-            Finding::OrderedSameLine { .. } => self.same_line = true,
-            Finding::CheckPass => self.check_pass = true,
-            Finding::CheckFail { .. } => self.check_fail = true,
-            _ => {}
-        }
+/// Which of ten outcomes this is, or one past the last: SAMELINE is another where the assertion holds.
+fn outcome(finding: Finding, holds: bool) -> usize {
+    match finding {
+        Finding::PersistPass => 0,
+        Finding::PersistFail { .. } => 1,
+        Finding::PersistEmpty => 2,
+        Finding::OrderedPass => 3,
+        Finding::OrderedFail { .. } => 4,
+        Finding::OrderedEmpty => 5,
+        Finding::OrderedSameLine { .. } if holds => 6,
+        Finding::OrderedSameLine { .. } => 7,
+        Finding::CheckPass => 8,
+        Finding::CheckFail { .. } => 9,
+        _ => 10,
     }
 }
 
 #[test]
 fn an_assertion_is_shown_as_it_holds_in_every_image(rt: HostRuntime) -> Result<(), Fail> {
     let mut numbers = Numbers::of(6);
-    let mut met = NONE;
+    let mut met = [false; 10];
     for _section in 0..SECTIONS {
         let events = section(rt.alloc(), &mut numbers)?;
         let images = images_of(rt.alloc(), events.as_slice())?;
@@ -294,7 +252,7 @@ fn an_assertion_is_shown_as_it_holds_in_every_image(rt: HostRuntime) -> Result<(
             }
         }
     }
-    assert_eq!(rt; met, ALL);
+    assert_eq!(rt; met, [true; 10]);
     Ok(())
 }
 
@@ -305,7 +263,7 @@ fn compare(
     verdict: &Verdict,
     images: &Images,
     index: u32,
-    met: &mut Met,
+    met: &mut [bool; 10],
 ) -> Result<(), Fail> {
     let events = verdict.section().events();
     let past = first(events, index);
@@ -334,6 +292,9 @@ fn compare(
     );
     let explained = is_explained(verdict, images, place);
     assert_eq!(rt; explained, fails, "at {place} of {events:?}");
-    met.meet(finding, holds);
+    let outcome = outcome(finding, holds);
+    if outcome < 10 {
+        met[outcome] = true;
+    }
     Ok(())
 }
