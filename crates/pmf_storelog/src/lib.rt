@@ -28,8 +28,6 @@ mod line;
 #[cfg(test)]
 mod line_tests;
 mod log;
-#[cfg(test)]
-mod marker_tests;
 mod number;
 mod progress;
 mod quick;
@@ -38,8 +36,6 @@ mod quick_tests;
 mod reader;
 mod reading;
 mod record;
-#[cfg(test)]
-mod section_tests;
 mod sections;
 mod tally;
 #[cfg(test)]

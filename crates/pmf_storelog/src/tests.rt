@@ -1,14 +1,57 @@
 //! Logs, whole and in pieces, and their first faults.
 
 use super::*;
-use pmf_event::{Event, Name, Span, SpanFault};
+use pmf_event::{Event, Name, Section, Span, SpanFault};
 use std::alloc::Global;
+use std::process::Abort;
 use std::test::Fail;
 
-// Eight events; the file, the line of a tracer and the name `FENCE ` are skipped.
-const LONG_TEXT: &[u8] =
-    b"STORE;0x1000;0x0;0x8|FLUSH;0x1000;0x40|FENCE\r\n \tPMT.PERSIST;0x1000;0x8 ||REGISTER_FILE;/mnt/pool;x
-PMT.EXCLUDE;4096;8;note\tkept|PMT.INCLUDE;0x1004;0x4|==77== Command: ./a|STORE;18446744;v v;65536|FENCE ;|FENCE";
+// A section that comes again, one that is empty, and one before the first marker, in another order; blanks, records that
+// are empty, and one that is skipped.
+const TEXT: &[u8] =
+    b"FENCE|PMT.SECTION;18446744073709551615;x|PMT.SECTION;0x2| STORE;4096;junk;8;more |\r\n\n==77== Command: ./a|\
+PMT.SECTION;1|\tFLUSH;0x1000;0x40|PMT.SECTION;2|FENCE ";
+
+// The section has this name and these events.
+fn has_events(rt: &impl Abort, section: &Section, name: Name, events: &[Event]) {
+    assert_eq!(rt; section.name(), name);
+    assert!(rt; section.events() == events);
+}
+
+// The log is that of the text.
+fn is_of_text(rt: &impl Abort, log: &Log) -> Result<(), Fail> {
+    let store = Event::Store(Span::make(0x1000, 8)?);
+    let flush = Event::Flush(Span::make(0x1000, 64)?);
+    let run = 5;
+    assert_eq!(rt; log.skipped(), 1);
+    assert_eq!(rt; log.sections().len(), 4);
+    has_events(
+        rt,
+        &log.sections()[0],
+        Name { run, number: 0 },
+        &[Event::Fence],
+    );
+    has_events(rt, &log.sections()[1], Name { run, number: 1 }, &[flush]);
+    has_events(
+        rt,
+        &log.sections()[2],
+        Name { run, number: 2 },
+        &[store, Event::Fence],
+    );
+    let number = u64::MAX;
+    has_events(rt, &log.sections()[3], Name { run, number }, &[]);
+    Ok(())
+}
+
+#[test]
+fn a_log_is_read_whole_and_byte_by_byte(rt: HostRuntime) -> Result<(), Fail> {
+    is_of_text(&rt, &read_log(rt.alloc(), TEXT, 5)?)?;
+    let mut reader = LogReader::new(rt.alloc(), 5);
+    for byte in TEXT {
+        reader.feed(&[*byte])?;
+    }
+    is_of_text(&rt, &reader.finish()?)
+}
 
 // The events of the log's one section, or none where it has no section.
 fn events_of(log: &Log) -> &[Event] {
@@ -30,6 +73,9 @@ fn refused(at: u64, cause: Cause) -> Result<(usize, u64), LogFault> {
 
 #[test]
 fn each_record_is_read_as_the_table_says(rt: HostRuntime) {
+    let few = Cause::TooFewFields;
+    let bad = Cause::BadNumber;
+    let unknown = Cause::UnknownMarker;
     let zero = Cause::BadSpan(SpanFault::ZeroSize);
     let large = Cause::BadSpan(SpanFault::TooLarge);
     let past = Cause::BadSpan(SpanFault::PastEnd);
@@ -41,15 +87,36 @@ fn each_record_is_read_as_the_table_says(rt: HostRuntime) {
         ("STORE;0x0;0;4294967297", refused(1, large)),
         ("STORE;0x7fffffffffffffff;0;1", Ok((1, 0))),
         ("STORE;0x7fffffffffffffff;0;2", refused(1, past)),
-        ("FENCE|STORE;0x10", refused(2, Cause::TooFewFields)),
-        ("PMT.SHARE;0x0;0x8", refused(1, Cause::UnknownMarker)),
-        ("PMT.X;junk|FENCE", refused(1, Cause::UnknownMarker)),
-        ("FLUSH;bad;0", refused(1, Cause::BadNumber)),
-        ("FLUSH;1", refused(1, Cause::TooFewFields)),
+        ("FENCE|STORE;0x10", refused(2, few)),
+        ("PMT.SHARE;0x0;0x8", refused(1, unknown)),
+        ("PMT.X;junk|FENCE", refused(1, unknown)),
+        ("FLUSH;bad;0", refused(1, bad)),
+        ("FLUSH;1", refused(1, few)),
         ("FLUSH;1;2;junk", Ok((1, 0))),
         ("FENCE;junk", Ok((1, 0))),
         ("fence|STORE ;1;2;3|START", Ok((0, 3))),
-        ("REGISTER_FILE;a||STORE;1", refused(2, Cause::TooFewFields)),
+        ("REGISTER_FILE;a||STORE;1", refused(2, few)),
+        ("PMT.ORDERED;0x0;8;0x7fffffffffffffff;1;x", Ok((1, 0))),
+        ("PMT.ORDERED;x;0;x", refused(1, few)),
+        ("PMT.ORDERED;0x0;0;0x0;x", refused(1, bad)),
+        ("PMT.ORDERED;0x0;8;0x40; 8", refused(1, bad)),
+        ("PMT.ORDERED;0x0;4294967297;0x0;0", refused(1, large)),
+        ("PMT.ORDERED;0x0;8;0x0;0", refused(1, zero)),
+        ("PMT.EXCLUDE;x;0", refused(1, bad)),
+        ("PMT.INCLUDE;x", refused(1, few)),
+        ("PMT.TXADD;", refused(1, few)),
+        ("PMT.TXADD;0x8000000000000000;x", refused(1, bad)),
+        ("PMT.TXADD;0x8000000000000000;0", refused(1, zero)),
+        ("PMT.TXBEGIN;", Ok((1, 0))),
+        ("PMT.CHECKEND; PMT.TXADD", Ok((1, 0))),
+        ("PMT.", refused(1, unknown)),
+        ("PMT.TXBEGI", refused(1, unknown)),
+        ("PMT.TXBEGINX", refused(1, unknown)),
+        ("PMT.TXBEGIN ;", refused(1, unknown)),
+        ("PMT.txadd;0x0;8", refused(1, unknown)),
+        ("PMT.SECTION", refused(1, few)),
+        ("PMT.SECTION;0X1", refused(1, bad)),
+        ("PMT.SECTION;18446744073709551616", refused(1, bad)),
     ] {
         assert_eq!(rt; answer(rt.alloc(), text.as_bytes()), want, "at {text}");
     }
@@ -57,79 +124,22 @@ fn each_record_is_read_as_the_table_says(rt: HostRuntime) {
 
 #[test]
 fn a_number_is_hexadecimal_with_a_small_x_or_decimal(rt: HostRuntime) {
-    for (text, good) in [
-        ("0X10", false),
-        ("0x", false),
-        ("", false),
-        ("+1", false),
-        (" 1", false),
-        ("0xg", false),
-        ("1a", false),
-        ("0xfF", true),
-        ("0x000000000000000f", true),
-        ("0x0000000000000000f", false),
-        ("00000000000000000016", true),
-        ("000000000000000000016", false),
-        ("18446744073709551615", true),
-        ("18446744073709551616", false),
-        ("99999999999999999999", false),
+    for (text, want) in [
+        ("0X10", None),
+        ("0x", None),
+        ("", None),
+        ("+1", None),
+        ("1a", None),
+        ("0xfF", Some(255)),
+        ("0xfFfFfFfFfFfFfFfF", Some(u64::MAX)),
+        ("0x0000000000000000f", None),
+        ("00000000000000000016", Some(16)),
+        ("000000000000000000016", None),
+        ("18446744073709551615", Some(u64::MAX)),
+        ("18446744073709551616", None),
     ] {
-        let bytes = text.as_bytes();
-        assert_eq!(rt; number::read_number(bytes).is_some(), good, "at {text}");
+        assert_eq!(rt; number::read_number(text.as_bytes()), want, "at {text}");
     }
-    assert_eq!(rt; number::read_number(b"0xfFfFfFfFfFfFfFfF"), Some(u64::MAX));
-    assert_eq!(rt;
-        number::read_number(b"18446744073709551615"),
-        Some(u64::MAX)
-    );
-}
-
-// Two events, and a record that is skipped.
-const SPACED_TEXT: &[u8] = b" STORE;4096;junk;8;more |\r\n\nREGISTER_FILE;x|FENCE ";
-
-#[test]
-fn blanks_and_empty_records_are_dropped_and_other_names_counted(
-    rt: HostRuntime,
-) -> Result<(), Fail> {
-    let log = read_log(rt.alloc(), SPACED_TEXT, 3)?;
-    assert_eq!(rt; log.skipped(), 1);
-    assert_eq!(rt; log.sections().len(), 1);
-    let section = &log.sections()[0];
-    assert_eq!(rt; section.name(), Name { run: 3, number: 0 });
-    assert!(rt; section.events() == [Event::Store(Span::make(4096, 8)?), Event::Fence].as_slice());
-    Ok(())
-}
-
-#[test]
-fn a_log_cut_in_two_anywhere_is_the_same_log(rt: HostRuntime) -> Result<(), Fail> {
-    let alloc = rt.alloc();
-    for (text, events, skipped) in [(LONG_TEXT, 8, 3), (SPACED_TEXT, 2, 1)] {
-        let whole = read_log(alloc, text, 3)?;
-        assert_eq!(rt; events_of(&whole).len(), events);
-        for cut in 0..=text.len() {
-            let mut reader = LogReader::new(alloc, 3);
-            reader.feed(&text[..cut])?;
-            reader.feed(&text[cut..])?;
-            let log = reader.finish()?;
-            assert!(rt; events_of(&log) == events_of(&whole), "at {cut}");
-            assert_eq!(rt; log.skipped(), skipped, "at {cut}");
-        }
-    }
-    Ok(())
-}
-
-#[test]
-fn a_log_fed_byte_by_byte_is_the_same_log(rt: HostRuntime) -> Result<(), Fail> {
-    let alloc = rt.alloc();
-    let whole = read_log(alloc, LONG_TEXT, 3)?;
-    let mut reader = LogReader::new(alloc, 3);
-    for byte in LONG_TEXT {
-        reader.feed(&[*byte])?;
-    }
-    let log = reader.finish()?;
-    assert!(rt; events_of(&log) == events_of(&whole));
-    assert_eq!(rt; log.skipped(), 3);
-    Ok(())
 }
 
 #[test]
@@ -148,17 +158,6 @@ fn a_reader_that_refused_is_spent(rt: HostRuntime) {
     assert_eq!(rt; reader.feed(b""), spent);
     assert_eq!(rt; reader.feed(b"FENCE|"), spent);
     assert_eq!(rt; reader.finish().map(|log| log.skipped()), spent.map(|_| 0));
-}
-
-#[test]
-fn an_unfinished_record_is_refused_at_the_end(rt: HostRuntime) {
-    let mut reader = LogReader::new(rt.alloc(), 0);
-    assert_eq!(rt; reader.feed(b"FENCE|FLUSH;1"), Ok(()));
-    let few = LogFault {
-        at: 2,
-        cause: Cause::TooFewFields,
-    };
-    assert_eq!(rt; reader.finish().map(|log| log.skipped()), Err(few));
 }
 
 #[test]
