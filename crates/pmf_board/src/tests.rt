@@ -1,9 +1,8 @@
 //! Sections are handed out and done, by one pass and by two.
 
-ghost use Rattle.std.specs.Prelude.{◌≡◌, length, IfOk};
+ghost use Rattle.std.specs.Prelude.{◌≡◌, length};
 
-use super::{Board, BoardFault, MOST_SECTIONS, Pass, Tally, Task};
-use std::alloc::Global;
+use super::{Board, BoardFault, Pass, Tally, Task};
 use std::process::Abort;
 use std::test::Fail;
 
@@ -78,16 +77,6 @@ fn split_often(board: &Board, pass: &mut Pass, times: u32) -> Result<(), Fail>
     Ok(())
 }
 
-// What was done by one pass of a board of one section, and a pass split from it before.
-fn done_by_another(rt: &impl Abort, alloc: Global) -> Result<(Board, Pass), Fail>
-    ensures { IfOk result (λ made. (made.1.board ≡ made.0) × (made.0.words ≡ 1)) }
-{
-    let (board, mut p) = Board::new(alloc, 1)?;
-    let q = board.split(&mut p)?;
-    assert_fresh(rt, &board, &mut p, 0, Some(0));
-    Ok((board, q))
-}
-
 #[test]
 fn two_sections_are_handed_out_and_told(rt: HostRuntime) -> Result<(), Fail> {
     let (board, mut p) = Board::new(rt.alloc(), 2)?;
@@ -97,6 +86,9 @@ fn two_sections_are_handed_out_and_told(rt: HostRuntime) -> Result<(), Fail> {
     assert!(rt; matches!(board.split(&mut q), Err(BoardFault::Crowded)));
     assert_eq!(rt; told(board.take_fresh(&mut q, 0)), Some((1, 1)));
     assert_again(&rt, &board, &mut p, 1, 2);
+    assert_again(&rt, &board, &mut q, 1, 9);
+    assert_fresh(&rt, &board, &mut p, 0, None);
+    assert_fresh(&rt, &board, &mut q, 0, None);
     let Err((fault, board, mut p)) = board.close(p) else {
         panic!(rt; "shares are out")
     };
@@ -114,32 +106,11 @@ fn two_sections_are_handed_out_and_told(rt: HostRuntime) -> Result<(), Fail> {
 }
 
 #[test]
-fn boards_of_no_and_of_too_many_sections_are_refused(rt: HostRuntime) -> Result<(), Fail> {
-    assert!(rt; matches!(Board::new(rt.alloc(), 0), Err(BoardFault::NoSections)));
-    assert!(rt; matches!(Board::new(rt.alloc(), 65_537), Err(BoardFault::TooMany)));
-    let (board, pass) = Board::new(rt.alloc(), MOST_SECTIONS)?;
-    assert_eq!(rt; (board.sections(), pass.shares()), (65_536, 65));
-    Ok(())
-}
-
-#[test]
 fn the_65th_split_of_a_first_pass_is_crowded(rt: HostRuntime) -> Result<(), Fail> {
     let (board, mut pass) = Board::new(rt.alloc(), 1)?;
     split_often(&board, &mut pass, 64)?;
     assert!(rt; matches!(board.split(&mut pass), Err(BoardFault::Crowded)));
     assert_eq!(rt; pass.shares(), 1);
-    Ok(())
-}
-
-#[test]
-fn a_section_has_eight_hand_outs_and_then_none_for_every_pass(rt: HostRuntime) -> Result<(), Fail> {
-    let (board, mut p) = Board::new(rt.alloc(), 1)?;
-    let mut q = board.split(&mut p)?;
-    assert_again(&rt, &board, &mut p, 0, 1);
-    assert_again(&rt, &board, &mut q, 0, 9);
-    assert_fresh(&rt, &board, &mut p, 0, None);
-    assert_fresh(&rt, &board, &mut q, 0, None);
-    assert!(rt; !board.is_done(&mut p, 0) && !board.is_done(&mut q, 0));
     Ok(())
 }
 
@@ -161,24 +132,16 @@ fn a_section_is_marked_by_its_third_hand_out(rt: HostRuntime) -> Result<(), Fail
     Ok(())
 }
 
+// Answers from a pass's own record alone would be other ones: each of the three took, marked and saw nothing.
 #[test]
-fn what_another_pass_marked_is_not_taken_fresh(rt: HostRuntime) -> Result<(), Fail> {
-    let (board, mut q) = done_by_another(&rt, rt.alloc())?;
-    assert!(rt; board.take_fresh(&mut q, 0).is_none());
-    Ok(())
-}
-
-#[test]
-fn what_another_pass_marked_is_not_taken_again(rt: HostRuntime) -> Result<(), Fail> {
-    let (board, mut q) = done_by_another(&rt, rt.alloc())?;
-    assert!(rt; board.take_again(&mut q, 0).is_none());
-    Ok(())
-}
-
-// An answer from the pass's own record alone would be no: q took, marked and saw nothing, and p marked after the split.
-#[test]
-fn what_another_pass_marked_is_done(rt: HostRuntime) -> Result<(), Fail> {
-    let (board, mut q) = done_by_another(&rt, rt.alloc())?;
+fn what_another_pass_marked_is_done_and_not_taken(rt: HostRuntime) -> Result<(), Fail> {
+    let (board, mut p) = Board::new(rt.alloc(), 1)?;
+    let mut q = board.split(&mut p)?;
+    let mut r = board.split(&mut p)?;
+    let mut s = board.split(&mut p)?;
+    assert_fresh(&rt, &board, &mut p, 0, Some(0));
     assert!(rt; board.is_done(&mut q, 0));
+    assert!(rt; board.take_fresh(&mut r, 0).is_none());
+    assert!(rt; board.take_again(&mut s, 0).is_none());
     Ok(())
 }
