@@ -102,7 +102,7 @@ class Sums:
 
     def of(self, name, folder, below):
         """The sum of a crate with the files of this folder, over these sums."""
-        return digest(self.kit, self.crates.lines[name], *files(folder, *PARTS), *map(below, self.crates.uses[name]))
+        return digest(self.kit, self.crates.lines[name], *files(folder, *PARTS), *map(below, self.crates.rests[name]))
 
 
 def files(folder, *parts):
