@@ -42,10 +42,8 @@ impl Byte {
 
     /// Whether it is written, and its interval has not closed.
     pub fn is_open(self) -> bool {
-        match self.interval {
-            Some(interval) => interval.closes.is_none(),
-            None => false,
-        }
+        self.interval
+            .is_some_and(|interval| interval.closes.is_none())
     }
 }
 
@@ -128,10 +126,7 @@ fn found_of_persist(past: &[Event], span: Span) -> Finding {
 /// Whether the bytes at these two addresses are an unordered pair.
 pub fn is_unordered(profile: Profile, x: u64, y: u64, at_x: Byte, at_y: Byte) -> bool {
     let is_first = match (at_x.interval, at_y.interval) {
-        (Some(of_x), Some(of_y)) => match of_x.closes {
-            Some(end) => end <= of_y.opens,
-            None => false,
-        },
+        (Some(of_x), Some(of_y)) => of_x.closes.is_some_and(|end| end <= of_y.opens),
         _ => false,
     };
     let by_line = profile == Profile::Two && line_of(x) == line_of(y) && at_x.last < at_y.last;
@@ -221,19 +216,16 @@ fn line_at(past: &[Event], line: u64) -> Line {
 
 /// Of the lines that the span meets, those that are so: the least, and how many.
 pub fn lines_of(past: &[Event], span: Span, so: Line) -> Option<Lines> {
-    let mut found: Option<Lines> = None;
+    let mut found: Option<u64> = None;
+    let mut count = 0u64;
     for number in span.first() / LINE_SIZE..span.end().wrapping_sub(1) / LINE_SIZE + 1 {
         let line = number.wrapping_mul(LINE_SIZE);
         if line_at(past, line) == so {
-            let (least, count) = match found {
-                Some(lines) => (lines.least, lines.count),
-                None => (line, 0),
-            };
-            let count = count.wrapping_add(1);
-            found = Some(Lines { least, count });
+            found = Some(found.unwrap_or(line));
+            count = count.wrapping_add(1);
         }
     }
-    found
+    found.map(|least| Lines { least, count })
 }
 
 // ---- transactions
@@ -256,18 +248,14 @@ pub fn depth(past: &[Event]) -> u32 {
 }
 
 /// Whether a TXADD covers the byte, and a transaction has run at every place from the one before the last such TXADD.
-fn is_backed(past: &[Event], byte: u64) -> bool {
+pub fn is_backed(past: &[Event], byte: u64) -> bool {
     let mut is_backed = false;
     for (index, event) in past.iter().enumerate() {
-        if let Event::TxAdd(span) = event {
-            if span.covers(byte) {
-                is_backed = true;
-            }
+        match event {
+            Event::TxAdd(span) if span.covers(byte) => is_backed = true,
+            _ => {}
         }
-        let place = place_of(index);
-        if depth(first(past, place)) == 0 {
-            is_backed = false;
-        }
+        is_backed = is_backed && depth(first(past, place_of(index))) > 0;
     }
     is_backed
 }
@@ -376,20 +364,15 @@ fn found(
 }
 
 fn found_of_flush(past: &[Event], span: Span) -> [Option<Finding>; 2] {
-    let mut both = [None, None];
-    if let Some(Lines { least, count }) = lines_of(past, span, Line::Pending) {
-        both[0] = Some(Finding::FlushDoubled {
-            line: least,
-            lines: count,
-        });
-    }
-    if let Some(Lines { least, count }) = lines_of(past, span, Line::Clean) {
-        both[1] = Some(Finding::FlushNeedless {
-            line: least,
-            lines: count,
-        });
-    }
-    both
+    let doubled = lines_of(past, span, Line::Pending).map(|found| Finding::FlushDoubled {
+        line: found.least,
+        lines: found.count,
+    });
+    let needless = lines_of(past, span, Line::Clean).map(|found| Finding::FlushNeedless {
+        line: found.least,
+        lines: found.count,
+    });
+    [doubled, needless]
 }
 
 /// The rows of a section with these events, by the profile.
@@ -410,9 +393,4 @@ pub fn rows_of(alloc: Global, events: &[Event], profile: Profile) -> Result<Vec<
         rows.push(Row { place, finding })?;
     }
     Ok(rows)
-}
-
-/// Whether the byte is backed up.
-pub fn is_backed_up(past: &[Event], byte: u64) -> bool {
-    is_backed(past, byte)
 }

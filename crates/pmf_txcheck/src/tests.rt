@@ -7,7 +7,7 @@ ghost use Rattle.pmf_txcheck.specs.Tracking.{Tracks, FollowsAt as FollowsTransac
 
 use crate::state::TxState;
 use pmf_event::{EVENT_LIMIT, Event, Finding, Span};
-use pmf_fixtures::plain::{depth, is_backed_up, is_scoped, scope};
+use pmf_fixtures::plain::{depth, is_backed, is_scoped, scope};
 use pmf_fixtures::{Step, events_of};
 use pmf_shadow::Shadow;
 use std::alloc::{AllocError, Global};
@@ -92,7 +92,7 @@ fn assert_kept(rt: &impl Abort, state: &TxState, past: &[Event]) {
     assert_eq!(rt; (state.depth(), state.close_section()), (depth, unclosed));
     for byte in BASE..BASE + BYTES {
         if depth > 0 {
-            let backed = is_backed_up(past, byte);
+            let backed = is_backed(past, byte);
             assert_eq!(rt; state.backup.at(byte), backed, "backup at {byte}");
         }
         if start > 0 {
