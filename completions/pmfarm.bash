@@ -16,8 +16,10 @@ _pmfarm() {
         mapfile -t COMPREPLY < <(compgen -W '--section --event --run --help -h' -- "$word")
     elif [ "$command" = lint ]; then
         mapfile -t COMPREPLY < <(compgen -W '--help -h' -- "$word")
-    elif [ "$command" = cut ] && [[ "$before" != --@(events|step) ]]; then
-        mapfile -t COMPREPLY < <(compgen -W '--events --step --help -h' -- "$word")
+    elif [ "$command" = cut ] && [ "$before" = --files ]; then
+        mapfile -t COMPREPLY < <(compgen -f -- "$word")
+    elif [ "$command" = cut ] && [[ "$before" != --@(events|step|bytes) ]]; then
+        mapfile -t COMPREPLY < <(compgen -W '--events --step --files --bytes --help -h' -- "$word")
     elif [ "$command" = join ] && [[ "$word" != -* ]]; then
         mapfile -t COMPREPLY < <(compgen -f -- "$word")
     elif [ "$command" = join ]; then

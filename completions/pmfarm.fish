@@ -19,6 +19,8 @@ complete -c pmfarm -n '__fish_seen_subcommand_from check explain' -l profile -x 
 complete -c pmfarm -n '__fish_seen_subcommand_from check join' -l ledger -d 'write the ledger text instead of the report'
 complete -c pmfarm -n '__fish_seen_subcommand_from cut' -l events -x -d 'the most events of a part'
 complete -c pmfarm -n '__fish_seen_subcommand_from cut' -l step -x -d 'what a part\'s number is above that of the one before it'
+complete -c pmfarm -n '__fish_seen_subcommand_from cut' -l files -x -a '(__fish_complete_path)' -d 'the front of the names of the files to write'
+complete -c pmfarm -n '__fish_seen_subcommand_from cut' -l bytes -x -d 'the most bytes of such a file'
 complete -c pmfarm -n '__fish_seen_subcommand_from join' -F
 complete -c pmfarm -n '__fish_seen_subcommand_from sim' -l log -x -a '(__fish_complete_path)' -d 'the log whose sections are played with'
 complete -c pmfarm -n '__fish_seen_subcommand_from sim' -l workers -x -d 'how many workers there are'

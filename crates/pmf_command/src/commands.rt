@@ -10,15 +10,16 @@ use crate::diagnostics::{
     Spoken, fail, fail_file, out_of_memory, print_cuts, print_skipped, refuse_words,
 };
 use crate::ending::Ending;
+use crate::files::NumberedFiles;
 use crate::status::Status;
 use pmf_event::EVENT_LIMIT;
 use pmf_farm::OpenGate;
 use pmf_ledger::LEDGER_LIMIT;
 use pmf_query::Query;
-use pmf_request::{Files, Lengths, Overview, Request, Settings, Simulation};
+use pmf_request::{Cuts, Files, Lengths, Overview, Request, Settings, Simulation};
 use pmf_storelog::LOG_LIMIT;
 use pmf_stream::{
-    JoinTextFault, Joined, Sink, Source, StdSink, StdSource, StreamFault, answer_stream,
+    JoinTextFault, Joined, Outlet, Sink, Source, StdSink, StdSource, StreamFault, answer_stream,
     check_stream, cut_stream, join_to, read_all, sim_to, write_text,
 };
 use pmf_words::request_of;
@@ -45,7 +46,7 @@ pub fn execute<T: Threads + Wait + Sync>(rt: &HostRuntime, threads: &T) -> Statu
         Ok(Request::ExplainAll(whole)) => answer_input(rt, &whole),
         Ok(Request::Locate(sought)) => answer_input(rt, &sought),
         Ok(Request::Lint) => answer_input(rt, &Overview),
-        Ok(Request::Cut(lengths)) => cut_input(rt, lengths),
+        Ok(Request::Cut(cuts)) => cut_input(rt, cuts),
         Ok(Request::Join(files)) => join_files(rt, &files),
         Ok(Request::Sim(simulation)) => simulate(rt, &simulation),
         Err(error) => report_words(rt, alloc, &error),
@@ -143,15 +144,31 @@ fn answer_to<
     report_ending(rt, answer)
 }
 
-/// Writes the log on standard input to standard output, with its sections cut.
-fn cut_input(rt: &HostRuntime, lengths: Lengths) -> Status {
+/// Writes the log on standard input with its sections cut to standard output, or to files.
+fn cut_input(rt: &HostRuntime, cuts: Cuts) -> Status {
+    let Cuts {
+        lengths,
+        files,
+        bytes,
+    } = cuts;
     if !has_room(lengths) {
         let text = "error: a piece has 1 to 1048576 events, and a step is at least 1\n";
         return refuse_words(rt, text);
     }
+    if bytes < 1024 || bytes > LOG_LIMIT as u64 {
+        return refuse_words(rt, "error: a file has 1024 to 268435456 bytes\n");
+    }
     let mut source = StdSource::new(rt.reader());
-    let mut sink = StdSink::new(io::writer(rt));
-    cut_to(rt, rt.alloc(), &mut source, &mut sink, lengths)
+    match files {
+        Some(prefix) => {
+            let mut sink = NumberedFiles::new(rt, rt.alloc(), prefix);
+            cut_to(rt, rt.alloc(), &mut source, &mut sink, lengths, Some(bytes))
+        }
+        None => {
+            let mut sink = StdSink::new(io::writer(rt));
+            cut_to(rt, rt.alloc(), &mut source, &mut sink, lengths, None)
+        }
+    }
 }
 
 // Whether a piece may have so many events, and a number of its own.
@@ -160,13 +177,15 @@ fn has_room(lengths: Lengths) -> bool {
     0 < events && events <= EVENT_LIMIT && 0 < lengths.step
 }
 
-/// Writes the log of the source to the sink with its sections cut, and says on standard error what that may have changed.
-fn cut_to<R: Eprint, S: Source, W: Sink>(
+/// Writes the log of the source to the sink with its sections cut, in files of so many bytes where they are told, and says on standard
+/// error what that may have changed.
+fn cut_to<R: Eprint, S: Source, W: Outlet>(
     rt: &R,
     alloc: Global,
     source: &mut S,
     sink: &mut W,
     lengths: Lengths,
+    bytes: Option<u64>,
 ) -> Status
     requires read { CanCountOneMore (S.failed_calls source.old) }
     requires write { CanCountOneMore (W.failed_calls sink.old) }
@@ -175,9 +194,9 @@ fn cut_to<R: Eprint, S: Source, W: Sink>(
         × (S.failed_calls source.new ≡ S.failed_calls source.old + failed_reads answer)
         × (W.failed_calls sink.new ≡ W.failed_calls sink.old + failed_writes answer) }
 {
-    let answer = cut_stream(alloc, source, sink, &mut Spoken { rt }, lengths);
+    let answer = cut_stream(alloc, source, sink, &mut Spoken { rt }, lengths, bytes);
     if let Ok(pieces) = &answer {
-        print_cuts(rt, pieces.cuts);
+        print_cuts(rt, pieces.cuts, bytes.is_some().then_some(pieces.files));
     }
     report_ending(rt, answer)
 }

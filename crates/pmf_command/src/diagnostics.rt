@@ -52,9 +52,12 @@ pub fn print_skipped<R: Eprint>(rt: &R, records: u64) {
     }
 }
 
-/// Says how many cuts were made in a log.
-pub fn print_cuts<R: Eprint>(rt: &R, cuts: u64) {
-    let _ = eprintln!(rt; "pmfarm: {cuts} cuts");
+/// Says how many cuts were made in a log, and how many files it became, where it is cut into files.
+pub fn print_cuts<R: Eprint>(rt: &R, cuts: u64, files: Option<usize>) {
+    let _ = match files {
+        Some(files) => eprintln!(rt; "pmfarm: {cuts} cuts, {files} files"),
+        None => eprintln!(rt; "pmfarm: {cuts} cuts"),
+    };
 }
 
 /// What is said on standard error while a log is cut.

@@ -10,10 +10,11 @@
 mod commands;
 mod diagnostics;
 mod ending;
+mod files;
 mod status;
 
 pub use commands::execute;
 pub use ending::Ending;
-pub use pmf_request::{Files, Lengths, Request, Simulation};
+pub use pmf_request::{Cuts, Files, Lengths, Request, Simulation};
 pub use pmf_words::request_of;
 pub use status::Status;

@@ -3,6 +3,7 @@
 ghost use Rattle.std.specs.Prelude.{◌<◌, ◌≤◌, length};
 
 use crate::fault::CutFault;
+use crate::output::{Outputs, Text};
 use crate::part::{Part, PartFault};
 use crate::section::Cutting;
 use memchr::{memchr3, memrchr3};
@@ -14,7 +15,9 @@ use std::collections::BTreeMap;
 /// A log as it is read in pieces and written with its sections cut.
 ///
 /// Every record goes out as it came, with its separators. What is put in stands in front of a record, and ends with `|`.
-/// Memory: for the runs of equal bytes of each section's part, and for those that its earlier parts stored to.
+/// Where there are several files, each part goes whole to the file that was the newest when the part began, and a marker goes out
+/// as long as its section is not cut. Memory: for the runs of equal bytes of each section's part, for those that its earlier parts
+/// stored to, and for each file.
 #[derive(Debug, Drop)]
 pub struct Cutter {
     alloc: Global,
@@ -29,22 +32,21 @@ pub struct Cutter {
     names: BTreeMap<u64, u64>,
     /// Where the section stands that is current in what is read, once there is one.
     current: Option<usize>,
-    /// The number that is current in what is written.
-    written: u64,
     records: u64,
     cuts: u64,
     told: u64,
     /// The bytes behind the last separator that was read.
     waiting: Vec<u8>,
     /// What is to be written.
-    out: Vec<u8>,
+    outputs: Outputs,
     /// What is to be said.
     notes: Vec<String>,
 }
 
 impl Cutter {
-    /// A cutter before the log's first byte. A part has at most so many events, of those that a section may have.
-    pub fn new(alloc: Global, events: u32, step: u64) -> Cutter {
+    /// A cutter before the log's first byte. A part has at most so many events, of those that a section may have; a file has at most so
+    /// many bytes, where there may be several.
+    pub fn new(alloc: Global, events: u32, step: u64, bytes: Option<u64>) -> Cutter {
         Cutter {
             alloc,
             limit: events.min(EVENT_LIMIT as u32),
@@ -53,12 +55,11 @@ impl Cutter {
             places: BTreeMap::new(alloc),
             names: BTreeMap::new(alloc),
             current: None,
-            written: 0,
             records: 0,
             cuts: 0,
             told: 0,
             waiting: Vec::new(alloc),
-            out: Vec::new(alloc),
+            outputs: Outputs::new(alloc, bytes),
             notes: Vec::new(alloc),
         }
     }
@@ -76,14 +77,27 @@ impl Cutter {
 
     /// Reads the end of the log, which may end its last record.
     pub fn finish(&mut self) -> Result<(), CutFault> {
-        self.copy_waiting()
+        self.copy_waiting()?;
+        for file in 0..self.outputs.count() {
+            self.tell_size(file)?;
+        }
+        Ok(())
     }
 
-    /// What is to be written, and the lines that are to be said, of what was read since the last call: it is handed out once.
-    pub fn drain(&mut self) -> (Vec<u8>, Vec<String>) {
-        let out = std::mem::replace(&mut self.out, Vec::new(self.alloc));
-        let notes = std::mem::replace(&mut self.notes, Vec::new(self.alloc));
-        (out, notes)
+    /// What is to be written of what was read since the last call, for each file once: it is handed out once.
+    pub fn drain(&mut self) -> Result<Vec<Text>, CutFault> {
+        let texts = self.outputs.drain()?;
+        Ok(texts)
+    }
+
+    /// The lines that are to be said of what was read since the last call: they are handed out once.
+    pub fn notes(&mut self) -> Vec<String> {
+        std::mem::replace(&mut self.notes, Vec::new(self.alloc))
+    }
+
+    /// How many files have bytes.
+    pub fn files(&self) -> usize {
+        self.outputs.count()
     }
 
     /// How many records were read.
@@ -114,30 +128,59 @@ impl Cutter {
         let mut rest = text;
         while !rest.is_empty() {
             let (part, behind) = first_part(rest);
-            let record = trim(part);
-            if !record.is_empty() {
-                self.take_record(record)?;
-            }
             let length = rest.len() - behind.len();
-            self.out.extend_from_slice(&rest[..length])?;
+            if let Some(file) = self.file_of(trim(part))? {
+                self.outputs.push(file, &rest[..length])?;
+                self.begin_file_if_full()?;
+            }
             rest = behind;
         }
         Ok(())
     }
 
-    // A record happens; what has to stand in front of it goes out.
-    fn take_record(&mut self, record: &[u8]) -> Result<(), CutFault> {
+    // A record happens, what has to stand in front of it goes out, and it is told to which file it goes.
+    fn file_of(&mut self, record: &[u8]) -> Result<Option<usize>, CutFault> {
+        let newest = Some(self.outputs.newest());
+        if record.is_empty() {
+            return Ok(newest);
+        }
         self.records = self.records.saturating_add(1);
         match read_record(record) {
             Ok(Saying::Happens(event)) => self.happen(&event),
-            Ok(Saying::Enters(number)) => {
-                self.current = Some(self.place_of(number)?);
-                self.written = number;
-                Ok(())
-            }
-            Ok(Saying::Skipped) => Ok(()),
+            Ok(Saying::Enters(number)) => self.mark(number),
+            Ok(Saying::Skipped) => Ok(newest),
             Err(cause) => Err(self.refusal(cause)),
         }
+    }
+
+    // The section of this number is current in what is read; and in the file to which the marker goes.
+    fn mark(&mut self, number: u64) -> Result<Option<usize>, CutFault> {
+        let place = self.place_of(number)?;
+        self.current = Some(place);
+        let (file, name) = self.part_of(place);
+        if self.outputs.are_several() && name != number {
+            return Ok(None);
+        }
+        self.outputs.enter(file, number);
+        Ok(Some(file))
+    }
+
+    // The file and the number of the section's part.
+    fn part_of(&self, place: usize) -> (usize, u64) {
+        match self.sections.get(place) {
+            Some(section) => (section.file, section.name),
+            None => (0, 0),
+        }
+    }
+
+    // Begins the next file where the newest one is full: each section is cut where it next can be.
+    fn begin_file_if_full(&mut self) -> Result<(), AllocError> {
+        if self.outputs.begin_if_full()? {
+            for section in &mut self.sections {
+                section.hurry();
+            }
+        }
+        Ok(())
     }
 
     fn refusal(&self, cause: Cause) -> CutFault {
@@ -154,8 +197,9 @@ impl Cutter {
         }
         self.name(number, number)?;
         let place = self.sections.len();
+        let file = self.outputs.newest();
         self.sections
-            .push(Cutting::new(self.alloc, number, self.limit))?;
+            .push(Cutting::new(self.alloc, number, file, self.limit))?;
         self.places.insert(number, place)?;
         Ok(place)
     }
@@ -176,29 +220,33 @@ impl Cutter {
         Ok(())
     }
 
-    fn happen(&mut self, event: &Event) -> Result<(), CutFault> {
+    // An event happens in the section that is current; the file to which it goes.
+    fn happen(&mut self, event: &Event) -> Result<Option<usize>, CutFault> {
         let place = match self.current {
             Some(place) => place,
             None => self.place_of(0)?,
         };
         self.current = Some(place);
         let head = self.cut_if_due(place, event)?;
-        self.enter(place)?;
-        self.push_head(&head)?;
+        let file = self.enter(place)?;
+        self.push_head(file, &head)?;
         if self.is_lost(place, event) {
             self.tell(
                 place,
                 "PMT.ORDERED names bytes of before the cut: it may have lost its FAIL",
             )?;
         }
-        self.take_event(place, event)
+        self.take_event(place, event)?;
+        Ok(Some(file))
     }
 
     // Writes the records of the events that are told again.
-    fn push_head(&mut self, head: &[Event]) -> Result<(), AllocError> {
-        let alloc = self.alloc;
+    fn push_head(&mut self, file: usize, head: &[Event]) -> Result<(), AllocError> {
         for event in head {
-            push_told(&mut self.out, alloc, event)?;
+            let mut line = String::new(self.alloc);
+            push_event(&mut line, event)?;
+            self.outputs.push(file, trim_end(line.as_bytes()))?;
+            self.outputs.push(file, b"|")?;
         }
         Ok(())
     }
@@ -225,18 +273,15 @@ impl Cutter {
         }
     }
 
-    // Makes the section's part current in what is written.
-    fn enter(&mut self, place: usize) -> Result<(), AllocError> {
-        let name = match self.sections.get(place) {
-            Some(section) => section.name,
-            None => self.written,
-        };
-        if name != self.written {
-            self.written = name;
+    // Makes the section's part current in its file.
+    fn enter(&mut self, place: usize) -> Result<usize, AllocError> {
+        let (file, name) = self.part_of(place);
+        if name != self.outputs.current(file) {
+            self.outputs.enter(file, name);
             let marker = format!(in self.alloc; "PMT.SECTION;{name}|")?;
-            self.out.extend_from_slice(marker.as_bytes())?;
+            self.outputs.push(file, marker.as_bytes())?;
         }
-        Ok(())
+        Ok(file)
     }
 
     // Cuts the section in front of this event, if it has to be, and says what its part begins with.
@@ -290,8 +335,9 @@ impl Cutter {
         self.name(name, number)?;
         self.cuts = self.cuts.saturating_add(1);
         let limit = self.limit;
+        let file = self.outputs.newest();
         if let Some(section) = self.sections.get_mut(place) {
-            section.go_on(part, name, limit)?;
+            section.go_on(part, name, file, limit)?;
         }
         Ok(())
     }
@@ -323,6 +369,24 @@ impl Cutter {
         self.tell(place, text.as_str())
     }
 
+    // Whether a file has more bytes than it may have.
+    fn tell_size(&mut self, file: usize) -> Result<(), AllocError> {
+        let size = self.outputs.size(file);
+        let most = self.outputs.most();
+        if size <= most {
+            return Ok(());
+        }
+        self.told = self.told.saturating_add(1);
+        let line = if self.outputs.are_several() {
+            let number = file.saturating_add(1);
+            format!(in self.alloc; "file {number} has {size} bytes, more than {most}")?
+        } else {
+            format!(in self.alloc; "the cut log has {size} bytes, more than a log may have")?
+        };
+        self.notes.push(line)?;
+        Ok(())
+    }
+
     fn tell(&mut self, place: usize, text: &str) -> Result<(), AllocError> {
         self.told = self.told.saturating_add(1);
         if let Some(section) = self.sections.get(place) {
@@ -340,15 +404,6 @@ fn next_name(section: &Cutting, step: u64) -> Option<u64> {
         Some(above) => section.number.checked_add(above),
         None => None,
     }
-}
-
-// Writes the record of an event that is told again.
-fn push_told(out: &mut Vec<u8>, alloc: Global, event: &Event) -> Result<(), AllocError> {
-    let mut line = String::new(alloc);
-    push_event(&mut line, event)?;
-    out.extend_from_slice(trim_end(line.as_bytes()))?;
-    out.push(b'|')?;
-    Ok(())
 }
 
 // A text line without its end.

@@ -13,6 +13,7 @@ mod fault;
 mod head;
 pub mod laws;
 mod lost;
+mod output;
 mod part;
 mod renewing;
 mod section;
@@ -21,5 +22,6 @@ mod tests;
 
 pub use cutter::Cutter;
 pub use fault::CutFault;
+pub use output::Text;
 pub use part::{Part, PartFault};
 pub use renewing::Renewal;

@@ -12,6 +12,8 @@ pub(crate) struct Cutting {
     pub(crate) number: u64,
     /// The number of its part.
     pub(crate) name: u64,
+    /// The file that its part goes to.
+    pub(crate) file: usize,
     /// How many parts it has.
     pub(crate) parts: u64,
     /// How many events it has had.
@@ -32,10 +34,11 @@ pub(crate) struct Cutting {
 
 impl Cutting {
     /// A section of no events.
-    pub(crate) fn new(alloc: Global, number: u64, limit: u32) -> Cutting {
+    pub(crate) fn new(alloc: Global, number: u64, file: usize, limit: u32) -> Cutting {
         Cutting {
             number,
             name: number,
+            file,
             parts: 1,
             events: 0,
             part: Part::new(alloc),
@@ -77,13 +80,27 @@ impl Cutting {
         }
     }
 
-    /// Goes on with this part, which has had its head, under this name. After an `Err` the section is of no use.
-    pub(crate) fn go_on(&mut self, part: Part, name: u64, limit: u32) -> Result<(), AllocError> {
+    /// A cut is looked for from here on, even where stores are open.
+    pub(crate) fn hurry(&mut self) {
+        let length = self.part.events();
+        self.due = self.due.min(length);
+        self.overdue = self.overdue.min(length);
+    }
+
+    /// Goes on with this part, which has had its head, under this name and in this file. After an `Err` the section is of no use.
+    pub(crate) fn go_on(
+        &mut self,
+        part: Part,
+        name: u64,
+        file: usize,
+        limit: u32,
+    ) -> Result<(), AllocError> {
         self.past.add(&self.part)?;
         let head = part.events();
         self.part = part;
         self.head = head;
         self.name = name;
+        self.file = file;
         self.parts = self.parts.saturating_add(1);
         self.due = due_after(head, limit);
         self.overdue = overdue_after(head, limit);

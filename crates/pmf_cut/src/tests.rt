@@ -2,27 +2,37 @@
 
 ghost use Rattle.std.specs.Prelude.{◌<◌};
 
-use crate::{CutFault, Cutter};
+use crate::{CutFault, Cutter, Text};
 use pmf_storelog::{Cause, LogFault};
 use std::alloc::Global;
 use std::test::Fail;
 
-// Cuts a log that is read in pieces of so many bytes; the text, and the lines that are said.
+// Cuts a log that is read in pieces of so many bytes; the text of each file, and the lines that are said.
 fn cut(
     alloc: Global,
     log: &[u8],
     events: u32,
     step: u64,
     piece: usize,
-) -> Result<(Vec<u8>, Vec<String>), CutFault>
+    most: Option<u64>,
+) -> Result<(Vec<Text>, Vec<String>), CutFault>
     requires { 0 < piece }
 {
-    let mut cutter = Cutter::new(alloc, events, step);
+    let mut cutter = Cutter::new(alloc, events, step, most);
     for bytes in log.chunks(piece) {
         cutter.take(bytes)?;
     }
     cutter.finish()?;
-    Ok(cutter.drain())
+    Ok((cutter.drain()?, cutter.notes()))
+}
+
+// Whether these are the texts of the files, in their order.
+fn are_texts(found: &[Text], want: &[&[u8]]) -> bool {
+    found.len() == want.len()
+        && found
+            .iter()
+            .zip(want)
+            .all(|(text, bytes)| text.bytes.as_slice() == *bytes)
 }
 
 // Whether the log is cut into this text in pieces of each size, with this line said, or none.
@@ -35,12 +45,12 @@ fn is_cut(
     line: Option<&str>,
 ) -> Result<bool, CutFault> {
     for piece in [1, 2, 7, 64, 1000] {
-        let (out, lines) = cut(alloc, log, events, step, piece)?;
+        let (out, lines) = cut(alloc, log, events, step, piece, None)?;
         let said = match lines.first() {
             Some(said) => lines.len() == 1 && line == Some(said.as_str()),
             None => line.is_none(),
         };
-        if out.as_slice() != text || !said {
+        if !are_texts(&out, &[text]) || !said {
             return Ok(false);
         }
     }
@@ -98,6 +108,29 @@ fn what_a_cut_may_change_is_said(rt: HostRuntime) -> Result<(), Fail> {
     Ok(())
 }
 
+const PARTED: &[u8] =
+    b"STORE;0;1;8|FLUSH;0;1|FENCE|PMT.SECTION;1|PMT.TXBEGIN|PMT.SECTION;0|STORE;64;1;8|\
+PMT.SECTION;1|STORE;0;1;8|PMT.TXEND|FENCE|STORE;0;2;8";
+
+// The transaction ends in the file in which it began.
+const FILES: [&[u8]; 3] = [
+    b"STORE;0;1;8|FLUSH;0;1|FENCE|PMT.SECTION;1|PMT.SECTION;0|",
+    b"PMT.SECTION;10|PMT.TXBEGIN|PMT.SECTION;9|STORE;64;1;8|PMT.SECTION;10|STORE;0;1;8|PMT.TXEND|FENCE|",
+    b"PMT.SECTION;19|STORE;0x0;0x0;0x8|STORE;0;2;8",
+];
+
+#[test]
+fn a_part_goes_whole_to_one_file(rt: HostRuntime) -> Result<(), Fail> {
+    for piece in [1, 64, 1000] {
+        let (texts, lines) = cut(rt.alloc(), PARTED, 100, 9, piece, Some(40))?;
+        assert!(rt; are_texts(&texts, &FILES), "{piece}");
+        let long = lines.first().map(|line| line.as_str());
+        assert_eq!(rt; long, Some("file 1 has 56 bytes, more than 40"));
+        assert_eq!(rt; lines.len(), 3);
+    }
+    Ok(())
+}
+
 #[test]
 fn numbers_that_meet_and_a_faulty_log_are_refused(rt: HostRuntime) {
     let few = LogFault {
@@ -118,7 +151,7 @@ fn numbers_that_meet_and_a_faulty_log_are_refused(rt: HostRuntime) {
         ("PMT.SECTION;18446744073709551614|FENCE|FENCE|FENCE", none),
         ("FENCE||FLUSH;0", CutFault::Log(few)),
     ] {
-        let found = cut(rt.alloc(), log.as_bytes(), 2, 2, 64).err();
+        let found = cut(rt.alloc(), log.as_bytes(), 2, 2, 64, None).err();
         assert!(rt; found == Some(want), "{log}");
     }
 }

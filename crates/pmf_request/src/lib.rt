@@ -10,5 +10,5 @@
 mod request;
 mod settings;
 
-pub use request::{Files, Request, Simulation};
+pub use request::{Cuts, Files, Request, Simulation};
 pub use settings::{Lengths, Overview, Question, Settings, Sought, Whole};

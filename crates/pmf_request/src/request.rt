@@ -11,6 +11,17 @@ pub struct Files<'a> {
     pub ledger: bool,
 }
 
+/// How a log is to be cut, and into what.
+#[derive(Clone, Copy, Debug, PartialEq, Drop)]
+pub struct Cuts<'a> {
+    /// How long the parts are.
+    pub lengths: Lengths,
+    /// The front of the names of the files that are written in the place of standard output, if any are.
+    pub files: Option<&'a str>,
+    /// The most bytes of such a file.
+    pub bytes: u64,
+}
+
 /// In which world a schedule is to be played.
 #[derive(Debug, PartialEq, Drop)]
 pub struct Simulation<'a> {
@@ -35,8 +46,8 @@ pub enum Request<'a> {
     Locate(Sought),
     /// Read the log on standard input, and write what it holds to standard output.
     Lint,
-    /// Read the log on standard input, and write it with its sections cut to standard output.
-    Cut(Lengths),
+    /// Read the log on standard input, and write it with its sections cut to standard output, or to files.
+    Cut(Cuts<'a>),
     /// Join the ledgers of the files, and write the report of all, or their ledger text, to standard output.
     Join(Files<'a>),
     /// Play the schedule on standard input, and write what each step comes to, and each ledger's report, to standard

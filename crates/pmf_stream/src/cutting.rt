@@ -5,10 +5,10 @@ ghost use Rattle.pmf_stream.specs.{Answering.{IsRefused, failed_reads, failed_wr
 
 use crate::failed::Failed;
 use crate::fault::StreamFault;
-use crate::sink::Sink;
+use crate::outlet::{NoFile, Outlet};
 use crate::source::{Source, read_piece};
 use crate::writing::write_text;
-use pmf_cut::{CutFault, Cutter};
+use pmf_cut::{CutFault, Cutter, Text};
 use pmf_request::Lengths;
 use pmf_storelog::{Cause, LOG_LIMIT, LogFault};
 use std::alloc::Global;
@@ -27,32 +27,40 @@ pub trait Notes {
 pub struct Pieces {
     /// How many cuts were made.
     pub cuts: u64,
+    /// How many files there are.
+    pub files: usize,
     /// How many things were said: what the cuts may have changed, and what is too long.
     pub told: u64,
 }
 
-/// Reads a log and writes it with its sections cut, as it is read; what a cut may have changed is said.
+/// Reads a log and writes it with its sections cut, as it is read; what a cut may have changed is said. With a number of bytes the
+/// log may be of any length, and is written to files of at most so many; without one, to the first file alone.
 ///
 /// Refusals: the first fault of the log, but for the length of a section, or a number that a part has not; what was written by
 /// then is of no use. Takes memory as [`Cutter`] does.
-pub fn cut_stream<R: Source, W: Sink, N: Notes>(
+pub fn cut_stream<R: Source, W: Outlet, N: Notes>(
     alloc: Global,
     reader: &mut R,
     writer: &mut W,
     notes: &mut N,
     lengths: Lengths,
+    bytes: Option<u64>,
 ) -> Result<Pieces, StreamFault<CutFault>>
     requires read { CanCountOneMore (R.failed_calls reader.old) }
     requires write { CanCountOneMore (W.failed_calls writer.old) }
     ensures reads { R.failed_calls reader.new ≡ R.failed_calls reader.old + failed_reads result }
     ensures writes { W.failed_calls writer.new ≡ W.failed_calls writer.old + failed_writes result }
 {
-    let mut cutter = Cutter::new(alloc, lengths.events, lengths.step);
+    let limit = match bytes {
+        Some(_) => usize::MAX,
+        None => LOG_LIMIT,
+    };
+    let mut cutter = Cutter::new(alloc, lengths.events, lengths.step, bytes);
     let mut piece = [0u8; PIECE];
     let mut total = 0;
     let mut size = 0;
-    while total < LOG_LIMIT {
-        let count = match read_piece(reader, &mut piece, LOG_LIMIT - total) {
+    while total < limit {
+        let count = match read_piece(reader, &mut piece, limit - total) {
             Ok(count) => count,
             Err(Failed) => return Err(StreamFault::ReadFault),
         };
@@ -71,15 +79,11 @@ pub fn cut_stream<R: Source, W: Sink, N: Notes>(
         return Err(too_long(&cutter));
     }
     end(&mut cutter)?;
-    size = write_out(&mut cutter, writer, notes, size)?;
-    let is_long = size > LOG_LIMIT as u64;
-    if is_long {
-        let text = format!(in alloc; "the cut log has {size} bytes, more than a log may have")?;
-        notes.note(text.as_str());
-    }
+    write_out(&mut cutter, writer, notes, size)?;
     Ok(Pieces {
         cuts: cutter.cuts(),
-        told: cutter.told().saturating_add(u64::from(is_long)),
+        files: cutter.files(),
+        told: cutter.told(),
     })
 }
 
@@ -111,7 +115,7 @@ fn end(cutter: &mut Cutter) -> Result<(), StreamFault<CutFault>>
 }
 
 // Writes what the cutter hands out, behind so many bytes, and says what it says.
-fn write_out<W: Sink, N: Notes>(
+fn write_out<W: Outlet, N: Notes>(
     cutter: &mut Cutter,
     writer: &mut W,
     notes: &mut N,
@@ -121,12 +125,38 @@ fn write_out<W: Sink, N: Notes>(
     ensures writes { W.failed_calls writer.new ≡ W.failed_calls writer.old + failed_writes result }
     ensures reads { failed_reads result ≡ 0 }
 {
-    let (text, lines) = cutter.drain();
+    let lines = cutter.notes();
     for line in &lines {
         notes.note(line.as_str());
     }
-    match write_text(writer, &text) {
-        Ok(()) => Ok(size.saturating_add(text.len() as u64)),
+    let texts = match cutter.drain() {
+        Ok(texts) => texts,
+        Err(fault) => return Err(StreamFault::Refused(fault)),
+    };
+    let mut size = size;
+    for text in &texts {
+        size = write_part(writer, text, size)?;
+    }
+    Ok(size)
+}
+
+// Writes the text to its file, behind so many bytes of all files.
+fn write_part<W: Outlet>(
+    writer: &mut W,
+    text: &Text,
+    size: u64,
+) -> Result<u64, StreamFault<CutFault>>
+    requires { CanCountOneMore (W.failed_calls writer.old) }
+    ensures writes { W.failed_calls writer.new ≡ W.failed_calls writer.old + failed_writes result }
+    ensures reads { failed_reads result ≡ 0 }
+{
+    match writer.turn_to(text.file) {
+        Ok(()) => {}
+        Err(NoFile::Failed) => return Err(StreamFault::WriteFault { written: size }),
+        Err(NoFile::OutOfMemory) => return Err(StreamFault::OutOfMemory),
+    }
+    match write_text(writer, &text.bytes) {
+        Ok(()) => Ok(size.saturating_add(text.bytes.len() as u64)),
         Err(cut) => Err(StreamFault::WriteFault {
             written: size.saturating_add(cut.written),
         }),

@@ -4,6 +4,7 @@ ghost use Rattle.std.specs.Prelude.{◌≡◌, [], Some};
 
 use crate::device::Device;
 use crate::failed::Failed;
+use crate::outlet::{NoFile, Outlet};
 use crate::sink::Sink;
 use std::alloc::Global;
 
@@ -80,5 +81,12 @@ impl Sink for ByteSink {
             return Err(Failed);
         }
         Ok(count)
+    }
+}
+
+/// All goes to the one sink.
+impl Outlet for ByteSink {
+    fn turn_to(&mut self, _file: usize) -> Result<(), NoFile> {
+        Ok(())
     }
 }

@@ -1,9 +1,9 @@
 -- The words of the command line: the commands and options of the program, and what they ask for. Defined here,
 -- in the words of `clap`.
-use Rattle.std.specs.{Prelude.{◌≡◌, ℕ, ◌<◌, ◌^◌, pos, Bool, true, false, List, [], ◌∷◌, map, Some, codes, bytes_eq, decimal}, List.{list_any}}
+use Rattle.std.specs.{Prelude.{◌≡◌, ℕ, ◌<◌, ◌^◌, pos, Bool, true, false, List, [], ◌∷◌, map, option_map, Some, codes, bytes_eq, decimal}, List.{list_any}}
 use Rattle.clap.specs.{Words.{App, Row, Rule, Text, all_of, first_of, one_of, app_of, new_app, new_rule, subcommand_of, with_rule, with_subcommand}, Simple.{new_shape}, declared.builder.action.ArgAction.TheVariants.{Append, SetTrue}, declared.builder.command.Command.{Command, out-Command}, declared.builder.value_parser.ValueParser.{ValueParser}}
 use Rattle.pmf_event.specs.declared.profile.Profile.{Profile}
-use Rattle.pmf_request.specs.declared.{settings.Lengths.{Lengths}, settings.Question.{Question}, settings.Settings.{Settings}, settings.Sought.{Sought}, settings.Whole.{Whole}, request.Files.{Files}, request.Simulation.{Simulation}, request.Request.{Request}}
+use Rattle.pmf_request.specs.declared.{settings.Question.{Question}, settings.Settings.{Settings}, settings.Sought.{Sought}, settings.Whole.{Whole}, request.Cuts.{Cuts}, request.Files.{Files}, request.Simulation.{Simulation}, request.Request.{Request}}
 use Rattle.clap.specs.declared.builder.value_parser.ValueParser.TheVariants as vp
 use Rattle.pmf_event.specs.declared.profile.Profile.TheVariants as profile
 use Rattle.pmf_request.specs.declared.request.Request.TheVariants as request
@@ -77,8 +77,9 @@ lint_words = new_app (codes "lint")
 
 abbrev pub cut_words : App
 cut_words =
-    with_rule (with_rule (new_app (codes "cut"))
-    (number (codes "events") small_number (codes "1000000"))) (number (codes "step") large_number (codes "1000000000"))
+    with_rule (with_rule (with_rule (with_rule (new_app (codes "cut"))
+    (number (codes "events") small_number (codes "1000000"))) (number (codes "step") large_number (codes "1000000000")))
+    (option (codes "files"))) (number (codes "bytes") large_number (codes "268435456"))
 
 abbrev pub join_words : App
 join_words = with_rule (with_rule (new_app (codes "join")) (flag (codes "ledger"))) file_words
@@ -145,10 +146,12 @@ pub record IsLocateOf (rows : List Row) (s : Sought) : Type 0 where
   pub section : IsNumberOf rows (codes "section") 64 s.section
   pub event : IsNumberOf rows (codes "event") 32 s.event
 
--- the lengths are those that the words of `cut` name
-pub record IsCutOf (rows : List Row) (l : Lengths) : Type 0 where
-  pub events : IsNumberOf rows (codes "events") 32 l.events
-  pub step : IsNumberOf rows (codes "step") 64 l.step
+-- the lengths and the files are those that the words of `cut` name
+pub record IsCutOf (rows : List Row) (c : Cuts) : Type 0 where
+  pub events : IsNumberOf rows (codes "events") 32 c.lengths.events
+  pub step : IsNumberOf rows (codes "step") 64 c.lengths.step
+  pub files : option_map (λ s. s.now) c.files ≡ first_of (codes "files") rows
+  pub bytes : IsNumberOf rows (codes "bytes") 64 c.bytes
 
 -- the files are those that the words of `join` name, in their order
 pub record IsJoinOf (rows : List Row) (f : Files) : Type 0 where
@@ -180,7 +183,7 @@ IsLintBy request.Lint = Unit {0}
 IsLintBy _ = ⊥
 
 abbrev pub IsCutBy : List Row → Request → Type 0
-IsCutBy rows (request.Cut lengths) = IsCutOf rows lengths
+IsCutBy rows (request.Cut cuts) = IsCutOf rows cuts
 IsCutBy rows _ = ⊥
 
 abbrev pub IsJoinBy : List Row → Request → Type 0

@@ -5,7 +5,8 @@ ghost use Rattle.clap.specs.{Words.{App, Rule, new_app, rule_of, with_rule, with
 ghost use Rattle.pmf_words.specs.Words.{HasWords, check_words, cut_words, explain_words, join_words, lint_words, locate_words, pmfarm_words, profile_option, program_words, run_option, sim_words};
 
 use crate::options::{
-    all, asked_number, event, events, file, ledger, log, profile, run, section, step, workers,
+    all, asked_number, bytes, event, events, file, files, ledger, log, profile, run, section, step,
+    workers,
 };
 use clap::{Arg, Command};
 use std::alloc::{AllocError, Global};
@@ -225,7 +226,9 @@ fn cut<'a>(alloc: Global) -> Result<Command<'a>, AllocError>
     let about = "Cuts sections of a log into parts that are no longer than the checker takes";
     let cut = Ok(head(alloc, "cut", about, AFTER_HELP));
     let cut = with_option(cut, events(alloc));
-    with_option(cut, step(alloc))
+    let cut = with_option(cut, step(alloc));
+    let cut = with_option(cut, files(alloc));
+    with_option(cut, bytes(alloc))
 }
 
 fn join<'a>(alloc: Global) -> Result<Command<'a>, AllocError>

@@ -111,6 +111,22 @@ pub(crate) fn step<'a>(alloc: Global) -> Arg<'a>
     parsed(alloc, "step", "STEP", help, value_parser!(u64)).default_value("1000000000")
 }
 
+pub(crate) fn files<'a>(alloc: Global) -> Arg<'a>
+    ensures rule { rule_of result ≡ option (codes "files") }
+    ensures local { result.global ≡ false }
+{
+    let help = "Write PREFIX1.log, PREFIX2.log, .. in the place of standard output";
+    option(alloc, "files", "PREFIX", help)
+}
+
+pub(crate) fn bytes<'a>(alloc: Global) -> Arg<'a>
+    ensures rule { rule_of result ≡ number (codes "bytes") large_number (codes "268435456") }
+    ensures local { result.global ≡ false }
+{
+    let help = "The most bytes of such a file, 1024 to 268435456";
+    parsed(alloc, "bytes", "B", help, value_parser!(u64)).default_value("268435456")
+}
+
 pub(crate) fn log<'a>(alloc: Global) -> Arg<'a>
     ensures rule { rule_of result ≡ asked (codes "log") }
     ensures local { result.global ≡ false }

@@ -8,7 +8,7 @@ ghost use Rattle.pmf_words.specs.Words.{IsCheckOf, IsCutOf, IsExplainAllOf, IsEx
 use crate::commands::program;
 use clap::{ArgMatches, Error};
 use pmf_event::Profile;
-use pmf_request::{Files, Lengths, Question, Request, Settings, Simulation, Sought, Whole};
+use pmf_request::{Cuts, Files, Lengths, Question, Request, Settings, Simulation, Sought, Whole};
 use std::alloc::{AllocError, Global};
 
 /// Reads the words, the first of which is the program's name. Help and the version come as errors
@@ -54,7 +54,7 @@ fn request_by<'a>(
         return Ok(Request::Lint);
     }
     if let Some(cut) = matches.subcommand_matches("cut") {
-        return Ok(Request::Cut(lengths_of(cut)));
+        return Ok(Request::Cut(cuts_of(cut)));
     }
     if let Some(join) = matches.subcommand_matches("join") {
         let files = files_of(alloc, join)?;
@@ -125,12 +125,16 @@ fn question_of(explain: &ArgMatches<'_>) -> Question
     }
 }
 
-fn lengths_of(cut: &ArgMatches<'_>) -> Lengths
+fn cuts_of<'a>(cut: &ArgMatches<'a>) -> Cuts<'a>
     ensures { IsCutOf (rows_of (found_of cut.now)) result }
 {
-    Lengths {
-        events: cut.get_one::<u32>("events").unwrap_or(1_000_000),
-        step: cut.get_one::<u64>("step").unwrap_or(1_000_000_000),
+    Cuts {
+        lengths: Lengths {
+            events: cut.get_one::<u32>("events").unwrap_or(1_000_000),
+            step: cut.get_one::<u64>("step").unwrap_or(1_000_000_000),
+        },
+        files: cut.get_str("files"),
+        bytes: cut.get_one::<u64>("bytes").unwrap_or(268_435_456),
     }
 }
 

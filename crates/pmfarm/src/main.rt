@@ -12,7 +12,7 @@ ghost use Rattle.pmf_command.specs.Statuses.{exit_code_of};
 #[cfg(test)]
 mod words_tests;
 
-pub use pmf_command::{Files, Lengths, Request, Simulation, Status, request_of};
+pub use pmf_command::{Cuts, Files, Lengths, Request, Simulation, Status, request_of};
 pub use pmf_farm::{FarmFault, Gate, OpenGate, Turn};
 pub use pmf_query::{
     Answer, EventFault, EventRefusal, Linted, LogRefusal, Overview, Query, Question, Sought, Whole,

@@ -1,7 +1,8 @@
 //! What the words of the command line ask for, and the status where they are refused.
 
 use crate::{
-    Files, Lengths, Question, Request, Settings, Simulation, Sought, Status, Whole, request_of,
+    Cuts, Files, Lengths, Question, Request, Settings, Simulation, Sought, Status, Whole,
+    request_of,
 };
 use pmf_event::Profile;
 use std::alloc::{AllocError, Global};
@@ -100,15 +101,22 @@ fn locate_takes_a_section_and_an_event_and_lint_nothing(rt: HostRuntime) -> Resu
 }
 
 #[test]
-fn cut_takes_a_length_and_a_step(rt: HostRuntime) -> Result<(), Fail> {
+fn cut_takes_lengths_a_step_and_the_front_of_names(rt: HostRuntime) -> Result<(), Fail> {
     let most = "cut --step 18446744073709551615 --events=4294967295";
-    for (line, events, step) in [
-        ("cut", 1_000_000, 1_000_000_000),
-        (most, u32::MAX, u64::MAX),
-        ("cut --events 0 --step 0", 0, 0),
+    let whole = 268_435_456;
+    for (line, events, step, files, bytes) in [
+        ("cut", 1_000_000, 1_000_000_000, None, whole),
+        (most, u32::MAX, u64::MAX, None, whole),
+        ("cut --events 0 --step 0", 0, 0, None, whole),
+        ("cut --files a --events 1 --step 1", 1, 1, Some("a"), whole),
+        ("cut --bytes 7 --events 1 --step 1", 1, 1, None, 7),
     ] {
-        let lengths = Lengths { events, step };
-        asks(&rt, rt.alloc(), line, Request::Cut(lengths))?;
+        let cuts = Cuts {
+            lengths: Lengths { events, step },
+            files,
+            bytes,
+        };
+        asks(&rt, rt.alloc(), line, Request::Cut(cuts))?;
     }
     Ok(())
 }
@@ -176,6 +184,8 @@ const REFUSED: &[&str] = &[
     "cut --events 4294967296",
     "cut --events 1 --events 1",
     "cut --step x",
+    "cut --files",
+    "cut --bytes -1",
     "cut --step 18446744073709551616",
     "cut --run 1",
     "join",

@@ -5,8 +5,11 @@ ghost use Rattle.std.specs.Prelude.{◌≡◌};
 use super::fakes::{PieceSource, failed_calls};
 use crate::cutting::{Notes, Pieces, cut_stream};
 use crate::device::Device;
+use crate::failed::Failed;
 use crate::fault::StreamFault;
 use crate::memory::ByteSink;
+use crate::outlet::{NoFile, Outlet};
+use crate::sink::Sink;
 use pmf_cut::CutFault;
 use pmf_request::Lengths;
 use pmf_storelog::{Cause, LogFault};
@@ -44,7 +47,7 @@ fn cuts(
     requires write { sink.failures ≡ 0 }
 {
     let mut lines = Lines { count: 0 };
-    let answer = cut_stream(alloc, &mut source, &mut sink, &mut lines, LENGTHS);
+    let answer = cut_stream(alloc, &mut source, &mut sink, &mut lines, LENGTHS, None);
     assert_eq!(rt; answer, want);
     let failed = (source.failures(), sink.failures());
     assert_eq!(rt; failed, failed_calls(&want), "{want:?}");
@@ -55,7 +58,11 @@ fn cuts(
 fn a_log_in_pieces_is_cut_as_the_whole(rt: HostRuntime) {
     for most in [1, 7, 65_536] {
         let source = PieceSource::new(LOG).giving(most);
-        let want = Ok(Pieces { cuts: 1, told: 1 });
+        let want = Ok(Pieces {
+            cuts: 1,
+            files: 1,
+            told: 1,
+        });
         let (sink, said) = cuts(&rt, rt.alloc(), source, ByteSink::new(rt.alloc()), want);
         assert!(rt; sink.bytes() == TEXT);
         assert_eq!(rt; said, 1);
@@ -82,4 +89,71 @@ fn devices_that_fail_and_a_fault_of_the_log_are_told(rt: HostRuntime) {
     let source = PieceSource::new(b"FENCE|PMT.X");
     let refused = Err(StreamFault::Refused(CutFault::Log(fault)));
     let _ = cuts(&rt, alloc, source, ByteSink::new(alloc), refused);
+}
+
+// Files in one sink, the second of which is refused, by a failed call or not.
+#[derive(Drop)]
+struct OneFile {
+    sink: ByteSink,
+    refusal: NoFile,
+    failures: u64,
+}
+
+impl Device for OneFile {
+    ghost failed_calls = { λ s. s.failures };
+
+    fn failures(&self) -> u64 {
+        self.failures
+    }
+}
+
+impl Sink for OneFile {
+    ghost held = { λ s. Some s.sink.bytes.items };
+
+    fn write(&mut self, bytes: &[u8]) -> Result<usize, Failed> {
+        let answer = self.sink.write(bytes);
+        self.failures += u64::from(answer.is_err());
+        answer
+    }
+}
+
+impl Outlet for OneFile {
+    fn turn_to(&mut self, file: usize) -> Result<(), NoFile> {
+        if file == 0 {
+            return Ok(());
+        }
+        if self.refusal == NoFile::Failed {
+            self.failures += 1;
+        }
+        Err(self.refusal)
+    }
+}
+
+#[test]
+fn a_file_that_is_refused_is_told(rt: HostRuntime) {
+    let alloc = rt.alloc();
+    let failed = StreamFault::WriteFault { written: 28 };
+    for (refusal, want) in [
+        (NoFile::Failed, failed),
+        (NoFile::OutOfMemory, StreamFault::OutOfMemory),
+    ] {
+        let mut source = PieceSource::new(LOG);
+        let sink = ByteSink::new(alloc);
+        let mut files = OneFile {
+            sink,
+            refusal,
+            failures: 0,
+        };
+        let mut lines = Lines { count: 0 };
+        let answer = cut_stream(
+            alloc,
+            &mut source,
+            &mut files,
+            &mut lines,
+            LENGTHS,
+            Some(30),
+        );
+        assert!(rt; answer == Err(want), "{refusal:?}");
+        assert_eq!(rt; files.failures, u64::from(refusal == NoFile::Failed));
+    }
 }

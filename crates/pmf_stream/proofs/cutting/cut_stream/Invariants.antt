@@ -4,10 +4,10 @@ use Rattle.pmf_stream.proofs.cutting.cut_stream.Given as goal
 abbrev pub invariant-loop-total : goal.invariant-loop-total
 invariant-loop-total g l = record {
   room : length l.piece ≡ 65536;
-  within : l.total ≤ 268435456;
+  within : l.total ≤ l.limit;
   reads : g.R.Device.failed_calls l.reader ≡ g.R.Device.failed_calls l.initial.reader;
   writes : g.W.Device.failed_calls l.writer ≡ g.W.Device.failed_calls l.initial.writer;
 }
 
 abbrev pub decreases-loop-total : goal.decreases-loop-total
-decreases-loop-total g l = 268435456 - l.total
+decreases-loop-total g l = l.limit - l.total

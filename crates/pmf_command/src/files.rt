@@ -1,0 +1,124 @@
+//! The files that a log is cut into.
+
+ghost use Rattle.std.specs.Prelude.{◌≡◌, None};
+
+use crate::diagnostics::fail_file;
+use crate::status::Status;
+use pmf_stream::{Device, Failed, NoFile, Outlet, Sink};
+use std::alloc::Global;
+use std::fs::{Files, OpenOptions};
+use std::io;
+use std::io::{Eprint, ErrorKind, Write};
+
+/// Files whose names begin alike: behind that a file's number, from 1 on, and `.log`. One is open at a time. A file that was there before
+/// is refused, so that no piece of another log stands among them.
+#[derive(Drop)]
+pub struct NumberedFiles<'a, R: Files + Eprint> {
+    rt: &'a R,
+    alloc: Global,
+    prefix: &'a str,
+    /// How many there are.
+    count: usize,
+    /// The one that is open.
+    current: usize,
+    file: Option<R::File>,
+    failures: u64,
+}
+
+impl<'a, R: Files + Eprint> NumberedFiles<'a, R> {
+    /// No file yet.
+    pub fn new(rt: &'a R, alloc: Global, prefix: &'a str) -> NumberedFiles<'a, R>
+        ensures { result.failures ≡ 0 }
+    {
+        NumberedFiles {
+            rt,
+            alloc,
+            prefix,
+            count: 0,
+            current: 0,
+            file: None,
+            failures: 0,
+        }
+    }
+
+    // Opens a file at its end, or makes it.
+    fn open(&self, file: usize) -> Result<R::File, NoFile> {
+        let number = file.saturating_add(1);
+        let prefix = self.prefix;
+        let Ok(name) = format!(in self.alloc; "{prefix}{number}.log") else {
+            return Err(NoFile::OutOfMemory);
+        };
+        let is_new = file >= self.count;
+        match OpenOptions::new()
+            .append(true)
+            .create_new(is_new)
+            .open(self.rt, name.as_str())
+        {
+            Ok(opened) => Ok(opened),
+            Err(error) if error.kind() == ErrorKind::OutOfMemory => Err(NoFile::OutOfMemory),
+            Err(error) if error.kind() == ErrorKind::AlreadyExists => {
+                fail_file(
+                    self.rt,
+                    name.as_str(),
+                    "the file is there already",
+                    Status::DeviceFault,
+                );
+                Err(NoFile::Failed)
+            }
+            Err(_) => {
+                fail_file(
+                    self.rt,
+                    name.as_str(),
+                    "the file is not opened",
+                    Status::DeviceFault,
+                );
+                Err(NoFile::Failed)
+            }
+        }
+    }
+}
+
+impl<R: Files + Eprint> Device for NumberedFiles<'_, R> {
+    ghost failed_calls = { λ s. s.failures };
+
+    fn failures(&self) -> u64 {
+        self.failures
+    }
+}
+
+impl<R: Files + Eprint> Sink for NumberedFiles<'_, R> {
+    ghost held = { λ s. None };
+
+    fn write(&mut self, bytes: &[u8]) -> Result<usize, Failed> {
+        if let Some(file) = &mut self.file {
+            match file.write(bytes) {
+                Ok(count) if count > 0 || bytes.is_empty() => return Ok(count),
+                _ => {}
+            }
+        }
+        self.failures += 1;
+        Err(Failed)
+    }
+}
+
+impl<R: Files + Eprint> Outlet for NumberedFiles<'_, R> {
+    fn turn_to(&mut self, file: usize) -> Result<(), NoFile> {
+        if self.file.is_some() && self.current == file {
+            return Ok(());
+        }
+        self.file = None;
+        match self.open(file) {
+            Ok(opened) => {
+                self.file = Some(opened);
+                self.current = file;
+                self.count = self.count.max(file.saturating_add(1));
+                Ok(())
+            }
+            Err(NoFile::Failed) => {
+                self.failures += 1;
+                Err(NoFile::Failed)
+            }
+            Err(refusal) => Err(refusal),
+        }
+    }
+}
