@@ -12,7 +12,6 @@ use std::test::Fail;
 
 mod limits;
 mod memory;
-mod orders;
 mod refusals;
 mod simulating;
 
