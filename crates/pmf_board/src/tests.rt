@@ -6,7 +6,6 @@ use super::{Board, BoardFault, Pass, Tally, Task};
 use std::process::Abort;
 use std::test::Fail;
 
-mod memory;
 mod threads;
 
 // The section and the number of a task.
@@ -66,17 +65,6 @@ fn assert_all_once(rt: &impl Abort, tally: &Tally, sections: u32)
     }
 }
 
-// Splits the pass so often.
-fn split_often(board: &Board, pass: &mut Pass, times: u32) -> Result<(), Fail>
-    requires { pass.old.board ≡ board.now }
-    ensures { pass.new.board ≡ pass.old.board }
-{
-    for _ in 0..times {
-        drop(board.split(pass)?);
-    }
-    Ok(())
-}
-
 #[test]
 fn two_sections_are_handed_out_and_told(rt: HostRuntime) -> Result<(), Fail> {
     let (board, mut p) = Board::new(rt.alloc(), 2)?;
@@ -102,33 +90,6 @@ fn two_sections_are_handed_out_and_told(rt: HostRuntime) -> Result<(), Fail> {
     };
     assert_eq!(rt; (tally.handouts(0), tally.done(0)), (1, true));
     assert_eq!(rt; (tally.handouts(1), tally.done(1)), (8, false));
-    Ok(())
-}
-
-#[test]
-fn the_65th_split_of_a_first_pass_is_crowded(rt: HostRuntime) -> Result<(), Fail> {
-    let (board, mut pass) = Board::new(rt.alloc(), 1)?;
-    split_often(&board, &mut pass, 64)?;
-    assert!(rt; matches!(board.split(&mut pass), Err(BoardFault::Crowded)));
-    assert_eq!(rt; pass.shares(), 1);
-    Ok(())
-}
-
-#[test]
-fn a_section_is_marked_by_its_third_hand_out(rt: HostRuntime) -> Result<(), Fail> {
-    let (board, mut pass) = Board::new(rt.alloc(), 1)?;
-    assert_eq!(rt; told(board.take_again(&mut pass, 7)), Some((0, 1)));
-    assert_eq!(rt; told(board.take_again(&mut pass, 8)), Some((0, 2)));
-    let Some(third) = board.take_again(&mut pass, 9) else {
-        panic!(rt; "there are eight")
-    };
-    assert_eq!(rt; third.number(), 3);
-    board.mark(&mut pass, third);
-    assert!(rt; board.is_done(&mut pass, 0) && board.take_again(&mut pass, 0).is_none());
-    let Ok(tally) = board.close(pass) else {
-        panic!(rt; "all shares are there")
-    };
-    assert_eq!(rt; (tally.handouts(0), tally.done(0)), (3, true));
     Ok(())
 }
 

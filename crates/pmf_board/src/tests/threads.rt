@@ -7,7 +7,7 @@ use crate::{Board, MOST_SECTIONS, Pass};
 use std::alloc::Global;
 use std::process::Abort;
 use std::test::Fail;
-use std::thread::{Threads, join, map_vec};
+use std::thread::{Threads, map_vec};
 
 // A pass, and the section at which its takes start.
 #[derive(Drop)]
@@ -69,30 +69,5 @@ fn sixty_four_threads_do_each_of_the_most_sections_once(rt: HostRuntime) -> Resu
         panic!(rt; "all shares are there")
     };
     assert_all_once(&rt, &tally, MOST_SECTIONS);
-    Ok(())
-}
-
-#[test]
-fn two_threads_do_each_of_a_thousand_sections_once(rt: HostRuntime) -> Result<(), Fail> {
-    let (board, mut one) = Board::new(rt.alloc(), 1_000)?;
-    let two = board.split(&mut one)?;
-    let shared = &board;
-    let ((mut one, first), (two, second)) = join(
-        &rt,
-        move ||
-            requires { one.board ≡ shared.now }
-            ensures { result.0.board ≡ shared.entry.now }
-        { work(shared, one, 0) },
-        move ||
-            requires { two.board ≡ shared.now }
-            ensures { result.0.board ≡ shared.entry.now }
-        { work(shared, two, 500) },
-    );
-    assert!(rt; first && second);
-    board.join(&mut one, two);
-    let Ok(tally) = board.close(one) else {
-        panic!(rt; "all shares are there")
-    };
-    assert_all_once(&rt, &tally, 1_000);
     Ok(())
 }
