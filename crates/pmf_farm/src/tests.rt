@@ -2,7 +2,8 @@
 
 ghost use Rattle.std.specs.Prelude.{◌≡◌, vec_len, IfOk};
 
-use super::{FarmFault, Gate, run};
+use super::{Gate, OpenGate, Turn, run};
+use gates::{Keeps, LosesFirst};
 use pmf_event::{Event, Name, Profile, Section, Span};
 use std::alloc::Global;
 use std::process::Abort;
@@ -11,8 +12,6 @@ use std::test::Fail;
 use std::thread::Threads;
 
 mod gates;
-mod ledgers;
-mod outboxes;
 mod refusals;
 mod turns;
 mod workers;
@@ -71,5 +70,38 @@ fn assert_both<R: Threads + Wait + Sync + Abort, G: Gate + Sync>(
     let ledger = run(rt, alloc, sections.as_slice(), workers, Profile::One, gate)?;
     let report = ledger.write_report(alloc)?;
     assert!(rt; report.as_slice() == REPORT, "{workers} workers");
+    Ok(())
+}
+
+#[test]
+fn workers_give_the_ledger_and_so_does_the_caller_where_all_are_lost(
+    rt: HostRuntime,
+) -> Result<(), Fail> {
+    for workers in [1, 2, 64] {
+        assert_both(&rt, rt.alloc(), workers, &OpenGate)?;
+        assert_both(&rt, rt.alloc(), workers, &Keeps::answering(Turn::Lost))?;
+    }
+    Ok(())
+}
+
+#[test]
+fn a_worker_lost_at_any_of_its_turns_leaves_the_same_ledger(rt: HostRuntime) -> Result<(), Fail> {
+    for turn in 1..17 {
+        assert_both(&rt, rt.alloc(), 2, &LosesFirst::at(turn))?;
+    }
+    Ok(())
+}
+
+#[test]
+fn no_section_and_as_many_as_a_farm_takes_are_gathered(rt: HostRuntime) -> Result<(), Fail> {
+    let alloc = rt.alloc();
+    for count in [0, 65_536] {
+        let mut sections = Vec::new(alloc);
+        for number in 0..count {
+            sections.push(fences(alloc, name(0, number), 1)?)?;
+        }
+        let ledger = run(&rt, alloc, sections.as_slice(), 2, Profile::One, &OpenGate)?;
+        assert_eq!(rt; ledger.len(), sections.len());
+    }
     Ok(())
 }

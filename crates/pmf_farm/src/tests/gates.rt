@@ -4,18 +4,6 @@ use crate::{Gate, Turn};
 use std::sync::atomic::{AtomicU64, Ordering};
 use std::thread;
 
-/// Loses each worker at its first turn.
-#[derive(Drop)]
-pub(super) struct LosesAll;
-
-impl Gate for LosesAll {
-    fn turn(&self, _worker: u32, _section: u32) -> Turn {
-        Turn::Lost
-    }
-
-    fn missing(&self, _section: u32) {}
-}
-
 /// Loses worker 0 at one of its turns, counted from 1.
 #[derive(Drop)]
 pub(super) struct LosesFirst {
@@ -61,7 +49,6 @@ pub(super) struct Holds {
     // A bit for each worker whose turn has begun.
     begun: AtomicU64,
     gave_up: AtomicU64,
-    missing: AtomicU64,
 }
 
 impl Holds {
@@ -69,7 +56,6 @@ impl Holds {
         Holds {
             begun: AtomicU64::new(0),
             gave_up: AtomicU64::new(0),
-            missing: AtomicU64::new(0),
         }
     }
 
@@ -79,11 +65,6 @@ impl Holds {
         } else {
             Meeting::NoneCameOrOutOfMemory
         }
-    }
-
-    /// How often a section was told to be missing.
-    pub(super) fn missing_told(&self) -> u64 {
-        self.missing.load(Ordering::SeqCst)
     }
 
     fn wait_for_another(&self, own: u64) {
@@ -106,9 +87,7 @@ impl Gate for Holds {
         Turn::Go
     }
 
-    fn missing(&self, _section: u32) {
-        self.missing.fetch_add(1, Ordering::SeqCst);
-    }
+    fn missing(&self, _section: u32) {}
 }
 
 /// Keeps the places that it was told, for one worker and fewer than nine places: each is a decimal digit, one more than

@@ -4,23 +4,8 @@ use super::{fences, name};
 use crate::{FarmFault, MOST_WORKERS, OpenGate, run};
 use pmf_event::{Name, Profile, Section};
 use std::alloc::Global;
-use std::process::Abort;
-use std::sync::{Arc, Wait};
+use std::sync::Arc;
 use std::test::Fail;
-use std::thread::Threads;
-
-fn assert_refused<R: Threads + Wait + Sync + Abort>(
-    rt: &R,
-    alloc: Global,
-    sections: &[Arc<Section>],
-    workers: u32,
-    want: FarmFault,
-) {
-    match run(rt, alloc, sections, workers, Profile::One, &OpenGate) {
-        Ok(_) => panic!(rt; "it ran, and not: {want}"),
-        Err(fault) => assert_eq!(rt; fault, want),
-    }
-}
 
 // So many times section 0.1.
 fn of_one(alloc: Global, count: usize) -> Result<Vec<Arc<Section>>, Fail> {
@@ -50,19 +35,16 @@ fn workers_are_counted_before_sections_and_these_before_names(rt: HostRuntime) -
         (65_536, 1, twice(name(0, 1))),
     ] {
         let sections = of_one(alloc, count)?;
-        assert_refused(&rt, alloc, sections.as_slice(), workers, want);
+        let ran = run(
+            &rt,
+            alloc,
+            sections.as_slice(),
+            workers,
+            Profile::One,
+            &OpenGate,
+        );
+        assert_eq!(rt; ran.err(), Some(want));
     }
-    Ok(())
-}
-
-#[test]
-fn the_least_name_that_stands_twice_is_told(rt: HostRuntime) -> Result<(), Fail> {
-    let alloc = rt.alloc();
-    let mut sections = Vec::new(alloc);
-    for (number, count) in [(3, 1), (1, 1), (3, 1), (2, 1), (1, 2)] {
-        sections.push(fences(alloc, name(0, number), count)?)?;
-    }
-    assert_refused(&rt, alloc, sections.as_slice(), 2, twice(name(0, 1)));
     Ok(())
 }
 

@@ -3,9 +3,10 @@
 use super::gates::{Holds, Keeps, Meeting};
 use super::{assert_both, fences, name};
 use crate::{Gate, Turn, run};
-use pmf_event::{Profile, Section};
+use pmf_event::Profile;
 use std::alloc::{AllocError, Global};
-use std::sync::{Arc, Wait};
+use std::process::Abort;
+use std::sync::Wait;
 use std::test::Fail;
 use std::thread::Threads;
 
@@ -14,33 +15,28 @@ fn two_workers_take_turns(rt: HostRuntime) -> Result<(), Fail> {
     let gate = Holds::new();
     assert_both(&rt, rt.alloc(), 2, &gate)?;
     assert_eq!(rt; gate.meeting(), Meeting::Met);
-    assert_eq!(rt; gate.missing_told(), 0);
     Ok(())
 }
 
-// Sections of 2, 5, 1 and 9 events, whose names rise in the order of places 1, 3, 0 and 2.
-fn of_four_lengths(alloc: Global) -> Result<Vec<Arc<Section>>, Fail> {
+// Farms out sections of 2, 5, 1 and 9 events, whose names rise in the order of places 1, 3, 0 and 2.
+fn farm_out<R: Threads + Wait + Sync + Abort, G: Gate + Sync>(
+    rt: &R,
+    alloc: Global,
+    gate: &G,
+) -> Result<(), Fail> {
     let mut sections = Vec::new(alloc);
     for (number, events) in [(3, 2), (1, 5), (4, 1), (2, 9)] {
         sections.push(fences(alloc, name(0, number), events)?)?;
     }
-    Ok(sections)
-}
-
-fn farm_out<R: Threads + Wait + Sync, G: Gate + Sync>(
-    rt: &R,
-    alloc: Global,
-    gate: &G,
-) -> Result<usize, Fail> {
-    let sections = of_four_lengths(alloc)?;
     let ledger = run(rt, alloc, sections.as_slice(), 1, Profile::One, gate)?;
-    Ok(ledger.len())
+    assert_eq!(rt; ledger.len(), 4);
+    Ok(())
 }
 
 #[test]
 fn long_sections_are_taken_first_and_told_by_their_place(rt: HostRuntime) -> Result<(), Fail> {
     let gate = Keeps::answering(Turn::Go);
-    assert_eq!(rt; farm_out(&rt, rt.alloc(), &gate)?, 4);
+    farm_out(&rt, rt.alloc(), &gate)?;
     // Its gate loses no worker, so that one leaves a section for want of memory alone.
     if gate.missing_told() != 0 {
         return Err(AllocError.into());
@@ -52,7 +48,7 @@ fn long_sections_are_taken_first_and_told_by_their_place(rt: HostRuntime) -> Res
 #[test]
 fn sections_that_no_worker_did_are_told_by_their_place(rt: HostRuntime) -> Result<(), Fail> {
     let gate = Keeps::answering(Turn::Lost);
-    assert_eq!(rt; farm_out(&rt, rt.alloc(), &gate)?, 4);
+    farm_out(&rt, rt.alloc(), &gate)?;
     assert_eq!(rt; gate.missing_told(), 2_413);
     // A worker has no turn at all for want of memory alone.
     if gate.turns() == 0 {
