@@ -11,7 +11,7 @@ use pmf_event::Profile;
 use pmf_query::{EventFault, EventRefusal, Linted, Overview, Query, Question, Sought, Whole};
 use pmf_storelog::{Cause, LogFault};
 use std::alloc::Global;
-use std::fmt::{Debug, Display};
+use std::fmt::Debug;
 use std::process::Abort;
 
 // Section 1 has a store that is not durable where it is asserted, and a record is skipped.
@@ -59,14 +59,12 @@ stores=1 unasserted=0
 
 // The question is answered so, and the sink holds this text.
 fn answers<
-    D: Display + Drop,
     T: PartialEq + Debug + Drop,
     E: PartialEq + Debug + Drop,
     Q: Query<Told = T, Refusal = E>,
 >(
     rt: &impl Abort,
     alloc: Global,
-    case: D,
     mut source: PieceSource,
     mut sink: ByteSink,
     query: &Q,
@@ -77,10 +75,10 @@ fn answers<
     requires write { sink.failures ≡ 0 }
 {
     let answer = answer_stream(alloc, &mut source, &mut sink, query);
-    assert_eq!(rt; answer, want, "at {case}");
-    assert!(rt; sink.bytes() == text, "at {case}");
+    assert_eq!(rt; answer, want);
+    assert!(rt; sink.bytes() == text, "{want:?}");
     let failed = (source.failures(), sink.failures());
-    assert_eq!(rt; failed, failed_calls(&want), "at {case}");
+    assert_eq!(rt; failed, failed_calls(&want), "{want:?}");
 }
 
 // A log in pieces has the answer of the whole.
@@ -92,22 +90,20 @@ fn tells<
     for most in [1, 7, 64, 65_536] {
         let source = PieceSource::new(LOG).giving(most);
         let sink = ByteSink::new(alloc).taking(most);
-        answers(rt, alloc, most, source, sink, query, Ok(told), text);
+        answers(rt, alloc, source, sink, query, Ok(told), text);
     }
 }
 
 #[test]
 fn what_is_told_of_a_log_and_the_text_that_is_written(rt: HostRuntime) {
+    let (run, profile) = (SOUGHT.run, Profile::One);
     let question = Question {
-        run: SOUGHT.run,
-        profile: Profile::One,
+        run,
+        profile,
         section: SOUGHT.section,
         event: SOUGHT.event,
     };
-    let whole = Whole {
-        run: 7,
-        profile: Profile::One,
-    };
+    let whole = Whole { run, profile };
     let linted = Linted {
         is_suspicious: false,
     };
@@ -125,7 +121,7 @@ fn a_writer_that_fails_after_n_bytes_holds_the_first_n(rt: HostRuntime) {
         let written = room as u64;
         let cut = Err(StreamFault::WriteFault { written });
         let text = &LOCATED[..room];
-        answers(&rt, rt.alloc(), room, source, sink, &SOUGHT, cut, text);
+        answers(&rt, rt.alloc(), source, sink, &SOUGHT, cut, text);
     }
 }
 
@@ -138,9 +134,9 @@ fn a_refusal_and_a_failed_read_write_nothing(rt: HostRuntime) {
     }));
     let source = PieceSource::new(FAULTY);
     let sink = ByteSink::new(alloc);
-    answers(&rt, alloc, "a fault", source, sink, &SOUGHT, refused, b"");
+    answers(&rt, alloc, source, sink, &SOUGHT, refused, b"");
     let unread = Err(StreamFault::ReadFault);
     let source = PieceSource::new(FAULTY).failing(true);
     let sink = ByteSink::new(alloc);
-    answers(&rt, alloc, "a read", source, sink, &SOUGHT, unread, b"");
+    answers(&rt, alloc, source, sink, &SOUGHT, unread, b"");
 }

@@ -12,7 +12,6 @@ use pmf_farm::{FarmFault, OpenGate};
 use pmf_request::Settings;
 use pmf_storelog::{Cause, LogFault};
 use std::alloc::Global;
-use std::fmt::Display;
 use std::process::Abort;
 use std::sync::Wait;
 use std::thread::Threads;
@@ -30,10 +29,9 @@ total sections=1 pass=1 fail=1 warn=0 empty=0
 
 // The check of the source by so many workers answers so, and the sink holds these bytes; how many reads and writes failed is
 // told by the answer.
-fn checks<D: Display + Drop>(
+fn checks(
     rt: &(impl Abort + Threads + Wait + Sync),
     alloc: Global,
-    case: D,
     mut source: PieceSource,
     mut sink: ByteSink,
     workers: u32,
@@ -50,10 +48,10 @@ fn checks<D: Display + Drop>(
         ledger: false,
     };
     let answer = check_stream(rt, alloc, &mut source, &mut sink, settings, &OpenGate);
-    assert_eq!(rt; answer, want, "at {case}");
-    assert!(rt; sink.bytes() == text, "at {case}");
+    assert_eq!(rt; answer, want);
+    assert!(rt; sink.bytes() == text, "{want:?}");
     let failed = (source.failures(), sink.failures());
-    assert_eq!(rt; failed, failed_calls(&want), "at {case}");
+    assert_eq!(rt; failed, failed_calls(&want), "{want:?}");
 }
 
 #[test]
@@ -65,7 +63,7 @@ fn a_log_in_pieces_has_the_report_of_the_whole(rt: HostRuntime) {
     for most in [1, 7, 64, 65_536] {
         let source = PieceSource::new(LOG).giving(most);
         let sink = ByteSink::new(rt.alloc()).taking(most);
-        checks(&rt, rt.alloc(), most, source, sink, 2, done, REPORT);
+        checks(&rt, rt.alloc(), source, sink, 2, done, REPORT);
     }
 }
 
@@ -76,7 +74,7 @@ fn a_writer_that_fails_after_n_bytes_holds_the_first_n(rt: HostRuntime) {
         let sink = ByteSink::new(rt.alloc()).failing_after(room);
         let written = room as u64;
         let cut = Err(StreamFault::WriteFault { written });
-        checks(&rt, rt.alloc(), room, source, sink, 1, cut, &REPORT[..room]);
+        checks(&rt, rt.alloc(), source, sink, 1, cut, &REPORT[..room]);
     }
 }
 
@@ -88,7 +86,7 @@ fn each_read_that_fails_in_turn_is_a_read_fault(rt: HostRuntime) {
         let source = source.failing(true);
         let sink = ByteSink::new(rt.alloc());
         let unread = Err(StreamFault::ReadFault);
-        checks(&rt, rt.alloc(), working, source, sink, 1, unread, b"");
+        checks(&rt, rt.alloc(), source, sink, 1, unread, b"");
     }
 }
 
@@ -108,6 +106,6 @@ fn a_fault_of_the_log_is_told_as_soon_as_its_record_ends_and_before_the_workers(
     ] {
         let source = PieceSource::new(log.as_bytes()).failing(fails);
         let sink = ByteSink::new(rt.alloc());
-        checks(&rt, rt.alloc(), log, source, sink, 0, want, b"");
+        checks(&rt, rt.alloc(), source, sink, 0, want, b"");
     }
 }

@@ -5,40 +5,12 @@ ghost use Rattle.std.specs.Prelude.{◌≡◌};
 use crate::fault::StreamFault;
 use crate::joining::{JoinTextFault, Joined, join_texts, join_to};
 use crate::memory::ByteSink;
-use pmf_event::{Name, Profile};
+use pmf_event::Name;
 use pmf_fixtures::LEDGER;
 use pmf_ledger::{JoinFault, LedgerFault};
 use std::alloc::{AllocError, Global};
 use std::process::Abort;
 use std::test::Fail;
-
-const SECOND: &str = "\
-PMFARM-LEDGER 1
-section 0.1 events=4 rows=1
-STORE;0x1000;0x0;0x8
-FLUSH;0x1000;0x40
-FENCE
-PMT.PERSIST;0x1000;0x8
-4 PERSIST PASS
-section 0.2 events=1 rows=0
-FENCE
-end verdicts=2
-";
-
-const BOTH: &str = "\
-PMFARM-LEDGER 1
-section 0.0 events=1 rows=0
-FENCE
-section 0.1 events=4 rows=1
-STORE;0x1000;0x0;0x8
-FLUSH;0x1000;0x40
-FENCE
-PMT.PERSIST;0x1000;0x8
-4 PERSIST PASS
-section 0.2 events=1 rows=0
-FENCE
-end verdicts=3
-";
 
 // Section 0.1 is one fence.
 const OTHER: &str = "\
@@ -49,20 +21,6 @@ end verdicts=1
 ";
 
 const EMPTY: &str = "PMFARM-LEDGER 1\nend verdicts=0\n";
-
-const EMPTY_OF_TWO: &str = "PMFARM-LEDGER 2\nend verdicts=0\n";
-
-// The pass of section 0.1 is written as a failure.
-const FORGED: &str = "\
-PMFARM-LEDGER 1
-section 0.1 events=4 rows=1
-STORE;0x1000;0x0;0x8
-FLUSH;0x1000;0x40
-FENCE
-PMT.PERSIST;0x1000;0x8
-4 PERSIST FAIL byte=0x1000 crash=4
-end verdicts=1
-";
 
 const FAILING: &str = "\
 PMFARM-LEDGER 1
@@ -81,8 +39,6 @@ section 1.0 events=2 pass=0 fail=1 warn=0 empty=0
 2 PERSIST FAIL byte=0x1000 crash=2
 total sections=3 pass=1 fail=1 warn=0 empty=0
 ";
-
-const SHARED: Name = Name { run: 0, number: 1 };
 
 fn bytes_of(alloc: Global, texts: &[&str]) -> Result<Vec<Vec<u8>>, AllocError> {
     let mut list = Vec::new(alloc);
@@ -116,12 +72,14 @@ fn writes(
 fn the_report_or_the_text_of_all_is_written(rt: HostRuntime) -> Result<(), Fail> {
     let alloc = rt.alloc();
     for (texts, as_ledger, fails, text) in [
-        ([LEDGER, SECOND].as_slice(), true, 0, BOTH.as_bytes()),
-        (&[SECOND, BOTH, LEDGER, SECOND], true, 0, BOTH.as_bytes()),
-        (&[EMPTY, LEDGER], true, 0, LEDGER.as_bytes()),
+        (
+            [LEDGER, EMPTY, LEDGER].as_slice(),
+            true,
+            0,
+            LEDGER.as_bytes(),
+        ),
         (&[], true, 0, EMPTY.as_bytes()),
-        (&[EMPTY_OF_TWO], true, 0, EMPTY_OF_TWO.as_bytes()),
-        (&[LEDGER, FAILING], false, 1, REPORT),
+        (&[FAILING, LEDGER], false, 1, REPORT),
     ] {
         let sink = ByteSink::new(alloc);
         let want = Ok(Joined { fails });
@@ -132,33 +90,26 @@ fn the_report_or_the_text_of_all_is_written(rt: HostRuntime) -> Result<(), Fail>
     Ok(())
 }
 
-fn not_loaded(index: usize, fault: LedgerFault) -> JoinTextFault {
-    JoinTextFault::Load { index, fault }
-}
+// The second text has no second line.
+const NOT_LOADED: JoinTextFault = JoinTextFault::Load {
+    index: 1,
+    fault: LedgerFault::NotALedger { line: 2 },
+};
+
+const CONFLICT: JoinTextFault = JoinTextFault::Join(JoinFault::Conflict {
+    name: Name { run: 0, number: 1 },
+});
 
 #[test]
 fn the_first_refusal_is_told_and_nothing_is_written(rt: HostRuntime) -> Result<(), Fail> {
-    let alloc = rt.alloc();
-    let no_line = LedgerFault::NotALedger { line: 2 };
-    let conflict = JoinFault::Conflict { name: SHARED };
+    let cut = "PMFARM-LEDGER 1\n";
     for (texts, fault) in [
-        (
-            [LEDGER, FORGED].as_slice(),
-            not_loaded(1, LedgerFault::FalseRows { name: SHARED }),
-        ),
-        (
-            &[LEDGER, SECOND, "PMFARM-LEDGER 1\n", FORGED],
-            not_loaded(2, no_line),
-        ),
-        (&[SECOND, OTHER, FORGED], JoinTextFault::Join(conflict)),
-        (
-            &[EMPTY, EMPTY_OF_TWO],
-            JoinTextFault::Join(JoinFault::ProfileMismatch),
-        ),
+        ([LEDGER, cut, OTHER], NOT_LOADED),
+        ([LEDGER, OTHER, cut], CONFLICT),
     ] {
-        let sink = ByteSink::new(alloc);
+        let sink = ByteSink::new(rt.alloc());
         let refused = Err(StreamFault::Refused(fault));
-        writes(&rt, alloc, texts, sink, false, refused, b"")?;
+        writes(&rt, rt.alloc(), &texts, sink, false, refused, b"")?;
     }
     Ok(())
 }
@@ -178,21 +129,8 @@ fn a_write_that_fails_is_told(rt: HostRuntime) -> Result<(), Fail> {
 #[test]
 fn a_refused_join_of_texts_has_its_text(rt: HostRuntime) -> Result<(), Fail> {
     for (fault, want) in [
-        (
-            JoinTextFault::Load {
-                index: 3,
-                fault: LedgerFault::NotALedger { line: 7 },
-            },
-            "line 7: not a ledger",
-        ),
-        (
-            JoinTextFault::Join(JoinFault::ProfileMismatch),
-            "profiles differ",
-        ),
-        (
-            JoinTextFault::Join(JoinFault::Conflict { name: SHARED }),
-            "section 0.1: held with other events",
-        ),
+        (NOT_LOADED, "line 2: not a ledger"),
+        (CONFLICT, "section 0.1: held with other events"),
         (JoinTextFault::OutOfMemory, "out of memory"),
     ] {
         let text = format!(in rt.alloc(); "{fault}")?;
