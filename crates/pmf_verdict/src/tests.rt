@@ -66,23 +66,16 @@ fn a_verdict_tells_its_section_and_the_rows_of_its_events(rt: HostRuntime) -> Re
     assert!(rt; verdict.section().same_as(&section));
     let text = write_rows(rt.alloc(), &verdict)?;
     assert!(rt; text.as_slice() == ROWS.as_bytes());
+    for (place, want) in [(0, ""), (5, "5 PERSIST PASS\n"), (9, LAST_ROWS), (10, "")] {
+        let text = write_rows_at(rt.alloc(), &verdict, place)?;
+        assert!(rt; text.as_slice() == want.as_bytes(), "at place {place}");
+    }
     let copy = verdict.copy(rt.alloc())?;
     assert!(rt; copy.same_section(&verdict));
     assert_eq!(rt; copy.profile(), Profile::Two);
     assert!(rt; copy.rows() == verdict.rows());
     let other = verdict_of(rt.alloc(), &[Event::Fence], Profile::Two)?;
     assert!(rt; !other.same_section(&verdict));
-    Ok(())
-}
-
-#[test]
-fn the_rows_at_one_place_are_written_alone(rt: HostRuntime) -> Result<(), Fail> {
-    let events = events_of(rt.alloc(), STEPS)?;
-    let verdict = verdict_of(rt.alloc(), events.as_slice(), Profile::One)?;
-    for (place, want) in [(0, ""), (5, "5 PERSIST PASS\n"), (9, LAST_ROWS), (10, "")] {
-        let text = write_rows_at(rt.alloc(), &verdict, place)?;
-        assert!(rt; text.as_slice() == want.as_bytes(), "at place {place}");
-    }
     Ok(())
 }
 

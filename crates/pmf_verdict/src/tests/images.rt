@@ -2,6 +2,7 @@
 
 ghost use Rattle.pmf_image.specs.Certificate.{Fits};
 
+use super::random::event_of;
 use super::verdict_of;
 use crate::{Verdict, explain};
 use pmf_event::{Event, Finding, Profile, Row, Span, SpanFault};
@@ -40,18 +41,8 @@ fn span(numbers: &mut Numbers) -> Result<Span, SpanFault> {
 }
 
 fn event(numbers: &mut Numbers) -> Result<Event, SpanFault> {
-    Ok(match numbers.below(24) {
-        0..=6 => Event::Store(span(numbers)?),
-        7..=9 => Event::Flush(span(numbers)?),
-        10..=12 => Event::Fence,
-        13..=15 => Event::Persist(span(numbers)?),
-        16..=18 => Event::Ordered(span(numbers)?, span(numbers)?),
-        19 => Event::Exclude(span(numbers)?),
-        20 => Event::TxBegin,
-        21 => Event::TxEnd,
-        22 => Event::CheckStart,
-        _ => Event::CheckEnd,
-    })
+    let (a, b) = (span(numbers)?, span(numbers)?);
+    Ok(event_of(numbers.below(22), a, b))
 }
 
 /// A section of random events, or one that checks a scope.
@@ -66,31 +57,24 @@ fn section(alloc: Global, numbers: &mut Numbers) -> Result<Vec<Event>, Fail> {
     events.push(Event::CheckStart)?;
     events.push(Event::TxBegin)?;
     events.push(Event::Store(span(numbers)?))?;
-    events.push(event(numbers)?)?;
-    events.push(event(numbers)?)?;
-    events.push(event(numbers)?)?;
+    for _event in 0..3 {
+        events.push(event(numbers)?)?;
+    }
     events.push(Event::TxEnd)?;
     events.push(Event::CheckEnd)?;
     Ok(events)
 }
 
-fn checked_of(alloc: Global, past: &[Event], span: Span) -> Result<Vec<Asked>, AllocError> {
+/// The checked bytes of the span, or else of the scope.
+fn asked_of(alloc: Global, past: &[Event], span: Option<Span>) -> Result<Vec<Asked>, AllocError> {
     let mut asked = Vec::new(alloc);
     for byte in BYTES {
         let at = byte_at(past, byte);
-        if span.covers(byte) && at.is_checked() {
-            let last = at.last;
-            asked.push(Asked { byte, last })?;
-        }
-    }
-    Ok(asked)
-}
-
-fn scoped_of(alloc: Global, past: &[Event]) -> Result<Vec<Asked>, AllocError> {
-    let mut asked = Vec::new(alloc);
-    for byte in BYTES {
-        let at = byte_at(past, byte);
-        if is_scoped(past, byte) && !at.is_excluded {
+        let is_meant = match span {
+            Some(span) => span.covers(byte),
+            None => is_scoped(past, byte),
+        };
+        if is_meant && at.is_checked() {
             let last = at.last;
             asked.push(Asked { byte, last })?;
         }
@@ -102,13 +86,13 @@ fn scoped_of(alloc: Global, past: &[Event]) -> Result<Vec<Asked>, AllocError> {
 /// outside of transactions.
 fn promise_of(alloc: Global, past: &[Event], event: Event) -> Result<Option<Promise>, AllocError> {
     Ok(match event {
-        Event::Persist(span) => Some(Promise::Durable(checked_of(alloc, past, span)?)),
+        Event::Persist(span) => Some(Promise::Durable(asked_of(alloc, past, Some(span))?)),
         Event::Ordered(a, b) => Some(Promise::InOrder(
-            checked_of(alloc, past, a)?,
-            checked_of(alloc, past, b)?,
+            asked_of(alloc, past, Some(a))?,
+            asked_of(alloc, past, Some(b))?,
         )),
         Event::CheckEnd if scope(past) > 0 && depth(past) == 0 => {
-            Some(Promise::Durable(scoped_of(alloc, past)?))
+            Some(Promise::Durable(asked_of(alloc, past, None)?))
         }
         _ => None,
     })
@@ -173,21 +157,6 @@ fn finding_at(rows: &[Row], place: u32) -> Option<Finding> {
         .map(|row| row.finding)
 }
 
-/// Whether the finding is true of an assertion that holds, or doesn't. SAMELINE alone says neither.
-fn is_true(finding: Finding, holds: bool) -> bool {
-    match finding {
-        Finding::PersistPass
-        | Finding::PersistEmpty
-        | Finding::OrderedPass
-        | Finding::OrderedEmpty
-        | Finding::CheckPass => holds,
-        Finding::PersistFail { .. } | Finding::OrderedFail { .. } | Finding::CheckFail { .. } =>
-            !holds,
-        Finding::OrderedSameLine { .. } => true,
-        _ => false,
-    }
-}
-
 /// Whether the image after a crash behind these events shows what the certificate's does, and nothing in it is torn.
 fn is_image_of(events: &[Event], image: &Image, certificate: Certificate) -> bool
     requires { Fits events.now certificate }
@@ -221,19 +190,20 @@ fn is_explained(verdict: &Verdict, images: &Images, place: u32) -> bool {
     false
 }
 
-/// Which of ten outcomes this is, or one past the last: SAMELINE is another where the assertion holds.
+/// Which of ten outcomes this is, or one past the last where the finding is not true of an assertion that holds, or
+/// doesn't. SAMELINE alone says neither.
 fn outcome(finding: Finding, holds: bool) -> usize {
     match finding {
-        Finding::PersistPass => 0,
-        Finding::PersistFail { .. } => 1,
-        Finding::PersistEmpty => 2,
-        Finding::OrderedPass => 3,
-        Finding::OrderedFail { .. } => 4,
-        Finding::OrderedEmpty => 5,
+        Finding::PersistPass if holds => 0,
+        Finding::PersistFail { .. } if !holds => 1,
+        Finding::PersistEmpty if holds => 2,
+        Finding::OrderedPass if holds => 3,
+        Finding::OrderedFail { .. } if !holds => 4,
+        Finding::OrderedEmpty if holds => 5,
         Finding::OrderedSameLine { .. } if holds => 6,
         Finding::OrderedSameLine { .. } => 7,
-        Finding::CheckPass => 8,
-        Finding::CheckFail { .. } => 9,
+        Finding::CheckPass if holds => 8,
+        Finding::CheckFail { .. } if !holds => 9,
         _ => 10,
     }
 }
@@ -278,21 +248,15 @@ fn compare(
     let Some(finding) = finding_at(verdict.rows(), place) else {
         panic!(rt; "no row at {place} of {events:?}");
     };
-    assert!(rt;
-        is_true(finding, holds),
-        "{finding:?} at {place} of {events:?}"
-    );
+    let outcome = outcome(finding, holds);
+    assert!(rt; outcome < 10, "{finding:?} at {place} of {events:?}");
     if let Event::Ordered(a, b) = *event {
         let exact = pairs_are_one_byte(past, a, b);
         assert_eq!(rt; holds, exact, "at {place} of {events:?}");
     }
-    let fails = matches!(
-        finding,
-        Finding::PersistFail { .. } | Finding::OrderedFail { .. } | Finding::CheckFail { .. }
-    );
+    let fails = matches!(outcome, 1 | 4 | 9);
     let explained = is_explained(verdict, images, place);
     assert_eq!(rt; explained, fails, "at {place} of {events:?}");
-    let outcome = outcome(finding, holds);
     if outcome < 10 {
         met[outcome] = true;
     }

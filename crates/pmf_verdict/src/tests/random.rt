@@ -18,21 +18,22 @@ fn span(numbers: &mut Numbers) -> Result<Span, SpanFault> {
     Span::make(first, size)
 }
 
-fn event(numbers: &mut Numbers) -> Result<Event, SpanFault> {
-    Ok(match numbers.below(20) {
-        0..=3 => Event::Store(span(numbers)?),
-        4 | 5 => Event::Flush(span(numbers)?),
+/// An event of these spans, of one of 22 kinds.
+pub(super) fn event_of(kind: u64, a: Span, b: Span) -> Event {
+    match kind {
+        0..=3 => Event::Store(a),
+        4 | 5 => Event::Flush(a),
         6 | 7 => Event::Fence,
-        8 => Event::Persist(span(numbers)?),
-        9 => Event::Ordered(span(numbers)?, span(numbers)?),
-        10 => Event::Exclude(span(numbers)?),
-        11 => Event::Include(span(numbers)?),
-        12 | 13 => Event::TxBegin,
-        14 | 15 => Event::TxAdd(span(numbers)?),
-        16 => Event::TxEnd,
-        17 | 18 => Event::CheckStart,
+        8 | 9 => Event::Persist(a),
+        10 | 11 => Event::Ordered(a, b),
+        12 => Event::Exclude(a),
+        13 => Event::Include(a),
+        14 | 15 => Event::TxBegin,
+        16 | 17 => Event::TxAdd(a),
+        18 => Event::TxEnd,
+        19 | 20 => Event::CheckStart,
         _ => Event::CheckEnd,
-    })
+    }
 }
 
 #[test]
@@ -41,7 +42,8 @@ fn a_section_has_the_rows_of_a_plain_checker(rt: HostRuntime) -> Result<(), Fail
     for _section in 0..1000 {
         let mut events = Vec::new(rt.alloc());
         for _event in 0..numbers.below(24) {
-            events.push(event(&mut numbers)?)?;
+            let (a, b) = (span(&mut numbers)?, span(&mut numbers)?);
+            events.push(event_of(numbers.below(22), a, b))?;
         }
         for profile in [Profile::One, Profile::Two] {
             let verdict = verdict_of(rt.alloc(), events.as_slice(), profile)?;
