@@ -85,25 +85,19 @@ fn interval(last: u32, opens: u32, closes: Option<u32>) -> Option<Interval> {
 fn an_interval_closes_with_the_fence_after_a_write_back(rt: HostRuntime) -> Result<(), Fail> {
     let open = interval(1, 0, None);
     let closed = interval(1, 0, Some(1));
-    let again = [STORE, FLUSH, FENCE, STORE];
-    let fenced_twice = [STORE, FLUSH, FENCE, FLUSH, FENCE];
-    let second_line = Step::Flush(0x1040, 0x40);
     for (steps, want) in [
         ([OTHER].as_slice(), None),
-        ([STORE].as_slice(), open),
-        ([FENCE, STORE].as_slice(), interval(2, 1, None)),
-        ([STORE, FLUSH].as_slice(), open),
-        ([STORE, FENCE].as_slice(), open),
-        ([FLUSH, STORE, FENCE].as_slice(), interval(2, 0, None)),
-        ([STORE, FLUSH, FENCE].as_slice(), closed),
-        (fenced_twice.as_slice(), closed),
-        (
-            [STORE, FENCE, FLUSH, FENCE].as_slice(),
-            interval(1, 0, Some(2)),
-        ),
-        (again.as_slice(), interval(4, 1, None)),
-        ([STORE, Step::Flush(0x103f, 2), FENCE].as_slice(), closed),
-        ([STORE, second_line, FENCE].as_slice(), open),
+        (&[STORE], open),
+        (&[FENCE, STORE], interval(2, 1, None)),
+        (&[STORE, FLUSH], open),
+        (&[STORE, FENCE], open),
+        (&[FLUSH, STORE, FENCE], interval(2, 0, None)),
+        (&[STORE, FLUSH, FENCE], closed),
+        (&[STORE, FLUSH, FENCE, FLUSH, FENCE], closed),
+        (&[STORE, FENCE, FLUSH, FENCE], interval(1, 0, Some(2))),
+        (&[STORE, FLUSH, FENCE, STORE], interval(4, 1, None)),
+        (&[STORE, Step::Flush(0x103f, 2), FENCE], closed),
+        (&[STORE, Step::Flush(0x1040, 0x40), FENCE], open),
     ] {
         let events = events_of(rt.alloc(), steps)?;
         let shadow = shadow_of(&rt, rt.alloc(), events.as_slice())?;

@@ -20,28 +20,11 @@ fn stored_twice(alloc: Global, one: u32, other: u32) -> Result<Shadow, Fail> {
 #[test]
 fn an_interval_has_the_place_that_was_told(rt: HostRuntime) -> Result<(), Fail> {
     let (here, next) = (Span::make(0x1000, 8)?, Span::make(0x1008, 8)?);
-    for (one, other, what) in [(1, 2, "stores counted alone"), (10, 20, "each tenth place")] {
-        let shadow = stored_twice(rt.alloc(), one, other)?;
-        assert_eq!(rt;
-            shadow.interval_at(0x1000),
-            interval(one, 0, None),
-            "{what}"
-        );
-        assert_eq!(rt;
-            shadow.interval_at(0x1008),
-            interval(other, 1, None),
-            "{what}"
-        );
-        assert_eq!(rt;
-            shadow.least_pair(here, next, false, Profile::Two),
-            None,
-            "{what}"
-        );
-        assert_eq!(rt;
-            shadow.least_pair(next, here, true, Profile::Two),
-            Some((0x1008, 0x1000)),
-            "{what}"
-        );
-    }
+    let shadow = stored_twice(rt.alloc(), 10, 20)?;
+    assert_eq!(rt; shadow.interval_at(0x1000), interval(10, 0, None));
+    assert_eq!(rt; shadow.interval_at(0x1008), interval(20, 1, None));
+    let none = shadow.least_pair(here, next, false, Profile::Two);
+    let some = shadow.least_pair(next, here, true, Profile::Two);
+    assert_eq!(rt; (none, some), (None, Some((0x1008, 0x1000))));
     Ok(())
 }
