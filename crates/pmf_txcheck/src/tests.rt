@@ -6,7 +6,7 @@ ghost use Rattle.pmf_event.specs.declared.section.TheConstants.{EVENT_LIMIT};
 ghost use Rattle.pmf_txcheck.specs.Tracking.{Tracks, FollowsAt as FollowsTransactionAt};
 
 use crate::state::TxState;
-use pmf_event::{EVENT_LIMIT, Event, Finding, Span};
+use pmf_event::{EVENT_LIMIT, Event, Finding};
 use pmf_fixtures::plain::{depth, is_backed, is_scoped, scope};
 use pmf_fixtures::{Step, events_of};
 use pmf_shadow::Shadow;
@@ -16,6 +16,7 @@ use std::test::Fail;
 
 mod memory;
 
+use Finding::{CheckFail, CheckPass, DupLog, NoBackup};
 use Step::{CheckEnd, CheckStart, Exclude, Fence, Flush, Include, Store, TxAdd, TxBegin, TxEnd};
 
 /// The bytes that are looked at, from this one on.
@@ -102,146 +103,79 @@ fn assert_kept(rt: &impl Abort, state: &TxState, past: &[Event]) {
     }
 }
 
-fn no_backup(byte: u64) -> Finding {
-    Finding::NoBackup { byte }
-}
-
-fn dup_log(byte: u64) -> Finding {
-    Finding::DupLog { byte }
-}
-
-fn check_fail(byte: u64) -> Finding {
-    Finding::CheckFail { byte }
-}
-
-const GREATEST: u64 = 1 << 32;
-
 #[test]
 fn findings_are_those_of_worked_rows(rt: HostRuntime) -> Result<(), Fail> {
-    let pass = Finding::CheckPass;
     let half = TxAdd(0x1000, 8);
     let wide = TxAdd(0x1000, 16);
     let store = Store(0x1000, 8);
     let both = Store(0x1000, 16);
     let flush = Flush(0x1000, 0x40);
+    let again = TxAdd(0x1008, 8);
+    let half_out = Exclude(0x1008, 8);
+    let out = Exclude(0x1000, 16);
+    let back = Include(0x1004, 1);
     for (steps, want, what) in [
-        ([].as_slice(), [].as_slice(), "no event"),
         (
             [CheckStart, TxBegin, half, both, TxEnd, CheckEnd].as_slice(),
-            [(4, no_backup(0x1008)), (6, check_fail(0x1000))].as_slice(),
+            [
+                (4, NoBackup { byte: 0x1008 }),
+                (6, CheckFail { byte: 0x1000 }),
+            ]
+            .as_slice(),
             "half of a store is backed up",
         ),
         (
-            [CheckStart, TxBegin, half, both, CheckEnd].as_slice(),
-            [
-                (4, no_backup(0x1008)),
+            &[CheckStart, TxBegin, half, both, CheckEnd],
+            &[
+                (4, NoBackup { byte: 0x1008 }),
                 (5, Finding::TxStillOpen { depth: 1 }),
-            ]
-            .as_slice(),
+            ],
             "the scope ends inside a transaction",
         ),
         (
-            [TxEnd, TxAdd(0, 1), CheckEnd, CheckStart, CheckStart].as_slice(),
-            [
+            &[TxEnd, TxAdd(0, 1), CheckEnd, CheckStart, CheckStart],
+            &[
                 (1, Finding::Unmatched),
                 (2, Finding::Outside),
                 (3, Finding::Unopened),
                 (5, Finding::Nested),
                 (6, Finding::Unclosed { start: 4 }),
-            ]
-            .as_slice(),
+            ],
             "markers out of place",
         ),
         (
-            [CheckStart, CheckEnd, CheckStart].as_slice(),
-            [(2, pass), (4, Finding::Unclosed { start: 3 })].as_slice(),
-            "a second scope",
-        ),
-        (
-            [
-                CheckStart,
-                TxBegin,
-                wide,
-                TxAdd(0x1008, 8),
-                store,
-                flush,
-                Fence,
-                TxEnd,
-                CheckEnd,
-            ]
-            .as_slice(),
-            [(4, dup_log(0x1008)), (9, pass)].as_slice(),
+            &[
+                CheckStart, TxBegin, wide, again, store, flush, Fence, TxEnd, CheckEnd,
+            ],
+            &[(4, DupLog { byte: 0x1008 }), (9, CheckPass)],
             "backed up twice",
         ),
         (
-            [
+            &[
                 CheckStart, TxBegin, TxBegin, half, TxEnd, store, TxEnd, TxBegin, store, flush,
                 Fence, TxEnd, CheckEnd,
-            ]
-            .as_slice(),
-            [(9, no_backup(0x1000)), (13, pass)].as_slice(),
+            ],
+            &[(9, NoBackup { byte: 0x1000 }), (13, CheckPass)],
             "a backup lasts as long as the outermost transaction",
         ),
         (
-            [
-                CheckStart,
-                TxBegin,
-                TxAdd(0, GREATEST),
-                Store(1, GREATEST),
-                TxEnd,
-                CheckEnd,
-            ]
-            .as_slice(),
-            [(4, no_backup(GREATEST)), (6, check_fail(1))].as_slice(),
-            "the greatest spans",
-        ),
-        (
-            [
-                Exclude(0x1008, 8),
-                CheckStart,
-                TxBegin,
-                half,
-                both,
-                TxEnd,
-                CheckEnd,
-            ]
-            .as_slice(),
-            [(7, check_fail(0x1000))].as_slice(),
+            &[half_out, CheckStart, TxBegin, half, both, TxEnd, CheckEnd],
+            &[(7, CheckFail { byte: 0x1000 })],
             "an excluded byte needs no backup",
         ),
         (
-            [
-                Exclude(0x1000, 16),
-                CheckStart,
-                TxBegin,
-                half,
-                wide,
-                both,
-                TxEnd,
-                CheckEnd,
-            ]
-            .as_slice(),
-            [(5, dup_log(0x1000)), (8, pass)].as_slice(),
+            &[out, CheckStart, TxBegin, half, wide, both, TxEnd, CheckEnd],
+            &[(5, DupLog { byte: 0x1000 }), (8, CheckPass)],
             "a backup of excluded bytes is told twice all the same",
         ),
         (
-            [
-                Exclude(0x1000, 16),
-                CheckStart,
-                TxBegin,
-                wide,
-                both,
-                Include(0x1004, 1),
-                TxEnd,
-                CheckEnd,
-            ]
-            .as_slice(),
-            [(8, check_fail(0x1004))].as_slice(),
+            &[out, CheckStart, TxBegin, wide, both, back, TxEnd, CheckEnd],
+            &[(8, CheckFail { byte: 0x1004 })],
             "a byte is back at the scope's end",
         ),
         (
-            [store, CheckStart, store, TxBegin, half, TxEnd, CheckEnd].as_slice(),
-            [(7, pass)].as_slice(),
+            &[store, CheckStart, store, TxBegin, half, TxEnd, CheckEnd],
+            &[(7, CheckPass)],
             "stores outside of transactions are no bytes of the scope",
         ),
     ] {
@@ -249,19 +183,5 @@ fn findings_are_those_of_worked_rows(rt: HostRuntime) -> Result<(), Fail> {
         let found = found_of(&rt, rt.alloc(), events.as_slice())?;
         assert_eq!(rt; found.as_slice(), want, "{what}");
     }
-    Ok(())
-}
-
-#[test]
-fn a_store_is_judged_by_the_shadow_that_is_handed_in(rt: HostRuntime) -> Result<(), Fail> {
-    let span = Span::make(0x1000, 8)?;
-    let untouched = Shadow::new(rt.alloc());
-    let mut excluding = Shadow::new(rt.alloc());
-    excluding.exclude(span)?;
-    let mut state = TxState::new(rt.alloc());
-    state.begin();
-    assert_eq!(rt; state.check_start(1), None);
-    assert_eq!(rt; state.store(&excluding, span)?, None);
-    assert_eq!(rt; state.store(&untouched, span)?, Some(no_backup(0x1000)));
     Ok(())
 }
