@@ -1,9 +1,8 @@
 //! What a ledger takes, refuses and tells.
 
-use super::{JoinFault, Ledger, LedgerFault, TakeFault, Taken, least_repeat};
+use super::{JoinFault, Ledger, TakeFault, Taken, least_repeat};
 use pmf_event::{Name, Profile, Section};
 use pmf_fixtures::{FENCE, FLUSH, STORE, Step};
-use pmf_storelog::{Cause, LogFault};
 use pmf_verdict::{Verdict, check};
 use std::alloc::{AllocError, Global};
 use std::fmt::Display;
@@ -146,7 +145,7 @@ fn assert_told<F: Display + Drop>(
 }
 
 #[test]
-fn each_refusal_has_its_text(rt: HostRuntime) -> Result<(), Fail> {
+fn a_refused_take_or_join_has_its_text(rt: HostRuntime) -> Result<(), Fail> {
     let alloc = rt.alloc();
     for (fault, want) in [
         (TakeFault::ProfileMismatch, "profiles differ"),
@@ -161,29 +160,6 @@ fn each_refusal_has_its_text(rt: HostRuntime) -> Result<(), Fail> {
         (JoinFault::ProfileMismatch, "profiles differ"),
         (JoinFault::Conflict { name }, held),
         (JoinFault::OutOfMemory, "out of memory"),
-    ] {
-        assert_told(&rt, alloc, fault, want)?;
-    }
-    let (few, room) = (Cause::TooFewFields, Cause::OutOfMemory);
-    for (fault, want) in [
-        (
-            LedgerFault::NotALedger { line: 10 },
-            "line 10: not a ledger",
-        ),
-        (
-            LedgerFault::FalseRows { name },
-            "section 12.70: rows are false",
-        ),
-        (LedgerFault::Conflict { name }, held),
-        (
-            LedgerFault::Log(LogFault { at: 5, cause: few }),
-            "line 5: too few fields",
-        ),
-        (
-            LedgerFault::Log(LogFault { at: 0, cause: room }),
-            "out of memory",
-        ),
-        (LedgerFault::OutOfMemory, "out of memory"),
     ] {
         assert_told(&rt, alloc, fault, want)?;
     }

@@ -37,29 +37,15 @@ fn assert_join(
 
 #[test]
 fn what_either_holds_is_held_once_in_the_order_of_names(rt: HostRuntime) -> Result<(), Fail> {
-    let first = [
-        (name(0, 0), ONE),
-        (name(0, 1), PERSISTED),
-        (name(0, 4), ONE),
-    ];
-    let second = [
-        (name(0, 1), PERSISTED),
-        (name(0, 2), TWO),
-        (name(1, 0), ONE),
-    ];
-    let both = [
-        (name(0, 0), ONE),
-        (name(0, 1), PERSISTED),
-        (name(0, 2), TWO),
-        (name(0, 4), ONE),
-        (name(1, 0), ONE),
-    ];
+    let a = (name(0, 0), ONE);
+    let b = (name(0, 1), PERSISTED);
+    let c = (name(1, 0), TWO);
     for (first, second, want) in [
-        (first.as_slice(), second.as_slice(), both.as_slice()),
-        (&second, &first, &both),
-        (&first, &first, &first),
-        (&first, &[], &first),
-        (&[], &first, &first),
+        ([a, b].as_slice(), [b, c].as_slice(), [a, b, c].as_slice()),
+        (&[b, c], &[a, b], &[a, b, c]),
+        (&[a, c], &[b], &[a, b, c]),
+        (&[a, b], &[], &[a, b]),
+        (&[], &[a, b], &[a, b]),
     ] {
         let (first, second) = ((Profile::Two, first), (Profile::Two, second));
         assert_join(&rt, rt.alloc(), first, second, Ok(want))?;
@@ -69,21 +55,15 @@ fn what_either_holds_is_held_once_in_the_order_of_names(rt: HostRuntime) -> Resu
 
 #[test]
 fn profiles_come_before_the_least_name_with_other_events(rt: HostRuntime) -> Result<(), Fail> {
-    let first = [
-        (name(0, 0), ONE),
-        (name(0, 1), PERSISTED),
-        (name(0, 2), ONE),
-    ];
-    let second = [(name(0, 0), ONE), (name(0, 1), ONE), (name(0, 2), TWO)];
+    let first = [(name(0, 1), PERSISTED), (name(0, 2), ONE)];
+    let second = [(name(0, 1), ONE), (name(0, 2), TWO)];
     let least = JoinFault::Conflict { name: name(0, 1) };
     for (profile, want) in [
         (Profile::One, least),
         (Profile::Two, JoinFault::ProfileMismatch),
     ] {
-        let (first, second) = (
-            (Profile::One, first.as_slice()),
-            (profile, second.as_slice()),
-        );
+        let first = (Profile::One, first.as_slice());
+        let second = (profile, second.as_slice());
         assert_join(&rt, rt.alloc(), first, second, Err(want))?;
     }
     Ok(())

@@ -65,7 +65,7 @@ PMT.PERSIST;0x2000;0x8
 end verdicts=2
 ";
 
-const TEXT_OF_TWO: &[u8] = b"\
+pub(super) const TEXT_OF_TWO: &str = "\
 PMFARM-LEDGER 2
 section 0.0 events=3 rows=1
 STORE;0x1000;0x0;0x8
@@ -115,7 +115,7 @@ fn an_upgrade_judges_by_profile_two(rt: HostRuntime) -> Result<(), Fail> {
     let ledger = ledger_of(alloc, Profile::One, &[(name(0, 0), TWO_STORES)])?;
     let before = ledger.write_ledger(alloc)?;
     match ledger.upgrade(alloc) {
-        Ok(upgraded) => assert_text(&rt, alloc, &upgraded, TEXT_OF_TWO)?,
+        Ok(upgraded) => assert_text(&rt, alloc, &upgraded, TEXT_OF_TWO.as_bytes())?,
         Err((refused, ledger)) => {
             assert_text(&rt, alloc, &ledger, &before)?;
             return Err(refused.into());
