@@ -25,22 +25,6 @@ enum Brush {
     Next,
 }
 
-impl Brush {
-    fn paint(self, map: &mut RunMap<Colour>, first: u64, end: u64) -> Result<(), AllocError> {
-        match self {
-            Brush::To(colour) => map.change(first, end, &To(colour)),
-            Brush::Next => map.change(first, end, &Next),
-        }
-    }
-
-    fn paint_plain(self, plain: &mut Plain, first: u64, end: u64) {
-        match self {
-            Brush::To(colour) => plain.change(first, end, &To(colour)),
-            Brush::Next => plain.change(first, end, &Next),
-        }
-    }
-}
-
 #[test]
 fn a_set_holds_what_was_put_in(rt: HostRuntime) -> Result<(), Fail> {
     let mut set = RunMap::new(rt.alloc(), false);
@@ -140,16 +124,16 @@ fn assert_answers(rt: &impl Abort, map: &RunMap<Colour>, plain: &Plain, numbers:
     let test = Is(some_colour(numbers));
     assert_eq!(rt;
         map.first_where(first, end, &test),
-        plain.first_where(first, end, &test)
+        plain.first_where(first, end, test)
     );
     let (begins, ends) = (first / LINE_SIZE * LINE_SIZE, end / LINE_SIZE * LINE_SIZE);
     assert_eq!(rt;
         map.count_lines(begins, ends, &test),
-        plain.count_lines(begins, ends, &test)
+        plain.count_lines(begins, ends, test)
     );
     assert_eq!(rt;
         map.least_key(first, end, &Number),
-        plain.least_key(first, end, &Number)
+        plain.least_key(first, end)
     );
 }
 
@@ -162,12 +146,18 @@ fn paint_both(
     first: u64,
     end: u64,
 ) -> Result<(), AllocError> {
-    let painted = brush.paint(map, first, end);
+    let painted = match brush {
+        Brush::To(colour) => map.change(first, end, &To(colour)),
+        Brush::Next => map.change(first, end, &Next),
+    };
     if painted.is_err() {
         assert_states(rt, map, plain);
     }
     painted?;
-    brush.paint_plain(plain, first, end);
+    match brush {
+        Brush::To(colour) => plain.change(first, end, &To(colour)),
+        Brush::Next => plain.change(first, end, &Next),
+    }
     Ok(())
 }
 
@@ -213,14 +203,8 @@ fn a_map_of_many_groups_answers_as_an_array_does_and_takes_out_emptied_parts(
         assert_answers(&rt, &map, &plain, &mut numbers);
     }
     let before = map.leaf_count();
-    paint_both(
-        &rt,
-        &mut map,
-        &mut plain,
-        Brush::To(Colour::Green),
-        5_000,
-        15_000,
-    )?;
+    let green = Brush::To(Colour::Green);
+    paint_both(&rt, &mut map, &mut plain, green, 5_000, 15_000)?;
     assert!(rt; map.leaf_count() < before);
     assert_states(&rt, &map, &plain);
     map.change(0, u64::MAX, &To(Colour::Red))?;

@@ -1,6 +1,6 @@
 //! The map by an array of states, a number at a time.
 
-use super::Colour;
+use super::{Colour, Is, Number};
 use crate::state::{Change, Key, Test};
 use pmf_event::LINE_SIZE;
 use std::alloc::{AllocError, Global};
@@ -45,12 +45,7 @@ impl Plain {
         }
     }
 
-    pub(super) fn first_where<T: Test<Colour>>(
-        &self,
-        first: u64,
-        end: u64,
-        test: &T,
-    ) -> Option<u64> {
+    pub(super) fn first_where(&self, first: u64, end: u64, test: Is) -> Option<u64> {
         for place in first..end {
             if test.passes(self.at(place)) {
                 return Some(place);
@@ -59,7 +54,7 @@ impl Plain {
         None
     }
 
-    pub(super) fn count_lines<T: Test<Colour>>(&self, first: u64, end: u64, test: &T) -> u64 {
+    pub(super) fn count_lines(&self, first: u64, end: u64, test: Is) -> u64 {
         let mut count = 0u64;
         let mut last = None;
         for place in first..end {
@@ -72,14 +67,11 @@ impl Plain {
         count
     }
 
-    pub(super) fn least_key<K: Key<Colour>>(&self, first: u64, end: u64, key: &K) -> Option<u32> {
+    pub(super) fn least_key(&self, first: u64, end: u64) -> Option<u32> {
         let mut least: Option<u32> = None;
         for place in first..end {
-            if let Some(found) = key.key(self.at(place)) {
-                least = match least {
-                    Some(so_far) if so_far < found => least,
-                    _ => Some(found),
-                };
+            if let Some(found) = Number.key(self.at(place)) {
+                least = Some(least.unwrap_or(found).min(found));
             }
         }
         least
