@@ -30,6 +30,8 @@ pub struct Cutter {
     places: BTreeMap<u64, usize>,
     /// Of which section a part has a number.
     names: BTreeMap<u64, u64>,
+    /// How many parts began in the newest file.
+    named: usize,
     /// Where the section stands that is current in what is read, once there is one.
     current: Option<usize>,
     records: u64,
@@ -54,6 +56,7 @@ impl Cutter {
             sections: Vec::new(alloc),
             places: BTreeMap::new(alloc),
             names: BTreeMap::new(alloc),
+            named: 0,
             current: None,
             records: 0,
             cuts: 0,
@@ -131,7 +134,9 @@ impl Cutter {
             let length = rest.len() - behind.len();
             if let Some(file) = self.file_of(trim(part))? {
                 self.outputs.push(file, &rest[..length])?;
-                self.begin_file_if_full()?;
+            }
+            if self.outputs.is_full() {
+                self.begin_file()?;
             }
             rest = behind;
         }
@@ -173,12 +178,12 @@ impl Cutter {
         }
     }
 
-    // Begins the next file where the newest one is full: each section is cut where it next can be.
-    fn begin_file_if_full(&mut self) -> Result<(), AllocError> {
-        if self.outputs.begin_if_full()? {
-            for section in &mut self.sections {
-                section.hurry();
-            }
+    // Begins the next file: each section is cut where it next can be.
+    fn begin_file(&mut self) -> Result<(), AllocError> {
+        self.outputs.begin()?;
+        self.named = 0;
+        for section in &mut self.sections {
+            section.hurry();
         }
         Ok(())
     }
@@ -204,7 +209,7 @@ impl Cutter {
         Ok(place)
     }
 
-    // A part of the section gets a number.
+    // A part of the section gets a number, in a file that has room for it.
     fn name(&mut self, name: u64, number: u64) -> Result<(), CutFault> {
         if let Some(section) = self.names.get(&name) {
             return Err(CutFault::Taken {
@@ -213,10 +218,14 @@ impl Cutter {
                 number: name,
             });
         }
-        if self.names.len() >= SECTION_LIMIT {
-            return Err(self.refusal(Cause::TooManySections));
+        if self.named >= SECTION_LIMIT {
+            if !self.outputs.are_several() {
+                return Err(self.refusal(Cause::TooManySections));
+            }
+            self.begin_file()?;
         }
         self.names.insert(name, number)?;
+        self.named = self.named.saturating_add(1);
         Ok(())
     }
 

@@ -112,17 +112,17 @@ impl Outputs {
         Ok(())
     }
 
-    /// Begins the next file where the newest one is full, and answers whether it was. An eighth of a file is room for the parts that go on
-    /// in it when the next one has begun.
-    pub(crate) fn begin_if_full(&mut self) -> Result<bool, AllocError> {
-        match self.most {
-            Some(most) if self.newest.size >= most - most / 8 => {
-                let newest = std::mem::replace(&mut self.newest, Output::new(self.alloc));
-                self.older.push(newest)?;
-                Ok(true)
-            }
-            _ => Ok(false),
-        }
+    /// Whether the next file is to begin. An eighth of a file is room for the parts that go on in it then.
+    pub(crate) fn is_full(&self) -> bool {
+        self.most
+            .is_some_and(|most| self.newest.size >= most - most / 8)
+    }
+
+    /// Begins the next file.
+    pub(crate) fn begin(&mut self) -> Result<(), AllocError> {
+        let newest = std::mem::replace(&mut self.newest, Output::new(self.alloc));
+        self.older.push(newest)?;
+        Ok(())
     }
 
     /// What is to be written, which is handed out once.
