@@ -46,8 +46,8 @@ pub struct Cutter {
 }
 
 impl Cutter {
-    /// A cutter before the log's first byte. A part has at most so many events, of those that a section may have; a file has at most so
-    /// many bytes, where there may be several.
+    /// A cutter before the log's first byte. A part has at most so many events, of those that a section may have; a file is to have at
+    /// most so many bytes, where there may be several.
     pub fn new(alloc: Global, events: u32, step: u64, bytes: Option<u64>) -> Cutter {
         Cutter {
             alloc,

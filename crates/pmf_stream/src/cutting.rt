@@ -34,7 +34,8 @@ pub struct Pieces {
 }
 
 /// Reads a log and writes it with its sections cut, as it is read; what a cut may have changed is said. With a number of bytes the
-/// log may be of any length, and is written to files of at most so many; without one, to the first file alone.
+/// log may be of any length, and is written to files; one that gets more bytes, where a part can't be cut, is said. Without one, all
+/// goes to the first file.
 ///
 /// Refusals: the first fault of the log, but for the length of a section, or a number that a part has not; what was written by
 /// then is of no use. Takes memory as [`Cutter`] does.
