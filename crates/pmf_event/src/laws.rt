@@ -3,17 +3,20 @@
 ghost use Rattle.pmf_event.specs.{Laws.{BytesLieBelowTheLimit, MeetsTheLinesOfItsBytes, MeetsTheLinesOfItsNumbers, MeetsWhereAByteIsShared}, LineBytes.{LinesFollowFromTheirBytes}};
 
 /// A span meets exactly the cache lines of the bytes that it covers.
+#[tactic(auto, using(crate::proofs::LineLemmas::meets_the_lines_of_its_bytes))]
 pub fn span_meets_the_lines_of_its_bytes()
     ensures { MeetsTheLinesOfItsBytes }
 {}
 
 /// Two spans meet exactly where a byte is covered by both.
+#[tactic(auto, using(crate::proofs::LineLemmas::meets_where_a_byte_is_shared))]
 pub fn spans_meet_where_a_byte_is_shared()
     ensures { MeetsWhereAByteIsShared }
 {}
 
 /// A span meets exactly the cache lines from that of its first byte to that of its last, by their
 /// numbers.
+#[tactic(auto, using(crate::proofs::LineLemmas::meets_the_lines_of_its_numbers))]
 pub fn span_meets_the_lines_of_its_numbers()
     ensures { MeetsTheLinesOfItsNumbers }
 {}

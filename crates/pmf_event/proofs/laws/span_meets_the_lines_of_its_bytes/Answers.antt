@@ -1,5 +1,0 @@
-use Rattle.pmf_event.proofs.LineLemmas.{meets_the_lines_of_its_bytes}
-use Rattle.pmf_event.proofs.laws.span_meets_the_lines_of_its_bytes.Goals as goal
-
-pub returns : goal.returns
-returns c = meets_the_lines_of_its_bytes
