@@ -4,9 +4,9 @@ use Rattle.memchr.specs.Find.{IsFirstByte, is_byte3}
 use Rattle.pmf_storelog.{specs.Separators.{is_separator, is_blank, trimmed, without_front_blanks, without_end_blanks, records_in, parts_of, records_of}, proofs.SplitLemmas.{split_filled, joined, joined_at}, proofs.PartLemmas.{parts_of-append, records_in-append, separator_found}, proofs.TallyLemmas.{records_in-blank, records_in-filled}}
 use Rattle.pmf_query.specs.Walking.{BeginsAnew, IsNext, IsPart}
 
-pub records_of-nil : records_of [] ≡ []
+pub records_of_nil : records_of [] ≡ []
 unfolding parts_of records_in without_front_blanks without_end_blanks
-records_of-nil = refl
+records_of_nil = refl
 
 parts_filled : (bytes : List ℕ) → 0 < length (parts_of bytes)
 unfolding parts_of
@@ -25,7 +25,7 @@ pub anew_first : (bytes : List ℕ) → BeginsAnew bytes 0
 anew_first bytes = record {
   joins = λ n.
       let same : 0 + n ≡ n = omega arith in
-      ap (λ m. records_of (take m bytes)) same ∙ ap (λ records. records ++ records_of (take n bytes)) (sym records_of-nil);
+      ap (λ m. records_of (take m bytes)) same ∙ ap (λ records. records ++ records_of (take n bytes)) (sym records_of_nil);
 }
 
 -- where the records begin anew, those of all bytes fall apart
@@ -40,7 +40,7 @@ anew_last bytes = record {
       let all : take (length bytes + n) bytes ≡ take (length bytes) bytes = take_all (length bytes + n) bytes (omega arith) ∙ sym (take_all (length bytes) bytes (omega arith)) in
       let none : take n (drop (length bytes) bytes) ≡ [] = ap (take n) (drop-length bytes) ∙ take_all n [] (omega arith) in
       ap records_of all ∙ sym (append-nil (records_of (take (length bytes) bytes)))
-      ∙ ap (λ records. records_of (take (length bytes) bytes) ++ records) (sym (ap records_of none ∙ records_of-nil));
+      ∙ ap (λ records. records_of (take (length bytes) bytes) ++ records) (sym (ap records_of none ∙ records_of_nil));
 }
 
 module _ (bytes : List ℕ) (start : ℕ) (anew : BeginsAnew bytes start) where
@@ -62,7 +62,7 @@ module _ (bytes : List ℕ) (start : ℕ) (anew : BeginsAnew bytes start) where
     cut_adds =
         let none : start + len + 1 ≡ start + len + 1 + 0 = omega arith in
         ap (λ m. records_of (take m bytes)) none ∙ cut_joins 0
-        ∙ ap (λ records. (records_of (take start bytes) ++ records_in (take len (drop start bytes) ∷ [])) ++ records) records_of-nil
+        ∙ ap (λ records. (records_of (take start bytes) ++ records_in (take len (drop start bytes) ∷ [])) ++ records) records_of_nil
         ∙ append-nil (records_of (take start bytes) ++ records_in (take len (drop start bytes) ∷ []))
 
     pub part_cut : start + len < length bytes → IsPart bytes start len (start + len + 1)

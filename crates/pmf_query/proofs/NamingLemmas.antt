@@ -298,7 +298,7 @@ pub known_more_names : (counts : List Named) (i : ℕ) (c : Named) → names_in 
 known_more_names counts i c so_far within is =
     map-append (λ (x : Named). x.name.now) counts (c ∷ []) ∙ ap (λ ns. ns ++ c.name.now ∷ []) so_far ∙ ap (λ (n : List ℕ). take i known_names ++ n ∷ []) is ∙ sym (take_more known_names i [] within)
 
-pub Count-none : (counts : List Named) (c : Named) → Count counts [] → c.records ≡ 0 → Count (counts ++ c ∷ []) []
-Count-none counts c count none =
+pub Count_none : (counts : List Named) (c : Named) → Count counts [] → c.records ≡ 0 → Count (counts ++ c ∷ []) []
+Count_none counts c count none =
     All-append (λ (x : Named). x.records ≡ count_named x.name.now []) counts (c ∷ []) count
     (All-cons (λ (x : Named). x.records ≡ count_named x.name.now []) c [] (none ∙ sym (named_nil c.name.now)) (λ k d within. absurd (omega arith)))

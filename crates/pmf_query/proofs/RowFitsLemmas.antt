@@ -21,8 +21,8 @@ row-fits es other rows i d real within same c is =
     let facts = real row.place c (row.finding, Contains-get_or rows i d within, is) in
     rw same (facts.0, place-within es row.place c facts.2)
 
-pub nothing-unless : (o : Outcome) (text : List ℕ) → (o ≡ Fail → ⊥) → text_if o text ≡ []
-nothing-unless Fail text other = absurd (other refl)
-nothing-unless Pass text other = refl
-nothing-unless Warn text other = refl
-nothing-unless Empty text other = refl
+pub nothing_unless : (o : Outcome) (text : List ℕ) → (o ≡ Fail → ⊥) → text_if o text ≡ []
+nothing_unless Fail text other = absurd (other refl)
+nothing_unless Pass text other = refl
+nothing_unless Warn text other = refl
+nothing_unless Empty text other = refl

@@ -33,6 +33,7 @@ impl<'a> NameCounts<'a> {
     }
 
     /// Counts one more record.
+    #[tactic(auto, using(crate::proofs::NamingLemmas::names_long, crate::proofs::NamingLemmas::skipped_few, crate::proofs::NamingLemmas::small_counts))]
     pub(crate) fn take(&mut self, text: &'a [u8]) -> Result<(), AllocError>
         requires { (records : List (List ℕ)) × Tallies self.old records × (length records + 1 < 2 ^ 64) }
         ensures { (records : List (List ℕ)) → Tallies self.old records

@@ -49,6 +49,7 @@ impl Later {
     }
 
     /// Whether the event at the place is a store that none of them covers.
+    #[tactic(auto, using(crate::proofs::CoverLemmas::missed, crate::proofs::CoverLemmas::missed_none))]
     fn misses(&self, event: &Event, inside: bool) -> bool
         ensures { (es : List Event) (p : ℕ) → event_at es (suc p) ≡ Some event.now
             → inside ≡ is_inside es (suc p) → StandsAfter self.now es (suc p)
@@ -77,6 +78,7 @@ impl Later {
 }
 
 // Puts the bytes of the span, if there is one, into the set.
+#[tactic(auto, using(crate::proofs::CoverLemmas::put_there))]
 fn put_in(set: &mut RunMap<bool>, span: Option<Span>) -> Result<(), AllocError>
     ensures { OnOk result ((b : ℕ) → state_at set.new b ≡ (state_at set.old b || is_in span b)) }
 {

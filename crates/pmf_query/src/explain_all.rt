@@ -97,7 +97,7 @@ fn push_failures(text: &mut String, verdict: &Verdict) -> Result<(), AllocError>
 }
 
 // The row, if it counts as fail.
-#[tactic(auto, unfolding(crate::specs::AllExplained::text_if_failed))]
+#[tactic(auto, using(crate::proofs::RowFitsLemmas::nothing_unless), unfolding(crate::specs::AllExplained::text_if_failed))]
 fn push_if_failed(
     text: &mut String,
     name: Name,

@@ -9,6 +9,7 @@ use pmf_event::Event;
 use std::alloc::{AllocError, Global};
 
 /// For each event, whether a transaction runs there, inside a scope. Takes a byte for each.
+#[tactic(auto, using(crate::proofs::InsideLemmas::starts_outside, crate::proofs::InsideLemmas::starts_unscoped))]
 pub(crate) fn places_inside(alloc: Global, events: &[Event]) -> Result<Vec<bool>, AllocError>
     requires { length events.now < 2 ^ 63 }
     ensures { IfOk result (λ inside. AreInside events.now inside.items) }
@@ -25,6 +26,7 @@ pub(crate) fn places_inside(alloc: Global, events: &[Event]) -> Result<Vec<bool>
 }
 
 // How many transactions run after the event.
+#[tactic(auto, using(crate::proofs::InsideLemmas::depth_begun, crate::proofs::InsideLemmas::depth_ended, crate::proofs::InsideLemmas::depth_kept))]
 fn depth_after(depth: u64, event: &Event) -> u64
     requires { depth + 1 < 2 ^ 64 }
     ensures follows { (es : List Event) (p : ℕ) → event_at es (suc p) ≡ Some event.now
@@ -41,6 +43,7 @@ fn depth_after(depth: u64, event: &Event) -> u64
 }
 
 // Whether there is a scope after the event.
+#[tactic(auto, using(crate::proofs::InsideLemmas::scope_ended, crate::proofs::InsideLemmas::scope_begun, crate::proofs::InsideLemmas::scope_same))]
 fn scope_after(scope: bool, event: &Event) -> bool
     ensures { (es : List Event) (p : ℕ) → event_at es (suc p) ≡ Some event.now
         → scope ≡ in_scope es p → result ≡ in_scope es (suc p) }

@@ -128,6 +128,7 @@ fn told<'a>(counts: NameCounts<'a>, skipped: u64, sections: u64, sums: Sums) -> 
 }
 
 // How many records of each name the log has.
+#[tactic(auto, using(crate::proofs::CursorLemmas::anew_first, crate::proofs::CursorLemmas::records_of_nil, crate::proofs::LintLemmas::tallied_next))]
 fn count_names<'a>(alloc: Global, log: &'a [u8]) -> Result<NameCounts<'a>, AllocError>
     ensures { IfOk result (λ counts. Tallies counts (records_of log.now)) }
 {

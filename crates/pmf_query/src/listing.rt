@@ -34,6 +34,7 @@ impl<'a> Listing<'a> {
     }
 
     /// Counts one more name.
+    #[tactic(auto, using(crate::proofs::NamingLemmas::others_few, crate::proofs::NamingLemmas::small_counts))]
     pub(crate) fn take(&mut self, name: &'a [u8]) -> Result<(), AllocError>
         requires { (names : List (List ℕ)) × Lists self.old names × (length names + 1 < 2 ^ 64) }
         ensures { (names : List (List ℕ)) → Lists self.old names

@@ -47,6 +47,7 @@ pub struct Located<'a> {
 ///
 /// Takes memory for the events of the log alone, to look for its faults; want of it is the log's, so that
 /// [`EventFault::OutOfMemory`] is never answered.
+#[tactic(auto, using(crate::proofs::NumberFoundLemmas::read_so))]
 pub fn locate_event<'a>(
     alloc: Global,
     log: &'a [u8],
@@ -112,6 +113,7 @@ fn write_location(
 }
 
 // The record that gives the event of this number of the section.
+#[tactic(auto, using(crate::proofs::LocationLemmas::located))]
 fn find_event(log: &[u8], section: u64, place: u64) -> Option<Located<'_>>
     requires { 1 ≤ place }
     ensures { MatchOption result (length (events_in (records_of log.now) section) < place)

@@ -47,6 +47,7 @@ pub(crate) fn known_name(index: usize) -> &'static [u8]
 }
 
 /// The known names, each of no record.
+#[tactic(auto, using(crate::proofs::NamingLemmas::Count_none, crate::proofs::NamingLemmas::known_more_names))]
 pub(crate) fn known_counts<'a>(alloc: Global) -> Result<Vec<Named<'a>>, AllocError>
     ensures names { IfOk result (λ counts. names_in counts.items ≡ known_names) }
     ensures none { IfOk result (λ counts. Count counts.items []) }
@@ -60,7 +61,7 @@ pub(crate) fn known_counts<'a>(alloc: Global) -> Result<Vec<Named<'a>>, AllocErr
 }
 
 /// The name of a record.
-#[tactic(auto, unfolding(crate::specs::Naming::name_of))]
+#[tactic(auto, using(crate::proofs::NamingLemmas::name_found, crate::proofs::NamingLemmas::name_whole), unfolding(crate::specs::Naming::name_of))]
 pub(crate) fn name_of(text: &[u8]) -> &[u8]
     ensures { result.now ≡ name_of text.now }
 {
@@ -84,7 +85,7 @@ pub(crate) fn is_skipped(text: &[u8]) -> bool
 }
 
 /// Whether one of the counts is of this name.
-#[tactic(auto, unfolding(crate::specs::Naming::is_among))]
+#[tactic(auto, using(crate::proofs::NamingLemmas::among_at), unfolding(crate::specs::Naming::is_among))]
 pub(crate) fn is_among(counts: &[Named<'_>], name: &[u8]) -> bool
     ensures { result ≡ is_among (names_in counts.now) name.now }
 {

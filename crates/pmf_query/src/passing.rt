@@ -32,6 +32,7 @@ impl Passed {
     }
 
     /// Passes a record, and says whether it gave event number `place` of the section.
+    #[tactic(auto, using(crate::proofs::PassedLemmas::gives_next))]
     pub(crate) fn pass(&mut self, text: &[u8], section: u64, place: u64) -> bool
         requires room { self.old.records + 1 < 2 ^ 64 }
         requires few { self.old.events ≤ self.old.records }

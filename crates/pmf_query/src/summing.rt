@@ -41,6 +41,7 @@ impl Sums {
     }
 
     // Of the section alone.
+    #[tactic(auto, using(crate::proofs::TallySumLemmas::sums_one))]
     fn of(alloc: Global, section: &Arc<Section>) -> Result<Sums, LogRefusal>
         ensures value { IfOk result (λ sums. sums ≡ sums_of (section.now.value ∷ [])) }
         ensures small { IfOk result (IsWithin (2 ^ 64)) }

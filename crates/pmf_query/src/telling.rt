@@ -206,7 +206,7 @@ fn push_warning(text: &mut String, due: bool, warning: &str) -> Result<(), Alloc
 }
 
 // The name in ASCII: its first bytes, and `..` where there are more.
-#[tactic(auto, unfolding(crate::specs::LintText::shown_name))]
+#[tactic(auto, using(crate::proofs::LintTextLemmas::short_name), unfolding(crate::specs::LintText::shown_name))]
 fn push_name(text: &mut String, name: &[u8]) -> Result<(), AllocError>
     ensures { OnOk result (string_bytes text.new ≡ string_bytes text.old ++ shown_name name.now) }
 {
@@ -242,6 +242,7 @@ fn push_byte(text: &mut String, byte: u8) -> Result<(), AllocError>
     push_escaped(text, byte)
 }
 
+#[tactic(auto, using(crate::proofs::LintTextLemmas::printed_alone))]
 fn push_printed(text: &mut String, byte: u8) -> Result<(), AllocError>
     requires { is_printed byte ≡ true }
     ensures { OnOk result (string_bytes text.new ≡ string_bytes text.old ++ byte ∷ []) }
@@ -250,6 +251,7 @@ fn push_printed(text: &mut String, byte: u8) -> Result<(), AllocError>
     Ok(())
 }
 
+#[tactic(auto, using(std::proofs::lemmas::Fmt::hex_byte))]
 fn push_escaped(text: &mut String, byte: u8) -> Result<(), AllocError>
     ensures { OnOk result (string_bytes text.new ≡ string_bytes text.old ++ escaped byte) }
 {

@@ -19,6 +19,7 @@ pub(crate) struct Found<'a> {
 }
 
 /// The first record from an offset on at which the records begin anew, or None where there is none left.
+#[tactic(auto, using(std::proofs::lemmas::Grind::common_steps, crate::proofs::CursorLemmas::few_blanks, crate::proofs::CursorLemmas::next_blank, crate::proofs::CursorLemmas::part_taken))]
 pub(crate) fn next_record(log: &[u8], start: usize) -> Option<Found<'_>>
     requires within { start ≤ length log.now }
     requires anew { BeginsAnew log.now start }
@@ -67,6 +68,7 @@ fn part_from(log: &[u8], start: usize) -> Part
 }
 
 // Where the first separator stands.
+#[tactic(auto, using(crate::proofs::CursorLemmas::separator_within))]
 fn separator_in(text: &[u8]) -> Option<usize>
     ensures { MatchOption result (parts_of text.now ≡ text.now ∷ [])
         (λ end. (end < length text.now)

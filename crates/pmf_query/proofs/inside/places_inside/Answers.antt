@@ -3,15 +3,6 @@ use Rattle.pmf_event.specs.Transactions.{depth_at, in_scope}
 use Rattle.pmf_query.proofs.InsideLemmas.{each_more, event_here, inside_from, starts_outside, starts_unscoped}
 use Rattle.pmf_query.proofs.inside.places_inside.Goals as goal
 
-pub loop-event-init : goal.loop-event-init
-loop-event-init c = record {
-  few = omega arith;
-  depth = starts_outside c.args.events.now;
-  scope = starts_unscoped c.args.events.now;
-  long = ap length c.new-inside.ensures.items;
-  each = λ k d less. absurd (omega arith);
-}
-
 pub loop-event-preserved : goal.loop-event-preserved
 loop-event-preserved c =
     let es = c.args.events.now in
@@ -27,11 +18,4 @@ loop-event-preserved c =
       each = λ j d less. ap (λ (bs : List Bool). get_or bs j d) c.in_ok-push.ensures.items
           ∙ each_more c.args.events.now c.loop-event.inside.items c.loop-event.event-index c.both.result c.loop-event.invariant.long
           (c.both.ensures ∙ inside_from c.args.events.now c.loop-event.event-index c.depth_after-depth.result c.scope_after-scope.result depth scope) c.loop-event.invariant.each j d less;
-    }
-
-pub returns : goal.returns
-returns c =
-    let end : c.loop-event.event-index ≡ length c.args.events.now = omega arith in record {
-      long = c.loop-event.invariant.long ∙ end;
-      each = λ k d less. c.loop-event.invariant.each k d (omega arith);
     }

@@ -1,19 +1,13 @@
 use Rattle.std.proofs.Common.{ℕ, List, sym, subst, arith}
-use Rattle.pmf_query.{specs.Passing.{HasPassed}, proofs.CursorLemmas.{anew_first, records_of-nil}, proofs.LocationLemmas.{located}}
+use Rattle.pmf_query.{specs.Passing.{HasPassed}, proofs.CursorLemmas.{anew_first, records_of_nil}, proofs.LocationLemmas.{located}}
 use Rattle.pmf_query.proofs.locate.find_event.Goals as goal
 
 pub loop-found-init : goal.loop-found-init
 loop-found-init c = record {
   within = omega arith;
   anew = anew_first c.args.log.now;
-  passed = subst (λ (records : List (List ℕ)). HasPassed c.args.section records c.none-passed.result) (sym records_of-nil) (c.none-passed.ensures.passed c.args.section);
+  passed = subst (λ (records : List (List ℕ)). HasPassed c.args.section records c.none-passed.result) (sym records_of_nil) (c.none-passed.ensures.passed c.args.section);
   few = omega (arith, c.none-passed.ensures.none);
   fewer = omega (arith, c.none-passed.ensures.no_event);
   below = omega (arith, c.none-passed.ensures.no_event);
 }
-
-pub returns-then-pass : goal.returns-then-pass
-returns-then-pass c =
-    let before = c.loop-found.invariant.passed in
-    located c.args.log.now c.loop-found.start c.in-Some.found.offset c.in-Some.found.text.now c.in-Some.found.next c.in-Some.ensures
-    c.args.section c.args.place c.pass.new.self.records (c.pass.ensures.gives c.if-pass.true _ before) (omega (arith, c.pass.ensures.count, before.count))

@@ -8,8 +8,3 @@ unreachable-requires c =
     let has = c.in_ok-section_with.ensures in
     let events = events_found c.args.run c.args.log.now c.in-Ok.read.sections c.args.section so.1 c.in_ok-section_with.field-0.now.value has.0.0 has.0.1 in
     omega (arith, has.1.1, ap length events, c.in-None.ensures, c.from.ensures)
-
-pub returns-clause-answer : goal.returns-clause-answer
-returns-clause-answer c =
-    let so = read_so c.args.run c.args.log.now c.in-Ok.read c.in-Ok.ensures in
-    record { faultless = so.0; located = subst (λ (place : ℕ). IsLocation c.args.log.now c.args.section place c.in-Some.located.record c.in-Some.located.offset c.in-Some.located.text.now) c.from.ensures c.in-Some.ensures }

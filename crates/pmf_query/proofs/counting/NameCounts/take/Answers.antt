@@ -2,18 +2,6 @@ use Rattle.std.proofs.Common.{sym, ap, subst, ◌∙◌, refl, arith, List, [], 
 use Rattle.pmf_query.{specs.Counting.{Lists}, specs.Naming.{counting, names_of, skipped_names}, proofs.NamingLemmas.{names_long, skipped_few, small_counts, tallies_known, tallies_skipped}}
 use Rattle.pmf_query.proofs.counting.NameCounts.take.Goals as goal
 
-pub count_name-requires : goal.count_name-requires
-count_name-requires c =
-    let records = c.requires.0 in
-    let few = c.requires.2 in
-    small_counts c.args.self.now.known.items (names_of records) c.requires.1.known (omega (arith, names_long records))
-
-pub take-requires : goal.take-requires
-take-requires c =
-    let records = c.requires.0 in
-    let few = c.requires.2 in
-    (skipped_names records, c.requires.1.skipped, omega (arith, skipped_few records))
-
 pub returns-in_ok-take : goal.returns-in_ok-take
 returns-in_ok-take c = λ records tallies. tallies_skipped c.args.self.now _ records tallies c.args.text.now refl (c.count_name.ensures ∙ ap (λ (n : List ℕ). map (counting n) c.args.self.now.known.items) c.name_of-name.ensures) (sym c.is_skipped.ensures ∙ c.if-is_skipped.true)
     (subst (λ (n : List ℕ). Lists c.take.new.self (skipped_names records ++ n ∷ [])) c.name_of-name.ensures (c.in_ok-take.ensures (skipped_names records) tallies.skipped))

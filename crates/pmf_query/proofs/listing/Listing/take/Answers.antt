@@ -2,9 +2,6 @@ use Rattle.std.proofs.Common.{sym, ap, ◌∙◌, refl, arith, List, Bool, not, 
 use Rattle.pmf_query.{specs.declared.naming.Named.{Named}, specs.Naming.{is_among, names_in}, proofs.NamingLemmas.{lists_again, lists_new, lists_other, others_few, small_counts}}
 use Rattle.pmf_query.proofs.listing.Listing.take.Goals as goal
 
-pub count_name-requires : goal.count_name-requires
-count_name-requires c = small_counts c.args.self.now.listed.items c.requires.0 c.requires.1.listed c.requires.2
-
 pub returns-then-is_among : goal.returns-then-is_among
 returns-then-is_among c = λ names lists.
     lists_again c.args.self.now _ names lists c.args.name.now
@@ -19,12 +16,6 @@ returns-then-len-lt-LISTED c = λ names lists.
     (c.either-self-2.ensures ∙ ap (λ (b : Bool). c.args.self.now.has_strange || not b) c.is_text.ensures)
     (record { name = c.args.name; records = 1 })
     (ap (λ (cs : List Named). is_among (names_in cs) c.args.name.now) (sym c.deref.ensures.value) ∙ sym c.is_among.ensures ∙ c.if-is_among.false) (omega arith) c.in_ok-push.ensures.items refl refl refl
-
-pub overflow_add-self : goal.overflow_add-self
-overflow_add-self c =
-    let lists = c.requires.1 in
-    let few = c.requires.2 in
-    omega (arith, lists.others, others_few (names_in c.args.self.now.listed.items) c.requires.0)
 
 pub returns : goal.returns
 returns c = λ names lists.

@@ -13,12 +13,6 @@ returns-else-self-section-clause-passed c = λ records passed.
     let says : record_of c.args.text.now ≡ Ok (Happens c.in-Ok-Happens.field-0-0) = cc in
     passed_here c.args.section records c.args.self.now passed c.args.text.now c.in-Ok-Happens.field-0-0 _ says c.if-self-section.false refl refl refl
 
-pub returns-else-self-section-clause-gives : goal.returns-else-self-section-clause-gives
-returns-else-self-section-clause-gives c = λ reached records passed.
-    let says : record_of c.args.text.now ≡ Ok (Happens c.in-Ok-Happens.field-0-0) = cc in
-    let place : c.args.self.now.events + 1 ≡ c.args.place = search rules in
-    gives_next c.args.section records c.args.self.now passed c.args.text.now c.in-Ok-Happens.field-0-0 c.args.place says c.if-self-section.false place
-
 pub returns-in-Ok-Enters-clause-passed : goal.returns-in-Ok-Enters-clause-passed
 returns-in-Ok-Enters-clause-passed c = λ records passed.
     let says : record_of c.args.text.now ≡ Ok (Enters c.in-Ok-Enters.number) = cc in
