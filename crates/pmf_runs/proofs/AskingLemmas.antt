@@ -1,5 +1,5 @@
 -- Walks over the elements of a range, and what a question has found so far.
-use Rattle.std.proofs.{Common.{◌≡◌, ℕ, zero, suc, ◌+◌, ◌-◌, ◌<◌, ◌≤◌, min, max, Bool, true, false, if◌then◌else◌, List, length, get_or, refl, sym, ◌∙◌, ap, subst, arith, inl, inr, Option, Some, None, is_some}, lemmas.Bool.{cases_lt}}
+use Rattle.std.proofs.Common.{◌≡◌, ℕ, zero, suc, ◌+◌, ◌-◌, ◌<◌, ◌≤◌, min, max, Bool, true, false, if◌then◌else◌, List, length, get_or, refl, sym, ◌∙◌, ap, subst, arith, Option, Some, None, is_some}
 use Rattle.pmf_event.{specs.Ranges.{first_from, lesser, least_from}, proofs.RangeLemmas.{first_from-none, first_from-some, first_from-same, least_from-same, least_from-split, least_from-alike, lesser-none, lesser-assoc}}
 use Rattle.pmf_runs.{specs.declared.leaf.Leaf.{Leaf}, specs.declared.walk.Counted.{Counted}, specs.Ranks.{rank, at_rank, Rises}, specs.Walks.{end_of}, specs.Leaves.{leaf_state}, proofs.RankLemmas.{IsRank, rank-is, rank-unique, rank-above, rises-le, lt-true, lt-false}, proofs.LeafLemmas.{state-read}, specs.Lines.{counted_from}, proofs.LineCountLemmas.{counted-same, counted-split, counted-none}}
 
@@ -29,68 +29,12 @@ pub record Walks (keys : List ℕ) (first end start index : ℕ) : Type 0 where
   pub upto : start ≤ max first end
   pub at : start < end → IsRank keys start index
 
--- the element at the index has the numbers from start up to until
-record Piece (keys : List ℕ) (first end start index until : ℕ) : Type 0 where
-  more : start < until
-  within : until ≤ end
-  at : (b : ℕ) → start ≤ b → b < until → index ≡ rank keys b
-  next : Walks keys first end until (index + 1)
-
 pub walks-start : (keys : List ℕ) (first end index : ℕ) → index ≡ rank keys first → Walks keys first end first index
 walks-start keys first end index at = record {
   from = omega arith;
   upto = omega arith;
   at = λ some. subst (IsRank keys first) (sym at) (rank-is keys first);
 }
-
-piece : (keys : List ℕ) (first end start index until : ℕ) → Rises keys → start < end → until ≡ end_of keys index end → Walks keys first end start index → Piece keys first end start index until
-piece keys first end start index until rises some is walk =
-    let here = walk.at some in
-    let bound = here.bound in
-    let from = walk.from in
-    elim (cases_lt index (length keys)) [
-      | inl inner ↦
-          let key = end-key keys index end inner in
-          let beyond = here.beyond inner in record {
-            more = omega arith;
-            within = omega arith;
-            at = λ b low high. sym (rank-unique keys b index (record {
-              bound = bound;
-              upto = λ k below. let le = here.upto k below in omega arith;
-              beyond = λ within. omega arith;
-            }));
-            next = record {
-              from = omega arith;
-              upto = omega arith;
-              at = λ left. record {
-                bound = omega arith;
-                upto = λ k below. let le = rises-le keys k index rises (omega arith) inner in omega arith;
-                beyond = λ within. let lt = rises.order index (index + 1) (omega arith) within in omega arith;
-              };
-            };
-          }
-      | inr past ↦
-          let last = end-last keys index end past in record {
-            more = omega arith;
-            within = omega arith;
-            at = λ b low high. sym (rank-unique keys b index (record {
-              bound = bound;
-              upto = λ k below. let le = here.upto k below in omega arith;
-              beyond = λ within. absurd (omega arith);
-            }));
-            next = record {
-              from = omega arith;
-              upto = omega arith;
-              at = λ left. absurd (omega arith);
-            };
-          }
-    ]
-
-pub walks-more : (keys : List ℕ) (first end start index until : ℕ) → Rises keys → start < end → until ≡ end_of keys index end → Walks keys first end start index → (start < until) × (until ≤ end)
-walks-more keys first end start index until rises some is walk = let p = piece keys first end start index until rises some is walk in (p.more, p.within)
-
-pub walks-at : (keys : List ℕ) (first end start index until : ℕ) → Rises keys → start < end → until ≡ end_of keys index end → Walks keys first end start index → (b : ℕ) → start ≤ b → b < until → index ≡ rank keys b
-walks-at keys first end start index until rises some is walk = let p = piece keys first end start index until rises some is walk in p.at
 
 -- the walk passes over the elements from the index up to next, and comes to the end of the last of them
 record Past (keys : List ℕ) (first end start index next until : ℕ) : Type 0 where
@@ -104,48 +48,27 @@ past : (keys : List ℕ) (first end start index next until : ℕ) → Rises keys
 past keys first end start index next until rises some after bounded is walk =
     let here = walk.at some in
     let from = walk.from in
-    let low : (b : ℕ) → start ≤ b → index ≤ rank keys b = λ b le. rank-above keys start b index (rank keys b) here (rank-is keys b) le in
-    elim (cases_lt (next - 1) (length keys)) [
-      | inl inner ↦
-          let key = end-key keys (next - 1) end inner in
-          let beyond = here.beyond (omega arith) in
-          let order = rises-le keys index (next - 1) rises (omega arith) inner in record {
-            more = omega arith;
-            within = omega arith;
-            at = λ b le lt. (
-              low b le,
-              elim (cases_lt (rank keys b) next) [
-                | inl below ↦ below
-                | inr above ↦ let r = rank-is keys b in let upto = r.upto (next - 1) (omega arith) in absurd (omega arith)
-              ],
-            );
-            on = record {
-              from = omega arith;
-              upto = omega arith;
-              at = λ left. record {
-                bound = omega arith;
-                upto = λ k below. let le = rises-le keys k (next - 1) rises (omega arith) inner in omega arith;
-                beyond = λ within. let lt = rises.order (next - 1) next (omega arith) within in omega arith;
-              };
-            };
-          }
-      | inr last ↦
-          let all = end-last keys (next - 1) end last in record {
-            more = omega arith;
-            within = omega arith;
-            at = λ b le lt. (low b le, let r = rank-is keys b in let bound = r.bound in omega arith);
-            on = record {
-              from = omega arith;
-              upto = omega arith;
-              at = λ left. absurd (omega arith);
-            };
-          }
-    ]
+    let key = end-key keys (next - 1) end in
+    let last = end-last keys (next - 1) end in
+    record {
+      more = grind (arith, rises-le);
+      within = grind arith;
+      at = λ b le lt. (rank-above keys start b index (rank keys b) here (rank-is keys b) le, grind (arith, rank-is));
+      on = record { from = grind (arith, rises-le); upto = grind (arith, rises-le); at = λ left. grind (arith, rises-le, rises.order) };
+    }
 
-pub past-more : (keys : List ℕ) (first end start index next until : ℕ) → Rises keys → start < end → index < next → next ≤ length keys + 1 → until ≡ end_of keys (next - 1) end → Walks keys first end start index →
-    (start < until) × (until ≤ end)
-past-more keys first end start index next until rises some after bounded is walk =
-    let p = past keys first end start index next until rises some after bounded is walk in (p.more, p.within)
+-- the walk goes on to the next element
+piece : (keys : List ℕ) (first end start index until : ℕ) → Rises keys → start < end → until ≡ end_of keys index end → Walks keys first end start index → Past keys first end start index (index + 1) until
+piece keys first end start index until rises some is walk =
+    let here = walk.at some in
+    let bound = here.bound in
+    let last : index + 1 - 1 ≡ index = omega arith in
+    past keys first end start index (index + 1) until rises some (omega arith) (omega arith) (rw last is) walk
+
+pub walks-at : (keys : List ℕ) (first end start index until : ℕ) → Rises keys → start < end → until ≡ end_of keys index end → Walks keys first end start index → (b : ℕ) → start ≤ b → b < until → index ≡ rank keys b
+walks-at keys first end start index until rises some is walk b low high =
+    let p = piece keys first end start index until rises some is walk in
+    let at = p.at b low high in omega arith
 
 -- ---- questions
 
@@ -167,18 +90,23 @@ module _ {V A X : Type 0} {ask : (ℕ → V) → ℕ → ℕ → A} {join : X �
     is = λ d. let none : first - first ≡ 0 = omega arith in sym (ap (λ n. join before (ask (value d) first n)) none ∙ law.none before (value d) first);
   }
 
-  pub asked-more : (start index until : ℕ) (so_far new : X) → Rises keys → start < end → until ≡ end_of keys index end →
-      ((d : S) → new ≡ join so_far (ask (value d) start (until - start))) →
-      Asked (λ d. ask (value d)) join before keys first end start index so_far → Asked (λ d. ask (value d)) join before keys first end until (index + 1) new
-  asked-more start index until so_far new rises some is_end more asked =
-      let p = piece keys first end start index until rises some is_end asked.walk in
+  -- the elements up to the next have the answer
+  asked-on : (start index next until : ℕ) (so_far new : X) → Past keys first end start index next until → ((d : S) → new ≡ join so_far (ask (value d) start (until - start))) →
+      Asked (λ d. ask (value d)) join before keys first end start index so_far → Asked (λ d. ask (value d)) join before keys first end until next new
+  asked-on start index next until so_far new p more asked =
       let from = asked.walk.from in
       let after = p.more in record {
-        walk = p.next;
+        walk = p.on;
         is = λ d.
             more d ∙ ap (λ x. join x (ask (value d) start (until - start))) (asked.is d)
             ∙ sym (law.split before (value d) first (start - first) (until - start) (until - first) start (omega arith) (omega arith));
       }
+
+  pub asked-more : (start index until : ℕ) (so_far new : X) → Rises keys → start < end → until ≡ end_of keys index end →
+      ((d : S) → new ≡ join so_far (ask (value d) start (until - start))) →
+      Asked (λ d. ask (value d)) join before keys first end start index so_far → Asked (λ d. ask (value d)) join before keys first end until (index + 1) new
+  asked-more start index until so_far new rises some is_end more asked =
+      asked-on start index (index + 1) until so_far new (piece keys first end start index until rises some is_end asked.walk) more asked
 
   -- the elements that are passed over add nothing
   pub asked-past : (start index next until : ℕ) (so_far : X) → Rises keys → start < end → index < next → next ≤ length keys + 1 → until ≡ end_of keys (next - 1) end →
@@ -186,20 +114,10 @@ module _ {V A X : Type 0} {ask : (ℕ → V) → ℕ → ℕ → A} {join : X �
       Asked (λ d. ask (value d)) join before keys first end start index so_far → Asked (λ d. ask (value d)) join before keys first end until next so_far
   asked-past start index next until so_far rises some after bounded is_end adds asked =
       let p = past keys first end start index next until rises some after bounded is_end asked.walk in
-      let from = asked.walk.from in
-      let more = p.more in record {
-        walk = p.on;
-        is = λ d.
-            sym (adds d p.at) ∙ ap (λ x. join x (ask (value d) start (until - start))) (asked.is d)
-            ∙ sym (law.split before (value d) first (start - first) (until - start) (until - first) start (omega arith) (omega arith));
-      }
+      asked-on start index next until so_far so_far p (λ d. sym (adds d p.at)) asked
 
   pub asked-end : (start index : ℕ) (so_far : X) → end ≤ start → Asked (λ d. ask (value d)) join before keys first end start index so_far → (d : S) → so_far ≡ join before (ask (value d) first (end - first))
-  asked-end start index so_far past asked d =
-      let from = asked.walk.from in
-      let upto = asked.walk.upto in
-      let all : start - first ≡ end - first = omega arith in
-      asked.is d ∙ ap (λ n. join before (ask (value d) first n)) all
+  asked-end start index so_far past asked d = grind arith
 
 -- what a run of a leaf answers is what the leaf answers for its numbers
 pub run-asked : {V A X : Type 0} {ask : (ℕ → V) → ℕ → ℕ → A} {join : X → A → X} (law : Question ask join) {S : Type 0} (value : S → V) (leaf : Leaf S) (state : S) (v : V) (first end start index until : ℕ) →
@@ -254,8 +172,7 @@ first-law = record {
   found-assoc (Some x) y z = refl
 
 found-some : (o rest : Option ℕ) → is_some o ≡ true → first_found o rest ≡ o
-found-some None rest some = let bad : false ≡ true = some in cc
-found-some (Some x) rest some = refl
+found-some o rest some = grind arith
 
 -- what a piece has found first is the first of the range, where those before it have none
 pub asked-found : {S : Type 0} (value : S → ℕ → Bool) (keys : List ℕ) (first end start index until : ℕ) (found : Option ℕ) → Rises keys → start < end → until ≡ end_of keys index end →
@@ -301,9 +218,7 @@ least-law = record {
 -- ---- a run whose states all answer alike
 
 pub run-none : {V A X : Type 0} {ask : (ℕ → V) → ℕ → ℕ → A} {join : X → A → X} (law : Question ask join) (x : X) (v : V) (first end : ℕ) → end ≤ first → x ≡ join x (ask (λ b. v) first (end - first))
-run-none {ask = ask} {join = join} law x v first end empty =
-    let none : end - first ≡ 0 = omega arith in
-    sym (ap (λ n. join x (ask (λ b. v) first n)) none ∙ law.none x (λ b. v) first)
+run-none {ask = ask} {join = join} law x v first end empty = grind arith
 
 pub run-first : (v : Bool) (first end : ℕ) → first < end → v ≡ true → Some first ≡ first_from (λ b. v) first (end - first)
 run-first v first end some is = sym (first_from-some (λ b. v) first (end - first) first (record {

@@ -1,6 +1,6 @@
 -- Where a change alters states, run by run, and what a change of those alone comes to.
-use Rattle.std.proofs.{Common.{◌≡◌, ℕ, suc, ◌+◌, ◌<◌, ◌≤◌, Bool, true, false, List, [], ◌∷◌, zero, set, map, length, get_or, sym, ◌∙◌, ap, subst, arith, inl, inr, min, ◌&&◌, nat_le, nat_lt, if◌then◌else◌, Option, Some, Result, Ok, Err, OnOk, OnErr, get_or-set_same, get_or-set_other}, lemmas.Bool.{cases_lt, cases_eq}, lemmas.List.{get_or-map, map-set, length-map}}
-use Rattle.pmf_runs.{specs.declared.leaf.Leaf.{Leaf}, specs.declared.level.Level.{Level}, specs.Levels.{level_state}, proofs.LevelLemmas.{level-bound}, specs.Ranks.{rank, at_rank, Rises, SameStates, ChangesWithin, AltersWithin, Sees, IsStop, CoversAll, Splits, is_within}, specs.Leaves.{leaf_state}, proofs.RankLemmas.{IsRank, rank-is, rank-unique, rises-le, le-true, le-false, lt-true, lt-false}, proofs.LeafLemmas.{rank-bound, state-read}}
+use Rattle.std.proofs.{Common.{◌≡◌, ℕ, suc, ◌+◌, ◌<◌, ◌≤◌, Bool, true, false, List, [], ◌∷◌, zero, set, map, length, get_or, sym, ◌∙◌, ap, subst, arith, inl, inr, ◌&&◌, nat_lt, if◌then◌else◌, Option, Some, Result, OnOk, OnErr, get_or-set_same, get_or-set_other}, lemmas.Bool.{cases_lt}, lemmas.List.{get_or-map, map-set, length-map}}
+use Rattle.pmf_runs.{specs.declared.leaf.Leaf.{Leaf}, specs.declared.level.Level.{Level}, specs.Levels.{level_state}, proofs.LevelLemmas.{level-bound}, specs.Ranks.{rank, at_rank, Rises, SameStates, ChangesWithin, AltersWithin, Sees, IsStop, CoversAll, Splits, is_within}, specs.Leaves.{leaf_state}, proofs.RankLemmas.{rank-here, IsRank, rank-is, rank-unique, rises-le, le-true, le-false, lt-false}, proofs.LeafLemmas.{rank-bound, state-read}}
 
 -- the run of an index goes on to where it stops, and the next one begins there
 pub record Runs (keys : List ℕ) (start end index stop : ℕ) : Type 0 where
@@ -24,126 +24,40 @@ run-next keys start index rises is within = sym (rank-unique keys (get_or keys i
 }))
 
 pub run-is : (keys : List ℕ) (start end index stop : ℕ) → Rises keys → index ≡ rank keys start → start < end → IsStop keys index end stop → Runs keys start end index stop
-run-is keys start end index stop rises at below (inl inner) =
-    let is : IsRank keys start index = subst (IsRank keys start) (sym at) (rank-is keys start) in
-    let within = inner.0 in
-    let short = inner.1 in
-    let same = inner.2 in
-    let past = is.beyond within in
+run-is keys start end index stop rises at below stops =
+    let is = rank-here keys start index at in
+    let past = is.beyond in
     record {
-      up = omega arith;
-      upto = omega arith;
-      here = λ b from lt. run-here keys start index stop b is (λ _. omega arith) from lt;
-      next = λ _. run-next keys start index rises is within ∙ ap (rank keys) (sym same);
-    }
-run-is keys start end index stop rises at below (inr last) =
-    let is : IsRank keys start index = subst (IsRank keys start) (sym at) (rank-is keys start) in
-    let same = last.0 in
-    record {
-      up = omega arith;
-      upto = omega arith;
-      here = λ b from lt. run-here keys start index stop b is (λ within. let le = last.1 within in omega arith) from lt;
-      next = λ short. absurd (omega arith);
+      up = grind arith;
+      upto = grind arith;
+      here = λ b from lt. run-here keys start index stop b is (grind arith) from lt;
+      next = λ short. let on = run-next keys start index rises is in grind arith;
     }
 
 pub sees-low : {S : Type 0} (first start stop : ℕ) (s : S) (change : S → S) (low high next last : ℕ) → first ≤ low → first ≤ start → Sees start stop s change low high next last → first ≤ next
-sees-low first start stop s change low high next last order after (inl same) = let is : next ≡ low = same.1 in omega arith
-sees-low first start stop s change low high next last order after (inr seen) = let is : next ≡ min low start = seen.0 in omega arith
+sees-low first start stop s change low high next last order after seen = grind arith
 
 pub sees-upto : {S : Type 0} (start stop end : ℕ) (s : S) (change : S → S) (low high next last : ℕ) → stop ≤ end → (low < high → high ≤ end) → Sees start stop s change low high next last → next < last → last ≤ end
-sees-upto start stop end s change low high next last upto so_far (inl same) lt =
-    let is_low : next ≡ low = same.1 in
-    let is_high : last ≡ high = same.2 in
-    let le = so_far (omega arith) in omega arith
-sees-upto start stop end s change low high next last upto so_far (inr seen) lt = let is : last ≡ stop = seen.1 in omega arith
+sees-upto start stop end s change low high next last upto so_far seen lt = grind arith
 
 module _ {S : Type 0} (state : S → ℕ → S) (change : S → S) where
   pub alters-none : (first low high : ℕ) → low ≡ high → AltersWithin first first low high change state
-  alters-none first low high same = record {
-    from = λ lt. absurd (omega arith);
-    upto = λ lt. absurd (omega arith);
-    below = λ d b from lt _. absurd (omega arith);
-    above = λ d b from lt _. absurd (omega arith);
-  }
+  alters-none first low high same = grind arith
 
   pub alters-more : (first end start stop low high next last : ℕ) (s : S) → first ≤ start → first ≤ low → start < stop →
       ((d : S) (b : ℕ) → start ≤ b → b < stop → state d b ≡ s) → AltersWithin first start low high change state →
       Sees start stop s change low high next last → AltersWithin first stop next last change state
-  alters-more first end start stop low high next last s after order up run so_far (inl same) =
-      let is_low : next ≡ low = same.1 in
-      let is_high : last ≡ high = same.2 in
-      let kept : (d : S) (b : ℕ) → start ≤ b → b < stop → change (state d b) ≡ state d b = λ d b from lt. ap change (run d b from lt) ∙ same.0 ∙ sym (run d b from lt) in
-      record {
-        from = λ lt. let le = so_far.from (omega arith) in omega arith;
-        upto = λ lt. let le = so_far.upto (omega arith) in omega arith;
-        below = λ d b from lt less. elim (cases_lt b start) [
-          | inl before ↦ so_far.below d b from before (omega arith)
-          | inr within ↦ kept d b within lt
-        ];
-        above = λ d b from lt past. elim (cases_lt b start) [
-          | inl before ↦ so_far.above d b from before (omega arith)
-          | inr within ↦ kept d b within lt
-        ];
-      }
-  alters-more first end start stop low high next last s after order up run so_far (inr seen) =
-      let is_low : next ≡ min low start = seen.0 in
-      let is_high : last ≡ stop = seen.1 in
-      record {
-        from = λ lt. omega arith;
-        upto = λ lt. omega arith;
-        below = λ d b from lt less. so_far.below d b from (omega arith) (omega arith);
-        above = λ d b from lt past. absurd (omega arith);
-      }
+  alters-more first end start stop low high next last s after order up run so_far seen = grind arith
 
   -- nothing is altered
   pub changes-none : (new : S → ℕ → S) (first end low high : ℕ) → high ≤ low → AltersWithin first end low high change state → SameStates state new → ChangesWithin (Some first) (Some end) change state new
   unfolding is_within
-  changes-none new first end low high none found same = record {
-    states = λ d b. same.states d b ∙ elim (cases_lt b first) [
-      | inl before ↦ sym (ap (λ t. if t && nat_lt b end then change (state d b) else state d b) (le-false first b before))
-      | inr from ↦ elim (cases_lt b end) [
-        | inl within ↦
-            let kept : change (state d b) ≡ state d b = elim (cases_lt b low) [
-              | inl less ↦ found.below d b from within less
-              | inr more ↦ found.above d b from within (omega arith)
-            ] in
-            sym (ap (λ t. if t && nat_lt b end then change (state d b) else state d b) (le-true first b from)
-            ∙ ap (λ t. if t then change (state d b) else state d b) (lt-true b end within) ∙ kept)
-        | inr past ↦
-            sym (ap (λ t. if t && nat_lt b end then change (state d b) else state d b) (le-true first b from)
-            ∙ ap (λ t. if t then change (state d b) else state d b) (lt-false b end past))
-      ]
-    ];
-  }
+  changes-none new first end low high none found same = grind arith
 
   -- what is altered is changed, and nothing else
   pub changes-altered : (new : S → ℕ → S) (first end low high : ℕ) → low < high → AltersWithin first end low high change state → ChangesWithin (Some low) (Some high) change state new → ChangesWithin (Some first) (Some end) change state new
   unfolding is_within
-  changes-altered new first end low high some found changed = record {
-    states = λ d b.
-        let f : Bool → S = λ t. if t then change (state d b) else state d b in
-        let from_low = found.from some in
-        let upto_high = found.upto some in
-        changed.states d b ∙ elim (cases_lt b first) [
-          | inl before ↦
-              ap (λ t. f (t && nat_lt b high)) (le-false low b (omega arith)) ∙ sym (ap (λ t. f (t && nat_lt b end)) (le-false first b before))
-          | inr from ↦ elim (cases_lt b end) [
-            | inl within ↦
-                let right : f (nat_le first b && nat_lt b end) ≡ change (state d b) = ap (λ t. f (t && nat_lt b end)) (le-true first b from) ∙ ap f (lt-true b end within) in
-                elim (cases_lt b low) [
-                  | inl less ↦ ap (λ t. f (t && nat_lt b high)) (le-false low b less) ∙ sym (found.below d b from within less) ∙ sym right
-                  | inr more ↦ elim (cases_lt b high) [
-                    | inl inside ↦ ap (λ t. f (t && nat_lt b high)) (le-true low b more) ∙ ap f (lt-true b high inside) ∙ sym right
-                    | inr above ↦ ap (λ t. f (t && nat_lt b high)) (le-true low b more) ∙ ap f (lt-false b high above) ∙ sym (found.above d b from within above) ∙ sym right
-                  ]
-                ]
-            | inr past ↦
-                let low_true = le-true low b (omega arith) in
-                ap (λ t. f (t && nat_lt b high)) (le-true low b (omega arith)) ∙ ap f (lt-false b high (omega arith))
-                ∙ sym (ap (λ t. f (t && nat_lt b end)) (le-true first b from) ∙ ap f (lt-false b end past))
-          ]
-        ];
-  }
+  changes-altered new first end low high some found changed = grind arith
 
 pub leaf-run : {S : Type 0} (leaf : Leaf S) (s : S) (start end index stop : ℕ) → Runs leaf.keys.items start end index stop → s ≡ get_or leaf.states.items index s → (d : S) (b : ℕ) → start ≤ b → b < stop → leaf_state leaf d b ≡ s
 leaf-run leaf s start end index stop runs read d b from below = sym (state-read leaf s b index (runs.here b from below) read d)
@@ -162,11 +76,7 @@ covers-same covers summary a b all same d p = ap (covers summary) (same.states d
 -- what is covered before a change is covered after it by the widened summary
 pub covers-changed : {S M : Type 0} (covers : M → S → Bool) (summary wide : M) (from end : Option ℕ) (change : S → S) (a b : S → ℕ → S) → CoversAll covers summary a →
     ((s : S) → covers summary s ≡ true → covers wide s ≡ true) → ((s : S) → covers summary s ≡ true → covers wide (change s) ≡ true) → ChangesWithin from end change a b → CoversAll covers wide b
-covers-changed covers summary wide from end change a b all before after changes d p =
-    ap (covers wide) (changes.states d p) ∙ either (is_within from end p) where
-      either : (t : Bool) → covers wide (if t then change (a d p) else a d p) ≡ true
-      either true = after (a d p) (all d p)
-      either false = before (a d p) (all d p)
+covers-changed covers summary wide from end change a b all before after changes d p = grind arith
 
 -- what holds of a part's value holds of it among the values of all
 mapped : {A B : Type 0} (good : B → Bool) (t : Bool) (f : A → B) (parts : List A) (k : ℕ) (d : B) → k < length parts → ((p : A) → good (f (get_or parts k p)) ≡ t) → good (get_or (map f parts) k d) ≡ t
@@ -207,32 +117,20 @@ unfolding level_state at_rank
 level-changed state change old new part next first end i at before read changes keys parts = record {
   states = λ d b.
       let f : _ → _ = λ p. state p d b in
-      let r = rank old.keys.items b in
       let bound = level-bound old b in
       let here = level-bound old first in
-      let is_new : level_state state new d b ≡ get_or (set (map f old.parts.items) i (f next)) r d =
-      ap (λ ks. get_or (map f new.parts.items) (rank ks b) d) keys ∙ ap (λ ps. get_or (map f ps) r d) parts ∙ ap (λ ss. get_or ss r d) (map-set f old.parts.items i next) in
-      elim (cases_eq r i) [
-        | inl same ↦
-            let was : f part ≡ get_or (map f old.parts.items) r d =
-            ap f read ∙ sym (get_or-map f old.parts.items i part d (omega arith)) ∙ ap (λ k. get_or (map f old.parts.items) k d) (sym same) in
-            is_new ∙ ap (λ k. get_or (set (map f old.parts.items) i (f next)) k d) same
-            ∙ get_or-set_same (map f old.parts.items) i (f next) d (omega (arith, length-map old.parts.items f))
-            ∙ changes.states d b
-            ∙ ap (λ s. if is_within (Some first) (Some end) b then change s else s) was
-        | inr other ↦
-            is_new ∙ get_or-set_other (map f old.parts.items) i r (f next) d other
-            ∙ sym (ap (λ t. if t then change (get_or (map f old.parts.items) r d) else get_or (map f old.parts.items) r d) (outside-part old.keys.items first end i b at before other))
-      ];
+      let set_parts = map-set f old.parts.items i next in
+      let len = length-map old.parts.items f in
+      let was : f part ≡ get_or (map f old.parts.items) i d = ap f read ∙ sym (get_or-map f old.parts.items i part d (omega arith)) in
+      let other = outside-part old.keys.items first end i b at before in
+      grind (arith, changes.states d b, get_or-set_same, get_or-set_other, other);
 }
 
 pub on-ok : {A E : Type 0} {P Q : Type 0} (r : Result A E) → (P → Q) → OnOk r P → OnOk r Q
-on-ok (Ok x) more holds = more holds
-on-ok (Err e) more holds = tt
+on-ok r more holds = grind arith
 
 pub on-error : {A E : Type 0} {P Q : Type 0} (r : Result A E) → (P → Q) → OnErr r P → OnErr r Q
-on-error (Ok x) more holds = tt
-on-error (Err e) more holds = more holds
+on-error r more holds = grind arith
 
 pub splits-same : {S : Type 0} (middle : ℕ) (old low high next : S → ℕ → S) → Splits middle old low high → SameStates high next → Splits middle old low next
 splits-same middle old low high next splits same = record { below = splits.below; above = λ d b from. same.states d b ∙ splits.above d b from }

@@ -1,6 +1,6 @@
 -- Levels whose parts are joined, by what is done to them.
-use Rattle.std.proofs.{Common.{◌≡◌, ℕ, ◌+◌, ◌-◌, ◌<◌, ◌≤◌, List, [], length, get_or, set, take, drop, refl, sym, ◌∙◌, ap, subst, arith, inl, inr, ◌⊎◌, Option, None, Some, IfSome, get_or-set_same, get_or-set_other, length-set, length-take-le, get_or-take, length-drop, get_or-drop}, lemmas.Bool.{cases_lt, cases_eq}, lemmas.List.{get_or_read}}
-use Rattle.pmf_runs.{specs.declared.level.Level.{Level}, specs.Ranks.{rank, Rises, HasKey, IsFresh, IsInner, bound_at, low_rank, high_rank}, specs.Joined.{AllJoined, PartsJoined, IsHanded, JoinsParts, InOrder}, proofs.RankLemmas.{rank-is, rank-key, bound_at-same, bound_at-other, at-low, at-high}, proofs.LevelLemmas.{level-counted}, proofs.JoinedLemmas.{rank-order}}
+use Rattle.std.proofs.{Common.{◌≡◌, ℕ, ◌+◌, ◌-◌, ◌<◌, ◌≤◌, List, length, get_or, set, take, drop, refl, sym, ◌∙◌, ap, subst, arith, inl, inr, ◌⊎◌, Option, None, Some, IfSome, get_or-set_same, get_or-set_other, length-set, length-take-le, get_or-take, length-drop, get_or-drop}, lemmas.Bool.{cases_eq}, lemmas.List.{get_or_read}}
+use Rattle.pmf_runs.{specs.declared.level.Level.{Level}, specs.Ranks.{rank, Rises, HasKey, IsFresh, IsInner, bound_at, low_rank, high_rank}, specs.Joined.{AllJoined, PartsJoined, IsHanded, JoinsParts, InOrder}, proofs.RankLemmas.{rank-is, rank-key, bound_at-same, bound_at-other, bound_at-none, at-low, at-high}, proofs.LevelLemmas.{level-counted}, proofs.JoinedLemmas.{rank-order}}
 
 -- a key is not fresh
 has-fresh : (keys : List ℕ) (p : ℕ) → Rises keys → HasKey keys p → IsFresh keys p → ⊥
@@ -16,36 +16,25 @@ handed-key keys k p inner rises has (inl own) = absurd (has-fresh keys p rises h
 handed-key keys k p inner rises has (inr away) = away.0
 
 handed-own : (keys : List ℕ) (k p : ℕ) (inner : Option ℕ) → Rises keys → IsFresh keys p → k ≡ rank keys p → IsHanded keys k (Some p) inner → inner ≡ Some p
-handed-own keys k p inner rises fresh at (inl own) = own.2
-handed-own keys k p inner rises fresh at (inr away) = absurd (has-fresh keys p rises (away.1 (sym at)) fresh)
+handed-own keys k p inner rises fresh at handed = grind (arith, has-fresh)
 
 handed-other : (keys : List ℕ) (k p : ℕ) (inner : Option ℕ) → (k ≡ rank keys p → ⊥) → IsHanded keys k (Some p) inner → inner ≡ None
-handed-other keys k p inner other (inl own) = absurd (other (sym own.0))
-handed-other keys k p inner other (inr away) = away.0
-
-bound-none : (i k : ℕ) → bound_at i k None ≡ None
-bound-none i k = elim (cases_eq k i) [
-  | inl same ↦ bound_at-same i k None same
-  | inr other ↦ bound_at-other i k None other
-]
+handed-other keys k p inner other handed = grind arith
 
 -- the bounds of a rewriting are what the parts are handed
 handed-bound : (keys : List ℕ) (bound inner : Option ℕ) (i k : ℕ) → IfSome bound (λ b. i ≡ rank keys b) → IsInner keys bound inner → IsHanded keys k bound (bound_at i k inner)
-handed-bound keys None inner i k at is = ap (bound_at i k) is ∙ bound-none i k
-handed-bound keys (Some p) inner i k at (inl key) = inr (ap (bound_at i k) key.0 ∙ bound-none i k, λ same. key.1)
+handed-bound keys None inner i k at is = ap (bound_at i k) is ∙ bound_at-none i k
+handed-bound keys (Some p) inner i k at (inl key) = inr (ap (bound_at i k) key.0 ∙ bound_at-none i k, λ same. key.1)
 handed-bound keys (Some p) inner i k at (inr free) = elim (cases_eq k i) [
   | inl same ↦ inl (sym at ∙ sym same, free.1, bound_at-same i k inner same ∙ free.0)
   | inr other ↦ inr (bound_at-other i k inner other, λ same. absurd (other (sym same ∙ sym at)))
 ]
 
 handed-away : (keys : List ℕ) (bound : Option ℕ) (i k : ℕ) → IfSome bound (λ b. i ≡ rank keys b) → (k ≡ i → ⊥) → IsHanded keys k bound None
-handed-away keys None i k at other = refl
-handed-away keys (Some p) i k at other = inr (refl, λ same. absurd (other (sym same ∙ sym at)))
+handed-away keys bound i k at other = grind arith
 
 handed-none : (keys : List ℕ) (bound inner : Option ℕ) (k : ℕ) → inner ≡ None → IsInner keys bound inner → IsHanded keys k bound None
-handed-none keys None inner k none is = refl
-handed-none keys (Some p) inner k none (inl key) = inr (refl, λ same. key.1)
-handed-none keys (Some p) inner k none (inr free) = absurd (cc (none, free.0))
+handed-none keys bound inner k none is = grind arith
 
 -- a bound at the rank of an end that is a key is that key
 handed-last : (keys : List ℕ) (from end last : Option ℕ) (k : ℕ) → Rises keys → InOrder from end → last ≡ None → IsInner keys end last → low_rank keys from ≡ k → high_rank keys end ≤ k → k < length keys + 1 → IsHanded keys k from None
@@ -62,8 +51,7 @@ handed-last keys (Some a) (Some b) last k rises order none (inl key) at upto wit
     inr (refl, λ own. subst (HasKey keys) same key.1)
 
 order-none : (from : Option ℕ) → InOrder from None
-order-none None = tt
-order-none (Some a) = tt
+order-none from = grind arith
 
 order-at : (low high i : ℕ) (from end : Option ℕ) → InOrder from end → InOrder (bound_at low i from) (bound_at high i end)
 order-at low high i from end order = elim (cases_eq i low) [
@@ -75,18 +63,14 @@ order-at low high i from end order = elim (cases_eq i low) [
 ]
 
 pub order-bound : (low high i : ℕ) (from end first last : Option ℕ) → first ≡ bound_at low i from → last ≡ bound_at high i end → InOrder from end → InOrder first last
-order-bound low high i from end first last is_first is_last order =
-    subst (λ o. InOrder o last) (sym is_first) (subst (InOrder (bound_at low i from)) (sym is_last) (order-at low high i from end order))
+order-bound low high i from end first last is_first is_last order = grind (arith, order-at)
 
 module _ {P : Type 0} (joined : P → Option ℕ → Option ℕ → Type 0) where
   pub parts-each : (level : Level P) → PartsJoined joined level None None → (k : ℕ) (part : P) → k < length level.parts.items → joined (get_or level.parts.items k part) None None
   parts-each level whole k part within = whole.parts k part None None within refl refl
 
   pub each-parts : (level : Level P) → ((k : ℕ) (part : P) → k < length level.parts.items → joined (get_or level.parts.items k part) None None) → PartsJoined joined level None None
-  each-parts level each = record {
-    parts = λ k part first second within is_first is_second.
-        subst (λ o. joined (get_or level.parts.items k part) o second) (sym is_first) (subst (joined (get_or level.parts.items k part) None) (sym is_second) (each k part within));
-  }
+  each-parts level each = grind arith
 
   -- all parts are joined
   pub parts-all : (good : P → Type 0) (level : Level P) → ((part : P) → joined part None None → good part) → PartsJoined joined level None None → AllJoined good level
@@ -96,11 +80,7 @@ module _ {P : Type 0} (joined : P → Option ℕ → Option ℕ → Type 0) wher
   all-parts-joined good level law all = each-parts level (λ k part within. law (get_or level.parts.items k part) (all.each k part within))
 
   pub parts-same : (old new : Level P) (one other : Option ℕ) → new.keys.items ≡ old.keys.items → new.parts.items ≡ old.parts.items → PartsJoined joined old one other → PartsJoined joined new one other
-  parts-same old new one other keys parts whole = record {
-    parts = λ k part first second within is_first is_second.
-        subst (λ ps. joined (get_or ps k part) first second) (sym parts)
-        (whole.parts k part first second (subst (λ ps. k < length ps) parts within) (subst (λ ks. IsHanded ks k one first) keys is_first) (subst (λ ks. IsHanded ks k other second) keys is_second));
-  }
+  parts-same old new one other keys parts whole = grind arith
 
   -- ---- cuts
 
@@ -178,12 +158,6 @@ module _ {P : Type 0} (joined : P → Option ℕ → Option ℕ → Type 0) wher
   -- ---- rewriting the parts one after another
 
   module _ (low last : ℕ) (from end : Option ℕ) where
-    pub joins-none : (parts : List P) → JoinsParts joined low last from end low parts parts
-    joins-none parts = record {
-      done = λ k part after before within was. absurd (omega arith);
-      rest = λ k part where_is. refl;
-    }
-
     pub joins-more : (old now new : List P) (part next : P) (i : ℕ) → low ≤ i → i < length now → part ≡ get_or now i part → (joined part (bound_at low i from) (bound_at last i end) → joined next None None) →
         new ≡ set now i next → JoinsParts joined low last from end i old now → JoinsParts joined low last from end (i + 1) old new
     joins-more old now new part next i after inside read law is so_far = record {
@@ -195,10 +169,7 @@ module _ {P : Type 0} (joined : P → Option ℕ → Option ℕ → Type 0) wher
         | inr other ↦ subst (λ r. joined r None None) (sym (get_or-set_other now i k next q other)) (so_far.done k q above (omega arith) within was)
       ]);
       rest = λ k q where_is.
-          let other : k ≡ i → ⊥ = λ same. elim where_is [
-            | inl below ↦ omega arith
-            | inr above ↦ omega arith
-          ] in
+          let other : k ≡ i → ⊥ = λ same. omega arith in
           ap (λ ps. get_or ps k q) is ∙ get_or-set_other now i k next q other ∙ so_far.rest k q (elim where_is [
             | inl below ↦ inl below
             | inr above ↦ inr (omega arith)
@@ -210,19 +181,7 @@ module _ {P : Type 0} (joined : P → Option ℕ → Option ℕ → Type 0) wher
       ((k : ℕ) → low ≤ k → k < stop → IsHanded old.keys.items k from (bound_at low k first) × IsHanded old.keys.items k end (bound_at high k last)) →
       ((k : ℕ) → k < length old.parts.items → (k < low) ⊎ (stop ≤ k) → IsHanded old.keys.items k from None × IsHanded old.keys.items k end None) →
       PartsJoined joined old from end → PartsJoined joined new None None
-  parts-rewritten old new low high stop from end first last keys joins inner outer whole = each-parts new (λ k q within_new.
-      let same_len : length new.parts.items ≡ length old.parts.items = level-counted new ∙ ap (λ v. length v.items + 1) keys ∙ sym (level-counted old) in
-      let within : k < length old.parts.items = omega arith in
-      let outside : (k < low) ⊎ (stop ≤ k) → joined (get_or new.parts.items k q) None None = λ where_is.
-      let handed = outer k within where_is in
-      subst (λ r. joined r None None) (sym (joins.rest k q where_is)) (whole.parts k q None None within handed.0 handed.1) in
-      elim (cases_lt k low) [
-        | inl below ↦ outside (inl below)
-        | inr above ↦ elim (cases_lt k stop) [
-          | inl before ↦ let handed = inner k above before in joins.done k q above before within (whole.parts k q (bound_at low k first) (bound_at high k last) within handed.0 handed.1)
-          | inr after ↦ outside (inr after)
-        ]
-      ])
+  parts-rewritten old new low high stop from end first last keys joins inner outer whole = grind arith
 
   pub parts-rewritten_some : (old new : Level P) (low high : ℕ) (from end first last : Option ℕ) → low ≡ low_rank old.keys.items from → high ≡ high_rank old.keys.items end →
       IsInner old.keys.items from first → IsInner old.keys.items end last → InOrder from end → new.keys ≡ old.keys → JoinsParts joined low high first last (high + 1) old.parts.items new.parts.items →
@@ -234,14 +193,8 @@ module _ {P : Type 0} (joined : P → Option ℕ → Option ℕ → Type 0) wher
       parts-rewritten old new low high (high + 1) from end first last keys joins
       (λ k above before. (handed-bound old.keys.items from first low k low_is is_first, handed-bound old.keys.items end last high k high_is is_last))
       (λ k within where_is. (
-        handed-away old.keys.items from low k low_is (λ same. elim where_is [
-          | inl below ↦ omega arith
-          | inr above ↦ omega arith
-        ]),
-        handed-away old.keys.items end high k high_is (λ same. elim where_is [
-          | inl below ↦ omega arith
-          | inr above ↦ omega arith
-        ]),
+        handed-away old.keys.items from low k low_is (λ same. omega arith),
+        handed-away old.keys.items end high k high_is (λ same. omega arith),
       )) whole
 
   pub parts-rewritten_none : (old new : Level P) (low high : ℕ) (from end first last : Option ℕ) → low ≡ low_rank old.keys.items from → high + 1 ≡ high_rank old.keys.items end → last ≡ None →
@@ -254,14 +207,11 @@ module _ {P : Type 0} (joined : P → Option ℕ → Option ℕ → Type 0) wher
       parts-rewritten old new low high (high + 1) from end first last keys joins
       (λ k above before. (
         handed-bound old.keys.items from first low k low_is is_first,
-        subst (IsHanded old.keys.items k end) (sym (ap (bound_at high k) none ∙ bound-none high k)) (handed-none old.keys.items end last k none is_last),
+        subst (IsHanded old.keys.items k end) (sym (ap (bound_at high k) none ∙ bound_at-none high k)) (handed-none old.keys.items end last k none is_last),
       ))
       (λ k within where_is. (
         elim (cases_eq k low) [
-          | inl same ↦ handed-last old.keys.items from end last k old.ordered order none is_last (sym at_low ∙ sym same) (elim where_is [
-            | inl below ↦ absurd (omega arith)
-            | inr above ↦ omega arith
-          ]) (omega arith)
+          | inl same ↦ handed-last old.keys.items from end last k old.ordered order none is_last (sym at_low ∙ sym same) (omega arith) (omega arith)
           | inr other ↦ handed-away old.keys.items from low k low_is other
         ],
         handed-none old.keys.items end last k none is_last,

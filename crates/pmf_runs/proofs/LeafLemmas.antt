@@ -1,18 +1,14 @@
 -- The states of a leaf, by its keys and states.
-use Rattle.std.proofs.{Common.{◌≡◌, ℕ, ◌+◌, ◌-◌, ◌/◌, ◌<◌, ◌≤◌, List, [], ◌∷◌, ◌++◌, length, get_or, set, take, drop, refl, sym, ◌∙◌, ap, subst, arith, inl, inr, true, false, ◌&&◌, nat_le, nat_lt, if◌then◌else◌, Option, IfSome, insert, remove}, lemmas.Bool.{cases_lt, and_right}, lemmas.List.{get_or_read, set-get_or, take_rest}}
-use Rattle.pmf_runs.{specs.declared.leaf.Leaf.{Leaf}, specs.Ranks.{rank, at_rank, HasKey, SameStates, ChangesWithin, ChangesItems, low_rank, high_rank, IsTail, parting}, specs.Leaves.{leaf_state, leaf_begins, leaf_middle}, proofs.RankLemmas.{IsRank, rank-is, at_rank-insert, at_rank-remove, at_rank-changes, at_rank-take, at_rank-drop, insert-has, insert-keeps, le-true, lt-true, le-false, lt-false, last-rank}}
+use Rattle.std.proofs.{Common.{◌≡◌, ℕ, ◌+◌, ◌-◌, ◌/◌, ◌<◌, ◌≤◌, List, [], ◌∷◌, ◌++◌, length, get_or, set, take, drop, refl, sym, ◌∙◌, ap, subst, arith, true, false, ◌&&◌, nat_le, nat_lt, Option, IfSome, insert, remove}, lemmas.List.{get_or_read, set-get_or, take_rest}}
+use Rattle.pmf_runs.{specs.declared.leaf.Leaf.{Leaf}, specs.Ranks.{rank, at_rank, HasKey, SameStates, ChangesWithin, ChangesItems, low_rank, high_rank, IsTail, parting}, specs.Leaves.{leaf_state, leaf_begins, leaf_middle}, proofs.RankLemmas.{IsRank, rank-is, at_rank-insert, at_rank-remove, at_rank-changes, at_rank-take, at_rank-drop, insert-has, insert-keeps, le-true, lt-true, last-rank}}
 
 pub none-within : (low high k : ℕ) → high ≤ low → (nat_le low k && nat_lt k high) ≡ false
-none-within low high k le = elim (cases_lt k high) [
-  | inl below ↦ ap (λ t. t && nat_lt k high) (le-false low k (omega arith))
-  | inr above ↦ and_right (nat_le low k) (nat_lt k high) (lt-false k high above)
-]
+none-within low high k le = grind arith
 
 module _ {S : Type 0} where
   pub state-single : (leaf : Leaf S) (d s : S) (b : ℕ) → leaf.keys.items ≡ [] → leaf.states.items ≡ s ∷ [] → leaf_state leaf d b ≡ s
   unfolding leaf_state at_rank rank
-  state-single leaf d s b keys states =
-      ap (λ ks. get_or leaf.states.items (rank ks b) d) keys ∙ ap (λ ss. get_or ss 0 d) states
+  state-single leaf d s b keys states = grind arith
 
   pub leaf-counted : (leaf : Leaf S) → length leaf.states.items ≡ length leaf.keys.items + 1
   leaf-counted leaf = let counted = leaf.counted in omega (arith, leaf.states.ok.0, leaf.keys.ok.0)
@@ -30,9 +26,7 @@ module _ {S : Type 0} where
 
   pub same-items : (old new : Leaf S) → new.keys.items ≡ old.keys.items → new.states.items ≡ old.states.items → SameStates (leaf_state old) (leaf_state new)
   unfolding leaf_state at_rank
-  same-items old new keys states = record {
-    states = λ d b. ap (λ ks. get_or new.states.items (rank ks b) d) keys ∙ ap (λ ss. get_or ss (rank old.keys.items b) d) states;
-  }
+  same-items old new keys states = grind arith
 
   pub begins-kept : (old new : Leaf S) → new.keys.items ≡ old.keys.items → (b : ℕ) → leaf_begins old b → leaf_begins new b
   unfolding leaf_begins
@@ -74,15 +68,7 @@ module _ {S : Type 0} where
   pub same-joined : (old new : Leaf S) (i : ℕ) (x y : S) → i < length old.keys.items → x ≡ get_or old.states.items i x → y ≡ get_or old.states.items (i + 1) y → x ≡ y →
       new.keys.items ≡ remove old.keys.items i → new.states.items ≡ remove old.states.items (i + 1) → SameStates (leaf_state old) (leaf_state new)
   unfolding leaf_state
-  same-joined old new i x y within read_x read_y same keys states = record {
-    states = λ d b.
-        let counted = leaf-counted old in
-        let is_x = get_or_read old.states.items i x (omega arith) read_x d in
-        let is_y = get_or_read old.states.items (i + 1) y (omega arith) read_y d in
-        ap (λ ks. at_rank ks new.states.items d b) keys
-        ∙ ap (λ ss. at_rank (remove old.keys.items i) ss d b) states
-        ∙ at_rank-remove old.keys.items old.states.items i d b old.ordered within counted (λ _. sym is_x ∙ same ∙ is_y);
-  }
+  same-joined old new i x y within read_x read_y same keys states = grind (arith, leaf-counted, get_or_read, at_rank-remove)
 
   pub same-both : (a b c : S → ℕ → S) → SameStates a b → SameStates b c → SameStates a c
   same-both a b c one two = record { states = λ d p. two.states d p ∙ one.states d p }
@@ -93,11 +79,7 @@ module _ {S : Type 0} where
   pub changes-items : (old new : Leaf S) (from end : Option ℕ) (change : S → S) → IfSome from (leaf_begins old) → IfSome end (leaf_begins old) → new.keys.items ≡ old.keys.items →
       ChangesItems (low_rank old.keys.items from) (high_rank old.keys.items end) change old.states.items new.states.items → ChangesWithin from end change (leaf_state old) (leaf_state new)
   unfolding leaf_state leaf_begins
-  changes-items old new from end change has_from has_end keys changes = record {
-    states = λ d b.
-        ap (λ ks. at_rank ks new.states.items d b) keys
-        ∙ at_rank-changes old.keys.items old.states.items new.states.items from end change d b old.ordered (leaf-counted old) has_from has_end changes;
-  }
+  changes-items old new from end change has_from has_end keys changes = grind (arith, at_rank-changes, leaf-counted)
 
   pub changes-same : (from end : Option ℕ) (change : S → S) (a b c : S → ℕ → S) → ChangesWithin from end change a b → SameStates b c → ChangesWithin from end change a c
   changes-same from end change a b c one two = record { states = λ d p. two.states d p ∙ one.states d p }
@@ -114,21 +96,16 @@ module _ {S : Type 0} where
   pub parts-low : (old low : Leaf S) (m : ℕ) → m < length old.keys.items → low.keys.items ≡ take m old.keys.items → low.states.items ≡ take (m + 1) old.states.items →
       (d : S) (b : ℕ) → b < get_or old.keys.items m 0 → leaf_state low d b ≡ leaf_state old d b
   unfolding leaf_state
-  parts-low old low m within keys states d b below =
-      ap (λ ks. at_rank ks low.states.items d b) keys ∙ ap (λ ss. at_rank (take m old.keys.items) ss d b) states
-      ∙ at_rank-take old.keys.items old.states.items m d b within below
+  parts-low old low m within keys states d b below = grind (arith, at_rank-take)
 
   pub parts-high : (old high : Leaf S) (m : ℕ) → m < length old.keys.items → high.keys.items ≡ drop (m + 1) old.keys.items → high.states.items ≡ drop (m + 1) old.states.items →
       (d : S) (b : ℕ) → get_or old.keys.items m 0 ≤ b → leaf_state high d b ≡ leaf_state old d b
   unfolding leaf_state
-  parts-high old high m within keys states d b from =
-      ap (λ ks. at_rank ks high.states.items d b) keys ∙ ap (λ ss. at_rank (drop (m + 1) old.keys.items) ss d b) states
-      ∙ at_rank-drop old.keys.items old.states.items m d b old.ordered within from
+  parts-high old high m within keys states d b from = grind (arith, at_rank-drop)
 
 -- a copy of the end of a list
 pub rest-copied : (keys now before after : List ℕ) (n : ℕ) → now ≡ keys → before ≡ [] → after ≡ before ++ take (length now - n) (drop n now) → after ≡ drop n keys
-rest-copied keys now before after n is none copied =
-    copied ∙ ap (λ xs. xs ++ take (length now - n) (drop n now)) none ∙ take_rest now n ∙ ap (drop n) is
+rest-copied keys now before after n is none copied = grind (arith, take_rest)
 
 pub middle-is : {S : Type 0} (leaf : Leaf S) (m place : ℕ) → m ≡ parting leaf.keys.items place → get_or leaf.keys.items m 0 ≡ leaf_middle leaf place
 unfolding leaf_middle
@@ -136,22 +113,17 @@ middle-is leaf m place is = ap (λ k. get_or leaf.keys.items k 0) is
 
 pub parted-last : (keys : List ℕ) (place last key : ℕ) → last ≡ length keys - 1 → key ≡ get_or keys last 0 → key ≤ place → last ≡ parting keys place
 unfolding parting
-parted-last keys place last key is at le =
-    is ∙ sym (ap (λ t. if t then length keys - 1 else length keys / 2) (le-true (get_or keys (length keys - 1) 0) place (subst (λ k. k ≤ place) (at ∙ ap (λ n. get_or keys n 0) is) le)))
+parted-last keys place last key is at le = grind arith
 
 pub parted-middle : (keys : List ℕ) (place last key half : ℕ) → last ≡ length keys - 1 → half ≡ length keys / 2 → key ≡ get_or keys last 0 → place < key → half ≡ parting keys place
 unfolding parting
-parted-middle keys place last key half is halves at lt =
-    halves ∙ sym (ap (λ t. if t then length keys - 1 else length keys / 2) (le-false (get_or keys (length keys - 1) 0) place (subst (λ k. place < k) (at ∙ ap (λ n. get_or keys n 0) is) lt)))
+parted-middle keys place last key half is halves at lt = grind arith
 
 pub all-within : (low high k : ℕ) → low ≤ k → k < high → (nat_le low k && nat_lt k high) ≡ true
 all-within low high k le lt = ap (λ t. t && nat_lt k high) (le-true low k le) ∙ lt-true k high lt
 
 pub lt-more : (k i : ℕ) → (k ≡ i → ⊥) → nat_lt k i ≡ nat_lt k (i + 1)
-lt-more k i other = elim (cases_lt k i) [
-  | inl below ↦ lt-true k i below ∙ sym (lt-true k (i + 1) (omega arith))
-  | inr above ↦ lt-false k i above ∙ sym (lt-false k (i + 1) (omega arith))
-]
+lt-more k i other = grind arith
 
 pub leaf-tail : {S : Type 0} (leaf : Leaf S) (s : S) (place last : ℕ) → last ≡ length leaf.keys.items → last ≡ rank leaf.keys.items place → s ≡ get_or leaf.states.items last s → IsTail (leaf_state leaf) place s
 leaf-tail leaf s place last is at read = λ d b from. sym (state-read leaf s b last (last-rank leaf.keys.items place b last is at from) read d)

@@ -38,9 +38,7 @@ module _ {S : Type 0} (value : S → ℕ → Bool) (keys : List ℕ) (first end 
       subst (λ n. Asked (λ d. first_from (value d)) first_found None keys first end n index None) here (asked-start first-law value None keys first end index at)
 
   pub sought-asked : (start index : ℕ) → start < end → Sought value keys first end start index → Asked (λ d. first_from (value d)) first_found None keys first end start index None
-  sought-asked start index some sought =
-      let here : min start (max first end) ≡ start = omega arith in
-      subst (λ n. Asked (λ d. first_from (value d)) first_found None keys first end n index None) here sought
+  sought-asked start index some sought = grind arith
 
   pub sought-rank : (start index : ℕ) → start < end → Sought value keys first end start index → index ≡ rank keys start
   sought-rank start index some sought =

@@ -1,6 +1,6 @@
 -- The states of a level, by its keys and parts.
-use Rattle.std.proofs.{Common.{◌≡◌, ℕ, zero, suc, ◌+◌, ◌-◌, ◌<◌, ◌≤◌, Bool, true, List, [], ◌∷◌, length, get_or, set, take, drop, map, refl, sym, ◌∙◌, ap, subst, arith, inl, inr, nat_le, nat_lt, ◌&&◌, false, if◌then◌else◌, Option, None, Some, IfSome, insert, remove, get_or-set_same, get_or-set_other, length-set}, lemmas.Bool.{cases_eq}, lemmas.List.{get_or-map, set-get_or, map-set, length-map, take-map, drop-map}}
-use Rattle.pmf_runs.{specs.declared.level.Level.{Level}, specs.Ranks.{rank, at_rank, HasKey, IsFresh, SameStates, ChangesWithin, Splits, IsInner, reaches, falls_short, is_within, bound_at, IsTail, parting}, specs.Levels.{part_states, level_state, level_begins, level_middle, Rewrites, BeginsAt, GoesOn}, proofs.LeafLemmas.{none-within, all-within, lt-more}, proofs.RankLemmas.{IsRank, rank-is, rank-key, bound_at-same, bound_at-other, at_rank-insert, at_rank-remove, at_rank-take, at_rank-drop, last-rank}}
+use Rattle.std.proofs.{Common.{◌≡◌, ℕ, zero, suc, ◌+◌, ◌-◌, ◌<◌, ◌≤◌, Bool, true, List, [], ◌∷◌, length, get_or, set, take, drop, map, refl, sym, ◌∙◌, ap, subst, arith, inl, inr, nat_le, nat_lt, ◌&&◌, if◌then◌else◌, Option, None, Some, IfSome, insert, remove, get_or-set_same, get_or-set_other, length-set}, lemmas.Bool.{cases_eq}, lemmas.List.{get_or-map, set-get_or, map-set, length-map, take-map, drop-map}}
+use Rattle.pmf_runs.{specs.declared.level.Level.{Level}, specs.Ranks.{rank, at_rank, HasKey, IsFresh, SameStates, ChangesWithin, Splits, IsInner, reaches, falls_short, is_within, bound_at, IsTail, parting}, specs.Levels.{part_states, level_state, level_begins, level_middle, Rewrites, BeginsAt, GoesOn}, proofs.LeafLemmas.{all-within, lt-more}, proofs.RankLemmas.{IsRank, rank-is, rank-key, bound_at-same, bound_at-other, at_rank-insert, at_rank-remove, at_rank-take, at_rank-drop, last-rank}}
 
 map-insert : {X Y : Type 0} (f : X → Y) (xs : List X) (i : ℕ) (x : X) → map f (insert xs i x) ≡ insert (map f xs) i (f x)
 map-insert f xs zero x = refl
@@ -17,11 +17,7 @@ module _ {P : Type 0} where
   module _ {S : Type 0} (state : P → S → ℕ → S) where
     pub level-single : (level : Level P) (part : P) → level.keys.items ≡ [] → level.parts.items ≡ part ∷ [] → SameStates (state part) (level_state state level)
     unfolding level_state at_rank rank
-    level-single level part keys parts = record {
-      states = λ d b.
-          ap (λ ks. get_or (part_states state level.parts.items d b) (rank ks b) d) keys
-          ∙ ap (λ ps. get_or (part_states state ps d b) 0 d) parts;
-    }
+    level-single level part keys parts = grind arith
 
     pub level-read : (level : Level P) (part : P) (b i : ℕ) → i ≡ rank level.keys.items b → part ≡ get_or level.parts.items i part → (d : S) → state part d b ≡ level_state state level d b
     unfolding level_state at_rank
@@ -42,20 +38,11 @@ module _ {P : Type 0} where
     pub level-set : (old new : Level P) (part next : P) (i : ℕ) → i < length old.parts.items → part ≡ get_or old.parts.items i part → SameStates (state part) (state next) →
         new.keys.items ≡ old.keys.items → new.parts.items ≡ set old.parts.items i next → SameStates (level_state state old) (level_state state new)
     unfolding level_state
-    level-set old new part next i within read same keys parts = record {
-      states = λ d b.
-          ap (λ ks. at_rank ks (part_states state new.parts.items d b) d b) keys
-          ∙ ap (λ ps. at_rank old.keys.items (part_states state ps d b) d b) parts
-          ∙ ap (λ ss. at_rank old.keys.items ss d b) (states-set old.parts.items part next i d b within read (same.states d b));
-    }
+    level-set old new part next i within read same keys parts = grind (arith, states-set)
 
     pub level-same : (old new : Level P) → new.keys.items ≡ old.keys.items → new.parts.items ≡ old.parts.items → SameStates (level_state state old) (level_state state new)
     unfolding level_state
-    level-same old new keys parts = record {
-      states = λ d b.
-          ap (λ ks. at_rank ks (part_states state new.parts.items d b) d b) keys
-          ∙ ap (λ ps. at_rank old.keys.items (part_states state ps d b) d b) parts;
-    }
+    level-same old new keys parts = grind arith
 
     -- a part is split in two at a new key
     pub level-split : (old new : Level P) (part low high : P) (p i : ℕ) → i ≡ rank old.keys.items p → part ≡ get_or old.parts.items i part →
@@ -103,33 +90,15 @@ module _ {P : Type 0} where
 
     pub level-begun : (old new : Level P) (next : P) (p i : ℕ) → i ≡ rank old.keys.items p → new.keys.items ≡ old.keys.items → new.parts.items ≡ set old.parts.items i next → begins next p → level_begins begins new p
     unfolding level_begins
-    level-begun old new next p i at keys parts begun = inr (record {
-      within = λ d.
-          let bound = level-bound old p in
-          let is : get_or new.parts.items (rank new.keys.items p) d ≡ next =
-          ap (λ ks. get_or new.parts.items (rank ks p) d) keys ∙ ap (λ ps. get_or ps (rank old.keys.items p) d) parts
-          ∙ ap (λ k. get_or (set old.parts.items i next) k d) (sym at) ∙ get_or-set_same old.parts.items i next d (omega arith) in
-          subst (λ q. begins q p) (sym is) begun;
-    })
+    level-begun old new next p i at keys parts begun = let bound = level-bound old p in let same = get_or-set_same old.parts.items i next in grind (arith, same)
 
     pub level-kept : (old new : Level P) (part next : P) (i : ℕ) → i < length old.parts.items → part ≡ get_or old.parts.items i part → ((b : ℕ) → begins part b → begins next b) →
         new.keys.items ≡ old.keys.items → new.parts.items ≡ set old.parts.items i next → (b : ℕ) → level_begins begins old b → level_begins begins new b
     unfolding level_begins
-    level-kept old new part next i within read kept keys parts b (inl has) = inl (subst (λ ks. HasKey ks b) (sym keys) has)
-    level-kept old new part next i within read kept keys parts b (inr begun) = inr (record {
-      within = λ d.
-          let at : get_or new.parts.items (rank new.keys.items b) d ≡ get_or (set old.parts.items i next) (rank old.keys.items b) d =
-          ap (λ ks. get_or new.parts.items (rank ks b) d) keys ∙ ap (λ ps. get_or ps (rank old.keys.items b) d) parts in
-          elim (cases_eq (rank old.keys.items b) i) [
-            | inl same ↦
-                let is : get_or new.parts.items (rank new.keys.items b) d ≡ next = at ∙ ap (λ k. get_or (set old.parts.items i next) k d) same ∙ get_or-set_same old.parts.items i next d within in
-                let was : get_or old.parts.items (rank old.keys.items b) part ≡ part = ap (λ k. get_or old.parts.items k part) same ∙ sym read in
-                subst (λ q. begins q b) (sym is) (kept b (subst (λ q. begins q b) was (begun.within part)))
-            | inr other ↦
-                let is : get_or new.parts.items (rank new.keys.items b) d ≡ get_or old.parts.items (rank old.keys.items b) d = at ∙ get_or-set_other old.parts.items i (rank old.keys.items b) next d other in
-                subst (λ q. begins q b) (sym is) (begun.within d)
-          ];
-    })
+    level-kept old new part next i within read kept keys parts b begun =
+        let same = get_or-set_same old.parts.items i next in
+        let other = get_or-set_other old.parts.items i (rank old.keys.items b) next in
+        grind (arith, kept, same, other)
 
 pub same-both : {S : Type 0} (a b c : S → ℕ → S) → SameStates a b → SameStates b c → SameStates a c
 same-both a b c one two = record { states = λ d p. two.states d p ∙ one.states d p }
@@ -150,25 +119,12 @@ begins-fresh begins level p i at fresh (inl has) =
 begins-fresh begins level p i at fresh (inr begun) = record { at = λ d. subst (λ k. begins (get_or level.parts.items k d) p) (sym at) (begun.within d) }
 
 pick : {X : Type 0} (a b c e : Bool) (x y : X) → (if a && c then (if b && e then x else y) else y) ≡ (if (a && b) && (c && e) then x else y)
-pick false b c e x y = refl
-pick true false false e x y = refl
-pick true false true e x y = refl
-pick true true false e x y = refl
-pick true true true e x y = refl
+pick a b c e x y = grind arith
 
 if-true : {X : Type 0} (t : Bool) (x y : X) → t ≡ true → (if t then x else y) ≡ x
 if-true t x y is = ap (λ u. if u then x else y) is
 
-if-false : {X : Type 0} (t : Bool) (x y : X) → t ≡ false → (if t then x else y) ≡ y
-if-false t x y is = ap (λ u. if u then x else y) is
-
 module _ {P S : Type 0} (state : P → S → ℕ → S) (change : S → S) (low last : ℕ) (from end : Option ℕ) where
-  pub rewrites-none : (parts : List P) → Rewrites state change low last from end low parts parts
-  rewrites-none parts = record {
-    len = refl;
-    states = λ d b k within. sym (if-false (nat_le low k && nat_lt k low) _ (get_or (part_states state parts d b) k d) (none-within low low k (omega arith)));
-  }
-
   pub rewrites-more : (old now new : List P) (part next : P) (i : ℕ) → low ≤ i → i < length now → part ≡ get_or now i part →
       ChangesWithin (bound_at low i from) (bound_at last i end) change (state part) (state next) → new ≡ set now i next →
       ((d : P) (k : ℕ) → i ≤ k → get_or now k d ≡ get_or old k d) → Rewrites state change low last from end i old now → Rewrites state change low last from end (i + 1) old new
@@ -213,9 +169,7 @@ begins-bound begins level part index i (Some p) r is has read = elim (cases_eq i
 
 -- what is handed down begins a run in the part that it is handed to
 pub inner-begins : {P : Type 0} (begins : P → ℕ → Type 0) (level : Level P) (bound inner : Option ℕ) (i : ℕ) → IsInner level.keys.items bound inner → IfSome bound (λ b. i ≡ rank level.keys.items b) → IfSome bound (level_begins begins level) → IfSome inner (λ b. BeginsAt begins level i b)
-inner-begins begins level None inner i is at has = subst (λ o. IfSome o (λ b. BeginsAt begins level i b)) (sym is) tt
-inner-begins begins level (Some p) inner i (inl key) at has = subst (λ o. IfSome o (λ b. BeginsAt begins level i b)) (sym key.0) tt
-inner-begins begins level (Some p) inner i (inr free) at has = subst (λ o. IfSome o (λ b. BeginsAt begins level i b)) (sym free.0) (begins-fresh begins level p i at free.1 has)
+inner-begins begins level bound inner i is at has = grind (arith, begins-fresh)
 
 -- the bounds that are handed down and the parts that they are handed to say what the bounds say
 pub level-rewritten : {P S : Type 0} (state : P → S → ℕ → S) (change : S → S) (old new : Level P) (low high : ℕ) (from end first last : Option ℕ) →
@@ -223,15 +177,7 @@ pub level-rewritten : {P S : Type 0} (state : P → S → ℕ → S) (change : S
     ((b : ℕ) → falls_short end b ≡ (nat_lt (rank old.keys.items b) (high + 1) && falls_short (bound_at high (rank old.keys.items b) last) b)) →
     new.keys ≡ old.keys → Rewrites state change low high first last (high + 1) old.parts.items new.parts.items → ChangesWithin from end change (level_state state old) (level_state state new)
 unfolding level_state at_rank is_within
-level-rewritten state change old new low high from end first last low_law high_law keys changes = record {
-  states = λ d b.
-      let r = rank old.keys.items b in
-      ap (λ v. get_or (part_states state new.parts.items d b) (rank v.items b) d) keys
-      ∙ changes.states d b r (level-bound old b)
-      ∙ pick (nat_le low r) (reaches (bound_at low r first) b) (nat_lt r (high + 1)) (falls_short (bound_at high r last) b) _ _
-      ∙ ap (λ t. if t && (nat_lt r (high + 1) && falls_short (bound_at high r last) b) then change (get_or (part_states state old.parts.items d b) r d) else get_or (part_states state old.parts.items d b) r d) (sym (low_law b))
-      ∙ ap (λ t. if reaches from b && t then change (get_or (part_states state old.parts.items d b) r d) else get_or (part_states state old.parts.items d b) r d) (sym (high_law b));
-}
+level-rewritten state change old new low high from end first last low_law high_law keys changes = grind (arith, level-bound, pick)
 
 map-remove : {X Y : Type 0} (f : X → Y) (xs : List X) (i : ℕ) → map f (remove xs i) ≡ remove (map f xs) i
 map-remove f [] zero = refl

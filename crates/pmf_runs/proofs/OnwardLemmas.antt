@@ -1,5 +1,5 @@
 -- The first state that passes, where the range ends beyond all keys.
-use Rattle.std.proofs.{Common.{◌≡◌, ℕ, ◌-◌, ◌<◌, ◌≤◌, Bool, true, false, List, length, get_or, sym, ◌∙◌, ap, subst, arith, inl, inr, Some, None}, lemmas.Bool.{cases_lt}, lemmas.List.{get_or_read}}
+use Rattle.std.proofs.{Common.{◌≡◌, ℕ, ◌-◌, ◌<◌, ◌≤◌, Bool, true, false, List, length, get_or, sym, ◌∙◌, ap, subst, arith, Some, None}, lemmas.List.{get_or_read}}
 use Rattle.pmf_event.{specs.Ranges.{first_from}, proofs.RangeLemmas.{first_from-none, first_from-some}}
 use Rattle.pmf_runs.{specs.declared.leaf.Leaf.{Leaf}, specs.Ranks.{rank, at_rank, Rises, IsBeyond}, specs.Leaves.{leaf_state}, proofs.RankLemmas.{IsRank, rank-is, rank-unique, rank-above, rises-le}, proofs.LeafLemmas.{leaf-counted, rank-bound}}
 
@@ -13,10 +13,7 @@ rank-at keys i rises some within = rank-unique keys (get_or keys (i - 1) 0) i (r
 
 -- a number below a key has a rank below that of the key
 rank-under : (keys : List ℕ) (b i : ℕ) → 0 < i → i ≤ length keys → b < get_or keys (i - 1) 0 → rank keys b < i
-rank-under keys b i some within below = elim (cases_lt (rank keys b) i) [
-  | inl lt ↦ lt
-  | inr ge ↦ let r = rank-is keys b in let low = r.upto (i - 1) (omega arith) in absurd (omega arith)
-]
+rank-under keys b i some within below = grind (arith, rank-is)
 
 module _ {S : Type 0} (test : S → Bool) (leaf : Leaf S) (first index : ℕ) (at : index ≡ rank leaf.keys.items first) where
   -- no state of the runs from index up to i passes
@@ -26,8 +23,7 @@ module _ {S : Type 0} (test : S → Bool) (leaf : Leaf S) (first index : ℕ) (a
   -- a number from first on, of a run below i, has a state that fails
   fails-at : (i : ℕ) → NoneUpto i → (d : S) (b : ℕ) → first ≤ b → rank leaf.keys.items b < i → test (leaf_state leaf d b) ≡ false
   unfolding leaf_state at_rank
-  fails-at i none d b from below =
-      none (rank leaf.keys.items b) d (rank-above leaf.keys.items first b index (rank leaf.keys.items b) (subst (IsRank leaf.keys.items first) (sym at) (rank-is leaf.keys.items first)) (rank-is leaf.keys.items b) from) below
+  fails-at i none d b from below = grind (arith, rank-above, first, IsRank, at, rank-is)
 
   pub onward-none : (i : ℕ) → length leaf.states.items ≤ i → NoneUpto i → (d : S) (end : ℕ) → None ≡ first_from (λ b. test (leaf_state leaf d b)) first (end - first)
   onward-none i all none d end = sym (first_from-none (λ b. test (leaf_state leaf d b)) first (end - first) (λ b from below.

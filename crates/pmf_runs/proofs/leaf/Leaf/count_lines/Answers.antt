@@ -1,5 +1,5 @@
 use Rattle.std.proofs.Common.{◌+◌, ◌-◌, ◌≤◌, length, ◌∙◌, ap, arith}
-use Rattle.pmf_runs.{specs.Ranks.{rank}, specs.Walks.{end_of}, specs.Leaves.{leaf_state}, proofs.AskingLemmas.{lines-law, lines-past, asked-start, asked-more, asked-past, asked-end, walks-more, past-more, run-asked, fails-past}, proofs.LeafLemmas.{leaf-counted}}
+use Rattle.pmf_runs.{specs.Ranks.{rank}, specs.Walks.{end_of}, specs.Leaves.{leaf_state}, proofs.AskingLemmas.{lines-law, lines-past, asked-start, asked-more, asked-past, asked-end, run-asked, fails-past}, proofs.LeafLemmas.{leaf-counted}}
 use Rattle.pmf_runs.proofs.leaf.Leaf.count_lines.Goals as goal
 
 pub loop-start-init : goal.loop-start-init
@@ -8,16 +8,6 @@ loop-start-init g c =
       bound = c.requires;
       asked = asked-start lines-law (λ d b. g.T.Test.passes c.args.test.now (leaf_state c.args.self.now d b)) c.args.so_far c.args.self.now.keys.items c.args.first c.args.end c.start_of-index.result (c.start_of-index.ensures ∙ ap (λ ks. rank ks c.args.first) c.deref.ensures.value);
     }
-
-pub loop-start-smaller-then-next-index : goal.loop-start-smaller-then-next-index
-loop-start-smaller-then-next-index g c =
-    let counted = leaf-counted c.args.self.now in
-    let bounded : c.next_passing-next.result ≤ length c.args.self.now.keys.items + 1 = omega (arith, counted, c.next_passing-next.ensures.within, c.args.self.now.states.ok.0) in
-    let ends = c.end_of-start.ensures ∙ ap (λ ks. end_of ks (c.next_passing-next.result - 1) c.args.end) c.deref-then-next-index.ensures.value in
-    let more = past-more c.args.self.now.keys.items c.args.first c.args.end c.loop-start.start c.loop-start.index c.next_passing-next.result c.end_of-start.result c.args.self.now.ordered c.loop-start-test.true c.if-next-index.true bounded ends c.loop-start.invariant.asked.walk in
-    let after = more.0 in
-    let within = more.1 in
-    omega arith
 
 pub loop-start-preserved-then-next-index : goal.loop-start-preserved-then-next-index
 loop-start-preserved-then-next-index g c =
@@ -29,14 +19,6 @@ loop-start-preserved-then-next-index g c =
       asked = asked-past lines-law (λ d b. g.T.Test.passes c.args.test.now (leaf_state c.args.self.now d b)) c.args.so_far c.args.self.now.keys.items c.args.first c.args.end c.loop-start.start c.loop-start.index c.next_passing-next.result c.end_of-start.result c.loop-start.counted c.args.self.now.ordered c.loop-start-test.true c.if-next-index.true bounded ends
           (λ d at. lines-past (λ b. g.T.Test.passes c.args.test.now (leaf_state c.args.self.now d b)) c.loop-start.start c.end_of-start.result c.loop-start.counted (λ b low high. fails-past (g.T.Test.passes c.args.test.now) c.args.self.now c.loop-start.index c.next_passing-next.result c.next_passing-next.ensures.none d b (at b low high))) c.loop-start.invariant.asked;
     }
-
-pub loop-start-smaller : goal.loop-start-smaller
-loop-start-smaller g c =
-    let ends = c.end_of-until.ensures ∙ ap (λ ks. end_of ks c.loop-start.index c.args.end) c.deref-else-next-index.ensures.value in
-    let more = walks-more c.args.self.now.keys.items c.args.first c.args.end c.loop-start.start c.loop-start.index c.end_of-until.result c.args.self.now.ordered c.loop-start-test.true ends c.loop-start.invariant.asked.walk in
-    let after = more.0 in
-    let within = more.1 in
-    omega arith
 
 pub loop-start-preserved : goal.loop-start-preserved
 loop-start-preserved g c =

@@ -1,19 +1,11 @@
 use Rattle.std.proofs.Common.{◌∙◌, ap, arith}
 use Rattle.pmf_event.specs.Ranges.{lesser}
-use Rattle.pmf_runs.{specs.Ranks.{rank}, specs.Walks.{end_of}, specs.Leaves.{leaf_state}, proofs.AskingLemmas.{least-law, asked-start, asked-more, asked-end, walks-more, run-asked}}
+use Rattle.pmf_runs.{specs.Ranks.{rank}, specs.Walks.{end_of}, specs.Leaves.{leaf_state}, proofs.AskingLemmas.{least-law, asked-start, asked-more, asked-end, run-asked}}
 use Rattle.pmf_runs.proofs.leaf.Leaf.find_least.Goals as goal
 
 pub loop-start-init : goal.loop-start-init
 loop-start-init g c =
     asked-start least-law (λ d b. g.K.Key.key c.args.key.now (leaf_state c.args.self.now d b)) c.args.least c.args.self.now.keys.items c.args.first c.args.end c.start_of-index.result (c.start_of-index.ensures ∙ ap (λ ks. rank ks c.args.first) c.deref.ensures.value)
-
-pub loop-start-smaller : goal.loop-start-smaller
-loop-start-smaller g c =
-    let ends = c.end_of-until.ensures ∙ ap (λ ks. end_of ks c.loop-start.index c.args.end) c.deref-in-loop-start.ensures.value in
-    let more = walks-more c.args.self.now.keys.items c.args.first c.args.end c.loop-start.start c.loop-start.index c.end_of-until.result c.args.self.now.ordered c.loop-start-test.true ends c.loop-start.invariant.walk in
-    let after = more.0 in
-    let within = more.1 in
-    omega arith
 
 pub loop-start-preserved : goal.loop-start-preserved
 loop-start-preserved g c =

@@ -1,4 +1,4 @@
-use Rattle.std.proofs.Common.{◌-◌, ◌≤◌}
+use Rattle.std.proofs.Common.{◌-◌, ◌≤◌, vec_len}
 use Rattle.pmf_runs.{specs.Levels.{level_state}, specs.Lines.{counted_from}, proofs.AskingLemmas.{Asked}}
 use Rattle.pmf_runs.proofs.level.Level.count_lines.Given as goal
 
@@ -9,4 +9,4 @@ invariant-loop-start g l = record {
 }
 
 abbrev pub decreases-loop-start : goal.decreases-loop-start
-decreases-loop-start g l = l.end - l.start
+decreases-loop-start g l = vec_len l.self.parts - l.index

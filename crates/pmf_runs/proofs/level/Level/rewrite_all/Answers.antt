@@ -1,5 +1,5 @@
 use Rattle.std.proofs.Common.{◌≡◌, ◌+◌, ◌-◌, ◌∙◌, ap, arith, sym, subst}
-use Rattle.pmf_runs.{specs.Ranks.{low_rank, high_rank, IsInner}, proofs.RankLemmas.{low-law, high-law_none, high-law_is, none-is, inner-within, high-some, high_rank-bound, at-low, at-high}, proofs.LevelLemmas.{inner-begins, level-rewritten}, proofs.JoinedLevelLemmas.{parts-rewritten_some, parts-rewritten_none}}
+use Rattle.pmf_runs.{specs.Ranks.{low_rank, high_rank, IsInner}, proofs.RankLemmas.{low-law, high-law_none, high-law_is, none-is-any, inner-within, high-some, high_rank-bound, at-low, at-high}, proofs.LevelLemmas.{inner-begins, level-rewritten}, proofs.JoinedLevelLemmas.{parts-rewritten_some, parts-rewritten_none}}
 use Rattle.pmf_runs.proofs.level.Level.rewrite_all.Goals as goal
 
 pub change_parts-requires-clause-high : goal.change_parts-requires-clause-high
@@ -61,7 +61,7 @@ returns-then-high-gt0 g c =
     let first = subst (λ ks. IsInner ks c.args.from c.inner_bound-first.result) c.deref-2.ensures.value c.inner_bound-first.ensures in
     let at : c.high_rank-high.result ≡ high_rank keys c.args.end = c.high_rank-high.ensures ∙ ap (λ ks. high_rank ks c.args.end) c.deref-3.ensures.value in
     let last = subst (λ ks. IsInner ks c.args.end c.inner_bound-last.result) c.deref-4.ensures.value c.inner_bound-last.ensures in
-    let none = none-is c.inner_bound-last.result (sym c.is_some.ensures ∙ c.if-is_some.false) in
+    let none = none-is-any c.inner_bound-last.result (sym c.is_some.ensures ∙ c.if-is_some.false) in
     let before : c.high_rank-high.result - 1 + 1 ≡ high_rank keys c.args.end = omega arith in (
       level-rewritten g.P.Part.state (g.C.Change.changed c.args.change.now) c.args.self.now c.change_parts-then-high-gt0.new.self c.low_rank-low.result (c.high_rank-high.result - 1) c.args.from c.args.end
           c.inner_bound-first.result c.inner_bound-last.result
@@ -77,6 +77,6 @@ returns-else-high-gt0 g c =
     let keys = c.args.self.now.keys.items in
     let at : c.high_rank-high.result ≡ high_rank keys c.args.end = c.high_rank-high.ensures ∙ ap (λ ks. high_rank ks c.args.end) c.deref-3.ensures.value in
     let last = subst (λ ks. IsInner ks c.args.end c.inner_bound-last.result) c.deref-4.ensures.value c.inner_bound-last.ensures in
-    let none = none-is c.inner_bound-last.result (sym c.is_some.ensures ∙ c.if-is_some.false) in
+    let none = none-is-any c.inner_bound-last.result (sym c.is_some.ensures ∙ c.if-is_some.false) in
     let some = high-some keys c.args.end c.inner_bound-last.result c.args.self.now.ordered none last in
     absurd (omega arith)
