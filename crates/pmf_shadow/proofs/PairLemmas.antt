@@ -1,6 +1,6 @@
 -- The least pair without trying pairs: which bytes of the one span have a partner in the other, said by
 -- three numbers of the other, and which byte is the partner.
-use Rattle.std.{proofs.Common.{◌≡◌, ℕ, ◌+◌, ◌<◌, ◌≤◌, Bool, true, false, ◌&&◌, ◌==◌, nat_lt, if◌then◌else◌, refl, sym, ◌∙◌, ap, arith, inl, inr, ◌||◌, Option, Some, None, le-leb, lt-ltb, eq-eqb, ne_eqb}, proofs.lemmas.Bool.{cases_lt, cases_eq, leb-true, ltb-true, or_cases, or_left, or_right}, proofs.lemmas.Bool.Decides.{Decides-eqb}, proofs.Math.Bool.{or-true}, specs.Cmp.{both_ways}}
+use Rattle.std.{proofs.Common.{◌≡◌, ℕ, ◌+◌, ◌<◌, ◌≤◌, Bool, true, false, if◌then◌else◌, refl, sym, ◌∙◌, ap, arith, inl, inr, Option, Some, None, eq-eqb, ne_eqb}, proofs.lemmas.Bool.{cases_eq, or_cases, or_left, or_right}, specs.Cmp.{both_ways}}
 use Rattle.pmf_event.{proofs.LeastPairLemmas.{HasOne, partner-from_one, one-from_partner}, specs.Span.{Extent}, specs.Line.{line_of_byte}, specs.Order.{has_partner}}
 use Rattle.pmf_shadow.specs.{declared.byte.Stored.{Stored}, States.{holds_of, is_late, late_for, late_for_any, is_before, stored_by, comes_after, has_one_by, place_of, opening_of}, Pairs.{both_hold, by_epoch, by_place, by_epochs, by_lines, by_line, on_line, off_line, IsLeastValue}}
 
@@ -12,8 +12,7 @@ record Kept (kept : ℕ → Option Stored) (x : ℕ) : Type 0 where
   is : kept x ≡ Some stored
 
 kept-from_holds : (kept : ℕ → Option Stored) (test : Stored → Bool) (x : ℕ) (o : Option Stored) → kept x ≡ o → holds_of test o ≡ true → Kept kept x
-kept-from_holds kept test x None is holds = let bad : false ≡ true = holds in cc
-kept-from_holds kept test x (Some k) is holds = record { stored = k; is = is }
+kept-from_holds kept test x o is holds = grind arith
 
 -- two bytes with what is kept of them, which passes
 record Both (kept : ℕ → Option Stored) (test : Stored → Stored → Bool) (x y : ℕ) : Type 0 where
@@ -24,9 +23,7 @@ record Both (kept : ℕ → Option Stored) (test : Stored → Stored → Bool) (
   holds : test first second ≡ true
 
 both-from_holds : (kept : ℕ → Option Stored) (test : Stored → Stored → Bool) (x y : ℕ) (u v : Option Stored) → kept x ≡ u → kept y ≡ v → both_hold test u v ≡ true → Both kept test x y
-both-from_holds kept test x y (Some k) (Some m) one other holds = record { first = k; second = m; is_first = one; is_second = other; holds = holds }
-both-from_holds kept test x y (Some k) None one other holds = let bad : false ≡ true = holds in cc
-both-from_holds kept test x y None v one other holds = let bad : false ≡ true = holds in cc
+both-from_holds kept test x y u v one other holds = grind arith
 
 both_hold-is : (kept : ℕ → Option Stored) (test : Stored → Stored → Bool) (x y : ℕ) (k m : Stored) → kept x ≡ Some k → kept y ≡ Some m → both_hold test (kept x) (kept y) ≡ test k m
 both_hold-is kept test x y k m one other = ap (λ u. both_hold test u (kept y)) one ∙ ap (both_hold test (Some k)) other
@@ -36,34 +33,20 @@ holds_of-is kept test x k is = ap (holds_of test) is
 
 -- a second byte's test, once the first is known
 second-is : (test : Stored → Stored → Bool) (k : Stored) (u v : Option Stored) → u ≡ Some k → both_hold test u v ≡ holds_of (test k) v
-second-is test k u None is = ap (λ w. both_hold test w None) is
-second-is test k u (Some m) is = ap (λ w. both_hold test w (Some m)) is
+second-is test k u v is = grind arith
 
 pub late-monotone : (low high : ℕ) (w : Option ℕ) → low ≤ high → is_late high w ≡ true → is_late low w ≡ true
-late-monotone low high None below late = refl
-late-monotone low high (Some w) below late = let at_most = leb-true high w late in le-leb low w (omega arith)
+late-monotone low high w below late = grind arith
 
 before-monotone : (ties : Bool) (low i j : ℕ) → low ≤ i → is_before ties i j ≡ true → is_before ties low j ≡ true
-before-monotone ties low i j below before = elim (cases_lt low j) [
-  | inl less ↦ ap (λ v. v || (ties && low == j)) (lt-ltb low j less)
-  | inr above ↦ elim (nat_lt i j) as (λ v. nat_lt i j ≡ v → (v || (ties && i == j)) ≡ true → is_before ties low j ≡ true) [
-    | true ↦ λ is more. let earlier = ltb-true i j is in absurd (omega arith)
-    | false ↦ λ is more. elim ties as (λ t. (false || (t && i == j)) ≡ true → is_before t low j ≡ true) [
-      | true ↦ λ tie. let same : i ≡ j = (Decides-eqb i j).0 tie in let level : low ≡ j = omega arith in
-          ap (λ v. nat_lt low j || v) ((Decides-eqb low j).1 level) ∙ or-true (nat_lt low j)
-      | false ↦ λ tie. let bad : false ≡ true = tie in cc
-    ] more
-  ] refl before
-]
+before-monotone ties low i j below before = grind arith
 
 -- what has an opening or a place is kept
 kept-from_opening : (kept : ℕ → Option Stored) (x v : ℕ) (o : Option Stored) → kept x ≡ o → opening_of o ≡ Some v → (k : Stored) × (kept x ≡ Some k) × (k.opens ≡ v)
-kept-from_opening kept x v None is has = let bad : None ≡ Some v = has in cc
-kept-from_opening kept x v (Some k) is has = (k, is, (let same : Some k.opens ≡ Some v = has in cc))
+kept-from_opening kept x v o is has = grind arith
 
 kept-from_place : (kept : ℕ → Option Stored) (x v : ℕ) (o : Option Stored) → kept x ≡ o → place_of o ≡ Some v → (k : Stored) × (kept x ≡ Some k) × (k.last ≡ v)
-kept-from_place kept x v None is has = let bad : None ≡ Some v = has in cc
-kept-from_place kept x v (Some k) is has = (k, is, (let same : Some k.last ≡ Some v = has in cc))
+kept-from_place kept x v o is has = grind arith
 
 -- the value of what is kept
 abbrev opening_at : (ℕ → Option Stored) → ℕ → Option ℕ
@@ -145,17 +128,11 @@ module _ (line : ℕ) where
 
   line-from_on : (value : ℕ → Option ℕ) (x v : ℕ) → on_line line value x ≡ Some v → (line_of_byte x ≡ line) × (value x ≡ Some v)
   unfolding on_line
-  line-from_on value x v is = elim (cases_eq (line_of_byte x) line) [
-    | inl same ↦ (same, sym (ap (λ t. if t then value x else None) (eq-eqb (line_of_byte x) line same)) ∙ is)
-    | inr other ↦ let bad : None ≡ Some v = sym (ap (λ t. if t then value x else None) (ne_eqb (line_of_byte x) line other)) ∙ is in cc
-  ]
+  line-from_on value x v is = grind arith
 
   line-from_off : (value : ℕ → Option ℕ) (x v : ℕ) → off_line line value x ≡ Some v → (line_of_byte x ≡ line → ⊥) × (value x ≡ Some v)
   unfolding off_line
-  line-from_off value x v is = elim (cases_eq (line_of_byte x) line) [
-    | inl same ↦ let bad : None ≡ Some v = sym (ap (λ t. if t then None else value x) (eq-eqb (line_of_byte x) line same)) ∙ is in cc
-    | inr other ↦ (other, sym (ap (λ t. if t then None else value x) (ne_eqb (line_of_byte x) line other)) ∙ is)
-  ]
+  line-from_off value x v is = grind arith
 
 module _ (ties : Bool) (kept : ℕ → Option Stored) where
   pub by_lines-on : (x y : ℕ) → line_of_byte x ≡ line_of_byte y → by_lines ties kept x y ≡ both_hold (by_place ties) (kept x) (kept y)

@@ -1,5 +1,5 @@
 -- A search of a span in three pieces: before a line, on it, and after it.
-use Rattle.std.proofs.{Common.{◌≡◌, ℕ, zero, suc, ◌+◌, ◌-◌, ◌%◌, ◌<◌, ◌≤◌, Bool, true, false, refl, sym, ◌∙◌, ap, arith, subst, inl, inr, min, max, ◌⊎◌, Option, Some, None, is_some, nat_le, if◌then◌else◌}, lemmas.Bool.{cases_lt, cases_eq, leb-true, leb-false}}
+use Rattle.std.proofs.{Common.{◌≡◌, ℕ, zero, suc, ◌+◌, ◌-◌, ◌%◌, ◌<◌, ◌≤◌, Bool, true, false, refl, sym, ◌∙◌, ap, arith, subst, inl, inr, min, max, ◌⊎◌, Option, Some, None, is_some}, lemmas.Bool.{cases_lt, cases_eq}}
 use Rattle.pmf_event.{specs.Span.{Extent}, specs.Line.{line_of_byte}, specs.Ranges.{first_from, lesser, least_from}, proofs.LineLemmas.{line-bounds, line-unique}, proofs.RangeLemmas.{first_from-none, first_from-some, none-passes, first-passes, some-or-none, some-from, none-from}}
 use Rattle.pmf_shadow.{specs.Pairs.{by_line, on_line, off_line, HasValue, IsLeastValue}, proofs.PairLemmas.{by_line-on, by_line-off, on_line-on, on_line-off, off_line-on, off_line-off}}
 
@@ -84,21 +84,7 @@ module _ (line : ℕ) (aligned : line % 64 ≡ 0) where
 -- ---- least values
 
 lesser-left : (x : ℕ) (o : Option ℕ) (v : ℕ) → lesser (Some x) o ≡ Some v → (v ≤ x) × ((y : ℕ) → o ≡ Some y → v ≤ y) × ((v ≡ x) ⊎ (o ≡ Some v))
-lesser-left x None v is = let same : Some x ≡ Some v = is in let own : x ≡ v = cc in (omega arith, (λ y bad. cc), inl (sym own))
-lesser-left x (Some y) v is =
-    elim (nat_le x y) as (λ t. nat_le x y ≡ t → (if t then Some x else Some y) ≡ Some v → (v ≤ x) × ((z : ℕ) → Some y ≡ Some z → v ≤ z) × ((v ≡ x) ⊎ (Some y ≡ Some v))) [
-      | true ↦ λ low same. let own : x ≡ v = cc in let under = leb-true x y low in (omega arith, (λ z at. let here : y ≡ z = cc in omega arith), inl (sym own))
-      | false ↦ λ high same. let own : y ≡ v = cc in let over = leb-false x y high in (omega arith, (λ z at. let here : y ≡ z = cc in omega arith), inr same)
-    ] refl is
-
-lesser-none-both : (x y : Option ℕ) → lesser x y ≡ None → (x ≡ None) × (y ≡ None)
-lesser-none-both None y is = (refl, is)
-lesser-none-both (Some x) None is = let bad : Some x ≡ None = is in cc
-lesser-none-both (Some x) (Some y) is =
-    elim (nat_le x y) as (λ t. (if t then Some x else Some y) ≡ None → (Some x ≡ None) × (Some y ≡ None)) [
-      | true ↦ λ bad. cc
-      | false ↦ λ bad. cc
-    ] is
+lesser-left x o v is = grind arith
 
 -- two parts that hold every value between them
 pub parts-least : (value one other : ℕ → Option ℕ) (b n c m d l : ℕ) (x y : Option ℕ) → IsLeastValue one c m x → IsLeastValue other d l y →
@@ -107,21 +93,14 @@ pub parts-least : (value one other : ℕ → Option ℕ) (b n c m d l : ℕ) (x 
     ((k v : ℕ) → d ≤ k → k < d + l → other k ≡ Some v → (b ≤ k) × (k < b + n) × (value k ≡ Some v)) →
     IsLeastValue value b n (lesser x y)
 parts-least value one other b n c m d l x y first second covered left right = record {
-  none = λ none k low high. no_value (value k) (λ v is. let both = lesser-none-both x y none in elim (covered k low high v is) [
-    | inl here ↦ let bad : None ≡ Some v = sym (first.none both.0 k here.0 here.1) ∙ here.2 in cc
-    | inr there ↦ let bad : None ≡ Some v = sym (second.none both.1 k there.0 there.1) ∙ there.2 in cc
-  ]);
+  none = λ none k low high. grind (arith, covered k low high, first.none, second.none);
   has = λ v is. chosen x y refl refl v is;
-  bound = λ v is k u low high at. elim (covered k low high u at) [
-    | inl here ↦ below_left x y refl v is k u here.0 here.1 here.2
-    | inr there ↦ below_right x y refl v is k u there.0 there.1 there.2
-  ];
+  bound = λ v is k u low high at.
+      let left : (p : ℕ) → x ≡ Some p → c ≤ k → k < c + m → one k ≡ Some u → p ≤ u = λ p own after before here. first.bound p own k u after before here in
+      let right : (p : ℕ) → y ≡ Some p → d ≤ k → k < d + l → other k ≡ Some u → p ≤ u = λ p own after before here. second.bound p own k u after before here in
+      grind (arith, covered k low high u at, first.none, second.none, left, right);
 }
   where
-    no_value : (o : Option ℕ) → ((v : ℕ) → o ≡ Some v → ⊥) → o ≡ None
-    no_value None never = refl
-    no_value (Some v) never = absurd (never v refl)
-
     from_left : (v : ℕ) → x ≡ Some v → HasValue value b n v
     from_left v is = let own = first.has v is in let there = left own.place v own.from own.within own.is in
         record { place = own.place; from = there.0; within = there.1; is = there.2 }
@@ -136,16 +115,6 @@ parts-least value one other b n c m d l x y first second covered left right = re
       | inl same ↦ from_left v (is_x ∙ ap (λ k. Some k) (sym same))
       | inr there ↦ from_right v (is_y ∙ there)
     ]
-
-    below_left : (p q : Option ℕ) → x ≡ p → (v : ℕ) → lesser p q ≡ Some v → (k u : ℕ) → c ≤ k → k < c + m → one k ≡ Some u → v ≤ u
-    below_left None q is_x v is k u low high at = let bad : None ≡ Some u = sym (first.none is_x k low high) ∙ at in cc
-    below_left (Some p) q is_x v is k u low high at = let own = first.bound p is_x k u low high at in let less = (lesser-left p q v is).0 in omega arith
-
-    below_right : (p q : Option ℕ) → y ≡ q → (v : ℕ) → lesser p q ≡ Some v → (k u : ℕ) → d ≤ k → k < d + l → other k ≡ Some u → v ≤ u
-    below_right p None is_y v is k u low high at = let bad : None ≡ Some u = sym (second.none is_y k low high) ∙ at in cc
-    below_right None (Some q) is_y v is k u low high at = second.bound v (is_y ∙ is) k u low high at
-    below_right (Some p) (Some q) is_y v is k u low high at =
-        let own = second.bound q is_y k u low high at in let less = (lesser-left p (Some q) v is).1 q refl in omega arith
 
 pub least_from-is : (value : ℕ → Option ℕ) (b n : ℕ) → IsLeastValue value b n (least_from value b n)
 unfolding least_from
@@ -173,20 +142,14 @@ module _ (line : ℕ) (aligned : line % 64 ≡ 0) (value : ℕ → Option ℕ) (
   least-on =
       let v = max first line in
       let own = least_from-is value v (min end (line + 64) - v) in record {
-        none = λ none k low high. elim (cases_eq (line_of_byte k) line) [
-          | inl same ↦ let bounds = line-bounds k in let at_least = bounds.0 in let below_end = bounds.1 in on_line-on line value k same ∙ own.none none k (omega arith) (omega arith)
-          | inr other ↦ on_line-off line value k other
-        ];
+        none = λ none k low high. let bounds = line-bounds k in grind (arith, on_line-on, on_line-off, own.none);
         has = λ u is. let there = own.has u is in let from = there.from in let within = there.within in record {
           place = there.place;
           from = omega arith;
           within = omega arith;
           is = on_line-on line value there.place (inside line aligned there.place (omega arith) (omega arith)) ∙ there.is;
         };
-        bound = λ u is k w low high at. elim (cases_eq (line_of_byte k) line) [
-          | inl same ↦ let bounds = line-bounds k in let at_least = bounds.0 in let below_end = bounds.1 in own.bound u is k w (omega arith) (omega arith) (sym (on_line-on line value k same) ∙ at)
-          | inr other ↦ let bad : None ≡ Some w = sym (on_line-off line value k other) ∙ at in cc
-        ];
+        bound = λ u is k w low high at. let bounds = line-bounds k in grind (arith, on_line-on, on_line-off, own.bound);
       }
 
   pub least-off : IsLeastValue (off_line line value) first size (lesser (least_from value first (min end line - first)) (least_from value (max first (line + 64)) (end - max first (line + 64))))
@@ -194,16 +157,7 @@ module _ (line : ℕ) (aligned : line % 64 ≡ 0) (value : ℕ → Option ℕ) (
       let z = max first (line + 64) in
       parts-least (off_line line value) value value first size first (min end line - first) z (end - z) _ _
       (least_from-is value first (min end line - first)) (least_from-is value z (end - z))
-      (λ k low high v at. elim (cases_eq (line_of_byte k) line) [
-        | inl same ↦ let bad : None ≡ Some v = sym (off_line-on line value k same) ∙ at in cc
-        | inr other ↦ elim (cases_lt k line) [
-          | inl under ↦ inl (low, omega arith, sym (off_line-off line value k other) ∙ at)
-          | inr over ↦ elim (cases_lt k (line + 64)) [
-            | inl within ↦ absurd (other (inside line aligned k over within))
-            | inr past ↦ inr (omega arith, omega arith, sym (off_line-off line value k other) ∙ at)
-          ]
-        ]
-      ])
+      (λ k low high v at. grind (arith, off_line-on, off_line-off, inside line aligned k))
       (λ k v low high at. (low, omega arith, off_line-off line value k (below line aligned k (omega arith)) ∙ at))
       (λ k v low high at. (omega arith, omega arith, off_line-off line value k (above line aligned k (omega arith)) ∙ at))
 

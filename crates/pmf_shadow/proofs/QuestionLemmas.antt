@@ -1,7 +1,7 @@
 -- What is kept answers the questions as the definitions do.
-use Rattle.std.proofs.{Common.{◌≡◌, ℕ, ◌+◌, ◌*◌, ◌<◌, ◌≤◌, Bool, true, false, not, ◌&&◌, ◌==◌, nat_lt, if◌then◌else◌, List, refl, sym, ◌∙◌, ap, arith, inl, inr, Option, Some, None, is_none, le-leb, le-ltb, lt-ltb, ne_eqb}, lemmas.Bool.{cases_lt, cases_eq, lt-leb}, lemmas.Bool.Decides.{Decides-eqb}, Math.Bool.{and-false}}
-use Rattle.pmf_event.{specs.declared.event.Event.{Event}, specs.declared.interval.Interval.{Interval}, specs.Span.{Extent}, specs.Line.{line_of_byte}, specs.Places.{count}, specs.Ranges.{first_byte}, specs.Store.{at, stores, is_fence, last_store, epoch_of}, specs.WriteBack.{write_back_epoch, epoch_unless}, specs.Interval.{first_write_back, closing_fence, epoch_after, interval_at, is_open}, specs.Exclusion.{is_excluded, is_included}, specs.Persist.{is_checked, is_exposed}, specs.FlushWarnings.{is_clean, is_pending, lines_where}, specs.LineBytes.{is_undurable, is_unwritten}, proofs.RangeLemmas.{first_from-same}, proofs.WriteBackLemmas.{epoch_unless-none, epoch_unless-some, epoch_after-none, epoch_after-some, closing-from_epoch, closing-none, closing-late}, proofs.LineBytesLemmas.{lines_follow_from_their_bytes}}
-use Rattle.pmf_shadow.{specs.declared.byte.ByteState.{ByteState}, specs.declared.byte.Stored.{Stored}, specs.declared.shadow.Shadow.{Shadow}, specs.States.{stored_of, checked_store, holds_of, any_store, is_late, is_from, late_for, lacks_write_back, written_back_from}, specs.Shadow.{stored_at, closing, StandsFor}, specs.Told.{interval_as_told}, specs.Stretches.{line_lacks, line_has_but, lines_by}, proofs.StandsLemmas.{IsByteAt, stands-bytes, store_of-none, store_of-some, stored_at-is}, proofs.StretchLemmas.{lines_by-same, clean-by, pending-by}}
+use Rattle.std.proofs.{Common.{◌≡◌, ℕ, ◌+◌, ◌*◌, ◌<◌, ◌≤◌, Bool, true, false, not, ◌&&◌, ◌==◌, nat_lt, if◌then◌else◌, List, refl, sym, ◌∙◌, ap, arith, inl, inr, Option, Some, None, is_none, le-ltb, lt-ltb, ne_eqb}, lemmas.Bool.{cases_lt}, Math.Bool.{and-false}}
+use Rattle.pmf_event.{specs.declared.event.Event.{Event}, specs.declared.interval.Interval.{Interval}, specs.Span.{Extent}, specs.Line.{line_of_byte}, specs.Places.{count}, specs.Ranges.{first_byte}, specs.Store.{at, stores, is_fence, last_store, epoch_of}, specs.WriteBack.{write_back_epoch, epoch_unless}, specs.Interval.{closing_fence, epoch_after, interval_at, is_open}, specs.Exclusion.{is_excluded, is_included}, specs.Persist.{is_checked, is_exposed}, specs.FlushWarnings.{is_clean, is_pending, lines_where}, specs.LineBytes.{is_undurable, is_unwritten}, proofs.RangeLemmas.{first_from-same}, proofs.WriteBackLemmas.{closing-from_epoch, closing-none, closing-late}, proofs.LineBytesLemmas.{lines_follow_from_their_bytes}}
+use Rattle.pmf_shadow.{specs.declared.byte.ByteState.{ByteState}, specs.declared.byte.Stored.{Stored}, specs.declared.shadow.Shadow.{Shadow}, specs.States.{stored_of, checked_store, holds_of, any_store, is_late, is_from, late_for, lacks_write_back, written_back_from}, specs.Shadow.{stored_at, closing, StandsFor}, specs.Told.{interval_as_told}, specs.Stretches.{line_lacks, line_has_but, lines_by}, proofs.StandsLemmas.{IsByteAt, stands-bytes}, proofs.StretchLemmas.{lines_by-same, clean-by, pending-by}}
 use Rattle.pmf_runs.specs.Runs.{state_at, passing}
 
 -- ---- where an interval closes
@@ -22,15 +22,7 @@ closes-is stored line es p (Some w) is = elim (cases_lt w (count (at is_fence es
 ]
 
 late-is_open : (fences : ℕ) (o : Option ℕ) → is_late fences o ≡ is_none (closing fences o)
-late-is_open fences None = refl
-late-is_open fences (Some w) = elim (cases_lt w fences) [
-  | inl ended ↦ lt-leb fences w ended ∙ sym (ap (λ (c : Option ℕ). is_none c) (closing-some fences w ended))
-  | inr late ↦ le-leb fences w late ∙ sym (ap (λ (c : Option ℕ). is_none c) (closing-open fences w late))
-]
-
-late-none : (fences : ℕ) (o : Option ℕ) → is_none o ≡ true → is_late fences o ≡ true
-late-none fences None is = refl
-late-none fences (Some w) is = let bad : false ≡ true = is in cc
+late-is_open fences o = grind arith
 
 -- ---- one byte
 
@@ -53,53 +45,23 @@ pub record IsWritten (told : ℕ → ℕ) (es : List Event) (p b : ℕ) (k : Sto
   pub write_back : k.written_back ≡ write_back_epoch (stores b) (line_of_byte b) es p
 
 pub written-from_stored : (told : ℕ → ℕ) (es : List Event) (p b : ℕ) (k : Stored) → stored_at told es p b ≡ Some k → IsWritten told es p b k
-written-from_stored told es p b k is =
-    let l = last_store es p b in
-    let w = write_back_epoch (stores b) (line_of_byte b) es p in
-    elim (cases_eq l 0) [
-      | inl zero_is ↦ let bad : None ≡ Some k = sym (store_of-none told es l w zero_is) ∙ sym (stored_at-is told es p b) ∙ is in cc
-      | inr some ↦
-          let same : Some (record { last = told l; opens = epoch_of es l; written_back = w }) ≡ Some k = sym (store_of-some told es l w (omega arith)) ∙ sym (stored_at-is told es p b) ∙ is in
-          let own : record { last = told l; opens = epoch_of es l; written_back = w } ≡ k = cc in
-          record {
-            some = omega arith;
-            place = sym (ap (λ (s : Stored). s.last) own);
-            epoch = sym (ap (λ (s : Stored). s.opens) own);
-            write_back = sym (ap (λ (s : Stored). s.written_back) own);
-          }
-    ]
+written-from_stored told es p b k is = grind arith
 
 never : (o : Option Stored) (k : Stored) → o ≡ None → o ≡ Some k → ⊥
 never o k none some = let bad : None ≡ Some k = sym none ∙ some in cc
 
 pub unwritten-from_none : (told : ℕ → ℕ) (es : List Event) (p b : ℕ) → stored_at told es p b ≡ None → last_store es p b ≡ 0
-unwritten-from_none told es p b is =
-    let l = last_store es p b in
-    let w = write_back_epoch (stores b) (line_of_byte b) es p in
-    elim (cases_eq l 0) [
-      | inl zero_is ↦ zero_is
-      | inr some ↦ absurd (never (stored_at told es p b) (record { last = told l; opens = epoch_of es l; written_back = w }) is (stored_at-is told es p b ∙ store_of-some told es l w (omega arith)))
-    ]
+unwritten-from_none told es p b is = grind arith
 
 -- the interval of a written byte
 pub interval-written : (told : ℕ → ℕ) (es : List Event) (p b : ℕ) (k : Stored) → stored_at told es p b ≡ Some k →
     interval_at es p b ≡ Some (record { last = last_store es p b; opens = k.opens; closes = closing (count (at is_fence es) p) k.written_back })
-interval-written told es p b k is =
-    let own = written-from_stored told es p b k is in
-    let c = epoch_after es (closing_fence (stores b) (line_of_byte b) es p) in
-    interval_at-is es p b
-    ∙ interval_of-some es (last_store es p b) c own.some
-    ∙ ap (λ o. Some (record { last = last_store es p b; opens = o; closes = c })) (sym own.epoch)
-    ∙ ap (λ x. Some (record { last = last_store es p b; opens = k.opens; closes = x })) (sym (closes-is (stores b) (line_of_byte b) es p k.written_back (sym own.write_back)))
+interval-written told es p b k is = grind (arith, written-from_stored, interval_at-is, interval_of-some, closes-is)
 
 -- the interval of a byte without a store
 interval-unwritten : (told : ℕ → ℕ) (es : List Event) (p b : ℕ) → stored_at told es p b ≡ None → interval_at es p b ≡ None
 unfolding interval_of
-interval-unwritten told es p b is =
-    let c = epoch_after es (closing_fence (stores b) (line_of_byte b) es p) in
-    interval_at-is es p b
-    ∙ ap (λ v. if v then None else Some (record { last = last_store es p b; opens = epoch_of es (last_store es p b); closes = c }))
-    ((Decides-eqb (last_store es p b) 0).1 (unwritten-from_none told es p b is))
+interval-unwritten told es p b is = grind arith
 
 -- whether it is checked, by what is kept
 checked-by : (told : ℕ → ℕ) (es : List Event) (p b : ℕ) (out : Bool) (o : Option Stored) → is_excluded es p b ≡ out → stored_at told es p b ≡ o →
@@ -128,16 +90,10 @@ exposed-is told es p b s is = exposed-by told es p b s.excluded (stored_of s) (s
 -- ---- undurable and unwritten bytes, excluded or not
 
 fence-none : (es : List Event) (f : ℕ) → is_none (epoch_after es f) ≡ (f == 0)
-fence-none es f = elim (cases_eq f 0) [
-  | inl zero_is ↦ ap (λ (o : Option ℕ). is_none o) (epoch_after-none es f zero_is) ∙ sym ((Decides-eqb f 0).1 zero_is)
-  | inr some ↦ ap (λ (o : Option ℕ). is_none o) (epoch_after-some es f (omega arith)) ∙ sym (ne_eqb f 0 some)
-]
+fence-none es f = grind arith
 
 place-none : (es : List Event) (w : ℕ) → is_none (epoch_unless es w) ≡ (w == 0)
-place-none es w = elim (cases_eq w 0) [
-  | inl zero_is ↦ ap (λ (o : Option ℕ). is_none o) (epoch_unless-none es w zero_is) ∙ sym ((Decides-eqb w 0).1 zero_is)
-  | inr some ↦ ap (λ (o : Option ℕ). is_none o) (epoch_unless-some es w (omega arith)) ∙ sym (ne_eqb w 0 some)
-]
+place-none es w = grind arith
 
 pub undurable-by : (told : ℕ → ℕ) (es : List Event) (p b : ℕ) (o : Option Stored) → stored_at told es p b ≡ o → is_undurable es p b ≡ holds_of (late_for (count (at is_fence es) p)) o
 unfolding is_undurable
@@ -152,26 +108,18 @@ undurable-by told es p b (Some k) is =
 
 pub unwritten-by : (told : ℕ → ℕ) (es : List Event) (p b : ℕ) (o : Option Stored) → stored_at told es p b ≡ o → is_unwritten es p b ≡ holds_of lacks_write_back o
 unfolding is_unwritten write_back_epoch
-unwritten-by told es p b None is = ap (λ k. nat_lt 0 k && first_write_back (stores b) (line_of_byte b) es p == 0) (unwritten-from_none told es p b is)
-unwritten-by told es p b (Some k) is =
-    let own = written-from_stored told es p b k is in
-    let w = first_write_back (stores b) (line_of_byte b) es p in
-    ap (λ v. v && w == 0) (lt-ltb 0 (last_store es p b) own.some)
-    ∙ sym (ap (λ (o : Option ℕ). is_none o) own.write_back ∙ place-none es w)
+unwritten-by told es p b o is = grind arith
 
 -- a store that was not written back was not written back in time
 pub lacks-late : (fences : ℕ) (o : Option Stored) → holds_of lacks_write_back o ≡ true → holds_of (late_for fences) o ≡ true
-lacks-late fences None is = is
-lacks-late fences (Some k) is = late-none fences k.written_back is
+lacks-late fences o is = grind arith
 
 late-from : (fences : ℕ) (w : Option ℕ) → is_late fences w ≡ true → is_none w ≡ false → is_from fences w ≡ true
-late-from fences None late lacks = cc
-late-from fences (Some w) late lacks = late
+late-from fences w late lacks = grind arith
 
 -- a store that was not written back in time, but was written back, was so from then on
 pub late-alone : (fences : ℕ) (o : Option Stored) → holds_of (late_for fences) o ≡ true → holds_of lacks_write_back o ≡ false → holds_of (written_back_from fences) o ≡ true
-late-alone fences None late lacks = late
-late-alone fences (Some k) late lacks = late-from fences k.written_back late lacks
+late-alone fences o late lacks = grind arith
 
 -- ---- the questions
 
@@ -193,9 +141,7 @@ module _ (shadow : Shadow) (told : ℕ → ℕ) (es : List Event) (p : ℕ) (sta
 
   pub exposed-same : (s : Extent) → first_byte (passing (λ t. holds_of (late_for shadow.fences) (checked_store t)) shadow.bytes) s ≡ first_byte (is_exposed es p) s
   unfolding passing
-  exposed-same s = first_from-same _ _ s.first s.size (λ b low high.
-      ap (λ f. holds_of (late_for f) (checked_store (state_at shadow.bytes b))) stands.fences
-      ∙ sym (exposed-is told es p b (state_at shadow.bytes b) (stands-bytes shadow told es p stands b)))
+  exposed-same s = grind (arith, first_from-same, exposed-is, stands-bytes)
 
   pub included-same : (s : Extent) → first_byte (passing (λ t. not t.excluded) shadow.bytes) s ≡ first_byte (is_included es p) s
   unfolding passing is_included
@@ -203,10 +149,7 @@ module _ (shadow : Shadow) (told : ℕ → ℕ) (es : List Event) (p : ℕ) (sta
 
   pub undurable-same : (b : ℕ) → passing (λ t. holds_of (late_for shadow.fences) (stored_of t)) shadow.bytes b ≡ is_undurable es p b
   unfolding passing
-  undurable-same b =
-      ap (holds_of (late_for shadow.fences)) (stands.stored b)
-      ∙ ap (λ f. holds_of (late_for f) (stored_at told es p b)) stands.fences
-      ∙ sym (undurable-by told es p b (stored_at told es p b) refl)
+  undurable-same b = grind (arith, undurable-by)
 
   unwritten-same : (b : ℕ) → passing (λ t. holds_of lacks_write_back (stored_of t)) shadow.bytes b ≡ is_unwritten es p b
   unfolding passing

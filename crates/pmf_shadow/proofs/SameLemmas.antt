@@ -1,6 +1,6 @@
 -- What the definitions say at p looks only at the events up to p.
-use Rattle.std.proofs.{Common.{◌≡◌, ℕ, zero, suc, ◌-◌, ◌<◌, ◌≤◌, Bool, ◌&&◌, ◌==◌, nat_lt, if◌then◌else◌, List, [], ◌∷◌, ◌++◌, length, take, refl, sym, ◌∙◌, ap, arith, inl, inr, Some, None, slice_get, length-take-le}, lemmas.Bool.{cases_lt}, lemmas.Option.{slice_get_within}}
-use Rattle.pmf_event.{specs.declared.event.Event.{Event}, specs.Places.{greatest, least, count}, specs.Store.{event_at, passes, at, flushes, is_fence, last, epoch_of}, specs.Interval.{writes_back, first_write_back}, specs.WriteBack.{epoch_unless, write_back_epoch}, specs.Exclusion.{excludes, marks, is_excluded}, specs.LineBytes.{HasBytes}, proofs.PlacesLemmas.{SameUpTo, least-bound}, proofs.WriteBackLemmas.{last-bound}}
+use Rattle.std.proofs.{Common.{◌≡◌, ℕ, zero, suc, ◌-◌, ◌<◌, ◌≤◌, Bool, ◌&&◌, nat_lt, List, [], ◌∷◌, ◌++◌, length, take, refl, sym, ◌∙◌, ap, arith, inl, inr, Some, slice_get, length-take-le}, lemmas.Bool.{cases_lt}, lemmas.Option.{slice_get_within}}
+use Rattle.pmf_event.{specs.declared.event.Event.{Event}, specs.Places.{greatest, least, count}, specs.Store.{event_at, passes, at, flushes, is_fence, last, epoch_of}, specs.Interval.{writes_back, first_write_back}, specs.WriteBack.{write_back_epoch}, specs.Exclusion.{is_excluded}, specs.LineBytes.{HasBytes}, proofs.PlacesLemmas.{SameUpTo, least-bound}, proofs.WriteBackLemmas.{last-bound}}
 use Rattle.pmf_shadow.specs.Laws.{SameEvents}
 
 -- ---- searches
@@ -53,9 +53,7 @@ module _ (es fs : List Event) (p : ℕ) (same : SameEvents es fs p) where
 
   first_write_back-same : (stored : Event → Bool) (line : ℕ) → first_write_back stored line es p ≡ first_write_back stored line fs p
   unfolding first_write_back
-  first_write_back-same stored line =
-      least-same (writes_back es line (last stored es p)) (writes_back fs line (last stored es p)) p (writes_back-same line (last stored es p))
-      ∙ ap (λ k. least (writes_back fs line k) p) (last-same stored)
+  first_write_back-same stored line = grind (arith, least-same, writes_back-same, last-same)
 
   first_write_back-bound : (stored : Event → Bool) (line : ℕ) → first_write_back stored line es p ≤ p
   unfolding first_write_back
@@ -63,18 +61,14 @@ module _ (es fs : List Event) (p : ℕ) (same : SameEvents es fs p) where
 
   pub write_back_epoch-same : (stored : Event → Bool) (line : ℕ) → write_back_epoch stored line es p ≡ write_back_epoch stored line fs p
   unfolding write_back_epoch
-  write_back_epoch-same stored line =
-      let w = first_write_back stored line es p in
-      ap (λ e. if w == 0 then None else Some e) (epoch_of-same w (first_write_back-bound stored line))
-      ∙ ap (epoch_unless fs) (first_write_back-same stored line)
+  write_back_epoch-same stored line = grind (arith, epoch_of-same, first_write_back-bound, first_write_back-same)
 
   pub last_epoch-same : (stored : Event → Bool) → epoch_of es (last stored es p) ≡ epoch_of fs (last stored fs p)
   last_epoch-same stored = epoch_of-same (last stored es p) (last-bound stored es p) ∙ ap (epoch_of fs) (last-same stored)
 
   pub excluded-same : (b : ℕ) → is_excluded es p b ≡ is_excluded fs p b
   unfolding is_excluded
-  excluded-same b =
-      at-same (excludes b) (last (marks b) es p) (last-bound (marks b) es p) ∙ ap (at (excludes b) fs) (last-same (marks b))
+  excluded-same b = grind (arith, at-same, last-bound, last-same)
 
   pub sized-same : HasBytes es p → HasBytes fs p
   sized-same sized k s within is = sized k s within (same k within ∙ is)
@@ -99,8 +93,7 @@ slice_get-take (suc n) (x ∷ xs) (suc k) below = slice_get-take n xs k (omega a
 -- a list and the same with an event at its end
 pub same-longer : (es : List Event) (e : Event) → SameEvents es (es ++ e ∷ []) (length es)
 unfolding event_at
-same-longer es e zero within = refl
-same-longer es e (suc k) within = sym (slice_get-front es (e ∷ []) k (omega arith))
+same-longer es e case2 within = grind (arith, slice_get-front)
 
 pub at_the_end : (es : List Event) (e : Event) → event_at (es ++ e ∷ []) (suc (length es)) ≡ Some e
 unfolding event_at
@@ -113,8 +106,7 @@ within-list es p e here = slice_get_within es p e here
 -- a list and its first p events
 pub same-taken : (es : List Event) (p : ℕ) → SameEvents es (take p es) p
 unfolding event_at
-same-taken es p zero within = refl
-same-taken es p (suc k) within = sym (slice_get-take p es k (omega arith))
+same-taken es p case2 within = grind (arith, slice_get-take)
 
 pub length-taken : (es : List Event) (p : ℕ) (e : Event) → event_at es (suc p) ≡ Some e → length (take p es) ≡ p
 length-taken es p e here = let within = within-list es p e here in length-take-le p es (omega arith)

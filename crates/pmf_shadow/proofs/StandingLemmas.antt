@@ -1,19 +1,11 @@
 -- A run of equal states: its bytes stand alike, and it goes on up to the first byte that has another state.
-use Rattle.std.proofs.{Common.{◌≡◌, ℕ, ◌+◌, ◌-◌, ◌<◌, ◌≤◌, Bool, true, false, not, ◌&&◌, ◌==◌, if◌then◌else◌, List, refl, sym, ◌∙◌, ap, arith, inl, inr, Option, Some, None, ne_eqb}, Math.Bool.{beq}, lemmas.Bool.{cases_eq, and_from, not-false, not_from_true}, lemmas.Bool.Decides.{Decides-eqb}}
-use Rattle.pmf_event.{specs.declared.event.Event.{Event}, specs.Line.{line_of_byte}, specs.Places.{count}, specs.Ranges.{first_from}, specs.Store.{at, stores, is_fence, last_store}, specs.WriteBack.{write_back_epoch}, proofs.RangeLemmas.{none-passes, first-passes}}
-use Rattle.pmf_shadow.{specs.declared.byte.ByteState.{ByteState}, specs.declared.byte.bounds.Bounds.{Bounds}, specs.declared.shadow.Shadow.{Shadow}, specs.declared.standing.Standing.{Standing}, specs.EqualStates.{is_like, equal_states}, specs.Shadow.{stored_at, StandsFor}, specs.Standing.{place_as_told, StandsSo}, specs.States.{holds_of, lacks_write_back, late_for, place_of, stored_of}, proofs.StandsLemmas.{store_of, store_of-none, store_of-some, stored_at-is}, proofs.QuestionLemmas.{undurable-by, unwritten-by}}
+use Rattle.std.proofs.{Common.{◌≡◌, ℕ, ◌+◌, ◌-◌, ◌<◌, ◌≤◌, true, false, not, List, sym, ◌∙◌, ap, arith, inl, inr, Some, None}, lemmas.Bool.{cases_eq, not-false, not_from_true}}
+use Rattle.pmf_event.{specs.declared.event.Event.{Event}, specs.Ranges.{first_from}, specs.Store.{last_store}, proofs.RangeLemmas.{none-passes, first-passes}}
+use Rattle.pmf_shadow.{specs.declared.byte.ByteState.{ByteState}, specs.declared.byte.bounds.Bounds.{Bounds}, specs.declared.shadow.Shadow.{Shadow}, specs.declared.standing.Standing.{Standing}, specs.EqualStates.{is_like, equal_states}, specs.Shadow.{stored_at, StandsFor}, specs.Standing.{place_as_told, StandsSo}, specs.States.{holds_of, lacks_write_back, late_for, place_of, stored_of}, proofs.QuestionLemmas.{undurable-by, unwritten-by}}
 use Rattle.pmf_runs.specs.{declared.runs.RunMap.{RunMap}, declared.state.State.{Ghosts}, Runs.{state_at, passing}}
 
-beq-itself : (v : Bool) → beq v v ≡ true
-beq-itself true = refl
-beq-itself false = refl
-
 like-itself : (s : ByteState) → is_like s s ≡ true
-like-itself s =
-    and_from _ _ ((Decides-eqb s.last s.last).1 refl)
-    (and_from _ _ ((Decides-eqb s.opens s.opens).1 refl)
-    (and_from _ _ ((Decides-eqb s.written_back s.written_back).1 refl)
-    (and_from _ _ (beq-itself s.is_stored) (and_from _ _ (beq-itself s.is_written_back) (beq-itself s.excluded)))))
+like-itself s = grind arith
 
 module _ {laws : Ghosts ByteState Bounds} (runs : RunMap ByteState Bounds laws) (state : ByteState) where
   pub same-from_none : (first n : ℕ) → first_from (passing (λ s. not (is_like s state)) runs) first n ≡ None → (b : ℕ) → first ≤ b → b < first + n → state_at runs b ≡ state
@@ -40,17 +32,8 @@ module _ {laws : Ghosts ByteState Bounds} (runs : RunMap ByteState Bounds laws) 
         | inr other ↦ (omega arith, omega arith)
       ]
 
-place-some : (told : ℕ → ℕ) (es : List Event) (p b : ℕ) → (last_store es p b ≡ 0 → ⊥) → place_of (stored_at told es p b) ≡ place_as_told told (last_store es p b)
-place-some told es p b some =
-    ap place_of (stored_at-is told es p b ∙ store_of-some told es (last_store es p b) (write_back_epoch (stores b) (line_of_byte b) es p) (omega arith))
-    ∙ sym (ap (λ v. if v then None else Some (told (last_store es p b))) (ne_eqb (last_store es p b) 0 some))
-
 place-told : (told : ℕ → ℕ) (es : List Event) (p b : ℕ) → place_of (stored_at told es p b) ≡ place_as_told told (last_store es p b)
-place-told told es p b = elim (cases_eq (last_store es p b) 0) [
-  | inl none ↦ ap place_of (stored_at-is told es p b ∙ store_of-none told es (last_store es p b) (write_back_epoch (stores b) (line_of_byte b) es p) none)
-      ∙ sym (ap (λ v. if v then None else Some (told (last_store es p b))) ((Decides-eqb (last_store es p b) 0).1 none))
-  | inr some ↦ place-some told es p b some
-]
+place-told told es p b = grind arith
 
 pub stands-so : (shadow : Shadow) (told : ℕ → ℕ) (es : List Event) (p b : ℕ) (state : ByteState) (standing : Standing) → StandsFor shadow told es p → state_at shadow.bytes b ≡ state →
     standing.last ≡ place_of (stored_of state) → standing.undurable ≡ holds_of (late_for shadow.fences) (stored_of state) →

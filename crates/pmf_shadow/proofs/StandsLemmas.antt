@@ -1,8 +1,8 @@
 -- The shadow stands for one more event: what the definitions say of a byte after it, and that the changed
 -- runs say the same.
-use Rattle.std.{proofs.Common.{◌≡◌, ℕ, zero, suc, ◌+◌, ◌-◌, ◌*◌, ◌/◌, ◌<◌, ◌≤◌, Bool, true, false, ◌==◌, if◌then◌else◌, List, [], ◌∷◌, ◌++◌, length, take, refl, sym, ◌∙◌, ap, subst, arith, inl, inr, Option, Some, None, is_none, le-leb, lt-ltb, ne_eqb}, proofs.lemmas.Bool.{cases_eq, leb-true, and_parts, and_from, ltb-true}, proofs.lemmas.Bool.Decides.{Decides-eqb}, specs.Cmp.{both_ways}}
-use Rattle.pmf_event.{specs.declared.event.Event.{Event}, specs.declared.event.Event.TheVariants.{Store, Flush, Fence, Persist, Ordered, Exclude, Include, TxBegin, TxAdd, TxEnd, CheckStart, CheckEnd}, specs.Span.{Extent}, specs.Line.{line_of_byte, meets_line}, specs.Places.{count}, specs.Store.{event_at, at, stores, flushes, is_fence, last_store, epoch_of}, specs.WriteBack.{write_back_epoch}, specs.Exclusion.{excludes, marks, is_excluded}, specs.LineBytes.{HasBytes}, proofs.PlacesLemmas.{count-le, count-zero}, proofs.EventLemmas.{at-is, last-none, last-other, last-here, epoch_of-next, fences-step}, proofs.LineLemmas.{line-bounds, meets-bounds, bounds-meet}, proofs.WriteBackLemmas.{last-bound, write_back-kept, write_back-stored, write_back-flushed}}
-use Rattle.pmf_shadow.{specs.declared.byte.ByteState.{ByteState}, specs.declared.byte.Stored.{Stored}, specs.declared.shadow.Shadow.{Shadow}, specs.States.{stored_of, after_store, after_write_back, after_mark}, specs.EqualStates.{state_of}, specs.Shadow.{stored_at, StandsFor, FollowsAt}, specs.Laws.{is_unseen, UnseenEventsChangeNothing, OnlyPastEventsCount, StepsFollowWithin}, proofs.SameLemmas.{count_at-same, last-same, last_epoch-same, write_back_epoch-same, excluded-same, sized-same, same-longer, at_the_end, length-taken, same-taken, same-retaken}}
+use Rattle.std.{proofs.Common.{◌≡◌, ℕ, suc, ◌+◌, ◌-◌, ◌*◌, ◌/◌, ◌<◌, ◌≤◌, Bool, true, false, ◌==◌, if◌then◌else◌, List, [], ◌∷◌, ◌++◌, length, take, refl, sym, ◌∙◌, ap, subst, arith, inl, inr, Option, Some, None, is_none, ne_eqb}, proofs.lemmas.Bool.{cases_eq}, proofs.lemmas.Bool.Decides.{Decides-eqb}}
+use Rattle.pmf_event.{specs.declared.event.Event.{Event}, specs.declared.event.Event.TheVariants.{Store, Flush, Fence, Exclude, Include}, specs.Span.{Extent}, specs.Line.{line_of_byte, meets_line}, specs.Places.{count}, specs.Store.{event_at, at, stores, flushes, is_fence, last_store, epoch_of}, specs.WriteBack.{write_back_epoch}, specs.Exclusion.{excludes, marks, is_excluded}, specs.LineBytes.{HasBytes}, proofs.PlacesLemmas.{count-le, count-zero}, proofs.EventLemmas.{at-is, last-none, last-other, last-here, epoch_of-next, fences-step}, proofs.WriteBackLemmas.{last-bound, write_back-kept, write_back-stored, write_back-flushed}}
+use Rattle.pmf_shadow.{specs.declared.byte.ByteState.{ByteState}, specs.declared.byte.Stored.{Stored}, specs.declared.shadow.Shadow.{Shadow}, specs.States.{stored_of, after_store, after_write_back, after_mark}, specs.EqualStates.{state_of}, specs.Shadow.{stored_at, StandsFor, FollowsAt}, specs.Laws.{SameEvents, SamePlaces, is_unseen, UnseenEventsChangeNothing, OnlyPastEventsCount, StepsFollowWithin}, proofs.SameLemmas.{count_at-same, last-same, last_epoch-same, write_back_epoch-same, excluded-same, sized-same, same-longer, at_the_end, length-taken, same-taken, same-retaken}}
 use Rattle.pmf_runs.specs.{declared.runs.RunMap.{RunMap}, declared.state.State.{Ghosts}, Runs.{state_at, is_between, ChangesBetween}}
 
 -- ---- one byte
@@ -35,14 +35,10 @@ written_back_in epoch (Some k) = Some (record k { written_back = if is_none k.wr
 stored-after_write_back : (epoch last opens w : ℕ) (is_stored is_written_back out : Bool) →
     stored_of (after_write_back epoch (state_of last opens w is_stored is_written_back out)) ≡ written_back_in epoch (stored_of (state_of last opens w is_stored is_written_back out))
 unfolding written_back_in
-stored-after_write_back epoch last opens w false is_written_back out = refl
-stored-after_write_back epoch last opens w true false out = refl
-stored-after_write_back epoch last opens w true true out = refl
+stored-after_write_back epoch last opens w is_stored is_written_back out = grind arith
 
 excluded-after_write_back : (epoch last opens w : ℕ) (is_stored is_written_back out : Bool) → (after_write_back epoch (state_of last opens w is_stored is_written_back out)).excluded ≡ out
-excluded-after_write_back epoch last opens w false is_written_back out = refl
-excluded-after_write_back epoch last opens w true false out = refl
-excluded-after_write_back epoch last opens w true true out = refl
+excluded-after_write_back epoch last opens w is_stored is_written_back out = grind arith
 
 module _ (told : ℕ → ℕ) (es : List Event) (p b : ℕ) (e : Event) (here : event_at es (suc p) ≡ Some e) where
   excluded-kept : marks b e ≡ false → is_excluded es (suc p) b ≡ is_excluded es p b
@@ -54,19 +50,10 @@ module _ (told : ℕ → ℕ) (es : List Event) (p b : ℕ) (e : Event) (here : 
   excluded-marked is = ap (at (excludes b) es) (last-here (marks b) es p e here is) ∙ at-is (excludes b) es (suc p) (Some e) here
 
   stored-kept : stores b e ≡ false → flushes (line_of_byte b) e ≡ false → stored_at told es (suc p) b ≡ stored_at told es p b
-  stored-kept other no_flush =
-      stored_at-is told es (suc p) b
-      ∙ ap (λ l. store_of told es l (write_back_epoch (stores b) (line_of_byte b) es (suc p))) (last-other (stores b) es p e here other)
-      ∙ ap (store_of told es (last_store es p b)) (write_back-kept (stores b) (line_of_byte b) es p e here other no_flush)
-      ∙ sym (stored_at-is told es p b)
+  stored-kept other no_flush = grind (arith, stored_at-is, suc, ap, store_of, last-other, write_back-kept, sym)
 
   stored-stored : stores b e ≡ true → stored_at told es (suc p) b ≡ Some (record { last = told (suc p); opens = count (at is_fence es) p; written_back = None })
-  stored-stored is =
-      stored_at-is told es (suc p) b
-      ∙ ap (λ l. store_of told es l (write_back_epoch (stores b) (line_of_byte b) es (suc p))) (last-here (stores b) es p e here is)
-      ∙ ap (store_of told es (suc p)) (write_back-stored (stores b) (line_of_byte b) es p e here is)
-      ∙ store_of-some told es (suc p) None (omega arith)
-      ∙ ap (λ o. Some (record { last = told (suc p); opens = o; written_back = None })) (epoch_of-next es p)
+  stored-stored is = grind (arith, stored_at-is, suc, ap, store_of, last-here, write_back-stored, store_of-some, None, arith, Some, epoch_of-next)
 
   stored-flushed : stores b e ≡ false → flushes (line_of_byte b) e ≡ true → stored_at told es (suc p) b ≡ written_back_in (count (at is_fence es) p) (stored_at told es p b)
   unfolding written_back_in
@@ -123,11 +110,7 @@ module _ (told : ℕ → ℕ) (es : List Event) (p b : ℕ) (e : Event) (here : 
 changed-stands : {S M : Type 0} {laws : Ghosts S M} (first end : ℕ) (change : S → S) (old new : RunMap S M laws) (was now : ℕ → S → Type 0) → ChangesBetween first end change old new →
     ((k : ℕ) → was k (state_at old k)) → ((k : ℕ) → is_between first end k ≡ true → (s : S) → was k s → now k (change s)) →
     ((k : ℕ) → is_between first end k ≡ false → (s : S) → was k s → now k s) → (k : ℕ) → now k (state_at new k)
-changed-stands first end change old new was now changes before inside outside k =
-    subst (now k) (sym (changes.states k)) (elim (is_between first end k) as (λ v. is_between first end k ≡ v → now k (if v then change (state_at old k) else state_at old k)) [
-      | true ↦ λ is. inside k is (state_at old k) (before k)
-      | false ↦ λ is. outside k is (state_at old k) (before k)
-    ] refl)
+changed-stands first end change old new was now changes before inside outside k = grind arith
 
 pub stands-bytes : (shadow : Shadow) (told : ℕ → ℕ) (es : List Event) (p : ℕ) → StandsFor shadow told es p → (b : ℕ) → IsByteAt told es p b (state_at shadow.bytes b)
 stands-bytes shadow told es p stands b = record { stored = stands.stored b; excluded = stands.excluded b }
@@ -135,17 +118,7 @@ stands-bytes shadow told es p stands b = record { stored = stands.stored b; excl
 -- the bytes of the lines that a span meets
 lines-between : (s : Extent) → 0 < s.size → (b : ℕ) → is_between (s.first / 64 * 64) (((s.first + s.size - 1) / 64 + 1) * 64) b ≡ meets_line s (line_of_byte b)
 unfolding is_between
-lines-between s some b =
-    let own = line-bounds b in
-    both_ways _ _
-    (λ is.
-    let parts = and_parts _ _ is in
-    let from = leb-true (s.first / 64 * 64) b parts.0 in
-    let to = ltb-true b (((s.first + s.size - 1) / 64 + 1) * 64) parts.1 in
-    bounds-meet s (line_of_byte b) own.2 (omega arith) (omega arith))
-    (λ meets.
-    let bounds = meets-bounds s (line_of_byte b) meets in
-    and_from _ _ (le-leb (s.first / 64 * 64) b (omega arith)) (lt-ltb b (((s.first + s.size - 1) / 64 + 1) * 64) (omega arith)))
+lines-between s some b = grind arith
 
 fences-kept : (shadow : Shadow) (es : List Event) (p : ℕ) (e : Event) (fences : ℕ) → event_at es (suc p) ≡ Some e → is_fence e ≡ false →
     fences ≡ count (at is_fence es) p → fences ≡ count (at is_fence es) (suc p)
@@ -158,15 +131,11 @@ abbrev IsSized : Event → Type 0
 IsSized e = (s : Extent) → e ≡ Store s → 0 < s.size
 
 sized-more : (es : List Event) (p : ℕ) (e : Event) → event_at es (suc p) ≡ Some e → IsSized e → HasBytes es p → HasBytes es (suc p)
-sized-more es p e here sized before k s within is = elim (cases_eq k (suc p)) [
-  | inl same ↦ let there : Some e ≡ Some (Store s) = sym here ∙ ap (event_at es) (sym same) ∙ is in sized s cc
-  | inr other ↦ before k s (omega arith) is
-]
+sized-more es p e here sized before k s within is = grind arith
 
 sized-none : (es : List Event) → HasBytes es 0
 unfolding event_at
-sized-none es zero s within is = let bad : None ≡ Some (Store s) = is in cc
-sized-none es (suc k) s within is = absurd (omega arith)
+sized-none es case1 s within is = grind arith
 
 -- ---- one more event
 
@@ -253,18 +222,8 @@ stands-other shadow told es p e here no_fence no_store no_size no_flush no_mark 
 
 stands-unseen : (shadow : Shadow) (told : ℕ → ℕ) (es : List Event) (p : ℕ) (e : Event) → event_at es (suc p) ≡ Some e → is_unseen e ≡ true → StandsFor shadow told es p → StandsFor shadow told es (suc p)
 unfolding is_unseen stores flushes marks is_fence
-stands-unseen shadow told es p (Store s) here unseen stands = let bad : false ≡ true = unseen in cc
-stands-unseen shadow told es p (Flush s) here unseen stands = let bad : false ≡ true = unseen in cc
-stands-unseen shadow told es p Fence here unseen stands = let bad : false ≡ true = unseen in cc
-stands-unseen shadow told es p (Exclude s) here unseen stands = let bad : false ≡ true = unseen in cc
-stands-unseen shadow told es p (Include s) here unseen stands = let bad : false ≡ true = unseen in cc
-stands-unseen shadow told es p (Persist s) here unseen stands = stands-other shadow told es p (Persist s) here refl (λ b. refl) (λ t is. let bad : (Persist s) ≡ Store t = is in cc) (λ l. refl) (λ b. refl) stands
-stands-unseen shadow told es p (Ordered a b) here unseen stands = stands-other shadow told es p (Ordered a b) here refl (λ x. refl) (λ t is. let bad : (Ordered a b) ≡ Store t = is in cc) (λ l. refl) (λ x. refl) stands
-stands-unseen shadow told es p TxBegin here unseen stands = stands-other shadow told es p TxBegin here refl (λ b. refl) (λ t is. let bad : TxBegin ≡ Store t = is in cc) (λ l. refl) (λ b. refl) stands
-stands-unseen shadow told es p (TxAdd s) here unseen stands = stands-other shadow told es p (TxAdd s) here refl (λ b. refl) (λ t is. let bad : (TxAdd s) ≡ Store t = is in cc) (λ l. refl) (λ b. refl) stands
-stands-unseen shadow told es p TxEnd here unseen stands = stands-other shadow told es p TxEnd here refl (λ b. refl) (λ t is. let bad : TxEnd ≡ Store t = is in cc) (λ l. refl) (λ b. refl) stands
-stands-unseen shadow told es p CheckStart here unseen stands = stands-other shadow told es p CheckStart here refl (λ b. refl) (λ t is. let bad : CheckStart ≡ Store t = is in cc) (λ l. refl) (λ b. refl) stands
-stands-unseen shadow told es p CheckEnd here unseen stands = stands-other shadow told es p CheckEnd here refl (λ b. refl) (λ t is. let bad : CheckEnd ≡ Store t = is in cc) (λ l. refl) (λ b. refl) stands
+stands-unseen shadow told es p e here unseen stands =
+    stands-other shadow told es p e here (grind arith) (λ b. grind arith) (λ t is. grind arith) (λ l. grind arith) (λ b. grind arith) stands
 
 pub stands-fences : (shadow : Shadow) (told : ℕ → ℕ) (es : List Event) (p : ℕ) → StandsFor shadow told es p → shadow.fences ≤ p
 stands-fences shadow told es p stands = let bound = count-le (at is_fence es) p in let same = stands.fences in omega arith
@@ -296,22 +255,35 @@ stands-past shadow told tells es fs p same told_same stands = record {
   sized = sized-same es fs p same stands.sized;
 }
 
--- an event at its place within each list, so at the end of each list
+-- ---- steps at the end of each list, and at their places within each list, of whatever looks only at the past
+
+-- what stands for one list stands for every other whose past is the same
+abbrev pub LooksBack : {T : Type 0} → (T → (ℕ → ℕ) → List Event → ℕ → Type 0) → Type 0
+LooksBack {T} Stands = (it : T) (told tells : ℕ → ℕ) (es fs : List Event) (p : ℕ) → SameEvents es fs p → SamePlaces told tells p → Stands it told es p → Stands it tells fs p
+
+module _ {T : Type 0} (Stands : T → (ℕ → ℕ) → List Event → ℕ → Type 0) (past : LooksBack Stands) (place : ℕ) (old new : T) (e : Event) where
+  pub at-end : ((told : ℕ → ℕ) (es : List Event) (p : ℕ) → event_at es (suc p) ≡ Some e → told (suc p) ≡ place → Stands old told es p → Stands new told es (suc p)) →
+      (told : ℕ → ℕ) (es : List Event) → told (suc (length es)) ≡ place → Stands old told es (length es) → Stands new told (es ++ e ∷ []) (suc (length es))
+  at-end step told es at_place stands =
+      step told (es ++ e ∷ []) (length es) (at_the_end es e) at_place (past old told told es (es ++ e ∷ []) (length es) (same-longer es e) (λ k within. refl) stands)
+
+  pub at-within : ((told : ℕ → ℕ) (es : List Event) → told (suc (length es)) ≡ place → Stands old told es (length es) → Stands new told (es ++ e ∷ []) (suc (length es))) →
+      (told : ℕ → ℕ) (es : List Event) (p : ℕ) → event_at es (suc p) ≡ Some e → told (suc p) ≡ place → Stands old told es p → Stands new told es (suc p)
+  at-within follows told es p here at_place stands =
+      let size = length-taken es p e here in
+      let before : Stands old told (take p es) (length (take p es)) =
+      subst (Stands old told (take p es)) (sym size) (past old told told es (take p es) p (same-taken es p) (λ k within. refl) stands) in
+      let after : Stands new told (take p es ++ e ∷ []) (suc p) =
+      subst (λ n. Stands new told (take p es ++ e ∷ []) (suc n)) size (follows told (take p es) (ap (λ n. told (suc n)) size ∙ at_place) before) in
+      past new told told (take p es ++ e ∷ []) es (suc p) (same-retaken es p e here) (λ k within. refl) after
+
 pub follows-from : (place : ℕ) (old new : Shadow) (e : Event) →
     ((told : ℕ → ℕ) (es : List Event) (p : ℕ) → event_at es (suc p) ≡ Some e → told (suc p) ≡ place → StandsFor old told es p → StandsFor new told es (suc p)) →
     FollowsAt place old new e
-follows-from place old new e step told es at_place stands =
-    step told (es ++ e ∷ []) (length es) (at_the_end es e) at_place (stands-past old told told es (es ++ e ∷ []) (length es) (same-longer es e) (λ k within. refl) stands)
+follows-from = at-end StandsFor stands-past
 
--- and the other way round
 pub follows-within : StepsFollowWithin
-follows-within place old new e follows told es p here at_place stands =
-    let size = length-taken es p e here in
-    let before : StandsFor old told (take p es) (length (take p es)) =
-    subst (StandsFor old told (take p es)) (sym size) (stands-past old told told es (take p es) p (same-taken es p) (λ k within. refl) stands) in
-    let after : StandsFor new told (take p es ++ e ∷ []) (suc p) =
-    subst (λ n. StandsFor new told (take p es ++ e ∷ []) (suc n)) size (follows told (take p es) (ap (λ n. told (suc n)) size ∙ at_place) before) in
-    stands-past new told told (take p es ++ e ∷ []) es (suc p) (same-retaken es p e here) (λ k within. refl) after
+follows-within = at-within StandsFor stands-past
 
 pub unseen-follows : UnseenEventsChangeNothing
 unseen-follows shadow e unseen place = follows-from place shadow shadow e (λ told es p here at_place stands. stands-unseen shadow told es p e here unseen stands)
@@ -321,8 +293,4 @@ unseen-follows shadow e unseen place = follows-from place shadow shadow e (λ to
 -- the ends of a change are the range's
 pub changes-at : {S M : Type 0} {laws : Ghosts S M} (change : S → S) (old new : RunMap S M laws) (f e first end : ℕ) → f ≡ first → e ≡ end →
     ChangesBetween f e change old new → ChangesBetween first end change old new
-changes-at change old new f e first end at_first at_end changes = record {
-  states = λ b. changes.states b
-      ∙ ap (λ k. if is_between k e b then change (state_at old b) else state_at old b) at_first
-      ∙ ap (λ k. if is_between first k b then change (state_at old b) else state_at old b) at_end;
-}
+changes-at change old new f e first end at_first at_end changes = grind arith

@@ -1,6 +1,6 @@
 -- Lines by a test on their bytes: the least, how many, and what a stretch of bytes that pass says of them.
 use Rattle.std.{proofs.Common.{◌≡◌, ℕ, zero, suc, ◌+◌, ◌-◌, ◌*◌, ◌/◌, ◌<◌, ◌≤◌, Bool, true, false, not, ◌&&◌, if◌then◌else◌, refl, sym, ◌∙◌, ap, arith, inl, inr, ◌↔◌, Option, Some, None, is_some}, proofs.lemmas.Bool.{cases_lt, cases_eq, and_parts, and_from, and_left, and_right, not_from_true, not_from_false, not-true, true_from_ne_false}, specs.Cmp.{both_ways}}
-use Rattle.pmf_event.{specs.declared.lines.Lines.{Lines}, specs.Span.{Extent}, specs.Ranges.{first_from, count_from}, specs.FlushWarnings.{numbered, first_line, line_count, lines_from, lines_where}, specs.LineBytes.{SomeByteOf, NoByteOf}, proofs.RangeLemmas.{NonePass, some-from, none-from, first-passes, none-passes, first_from-none, first_from-some, first_from-same, count_from-same}}
+use Rattle.pmf_event.{specs.declared.lines.Lines.{Lines}, specs.Span.{Extent}, specs.Ranges.{first_from, count_from}, specs.FlushWarnings.{numbered, lines_from, lines_where}, specs.LineBytes.{SomeByteOf, NoByteOf}, proofs.RangeLemmas.{NonePass, some-from, none-from, first-passes, none-passes, first_from-none, first_from-some}}
 use Rattle.pmf_runs.specs.Lines.{line_has}
 use Rattle.pmf_shadow.specs.Stretches.{line_lacks, line_has_but, AllHave, lines_at, lines_by}
 
@@ -31,8 +31,7 @@ module _ (test : ℕ → Bool) where
   -- the answer to a question about the line's bytes
   pub line_has-is : (n size : ℕ) (found : Option ℕ) (has : Bool) → size ≡ 64 → found ≡ first_from test (n * 64) size → has ≡ is_some found → has ≡ line_has test n
   unfolding line_has
-  line_has-is n size found has whole asked is =
-      is ∙ ap (λ (o : Option ℕ). is_some o) (asked ∙ ap (first_from test (n * 64)) whole)
+  line_has-is n size found has whole asked is = grind arith
 
   -- ---- the least line with a byte that passes, from the least such byte
 
@@ -109,15 +108,7 @@ module _ (test : ℕ → Bool) (first end : ℕ) where
 
   pub none_before-more : (line next : ℕ) → NoneBefore test first end line → line ≤ next → next ≤ end → ((n : ℕ) → line ≤ n → n < next → test n ≡ false) →
       NoneBefore test first end next
-  none_before-more line next passed after upto between =
-      let from = passed.from in record {
-        from = omega arith;
-        within = upto;
-        fails = λ n low high. elim (cases_lt n line) [
-          | inl earlier ↦ passed.fails n low earlier
-          | inr later ↦ between n later high
-        ];
-      }
+  none_before-more line next passed after upto between = grind arith
 
 -- ---- lines without a byte that passes
 
@@ -176,10 +167,7 @@ module _ (test other : ℕ → Bool) where
 
     but-cases : (one two : Bool) (c d e : ℕ) → (two ≡ true → one ≡ true) → c + d ≡ e →
         (if one && not two then suc c else c) + (if two then suc d else d) ≡ (if one then suc e else e)
-    but-cases true true c d e implies sum = omega arith
-    but-cases true false c d e implies sum = omega arith
-    but-cases false true c d e implies sum = let bad : false ≡ true = implies refl in cc
-    but-cases false false c d e implies sum = sum
+    but-cases one two c d e implies sum = grind arith
 
     but-count : (b n : ℕ) → count_from (line_has_but test other) b n + count_from (line_has other) b n ≡ count_from (line_has test) b n
     unfolding count_from line_has_but
@@ -210,14 +198,11 @@ module _ (test other : ℕ → Bool) where
 
   pub but-upto : (line end without found : ℕ) → Some without ≡ first_from (line_lacks other) line (end - line) →
       Some found ≡ first_from (line_has test) without (end - without) → (n : ℕ) → line ≤ n → n < found → line_has_but test other n ≡ false
-  but-upto line end without found asked next n low high =
-      but-passed line end without found asked (first-passes (line_has test) without (end - without) found (sym next)).before n low high
+  but-upto line end without found asked next n low high = grind (arith, but-passed, first-passes, sym)
 
   pub but-here : (line end without found : ℕ) → Some without ≡ first_from (line_lacks other) line (end - line) →
       Some found ≡ first_from (line_has test) without (end - without) → found ≡ without → line_has_but test other found ≡ true
-  but-here line end without found asked next same =
-      let lacks = (first-passes (line_lacks other) line (end - line) without (sym asked)).passes in
-      but-from found (first-passes (line_has test) without (end - without) found (sym next)).passes (ap (line_has other) same ∙ lacks-parts other without lacks)
+  but-here line end without found asked next same = grind (arith, first-passes, other, sym, but-from, ap, lacks-parts)
 
   pub but-never : (line end : ℕ) → None ≡ first_from (line_lacks other) line (end - line) → NonePass (line_has_but test other) line (end - line)
   but-never line end none n low high = but-other n (other-from n (none-passes (line_lacks other) line (end - line) (sym none) n low high))
@@ -263,10 +248,7 @@ alone-from test other alone passes first end line (Some found) asked next =
 -- ---- the lines of a span, found by their numbers
 
 pub found-below : (test : ℕ → Bool) (line end found : ℕ) → Some found ≡ first_from test line (end - line) → (line ≤ found) × (found + 1 ≤ end)
-found-below test line end found asked =
-    let least = first-passes test line (end - line) found (sym asked) in
-    let low = least.from in
-    let high = least.within in (low, omega arith)
+found-below test line end found asked = grind (arith, first-passes, sym, arith)
 
 -- those without are the others
 pub count-lacks : (test : ℕ → Bool) (first n with : ℕ) → with ≡ count_from (line_has test) first n → (with ≤ n) × (n - with ≡ count_from (line_lacks test) first n)
@@ -281,32 +263,26 @@ pub lines-none : (test : ℕ → Bool) (first n : ℕ) → None ≡ first_from t
 lines-none test first n none = ap (λ o. lines_from o (count_from test first n)) none
 
 pub lines-some : (test : ℕ → Bool) (first n least count : ℕ) → Some least ≡ first_from test first n → count ≡ count_from test first n → Some (record { least = least * 64; count = count }) ≡ lines_at test first n
-lines-some test first n least count found counted =
-    ap (λ o. lines_from o count) found ∙ ap (lines_from (first_from test first n)) counted
+lines-some test first n least count found counted = grind arith
 
 -- one line, with a byte that passes the other test
 module _ (test other : ℕ → Bool) (weaker : (b : ℕ) → other b ≡ true → test b ≡ true) (first end : ℕ) (one : end - first ≡ 1) (has : line_has other first ≡ true) where
   pub one-but : None ≡ lines_at (line_has_but test other) first (end - first)
-  one-but = lines-none (line_has_but test other) first (end - first) (sym (first_from-none (line_has_but test other) first (end - first) (λ k low high.
-      let same : k ≡ first = omega arith in ap (line_has_but test other) same ∙ but-other test other first has)))
+  one-but = grind (arith, lines-none, other, first, sym, first_from-none, arith, ap, but-other)
 
   pub one-lacks : None ≡ lines_at (line_lacks test) first (end - first)
-  one-lacks = lines-none (line_lacks test) first (end - first) (sym (first_from-none (line_lacks test) first (end - first) (λ k low high.
-      let same : k ≡ first = omega arith in ap (line_lacks test) same ∙ lacks-not test first (has-weaker test other weaker first has))))
+  one-lacks = grind (arith, lines-none, first, sym, first_from-none, arith, ap, lacks-not, has-weaker, other)
 
 -- the lines of a span are those from its first line to its last
 pub lines_by-is : (test : ℕ → Bool) (s : Extent) (first end : ℕ) (found : Option Lines) → first ≡ s.first / 64 → end ≡ (s.first + s.size - 1) / 64 + 1 →
     found ≡ lines_at test first (end - first) → found ≡ lines_by test s
 unfolding lines_by
-lines_by-is test s first end found at_first at_end is =
-    is ∙ ap (λ e. lines_at test first (e - first)) at_end ∙ ap (λ k. lines_at test k ((s.first + s.size - 1) / 64 + 1 - k)) at_first
+lines_by-is test s first end found at_first at_end is = grind arith
 
 -- tests that agree on each line find the same
 pub lines_by-same : (test want : ℕ → Bool) (s : Extent) → ((n : ℕ) → test n ≡ want (n * 64)) → lines_by test s ≡ lines_where want s
 unfolding numbered lines_by lines_where
-lines_by-same test want s same =
-    ap (λ o. lines_from o (count_from test (first_line s) (line_count s))) (first_from-same _ _ (first_line s) (line_count s) (λ n low high. same n))
-    ∙ ap (lines_from (first_from (numbered want) (first_line s) (line_count s))) (count_from-same _ _ (first_line s) (line_count s) (λ n low high. same n))
+lines_by-same test want s same = grind arith
 
 -- ---- a line by what its bytes are
 

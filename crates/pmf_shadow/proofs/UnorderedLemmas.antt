@@ -1,8 +1,8 @@
 -- What is kept of two bytes says whether they are unordered, and whether the pair is certified; and the
 -- walks that the shadow makes find the least pair.
-use Rattle.std.proofs.{Common.{◌≡◌, ℕ, ◌+◌, ◌-◌, ◌<◌, ◌≤◌, Bool, true, false, not, ◌&&◌, ◌==◌, nat_lt, if◌then◌else◌, List, refl, sym, ◌∙◌, ap, subst, arith, inl, inr, ◌||◌, Option, Some, None, le-leb, le-ltb, lt-ltb, ne_eqb}, lemmas.Bool.{cases_lt, cases_eq, and_parts, ltb-true, lt-leb}, lemmas.Bool.Decides.{Decides-eqb}, Math.Bool.{or-false, and-false, or-true, and-true}}
+use Rattle.std.proofs.{Common.{◌≡◌, ℕ, ◌+◌, ◌-◌, ◌<◌, ◌≤◌, Bool, true, false, not, ◌&&◌, ◌==◌, nat_lt, List, refl, sym, ◌∙◌, ap, subst, arith, inl, inr, ◌||◌, Option, Some, None, le-leb, le-ltb, lt-ltb, ne_eqb}, lemmas.Bool.{cases_lt, cases_eq, and_parts, ltb-true}, lemmas.Bool.Decides.{Decides-eqb}, Math.Bool.{and-false, or-true, and-true}}
 use Rattle.pmf_event.{proofs.LeastPairLemmas.{least_pair-by, least_pair-none}, specs.declared.event.Event.{Event}, specs.declared.event.Event.TheVariants.{Store}, specs.declared.profile.Profile.{Profile}, specs.declared.profile.Profile.TheVariants.{One, Two}, specs.Span.{Extent}, specs.Line.{line_of_byte}, specs.Places.{least, count}, specs.Ranges.{first_byte}, specs.Store.{event_at, passes, at, stores, is_fence, last, last_store, epoch_of}, specs.WriteBack.{write_back_epoch}, specs.Interval.{writes_back, first_write_back, interval_at}, specs.Persist.{is_checked}, specs.Order.{is_closed_by, precedes, share_line, is_stored_before, is_ordered, is_unordered, is_certified, with_partner, least_pair}, proofs.PlacesLemmas.{greatest-passes, least-passes, count-mono}, proofs.RangeLemmas.{none-passes, first_from-same}, proofs.WriteBackLemmas.{last-bound, epoch_unless-place}}
-use Rattle.pmf_shadow.{specs.declared.byte.ByteState.{ByteState}, specs.declared.byte.Stored.{Stored}, specs.declared.shadow.Shadow.{Shadow}, specs.States.{stored_of, checked_store, holds_of, any_store, is_late, late_for, is_before, opens_in, stored_by, comes_after, has_one_by, opening_of, place_of}, specs.Pairs.{kept, both_hold, by_epoch, by_place, by_epochs, by_lines, by_line, on_line, off_line, IsLeastValue}, specs.Shadow.{stored_at, closing, StandsFor}, specs.Told.{KeepsOrder}, proofs.PairLemmas.{late-monotone, no_pairs-by_epochs, has_partner-by_epochs, partner-by_epochs, no_pairs-by_lines, has_partner-by_lines, partner-by_lines, by_lines-on, by_lines-off, by_line-on, by_line-off, on_line-on}, proofs.StandsLemmas.{stands-bytes}, proofs.QuestionLemmas.{IsWritten, written-from_stored, interval-written, checked-is, closing-some, closing-open}}
+use Rattle.pmf_shadow.{specs.declared.byte.ByteState.{ByteState}, specs.declared.byte.Stored.{Stored}, specs.declared.shadow.Shadow.{Shadow}, specs.States.{stored_of, checked_store, holds_of, any_store, is_late, late_for, is_before, opens_in, stored_by, comes_after, has_one_by, opening_of, place_of}, specs.Pairs.{kept, both_hold, by_epoch, by_place, by_epochs, by_lines, by_line, on_line, off_line, IsLeastValue}, specs.Shadow.{stored_at, closing, StandsFor}, specs.Told.{KeepsOrder}, proofs.PairLemmas.{late-monotone, no_pairs-by_epochs, has_partner-by_epochs, partner-by_epochs, no_pairs-by_lines, has_partner-by_lines, partner-by_lines, by_lines-on, by_lines-off, by_line-on, by_line-off, on_line-on}, proofs.StandsLemmas.{stands-bytes}, proofs.QuestionLemmas.{IsWritten, written-from_stored, interval-written, checked-is}}
 use Rattle.pmf_runs.specs.Runs.{state_at}
 
 -- ---- what is kept of a checked byte
@@ -14,10 +14,7 @@ pub record IsKept (told : ℕ → ℕ) (es : List Event) (p x : ℕ) (k : Stored
   pub interval : interval_at es p x ≡ Some (record { last = last_store es p x; opens = k.opens; closes = closing (count (at is_fence es) p) k.written_back })
 
 store-of_checked : (s : ByteState) (k : Stored) → checked_store s ≡ Some k → stored_of s ≡ Some k
-store-of_checked s k is = elim s.excluded as (λ v. (if v then None else stored_of s) ≡ Some k → stored_of s ≡ Some k) [
-  | true ↦ λ bad. let wrong : None ≡ Some k = bad in cc
-  | false ↦ λ same. same
-] is
+store-of_checked s k is = grind arith
 
 module _ (shadow : Shadow) (told : ℕ → ℕ) (es : List Event) (p : ℕ) (stands : StandsFor shadow told es p) where
   checked-kept : (x : ℕ) → is_checked es p x ≡ holds_of any_store (kept shadow.bytes x)
@@ -63,19 +60,14 @@ own-late es p x (Some w) is =
     let same = own.1 in le-leb (epoch_of es k) w (omega arith)
 
 at_most-from_before : (ties : Bool) (i j : ℕ) → is_before ties i j ≡ true → i ≤ j
-at_most-from_before ties i j is = elim (nat_lt i j) as (λ v. nat_lt i j ≡ v → (v || (ties && i == j)) ≡ true → i ≤ j) [
-  | true ↦ λ less more. let low = ltb-true i j less in omega arith
-  | false ↦ λ other tie. let both = and_parts ties (i == j) tie in let same : i ≡ j = (Decides-eqb i j).0 both.1 in omega arith
-] refl is
+at_most-from_before ties i j is = grind arith
 
 -- ---- the order of the places that were told
 
 -- the last store of a byte that is written
 passes-store : (b : ℕ) (o : Option Event) → passes (stores b) o ≡ true → (s : Extent) × (o ≡ Some (Store s))
 unfolding stores
-passes-store b None is = let bad : false ≡ true = is in cc
-passes-store b (Some (Store s)) is = (s, refl)
-passes-store b (Some _) is = let bad : false ≡ true = is in cc
+passes-store b o is = grind arith
 
 store-at : (es : List Event) (p b : ℕ) → 0 < last_store es p b → (s : Extent) × (event_at es (last_store es p b) ≡ Some (Store s))
 unfolding at last
@@ -125,14 +117,7 @@ stored-later told es p x y k m own other low =
 -- ---- unordered and certified pairs
 
 not-closed : (fences opens : ℕ) (o : Option ℕ) → opens ≤ fences → not (is_closed_by (closing fences o) opens) ≡ is_late opens o
-not-closed fences opens None low = refl
-not-closed fences opens (Some w) low = elim (cases_lt w fences) [
-  | inl ended ↦ ap (λ c. not (is_closed_by c opens)) (closing-some fences w ended) ∙ elim (cases_lt w opens) [
-    | inl before ↦ ap (λ v. not v) (le-leb (w + 1) opens (omega arith)) ∙ sym (lt-leb opens w before)
-    | inr after ↦ ap (λ v. not v) (lt-leb (w + 1) opens (omega arith)) ∙ sym (le-leb opens w after)
-  ]
-  | inr late ↦ ap (λ c. not (is_closed_by c opens)) (closing-open fences w late) ∙ sym (le-leb opens w (omega arith))
-]
+not-closed fences opens o low = grind arith
 
 module _ (told : ℕ → ℕ) (es : List Event) (p x y : ℕ) (k m : Stored) (own : IsKept told es p x k) (other : IsKept told es p y m) where
   -- the two checked bytes, by their epochs
@@ -141,13 +126,7 @@ module _ (told : ℕ → ℕ) (es : List Event) (p x y : ℕ) (k m : Stored) (ow
 
   apart-is : apart ≡ is_late m.opens k.written_back
   unfolding apart
-  apart-is =
-      let bound = last-bound (stores y) es p in
-      let open_y = other.written.epoch in
-      let most = epoch-bound es (last_store es p y) p bound in
-      ap (λ o. not (precedes o (interval_at es p y))) own.interval
-      ∙ ap (λ o. not (precedes (Some (record { last = last_store es p x; opens = k.opens; closes = closing (count (at is_fence es) p) k.written_back })) o)) other.interval
-      ∙ not-closed (count (at is_fence es) p) m.opens k.written_back (omega arith)
+  apart-is = grind (arith, last-bound, other, epoch-bound, is_fence, not-closed)
 
   both-checked : (v : Bool) → (is_checked es p x && is_checked es p y && v) ≡ v
   both-checked v = ap (λ c. c && is_checked es p y && v) own.checked ∙ ap (λ c. c && v) other.checked
@@ -169,26 +148,15 @@ module _ (told : ℕ → ℕ) (es : List Event) (p x y : ℕ) (k m : Stored) (ow
 
   pub unordered-two-off : share_line x y ≡ false → is_unordered Two es p x y ≡ is_late m.opens k.written_back
   unfolding is_unordered is_ordered apart
-  unordered-two-off off =
-      both-checked (not (precedes (interval_at es p x) (interval_at es p y) || (share_line x y && is_stored_before es p x y)))
-      ∙ ap (λ s. not (precedes (interval_at es p x) (interval_at es p y) || (s && is_stored_before es p x y))) off
-      ∙ ap (λ v. not v) (or-false (precedes (interval_at es p x) (interval_at es p y)))
-      ∙ apart-is
+  unordered-two-off off = grind (arith, both-checked, apart-is)
 
   unordered-two-on : KeepsOrder told es p → share_line x y ≡ true → is_unordered Two es p x y ≡ not (precedes (interval_at es p x) (interval_at es p y) || nat_lt k.last m.last)
   unfolding is_unordered is_ordered
-  unordered-two-on order on =
-      both-checked (not (precedes (interval_at es p x) (interval_at es p y) || (share_line x y && is_stored_before es p x y)))
-      ∙ ap (λ s. not (precedes (interval_at es p x) (interval_at es p y) || (s && is_stored_before es p x y))) on
-      ∙ ap (λ v. not (precedes (interval_at es p x) (interval_at es p y) || v)) (before-is order)
+  unordered-two-on order on = grind (arith, both-checked, before-is)
 
   later-two : KeepsOrder told es p → share_line x y ≡ true → m.last ≤ k.last → is_unordered Two es p x y ≡ true
   unfolding apart
-  later-two order on low =
-      unordered-two-on order on
-      ∙ ap (λ v. not (precedes (interval_at es p x) (interval_at es p y) || v)) (le-ltb k.last m.last low)
-      ∙ ap (λ v. not v) (or-false (precedes (interval_at es p x) (interval_at es p y)))
-      ∙ apart-is ∙ falls-by order low
+  later-two order on low = grind (arith, unordered-two-on, le-ltb, apart-is, falls-by)
 
   pub unordered-two : KeepsOrder told es p → share_line x y ≡ true → is_unordered Two es p x y ≡ is_before true m.last k.last
   unordered-two order on = elim (cases_lt k.last m.last) [
@@ -205,8 +173,7 @@ module _ (told : ℕ → ℕ) (es : List Event) (p x y : ℕ) (k m : Stored) (ow
 
   certified-off : (profile : Profile) → share_line x y ≡ false → is_unordered profile es p x y ≡ is_late m.opens k.written_back → is_certified profile es p x y ≡ is_late m.opens k.written_back
   unfolding is_certified
-  certified-off profile off is =
-      ap (λ s. is_unordered profile es p x y && (not s || is_stored_before es p y x)) off ∙ and-true (is_unordered profile es p x y) ∙ is
+  certified-off profile off is = grind arith
 
   certified-on : (profile : Profile) → KeepsOrder told es p → share_line x y ≡ true → (m.last < k.last → is_unordered profile es p x y ≡ true) → is_certified profile es p x y ≡ is_before false m.last k.last
   unfolding is_certified
@@ -230,18 +197,14 @@ module _ (told : ℕ → ℕ) (es : List Event) (p x y : ℕ) (k m : Stored) (ow
 
 unordered-unchecked : (profile : Profile) (es : List Event) (p x y : ℕ) → (is_checked es p x && is_checked es p y) ≡ false → is_unordered profile es p x y ≡ false
 unfolding is_unordered
-unordered-unchecked profile es p x y none = elim (is_checked es p x) as (λ c. (c && is_checked es p y) ≡ false → (c && is_checked es p y && not (is_ordered profile es p x y)) ≡ false) [
-  | true ↦ λ other. ap (λ d. d && not (is_ordered profile es p x y)) other
-  | false ↦ λ other. refl
-] none
+unordered-unchecked profile es p x y none = grind arith
 
 certified-unchecked : (profile : Profile) (es : List Event) (p x y : ℕ) → (is_checked es p x && is_checked es p y) ≡ false → is_certified profile es p x y ≡ false
 unfolding is_certified
 certified-unchecked profile es p x y none = ap (λ v. v && (not (share_line x y) || is_stored_before es p y x)) (unordered-unchecked profile es p x y none)
 
 both_hold-right : (test : Stored → Stored → Bool) (u : Option Stored) → both_hold test u None ≡ false
-both_hold-right test None = refl
-both_hold-right test (Some k) = refl
+both_hold-right test u = grind arith
 
 module _ (shadow : Shadow) (told : ℕ → ℕ) (es : List Event) (p : ℕ) (stands : StandsFor shadow told es p) where
   neither-left : (x y : ℕ) → kept shadow.bytes x ≡ None → (is_checked es p x && is_checked es p y) ≡ false
@@ -340,21 +303,17 @@ lines-none ties kept a b least = least_pair-none (by_lines ties kept) a b (no_pa
 
 -- a byte that a test of what is kept finds is kept
 pub never-lost : (test : Stored → Bool) (o : Option Stored) → holds_of test o ≡ true → o ≡ None → ⊥
-never-lost test None holds none = let bad : false ≡ true = holds in cc
-never-lost test (Some k) holds none = let bad : Some k ≡ None = none in cc
+never-lost test o holds none = grind arith
 
 -- the byte of the earliest epoch
 pub opens-from : (m : ℕ) (o : Option Stored) → holds_of (opens_in m) o ≡ true → opening_of o ≡ Some m
-opens-from m None holds = let bad : false ≡ true = holds in cc
-opens-from m (Some k) holds = ap (λ e. Some e) ((Decides-eqb k.opens m).0 holds)
+opens-from m o holds = grind arith
 
 pub opens-to : (m : ℕ) (o : Option Stored) → opening_of o ≡ Some m → holds_of (opens_in m) o ≡ true
-opens-to m None is = let bad : None ≡ Some m = is in cc
-opens-to m (Some k) is = let same : Some k.opens ≡ Some m = is in let own : k.opens ≡ m = cc in (Decides-eqb k.opens m).1 own
+opens-to m o is = grind arith
 
 pub place-from_opening : (m : ℕ) (o : Option Stored) → opening_of o ≡ Some m → place_of o ≡ None → ⊥
-place-from_opening m None is none = let bad : None ≡ Some m = is in cc
-place-from_opening m (Some k) is none = let bad : Some k.last ≡ None = none in cc
+place-from_opening m o is none = grind arith
 
 -- the same, where the line of the earliest epoch has a name of its own
 pub lines-found-at : (shadow : Shadow) (told : ℕ → ℕ) (es : List Event) (p : ℕ) → StandsFor shadow told es p → KeepsOrder told es p → (ties : Bool) (a b : Extent) (m early line first : ℕ) (elsewhere : Option ℕ) →
@@ -373,8 +332,7 @@ lines-found-at shadow told es p stands order ties a b m early line first elsewhe
 pub lines-partner-at : (ties : Bool) (kept : ℕ → Option Stored) (b : Extent) (x line : ℕ) (k : Stored) → kept x ≡ Some k → line ≡ line_of_byte x → (on off : ℕ → Bool) →
     ((y : ℕ) → on y ≡ holds_of (stored_by ties k.last) (kept y)) → ((y : ℕ) → off y ≡ holds_of (comes_after k.written_back) (kept y)) →
     first_byte (by_lines ties kept x) b ≡ first_byte (by_line line on off) b
-lines-partner-at ties kept b x line k own same on off is_on is_off =
-    lines-partner ties kept b x k own on off is_on is_off ∙ ap (λ l. first_byte (by_line l on off) b) (sym same)
+lines-partner-at ties kept b x line k own same on off is_on is_off = grind (arith, lines-partner)
 
 -- some byte of the span lies in the earliest epoch
 pub early-found : (kept : ℕ → Option Stored) (b : Extent) (m : ℕ) → IsLeastValue (λ x. opening_of (kept x)) b.first b.size (Some m) →
@@ -392,7 +350,4 @@ place-found kept b m early line from within opens same least =
 -- a byte that either test finds is kept
 pub found-kept : (line : ℕ) (one other : Stored → Bool) (kept : ℕ → Option Stored) (on off : ℕ → Bool) → ((x : ℕ) → on x ≡ holds_of one (kept x)) → ((x : ℕ) → off x ≡ holds_of other (kept x)) →
     (x : ℕ) → by_line line on off x ≡ true → kept x ≡ None → ⊥
-found-kept line one other kept on off is_on is_off x passes none = elim (cases_eq (line_of_byte x) line) [
-  | inl same ↦ never-lost one (kept x) (sym (is_on x) ∙ sym (by_line-on line on off x same) ∙ passes) none
-  | inr apart ↦ never-lost other (kept x) (sym (is_off x) ∙ sym (by_line-off line on off x apart) ∙ passes) none
-]
+found-kept line one other kept on off is_on is_off x passes none = grind (arith, never-lost, by_line-on, apart, by_line-off)

@@ -1,7 +1,7 @@
 //! The least pair of an order assertion, found by a few walks and not by trying pairs.
 
 ghost use Rattle.std.specs.Prelude.{◌≡◌, ◌%◌, ◌<◌};
-ghost use Rattle.pmf_event.specs.{declared.span.TheConstants.{ADDRESS_LIMIT, LINE_SIZE}, Span.{IsValidExtent}, Ranges.{first_byte, lesser}, Order.{least_pair}};
+ghost use Rattle.pmf_event.specs.{declared.span.TheConstants.{ADDRESS_LIMIT, LINE_SIZE}, Span.{IsValidExtent}, Ranges.{first_byte, lesser}, Order.{least_pair, paired}};
 ghost use Rattle.pmf_runs.specs.Runs.{passing, keyed};
 ghost use Rattle.pmf_shadow.specs.{Pairs.{by_epochs, by_line, by_lines, kept, off_line, on_line, pairs_of, IsLeastValue}, Shadow.{ForEachList}, States.{kept_opening, kept_place}, Told.{KeepsOrder}};
 
@@ -34,8 +34,7 @@ impl Shadow {
         let later = ComesAfter {
             written_back: stored.written_back,
         };
-        let after = self.first_in(b, &later)?;
-        Some((byte, after))
+        paired(byte, self.first_in(b, &later))
     }
 
     // The least pair by the order of stores on one line, and by epochs elsewhere. The earliest epoch
@@ -62,8 +61,8 @@ impl Shadow {
         let later = ComesAfter {
             written_back: stored.written_back,
         };
-        let after = self.first_by_line(b, line_of(byte), &before, &later)?;
-        Some((byte, after))
+        let after = self.first_by_line(b, line_of(byte), &before, &later);
+        paired(byte, after)
     }
 
     // The first byte of the span that passes: on the line the one test, off it the other.
@@ -118,6 +117,16 @@ impl Shadow {
             .bytes
             .least_key(first.max(line + LINE_SIZE), end, &Opening);
         lesser(before, after)
+    }
+}
+
+/// The byte with its partner, if it has one.
+fn paired(byte: u64, partner: Option<u64>) -> Option<(u64, u64)>
+    ensures { result ≡ paired byte partner }
+{
+    match partner {
+        None => None,
+        Some(after) => Some((byte, after)),
     }
 }
 

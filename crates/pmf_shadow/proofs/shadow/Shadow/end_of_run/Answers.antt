@@ -1,4 +1,4 @@
-use Rattle.std.proofs.Common.{sym, ◌∙◌, ◌≤◌, ◌-◌, arith}
+use Rattle.std.proofs.Common.{sym, ◌∙◌, ◌-◌, arith}
 use Rattle.pmf_shadow.proofs.StandingLemmas.{same-from_none, same-from_first, first-further}
 use Rattle.pmf_shadow.proofs.shadow.Shadow.end_of_run.Goals as goal
 

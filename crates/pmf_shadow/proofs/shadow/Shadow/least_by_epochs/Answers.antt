@@ -26,19 +26,6 @@ returns-in_err-stored c =
     let found = first-passes _ c.args.a.now.first c.args.a.now.size c.in_ok-byte.byte (sym c.first_in.ensures ∙ c.in_ok-byte.was) in
     absurd (never-lost (late_for c.in_ok-epoch.epoch) _ found.passes (sym (c.checked.ensures ∙ ap checked_store c.at.ensures) ∙ c.in_err-stored.was))
 
-pub returns-in_err-after : goal.returns-in_err-after
-unfolding keyed kept passing
-returns-in_err-after c =
-    let b = c.args.b.now in
-    let m = c.in_ok-epoch.epoch in
-    let x = c.in_ok-byte.byte in
-    let k = c.in_ok-stored.stored in
-    let least = least-of_span (keyed kept_opening c.args.self.now.bytes) b c.first.result c.end.result (Some m) c.first.ensures.value c.end.ensures.value (sym c.in_ok-epoch.was ∙ c.least_key.ensures) in
-    let own : kept c.args.self.now.bytes x ≡ Some k = sym (c.checked.ensures ∙ ap checked_store c.at.ensures) ∙ c.in_ok-stored.was in
-    c.from_residual-in_err-after.ensures
-    ∙ sym (epochs-found (kept c.args.self.now.bytes) c.args.a.now b m least _ (λ x. refl) ∙ ap (with_partner (by_epochs (kept c.args.self.now.bytes)) b) (sym c.first_in.ensures ∙ c.in_ok-byte.was)
-    ∙ ap (paired x) (epochs-partner (kept c.args.self.now.bytes) b x k own _ (λ y. refl) ∙ sym c.first_in-2.ensures ∙ c.in_err-after.was))
-
 pub returns : goal.returns
 unfolding keyed kept passing
 returns c =
@@ -48,5 +35,5 @@ returns c =
     let k = c.in_ok-stored.stored in
     let least = least-of_span (keyed kept_opening c.args.self.now.bytes) b c.first.result c.end.result (Some m) c.first.ensures.value c.end.ensures.value (sym c.in_ok-epoch.was ∙ c.least_key.ensures) in
     let own : kept c.args.self.now.bytes x ≡ Some k = sym (c.checked.ensures ∙ ap checked_store c.at.ensures) ∙ c.in_ok-stored.was in
-    sym (epochs-found (kept c.args.self.now.bytes) c.args.a.now b m least _ (λ x. refl) ∙ ap (with_partner (by_epochs (kept c.args.self.now.bytes)) b) (sym c.first_in.ensures ∙ c.in_ok-byte.was)
-    ∙ ap (paired x) (epochs-partner (kept c.args.self.now.bytes) b x k own _ (λ y. refl) ∙ sym c.first_in-2.ensures ∙ c.in_ok-after.was))
+    c.paired.ensures ∙ sym (epochs-found (kept c.args.self.now.bytes) c.args.a.now b m least _ (λ x. refl) ∙ ap (with_partner (by_epochs (kept c.args.self.now.bytes)) b) (sym c.first_in.ensures ∙ c.in_ok-byte.was)
+    ∙ ap (paired x) (epochs-partner (kept c.args.self.now.bytes) b x k own _ (λ y. refl) ∙ sym c.first_in-2.ensures))

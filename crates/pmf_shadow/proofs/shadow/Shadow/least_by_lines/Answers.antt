@@ -77,31 +77,11 @@ returns-in_err-stored c =
     λ told es p stands order. absurd (found-kept c.line_of-line.result (has_one_by c.args.ties c.in_ok-first.first c.least_opening_off-elsewhere.result) (late_for c.in_ok-epoch.epoch) (kept bytes) _ _ (λ x. refl) (λ x. refl)
     c.in_ok-byte.byte byte.passes (sym (c.checked.ensures ∙ ap checked_store c.at.ensures) ∙ c.in_err-stored.was))
 
-pub first_by_line-requires-2-clause-room : goal.first_by_line-requires-2-clause-room
-first_by_line-requires-2-clause-room c =
+pub first_by_line-after-requires-clause-room : goal.first_by_line-after-requires-clause-room
+first_by_line-after-requires-clause-room c =
     let byte = first-passes _ c.args.a.now.first c.args.a.now.size c.in_ok-byte.byte (sym c.first_by_line.ensures.value ∙ c.in_ok-byte.was) in
     let bounds = line-bounds c.in_ok-byte.byte in
     let low = bounds.0 in let within = byte.within in let ends = c.first_by_line.ensures.valid.ends in let is = c.line_of.ensures in omega arith
-
-pub returns-in_err-after : goal.returns-in_err-after
-unfolding keyed kept passing
-returns-in_err-after c =
-    let b = c.args.b.now in
-    let bytes = c.args.self.now.bytes in
-    let m = c.in_ok-epoch.epoch in
-    let least = least-of_span (keyed kept_opening bytes) b c.first.result c.end.result (Some m) c.first.ensures.value c.end.ensures.value (sym c.in_ok-epoch.was ∙ c.least_key.ensures) in
-    let early = c.in_ok-early.early in
-    let here = first-passes _ b.first b.size early (sym c.first_in.ensures ∙ c.in_ok-early.was) in
-    let opens = opens-from m (kept bytes early) here.passes in
-    let least_on = subst (IsLeastValue (on_line c.line_of-line.result (keyed kept_place bytes)) b.first b.size) c.in_ok-first.was c.least_place_on.ensures in
-    let x = c.in_ok-byte.byte in
-    let k = c.in_ok-stored.stored in
-    let own : kept bytes x ≡ Some k = sym (c.checked.ensures ∙ ap checked_store c.at.ensures) ∙ c.in_ok-stored.was in
-    λ told es p stands order. c.from_residual-in_err-after.ensures ∙ sym (
-    lines-found-at c.args.self.now told es p stands order c.args.ties c.args.a.now b m early c.line_of-line.result c.in_ok-first.first c.least_opening_off-elsewhere.result
-    least here.from here.within opens c.line_of-line.ensures least_on c.least_opening_off-elsewhere.ensures _ _ (λ x. refl) (λ x. refl)
-    ∙ ap (with_partner (by_lines c.args.ties (kept bytes)) b) (sym c.first_by_line.ensures.value ∙ c.in_ok-byte.was)
-    ∙ ap (paired x) (lines-partner-at c.args.ties (kept bytes) b x c.line_of.result k own c.line_of.ensures _ _ (λ y. refl) (λ y. refl) ∙ sym c.first_by_line-2.ensures.value ∙ c.in_err-after.was))
 
 pub returns : goal.returns
 unfolding keyed kept passing
@@ -117,8 +97,8 @@ returns c =
     let x = c.in_ok-byte.byte in
     let k = c.in_ok-stored.stored in
     let own : kept bytes x ≡ Some k = sym (c.checked.ensures ∙ ap checked_store c.at.ensures) ∙ c.in_ok-stored.was in
-    λ told es p stands order. sym (
+    λ told es p stands order. c.paired.ensures ∙ sym (
     lines-found-at c.args.self.now told es p stands order c.args.ties c.args.a.now b m early c.line_of-line.result c.in_ok-first.first c.least_opening_off-elsewhere.result
     least here.from here.within opens c.line_of-line.ensures least_on c.least_opening_off-elsewhere.ensures _ _ (λ x. refl) (λ x. refl)
     ∙ ap (with_partner (by_lines c.args.ties (kept bytes)) b) (sym c.first_by_line.ensures.value ∙ c.in_ok-byte.was)
-    ∙ ap (paired x) (lines-partner-at c.args.ties (kept bytes) b x c.line_of.result k own c.line_of.ensures _ _ (λ y. refl) (λ y. refl) ∙ sym c.first_by_line-2.ensures.value ∙ c.in_ok-after.was))
+    ∙ ap (paired x) (lines-partner-at c.args.ties (kept bytes) b x c.line_of.result k own c.line_of.ensures _ _ (λ y. refl) (λ y. refl) ∙ sym c.first_by_line-after.ensures.value))
