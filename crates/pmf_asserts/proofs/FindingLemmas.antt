@@ -1,13 +1,10 @@
 -- A finding by its parts.
-use Rattle.std.proofs.{Common.{◌≡◌, ℕ, ◌<◌, Bool, true, false, not, ◌&&◌, if◌then◌else◌, List, refl, sym, ◌∙◌, ap, arith, Option, Some, None, is_some, is_none, ne_eqb, eq-eqb}, lemmas.Bool.{and_parts, ltb-true}}
-use Rattle.pmf_event.{specs.declared.event.Event.{Event}, specs.declared.finding.Finding.{Finding}, specs.declared.finding.Finding.TheVariants.{PersistEmpty, OrderedEmpty}, specs.declared.interval.Interval.{Interval}, specs.declared.profile.Profile.{Profile}, specs.Line.{line_of_byte}, specs.Store.{last_store, epoch_of, stores}, specs.Interval.{interval_at, closing_fence, epoch_after}, specs.Span.{Extent}, specs.Ranges.{first_byte}, specs.Persist.{is_checked, is_exposed, pass_unless, persist_finding}, specs.Order.{is_ordered, is_unordered, is_certified, least_pair, finding_of_pairs, ordered_finding}, proofs.LeastPairLemmas.{pair-from, certified-unordered}}
+use Rattle.std.proofs.{Common.{◌≡◌, ℕ, ◌<◌, Bool, true, false, if◌then◌else◌, List, sym, ◌∙◌, ap, arith, Option, Some, None, is_some, is_none, ne_eqb, eq-eqb}, lemmas.Bool.{and_parts, ltb-true}}
+use Rattle.pmf_event.{specs.declared.event.Event.{Event}, specs.declared.finding.Finding.{Finding}, specs.declared.finding.Finding.TheVariants.{PersistEmpty, OrderedEmpty}, specs.declared.interval.Interval.{Interval}, specs.declared.profile.Profile.{Profile}, specs.Line.{line_of_byte}, specs.Store.{last_store, epoch_of, stores}, specs.Interval.{interval_at, closing_fence, epoch_after}, specs.Span.{Extent}, specs.Ranges.{first_byte}, specs.Persist.{is_checked, is_exposed, pass_unless, persist_finding}, specs.Order.{is_unordered, is_certified, least_pair, finding_of_pairs, ordered_finding}, proofs.LeastPairLemmas.{pair-from, certified-unordered}}
 use Rattle.pmf_shadow.specs.Told.{interval_as_told}
 
 is_none-by : (o : Option ℕ) (v : Bool) → is_some o ≡ v → is_none o ≡ (if v then false else true)
-is_none-by None true is = let bad : false ≡ true = is in cc
-is_none-by None false is = refl
-is_none-by (Some x) true is = refl
-is_none-by (Some x) false is = let bad : true ≡ false = is in cc
+is_none-by o v is = grind arith
 
 module _ (es : List Event) (p : ℕ) where
   pub persist-empty : (s : Extent) → is_some (first_byte (is_checked es p) s) ≡ false → PersistEmpty ≡ persist_finding es p s
@@ -28,19 +25,13 @@ module _ (es : List Event) (p : ℕ) where
 
     pub ordered-empty-second : is_some (first_byte (is_checked es p) a) ≡ true → is_some (first_byte (is_checked es p) b) ≡ false → OrderedEmpty ≡ ordered_finding profile es p a b
     unfolding ordered_finding pairs
-    ordered-empty-second some none =
-        sym (ap (λ v. if v then OrderedEmpty else if is_none (first_byte (is_checked es p) b) then OrderedEmpty else pairs) (is_none-by (first_byte (is_checked es p) a) true some)
-        ∙ ap (λ v. if v then OrderedEmpty else pairs) (is_none-by (first_byte (is_checked es p) b) false none))
+    ordered-empty-second some none = grind arith
 
     pub ordered-found : (certified unordered : Option (ℕ × ℕ)) → is_some (first_byte (is_checked es p) a) ≡ true → is_some (first_byte (is_checked es p) b) ≡ true →
         certified ≡ least_pair (is_certified profile es p) a b → unordered ≡ least_pair (is_unordered profile es p) a b →
         finding_of_pairs es p certified unordered ≡ ordered_finding profile es p a b
     unfolding ordered_finding pairs
-    ordered-found certified unordered some other is_certified_one is_unordered_one =
-        ap (λ c. finding_of_pairs es p c unordered) is_certified_one
-        ∙ ap (finding_of_pairs es p (least_pair (is_certified profile es p) a b)) is_unordered_one
-        ∙ sym (ap (λ v. if v then OrderedEmpty else if is_none (first_byte (is_checked es p) b) then OrderedEmpty else pairs) (is_none-by (first_byte (is_checked es p) a) true some)
-        ∙ ap (λ v. if v then OrderedEmpty else pairs) (is_none-by (first_byte (is_checked es p) b) true other))
+    ordered-found certified unordered some other is_certified_one is_unordered_one = grind arith
 
 -- ---- the place of a store
 
@@ -59,10 +50,7 @@ module _ (told : ℕ → ℕ) (es : List Event) (p b : ℕ) where
 
   pub place-written : (i : Interval) → Some i ≡ interval_as_told told (interval_at es p b) → 0 < last_store es p b → i.last ≡ told (last_store es p b)
   unfolding found
-  place-written i is some =
-      let same : Some i ≡ interval_as_told told found = is ∙ ap (interval_as_told told) (at-written some) in
-      let own : i ≡ record { last = told (last_store es p b); opens = epoch_of es (last_store es p b); closes = epoch_after es (closing_fence (stores b) (line_of_byte b) es p) } = cc in
-      ap (λ (i : Interval). i.last) own
+  place-written i is some = grind arith
 
   pub never-written : None ≡ interval_as_told told (interval_at es p b) → 0 < last_store es p b → ⊥
   unfolding found
@@ -77,8 +65,7 @@ checked-written es p y is = ltb-true 0 (last_store es p y) (and_parts _ _ is).0
 
 unordered-checked : (profile : Profile) (es : List Event) (p x y : ℕ) → is_unordered profile es p x y ≡ true → is_checked es p y ≡ true
 unfolding is_unordered
-unordered-checked profile es p x y is =
-    (and_parts (is_checked es p x) (is_checked es p y) (and_parts (is_checked es p x && is_checked es p y) (not (is_ordered profile es p x y)) is).0).1
+unordered-checked profile es p x y is = grind arith
 
 -- the later byte of a certified pair is written
 pub certified-written : (profile : Profile) (es : List Event) (p : ℕ) (a b : Extent) (x y : ℕ) → least_pair (is_certified profile es p) a b ≡ Some (x, y) → 0 < last_store es p y

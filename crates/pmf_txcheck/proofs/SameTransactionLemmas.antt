@@ -1,6 +1,6 @@
 -- What the definitions of transactions say at p looks only at the events up to p.
 use Rattle.std.proofs.Common.{◌≡◌, ℕ, zero, suc, ◌-◌, ◌≤◌, not, ◌&&◌, nat_lt, max, List, ◌∙◌, ap, ap₂, arith}
-use Rattle.pmf_event.{specs.declared.event.Event.{Event}, specs.Places.{greatest, least, count, highest}, specs.Store.{at, stores, last}, specs.Transactions.{begins, ends, rise, depth_at, in_transaction, is_outside, adds, is_backed, opens_scope, closes_scope, opens_after, scope_at, in_scope, stores_inside, is_scoped}, proofs.PlacesLemmas.{SameUpTo, least-bound}}
+use Rattle.pmf_event.{specs.declared.event.Event.{Event}, specs.Places.{least, highest}, specs.Store.{at, stores, last}, specs.Transactions.{rise, depth_at, in_transaction, is_outside, adds, is_backed, opens_scope, closes_scope, opens_after, scope_at, in_scope, stores_inside, is_scoped}, proofs.PlacesLemmas.{SameUpTo, least-bound}}
 use Rattle.pmf_shadow.{specs.Laws.{SameEvents}, proofs.SameLemmas.{greatest-same, least-same, same-before, at-same, last-same, count_at-same}}
 
 highest-same : (f g : ℕ → ℕ) (n : ℕ) → ((k : ℕ) → k ≤ n → f k ≡ g k) → highest f n ≡ highest g n
@@ -11,9 +11,7 @@ highest-same f g (suc n) same = ap₂ max (same (suc n) (omega arith)) (highest-
 module _ (es fs : List Event) (p : ℕ) (same : SameEvents es fs p) where
   rise-same : (q : ℕ) → q ≤ p → rise es p q ≡ rise fs p q
   unfolding rise
-  rise-same q within =
-      ap₂ (λ a b. (a - b) - (count (at ends es) p - count (at ends es) q)) (count_at-same es fs p same begins) (count_at-same es fs q (same-before es fs p q within same) begins)
-      ∙ ap₂ (λ a b. (count (at begins fs) p - count (at begins fs) q) - (a - b)) (count_at-same es fs p same ends) (count_at-same es fs q (same-before es fs p q within same) ends)
+  rise-same q within = grind (arith, ap₂, count_at-same, same-before)
 
   pub depth-alike : depth_at es p ≡ depth_at fs p
   unfolding depth_at
@@ -57,6 +55,4 @@ module _ (es fs : List Event) (p : ℕ) (same : SameEvents es fs p) where
 
   pub scoped-alike : (b : ℕ) → is_scoped es p b ≡ is_scoped fs p b
   unfolding is_scoped
-  scoped-alike b =
-      ap₂ (λ v s. v && nat_lt s (greatest (stores_inside es b) p)) (in_scope-alike es fs p same) (scope-alike es fs p same)
-      ∙ ap (λ g. in_scope fs p && nat_lt (scope_at fs p) g) (greatest-same (stores_inside es b) (stores_inside fs b) p (inside_stores-alike b))
+  scoped-alike b = grind (arith, ap₂, nat_lt, in_scope-alike, scope-alike, ap, greatest-same, inside_stores-alike)

@@ -1,6 +1,6 @@
 -- The two walks of the transaction checker: none so far, and the first from here.
-use Rattle.std.proofs.{Common.{◌≡◌, ℕ, ◌+◌, ◌-◌, ◌<◌, ◌≤◌, Bool, true, false, not, ◌&&◌, List, refl, sym, ◌∙◌, ap, arith, inl, inr, Option, Some, None, unwrap_or, lt-ltb}, Math.Bool.{and-false}, lemmas.Bool.{cases_lt, cases_eq, both_ways, not-true, not-false, and_from}}
-use Rattle.pmf_event.{specs.declared.event.Event.{Event}, specs.declared.span.TheConstants.{ADDRESS_LIMIT}, specs.Ranges.{first_from}, specs.Exclusion.{is_excluded, is_included}, specs.Interval.{interval_at, is_open}, specs.Store.{last_store}, specs.Persist.{is_checked, is_exposed}, specs.Transactions.{in_transaction, is_backed, in_scope, is_scoped}, proofs.RangeLemmas.{IsFirst, first_from-none, first_from-some, none-passes, first-passes}}
+use Rattle.std.proofs.{Common.{◌≡◌, ℕ, ◌+◌, ◌-◌, ◌<◌, ◌≤◌, Bool, true, false, not, ◌&&◌, List, refl, sym, ◌∙◌, ap, arith, inl, inr, Option, Some, None, unwrap_or}, lemmas.Bool.{cases_lt, cases_eq, both_ways, not-true, not-false, and_from}}
+use Rattle.pmf_event.{specs.declared.event.Event.{Event}, specs.declared.span.TheConstants.{ADDRESS_LIMIT}, specs.Ranges.{first_from}, specs.Exclusion.{is_included}, specs.Interval.{interval_at, is_open}, specs.Persist.{is_checked, is_exposed}, specs.Transactions.{in_transaction, is_backed, in_scope, is_scoped}, proofs.RangeLemmas.{IsFirst, first_from-none, first_from-some, none-passes, first-passes}}
 use Rattle.pmf_runs.specs.{declared.members.Members.{Members}, declared.runs.RunMap.{RunMap}, declared.state.State.{Ghosts}, Runs.{state_at, passing}}
 use Rattle.pmf_shadow.specs.{declared.shadow.Shadow.{Shadow}, Shadow.{StandsFor}}
 use Rattle.pmf_txcheck.specs.{declared.state.TxState.{TxState}, Findings.{lacks_backup_by, is_left_open_by}, Tracking.{Tracks}}
@@ -99,10 +99,7 @@ module _ {laws : Ghosts Bool Members} (set : RunMap Bool Members laws) (at end :
 -- a byte that is included and whose interval is open has been written, so it is exposed
 included-exposed : (es : List Event) (p b : ℕ) → (is_included es p b && is_open (interval_at es p b)) ≡ is_exposed es p b
 unfolding is_exposed is_checked is_included
-included-exposed es p b = elim (cases_eq (last_store es p b) 0) [
-  | inl none ↦ rw none (and-false (not (is_excluded es p b)))
-  | inr some ↦ sym (ap (λ v. v && not (is_excluded es p b) && is_open (interval_at es p b)) (lt-ltb 0 (last_store es p b) (omega arith)))
-]
+included-exposed es p b = grind arith
 
 module _ (es : List Event) (p : ℕ) (fs : List Event) (q b : ℕ) where
   bare-excluded : is_included fs q b ≡ false → lacks_backup_by es p fs q b ≡ false

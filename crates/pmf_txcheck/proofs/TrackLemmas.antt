@@ -1,8 +1,8 @@
 -- The state tracks one more event, and its findings are those of the definitions: a lemma for each call.
-use Rattle.std.proofs.{Common.{◌≡◌, ℕ, suc, ◌+◌, ◌-◌, ◌<◌, Bool, true, false, not, ◌&&◌, ◌==◌, if◌then◌else◌, List, [], ◌∷◌, ◌++◌, length, take, refl, sym, ◌∙◌, ap, subst, arith, inl, inr, Option, Some, None, is_some, option_map, eq-eqb, ne_eqb}, Math.Bool.{and-false}, lemmas.Bool.{cases_eq, both_ways}}
-use Rattle.pmf_event.{specs.declared.event.Event.{Event}, specs.declared.event.Event.TheVariants.{Store, Flush, Fence, Persist, Ordered, Exclude, Include, TxBegin, TxAdd, TxEnd, CheckStart, CheckEnd}, specs.declared.finding.Finding.TheVariants.{TxStillOpen, Unmatched, Outside, Nested, Unopened, Unclosed}, specs.declared.span.TheConstants.{ADDRESS_LIMIT}, specs.Span.{Extent}, specs.Ranges.{first_from, first_byte}, specs.Store.{event_at, stores}, specs.Transactions.{begins, ends, depth_at, in_transaction, is_outside, adds, is_backed, opens_scope, closes_scope, scope_at, in_scope, is_scoped, lacks_backup, is_left_open, duplog_with, nobackup_with, scope_passes_unless, end_finding, add_finding, store_finding, start_finding, check_finding, close_finding}, proofs.RangeLemmas.{first_from-same, some-from}, proofs.TransactionLemmas.{depth-start, depth-begun, depth-ended, depth-kept, inside-from, outside-from, inside-depth, inside-kept, backed-begun, backed-added, backed-kept, scope-start, scope-some, scoped-from, unscoped-from, in_scope-same, scope-stays, scope-opened, scope-kept, scope-closed, scoped-opened, scoped-kept, scoped-stored}}
+use Rattle.std.proofs.{Common.{◌≡◌, ℕ, suc, ◌+◌, ◌-◌, ◌<◌, Bool, true, false, not, ◌&&◌, ◌==◌, if◌then◌else◌, List, refl, sym, ◌∙◌, ap, arith, Option, Some, None, is_some, option_map, eq-eqb, ne_eqb}, Math.Bool.{and-false}, lemmas.Bool.{both_ways}}
+use Rattle.pmf_event.{specs.declared.event.Event.{Event}, specs.declared.event.Event.TheVariants.{Store, TxBegin, TxAdd, TxEnd, CheckStart, CheckEnd}, specs.declared.finding.Finding.TheVariants.{TxStillOpen, Unmatched, Outside, Nested, Unopened, Unclosed}, specs.declared.span.TheConstants.{ADDRESS_LIMIT}, specs.Span.{Extent}, specs.Ranges.{first_from, first_byte}, specs.Store.{event_at, stores}, specs.Transactions.{begins, ends, depth_at, in_transaction, is_outside, adds, is_backed, opens_scope, closes_scope, scope_at, in_scope, is_scoped, lacks_backup, is_left_open, duplog_with, nobackup_with, scope_passes_unless, end_finding, add_finding, store_finding, start_finding, check_finding, close_finding}, proofs.RangeLemmas.{first_from-same, some-from}, proofs.TransactionLemmas.{depth-start, depth-begun, depth-ended, depth-kept, inside-from, outside-from, inside-depth, inside-kept, backed-begun, backed-added, backed-kept, scope-start, scope-some, scoped-from, unscoped-from, in_scope-same, scope-stays, scope-opened, scope-kept, scope-closed, scoped-opened, scoped-kept, scoped-stored}}
 use Rattle.pmf_runs.specs.{declared.members.Members.{Members}, declared.runs.RunMap.{RunMap}, contracts.members.BoolState.TheImpl.{ghosts}, Runs.{state_at, passing, is_between, ChangesBetween}}
-use Rattle.pmf_shadow.{specs.Told.{finding_as_told}, proofs.SameLemmas.{same-longer, at_the_end, length-taken, same-taken, same-retaken}}
+use Rattle.pmf_shadow.{specs.Told.{finding_as_told}, proofs.StandsLemmas.{at-end, at-within}}
 use Rattle.pmf_txcheck.{specs.declared.state.TxState.{TxState}, specs.Findings.{lacks_backup_by, store_finding_by, is_left_open_by, check_finding_by}, specs.Laws.{is_untracked, UntrackedEventsChangeNothing, OnlyPastEventsCount, StepsFollowWithin, OneListIsACase}, specs.Tracking.{scope_as_told, Tracks, FollowsAt}, proofs.SameTransactionLemmas.{depth-alike, inside-alike, scope-alike, scope-within, in_scope-alike, backed-alike, scoped-alike}}
 
 -- ---- what is kept says whether a transaction runs, and whether there is a scope
@@ -21,18 +21,10 @@ module _ (state : TxState) (told : ℕ → ℕ) (es : List Event) (p : ℕ) (tra
   inside-by some = let same = tracks.depth in inside-from es p (omega arith)
 
   pub unscoped-by : state.scope ≡ None → scope_at es p ≡ 0
-  unscoped-by none = elim (cases_eq (scope_at es p) 0) [
-    | inl zero_is ↦ zero_is
-    | inr some ↦ let bad : None ≡ Some (told (scope_at es p)) = sym none ∙ tracks.scope ∙ as_told-some told (scope_at es p) (omega arith) in cc
-  ]
+  unscoped-by none = grind arith
 
   pub scope-by : (start : ℕ) → state.scope ≡ Some start → (0 < scope_at es p) × (told (scope_at es p) ≡ start)
-  scope-by start some = elim (cases_eq (scope_at es p) 0) [
-    | inl none ↦ let bad : None ≡ Some start = sym (as_told-none told (scope_at es p) none) ∙ sym tracks.scope ∙ some in cc
-    | inr other ↦
-        let same : Some (told (scope_at es p)) ≡ Some start = sym (as_told-some told (scope_at es p) (omega arith)) ∙ sym tracks.scope ∙ some in
-        (omega arith, cc)
-  ]
+  scope-by start some = grind arith
 
   pub in_scope-by : (start : ℕ) → state.scope ≡ Some start → in_scope es p ≡ true
   in_scope-by start some = scoped-from es p (scope-by start some).0
@@ -313,8 +305,7 @@ module _ (state : TxState) (told : ℕ → ℕ) (es fs : List Event) (p q : ℕ)
   check-scoped : in_scope es p ≡ true →
       check_finding_by es p fs q ≡ (if in_transaction es p then TxStillOpen (depth_at es p) else scope_passes_unless (first_from (is_left_open_by es p fs q) 0 ADDRESS_LIMIT))
   unfolding check_finding_by
-  check-scoped scoped =
-      ap (λ v. if not v then Unopened else if in_transaction es p then TxStillOpen (depth_at es p) else scope_passes_unless (first_from (is_left_open_by es p fs q) 0 ADDRESS_LIMIT)) scoped
+  check-scoped scoped = grind arith
 
   pub check-inside : in_scope es p ≡ true → 0 < state.depth → TxStillOpen state.depth ≡ check_finding_by es p fs q
   check-inside scoped some =
@@ -354,18 +345,8 @@ tracks-other state told es p e here no_begin no_end no_close no_open no_add no_s
 
 pub tracks-untracked : (state : TxState) (told : ℕ → ℕ) (es : List Event) (p : ℕ) (e : Event) → event_at es (suc p) ≡ Some e → is_untracked e ≡ true → Tracks state told es p → Tracks state told es (suc p)
 unfolding is_untracked begins ends adds closes_scope opens_scope stores
-tracks-untracked state told es p (Store s) here untracked tracks = let bad : false ≡ true = untracked in cc
-tracks-untracked state told es p TxBegin here untracked tracks = let bad : false ≡ true = untracked in cc
-tracks-untracked state told es p (TxAdd s) here untracked tracks = let bad : false ≡ true = untracked in cc
-tracks-untracked state told es p TxEnd here untracked tracks = let bad : false ≡ true = untracked in cc
-tracks-untracked state told es p CheckStart here untracked tracks = let bad : false ≡ true = untracked in cc
-tracks-untracked state told es p CheckEnd here untracked tracks = let bad : false ≡ true = untracked in cc
-tracks-untracked state told es p (Flush s) here untracked tracks = tracks-other state told es p (Flush s) here refl refl refl refl (λ b. refl) (λ b. refl) tracks
-tracks-untracked state told es p Fence here untracked tracks = tracks-other state told es p Fence here refl refl refl refl (λ b. refl) (λ b. refl) tracks
-tracks-untracked state told es p (Persist s) here untracked tracks = tracks-other state told es p (Persist s) here refl refl refl refl (λ b. refl) (λ b. refl) tracks
-tracks-untracked state told es p (Ordered x y) here untracked tracks = tracks-other state told es p (Ordered x y) here refl refl refl refl (λ b. refl) (λ b. refl) tracks
-tracks-untracked state told es p (Exclude s) here untracked tracks = tracks-other state told es p (Exclude s) here refl refl refl refl (λ b. refl) (λ b. refl) tracks
-tracks-untracked state told es p (Include s) here untracked tracks = tracks-other state told es p (Include s) here refl refl refl refl (λ b. refl) (λ b. refl) tracks
+tracks-untracked state told es p e here untracked tracks =
+    tracks-other state told es p e here (grind arith) (grind arith) (grind arith) (grind arith) (λ b. grind arith) (λ b. grind arith) tracks
 
 -- ---- the events up to a place, and steps at the end of a list
 
@@ -383,18 +364,11 @@ tracks-past state told tells es fs p same told_same tracks = record {
 pub follows-from : (place : ℕ) (old new : TxState) (e : Event) →
     ((told : ℕ → ℕ) (es : List Event) (p : ℕ) → event_at es (suc p) ≡ Some e → told (suc p) ≡ place → Tracks old told es p → Tracks new told es (suc p)) →
     FollowsAt place old new e
-follows-from place old new e step told es at_place tracks =
-    step told (es ++ e ∷ []) (length es) (at_the_end es e) at_place (tracks-past old told told es (es ++ e ∷ []) (length es) (same-longer es e) (λ k within. refl) tracks)
+follows-from = at-end Tracks tracks-past
 
 -- and the other way round
 pub follows-within : StepsFollowWithin
-follows-within place old new e follows told es p here at_place tracks =
-    let size = length-taken es p e here in
-    let before : Tracks old told (take p es) (length (take p es)) =
-    subst (Tracks old told (take p es)) (sym size) (tracks-past old told told es (take p es) p (same-taken es p) (λ k within. refl) tracks) in
-    let after : Tracks new told (take p es ++ e ∷ []) (suc p) =
-    subst (λ n. Tracks new told (take p es ++ e ∷ []) (suc n)) size (follows told (take p es) (ap (λ n. told (suc n)) size ∙ at_place) before) in
-    tracks-past new told told (take p es ++ e ∷ []) es (suc p) (same-retaken es p e here) (λ k within. refl) after
+follows-within = at-within Tracks tracks-past
 
 pub untracked-follows : UntrackedEventsChangeNothing
 untracked-follows state e untracked place = follows-from place state state e (λ told es p here at_place tracks. tracks-untracked state told es p e here untracked tracks)
