@@ -1,43 +1,28 @@
 -- Stretches of alike bytes: between two borders all bytes are alike, and alike bytes answer alike.
-use Rattle.std.{proofs.Common.{◌≡◌, ℕ, zero, suc, ◌+◌, ◌-◌, ◌<◌, ◌≤◌, not, ◌&&◌, nat_lt, nat_le, if◌then◌else◌, List, length, refl, sym, ◌∙◌, ap, arith, inl, inr, subst, Some, None, nat_eq, get_or, ◌⊎◌}, specs.Option.{option_eq}, proofs.lemmas.Bool.{cases_lt, cases_eq}, proofs.lemmas.Option.{slice_get_past, slice_get_read}, proofs.Math.Path.{fun_ext}}
-use Rattle.pmf_event.{specs.declared.event.Event.{Event}, specs.declared.event.Event.TheVariants.{Store, Flush, Exclude, Include}, specs.Span.{Extent, covers_byte}, specs.Line.{line_of_byte, meets_line}, specs.Places.{greatest, count, some_between}, specs.Store.{event_at, at, stores, stores_line, flushes, is_fence, last, last_store}, specs.Exclusion.{excludes, marks, is_excluded, is_included}, specs.Persist.{is_checked}, specs.Transactions.{in_transaction, scope_at, in_scope, stores_inside, is_scoped}, proofs.EventLemmas.{at-is}}
-use Rattle.pmf_image.{specs.declared.certificate.Certificate.{Certificate}, specs.declared.questions.Question.{Question}, specs.declared.questions.Question.TheVariants.{FallsShort, IsShown, IsLost, ScopeFallsShort}, specs.Image.{count_of, is_fenced, floor_of, reach_of, reaches, shows}, specs.Certificate.{image_of, cut_in, shows_in}, specs.Borders.{AlikeAt, Alike}, specs.Questions.{is_asked, compares, answer_of}, proofs.ImageLemmas.{reach-untorn}, proofs.CertificateLemmas.{cut-is}}
+use Rattle.std.{proofs.Common.{◌≡◌, ℕ, zero, suc, ◌+◌, ◌-◌, ◌<◌, ◌≤◌, not, ◌&&◌, nat_lt, List, length, refl, sym, ◌∙◌, ap, arith, inl, inr, Option, Some, None, nat_eq, get_or, ◌⊎◌}, specs.Option.{option_eq}, proofs.lemmas.Bool.{cases_lt, cases_eq}, proofs.lemmas.Option.{slice_get_past, slice_get_read}, proofs.Math.Path.{fun_ext}}
+use Rattle.pmf_event.{specs.declared.event.Event.{Event}, specs.declared.event.Event.TheVariants.{Store, Flush, Exclude, Include}, specs.Span.{Extent, covers_byte}, specs.Line.{line_of_byte, meets_line}, specs.Places.{greatest, count, some_between}, specs.Store.{event_at, passes, at, stores, stores_line, flushes, is_fence, last, last_store}, specs.Exclusion.{excludes, marks, is_excluded, is_included}, specs.Persist.{is_checked}, specs.Transactions.{in_transaction, scope_at, in_scope, stores_inside, is_scoped}, proofs.EventLemmas.{at-is}}
+use Rattle.pmf_image.{specs.declared.certificate.Certificate.{Certificate}, specs.declared.questions.Question.{Question}, specs.declared.questions.Question.TheVariants.{FallsShort, IsShown, IsLost, ScopeFallsShort}, specs.Image.{count_of, is_fenced, floor_of, reach_of, reaches, shows}, specs.Certificate.{image_of, cut_in, shows_in}, specs.Borders.{AlikeAt, Alike}, specs.Questions.{is_asked, answer_of}, proofs.ImageLemmas.{reach-untorn}, proofs.CertificateLemmas.{cut-is}}
 
 -- ---- bytes that an event doesn't tell apart
 
--- the event covers both bytes or neither, and meets the lines of both or of neither
-pub record AlikeTo (b x : ℕ) (e : Event) : Type 0 where
-  pub stored : stores b e ≡ stores x e
-  pub line_stored : stores_line (line_of_byte b) e ≡ stores_line (line_of_byte x) e
-  pub flushed : flushes (line_of_byte b) e ≡ flushes (line_of_byte x) e
-  pub excluded : excludes b e ≡ excludes x e
-  pub marked : marks b e ≡ marks x e
+-- the event, if there is one, covers both bytes or neither, and meets the lines of both or of neither
+pub record AlikeTo (b x : ℕ) (o : Option Event) : Type 0 where
+  pub stored : passes (stores b) o ≡ passes (stores x) o
+  pub line_stored : passes (stores_line (line_of_byte b)) o ≡ passes (stores_line (line_of_byte x)) o
+  pub flushed : passes (flushes (line_of_byte b)) o ≡ passes (flushes (line_of_byte x)) o
+  pub excluded : passes (excludes b) o ≡ passes (excludes x) o
+  pub marked : passes (marks b) o ≡ passes (marks x) o
 
 module _ (s : Extent) (b x : ℕ) (bytes : covers_byte s b ≡ covers_byte s x) (lines : meets_line s (line_of_byte b) ≡ meets_line s (line_of_byte x)) where
-  alike-store : AlikeTo b x (Store s)
+  alike-span : (e : Event) → (e ≡ Store s) ⊎ ((e ≡ Flush s) ⊎ ((e ≡ Exclude s) ⊎ (e ≡ Include s))) → AlikeTo b x (Some e)
   unfolding stores stores_line flushes excludes marks
-  alike-store = record { stored = bytes; line_stored = lines; flushed = refl; excluded = refl; marked = refl }
-
-  alike-flush : AlikeTo b x (Flush s)
-  unfolding stores stores_line flushes excludes marks
-  alike-flush = record { stored = refl; line_stored = refl; flushed = lines; excluded = refl; marked = refl }
-
-  alike-exclude : AlikeTo b x (Exclude s)
-  unfolding stores stores_line flushes excludes marks
-  alike-exclude = record { stored = refl; line_stored = refl; flushed = refl; excluded = bytes; marked = bytes }
-
-  alike-include : AlikeTo b x (Include s)
-  unfolding stores stores_line flushes excludes marks
-  alike-include = record { stored = refl; line_stored = refl; flushed = refl; excluded = refl; marked = bytes }
-
-  alike-span : (e : Event) → (e ≡ Store s) ⊎ ((e ≡ Flush s) ⊎ ((e ≡ Exclude s) ⊎ (e ≡ Include s))) → AlikeTo b x e
-  alike-span e (inl store) = subst (AlikeTo b x) (sym store) alike-store
-  alike-span e (inr (inl flush)) = subst (AlikeTo b x) (sym flush) alike-flush
-  alike-span e (inr (inr (inl exclude))) = subst (AlikeTo b x) (sym exclude) alike-exclude
-  alike-span e (inr (inr (inr include))) = subst (AlikeTo b x) (sym include) alike-include
+  alike-span e (inl store) = rw store (record { stored = bytes; line_stored = lines; flushed = refl; excluded = refl; marked = refl })
+  alike-span e (inr (inl flush)) = rw flush (record { stored = refl; line_stored = refl; flushed = lines; excluded = refl; marked = refl })
+  alike-span e (inr (inr (inl exclude))) = rw exclude (record { stored = refl; line_stored = refl; flushed = refl; excluded = bytes; marked = bytes })
+  alike-span e (inr (inr (inr include))) = rw include (record { stored = refl; line_stored = refl; flushed = refl; excluded = refl; marked = bytes })
 
 alike-other : (b x : ℕ) (e : Event) → ((s : Extent) → e ≡ Store s → ⊥) → ((s : Extent) → e ≡ Flush s → ⊥) → ((s : Extent) → e ≡ Exclude s → ⊥) →
-    ((s : Extent) → e ≡ Include s → ⊥) → AlikeTo b x e
+    ((s : Extent) → e ≡ Include s → ⊥) → AlikeTo b x (Some e)
 unfolding stores stores_line flushes excludes marks
 alike-other b x (Store s) no_store no_flush no_exclude no_include = absurd (no_store s refl)
 alike-other b x (Flush s) no_store no_flush no_exclude no_include = absurd (no_flush s refl)
@@ -45,23 +30,17 @@ alike-other b x (Exclude s) no_store no_flush no_exclude no_include = absurd (no
 alike-other b x (Include s) no_store no_flush no_exclude no_include = absurd (no_include s refl)
 alike-other b x _ no_store no_flush no_exclude no_include = record { stored = refl; line_stored = refl; flushed = refl; excluded = refl; marked = refl }
 
-alike_at-from : (es : List Event) (b x k : ℕ) (e : Event) → event_at es k ≡ Some e → AlikeTo b x e → AlikeAt es b x k
-alike_at-from es b x k e here alike = record {
-  stored = at-is (stores b) es k (Some e) here ∙ alike.stored ∙ sym (at-is (stores x) es k (Some e) here);
-  line_stored = at-is (stores_line (line_of_byte b)) es k (Some e) here ∙ alike.line_stored ∙ sym (at-is (stores_line (line_of_byte x)) es k (Some e) here);
-  flushed = at-is (flushes (line_of_byte b)) es k (Some e) here ∙ alike.flushed ∙ sym (at-is (flushes (line_of_byte x)) es k (Some e) here);
-  excluded = at-is (excludes b) es k (Some e) here ∙ alike.excluded ∙ sym (at-is (excludes x) es k (Some e) here);
-  marked = at-is (marks b) es k (Some e) here ∙ alike.marked ∙ sym (at-is (marks x) es k (Some e) here);
+alike_at-from : (es : List Event) (b x k : ℕ) (o : Option Event) → event_at es k ≡ o → AlikeTo b x o → AlikeAt es b x k
+alike_at-from es b x k o here alike = record {
+  stored = at-is (stores b) es k o here ∙ alike.stored ∙ sym (at-is (stores x) es k o here);
+  line_stored = at-is (stores_line (line_of_byte b)) es k o here ∙ alike.line_stored ∙ sym (at-is (stores_line (line_of_byte x)) es k o here);
+  flushed = at-is (flushes (line_of_byte b)) es k o here ∙ alike.flushed ∙ sym (at-is (flushes (line_of_byte x)) es k o here);
+  excluded = at-is (excludes b) es k o here ∙ alike.excluded ∙ sym (at-is (excludes x) es k o here);
+  marked = at-is (marks b) es k o here ∙ alike.marked ∙ sym (at-is (marks x) es k o here);
 }
 
 alike_at-none : (es : List Event) (b x k : ℕ) → event_at es k ≡ None → AlikeAt es b x k
-alike_at-none es b x k here = record {
-  stored = at-is (stores b) es k None here ∙ sym (at-is (stores x) es k None here);
-  line_stored = at-is (stores_line (line_of_byte b)) es k None here ∙ sym (at-is (stores_line (line_of_byte x)) es k None here);
-  flushed = at-is (flushes (line_of_byte b)) es k None here ∙ sym (at-is (flushes (line_of_byte x)) es k None here);
-  excluded = at-is (excludes b) es k None here ∙ sym (at-is (excludes x) es k None here);
-  marked = at-is (marks b) es k None here ∙ sym (at-is (marks x) es k None here);
-}
+alike_at-none es b x k here = alike_at-from es b x k None here (record { stored = refl; line_stored = refl; flushed = refl; excluded = refl; marked = refl })
 
 -- the event at the next place, as a pass over all events reads it
 pub event-read : (es : List Event) (i : ℕ) (e : Event) → i < length es → e ≡ get_or es i e → event_at es (suc i) ≡ Some e
@@ -98,13 +77,13 @@ module _ (es : List Event) (c : Certificate) (b limit : ℕ) where
   }
 
   stretch-step : (i end next : ℕ) (e : Event) → StretchesTo es c b limit i end → event_at es (suc i) ≡ Some e → b < next → next ≤ end →
-      ((x : ℕ) → b ≤ x → x < next → AlikeTo b x e) → StretchesTo es c b limit (suc i) next
+      ((x : ℕ) → b ≤ x → x < next → AlikeTo b x (Some e)) → StretchesTo es c b limit (suc i) next
   stretch-step i end next e before here above below alike = record {
     above = above;
     below = let limited = before.below in omega arith;
     full_line = λ x from until. before.full_line x from (omega arith);
     places = λ x from until k within. elim (cases_eq k (suc i)) [
-      | inl same ↦ alike_at-from es b x k e (ap (event_at es) same ∙ here) (alike x from until)
+      | inl same ↦ alike_at-from es b x k (Some e) (ap (event_at es) same ∙ here) (alike x from until)
       | inr other ↦ before.places x from (omega arith) k (omega arith)
     ];
   }
@@ -140,9 +119,6 @@ module _ (es : List Event) (c : Certificate) (b x : ℕ) (alike : Alike es c b x
 
   line_stored : at (stores_line (line_of_byte b)) es ≡ at (stores_line (line_of_byte x)) es
   line_stored = fun_ext (λ k. (alike.places k).line_stored)
-
-  flushed : at (flushes (line_of_byte b)) es ≡ at (flushes (line_of_byte x)) es
-  flushed = fun_ext (λ k. (alike.places k).flushed)
 
   excluded : at (excludes b) es ≡ at (excludes x) es
   excluded = fun_ext (λ k. (alike.places k).excluded)
@@ -187,22 +163,14 @@ module _ (es : List Event) (c : Certificate) (b x : ℕ) (alike : Alike es c b x
   floor-alike n = ap (λ t. count_of es (greatest t n - 1) (line_of_byte b)) (fenced-alike n) ∙ count-alike (greatest (is_fenced es n (line_of_byte x)) n - 1)
 
   cut-alike : cut_in es c (line_of_byte b) ≡ cut_in es c (line_of_byte x)
-  cut-alike =
-      cut-is es c (line_of_byte b)
-      ∙ ap (λ v. if v then count_of es c.crash (line_of_byte b) else floor_of es c.crash (line_of_byte b)) alike.full_line
-      ∙ ap (λ k. if option_eq nat_eq c.full_line (Some (line_of_byte x)) then k else floor_of es c.crash (line_of_byte b)) (count-alike c.crash)
-      ∙ ap (λ k. if option_eq nat_eq c.full_line (Some (line_of_byte x)) then count_of es c.crash (line_of_byte x) else k) (floor-alike c.crash)
-      ∙ sym (cut-is es c (line_of_byte x))
+  cut-alike = rw (cut-is es c (line_of_byte b), cut-is es c (line_of_byte x), alike.full_line, count-alike c.crash, floor-alike c.crash) refl
 
   reach-alike : reach_of es c.crash (image_of es c) b ≡ reach_of es c.crash (image_of es c) x
   reach-alike = reach-untorn es c.crash b (image_of es c) refl ∙ cut-alike ∙ sym (reach-untorn es c.crash x (image_of es c) refl)
 
   reaches-alike : reaches es c.crash (image_of es c) b ≡ reaches es c.crash (image_of es c) x
   unfolding reaches
-  reaches-alike = fun_ext (λ k.
-      ap (λ v. v && nat_le (count_of es k (line_of_byte b)) (reach_of es c.crash (image_of es c) b)) (alike.places k).stored
-      ∙ ap (λ n. at (stores x) es k && nat_le n (reach_of es c.crash (image_of es c) b)) (count-alike k)
-      ∙ ap (λ n. at (stores x) es k && nat_le (count_of es k (line_of_byte x)) n) reach-alike)
+  reaches-alike = fun_ext (λ k. rw ((alike.places k).stored, count-alike k, reach-alike) refl)
 
   shows-alike : shows_in es c b ≡ shows_in es c x
   unfolding shows
@@ -217,7 +185,4 @@ module _ (es : List Event) (c : Certificate) (b x : ℕ) (alike : Alike es c b x
 
   pub answer-alike : (q : Question) (p : ℕ) → answer_of q es p c b ≡ answer_of q es p c x
   unfolding answer_of
-  answer-alike q p =
-      ap (λ v. v && compares q (shows_in es c b) (last_store es p b)) (asked-alike q p)
-      ∙ ap (λ n. is_asked q es p x && compares q n (last_store es p b)) shows-alike
-      ∙ ap (λ n. is_asked q es p x && compares q (shows_in es c x) n) (last_store-alike p)
+  answer-alike q p = rw (asked-alike q p, shows-alike, last_store-alike p) refl

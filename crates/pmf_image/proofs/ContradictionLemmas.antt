@@ -1,6 +1,6 @@
 -- From the searches to the contradiction of an assertion, and back.
-use Rattle.std.proofs.{Common.{◌≡◌, ℕ, zero, suc, ◌+◌, ◌-◌, ◌<◌, ◌≤◌, Bool, true, false, not, ◌&&◌, ◌==◌, nat_lt, ◌↔◌, List, length, refl, sym, ◌∙◌, ap, arith, subst, Some, get_or, lt-ltb}, lemmas.Bool.Decides.{Decides-eqb}, lemmas.Option.{slice_get-get_or}, lemmas.Bool.{and_parts, and_from, both_ways, ltb-true}}
-use Rattle.pmf_event.{specs.declared.event.Event.{Event}, specs.declared.event.Event.TheVariants.{Persist, Ordered, CheckEnd}, specs.declared.span.TheConstants.{ADDRESS_LIMIT}, specs.Span.{Extent}, specs.Store.{event_at, last_store}, specs.Exclusion.{is_included}, specs.Persist.{is_checked}, specs.Transactions.{depth_at, in_transaction, in_scope, is_scoped}, proofs.LineLemmas.{covers-bounds, bounds-cover}, proofs.TransactionLemmas.{inside-from, outside-from}}
+use Rattle.std.proofs.{Common.{◌≡◌, ℕ, zero, suc, ◌+◌, ◌-◌, ◌<◌, ◌≤◌, Bool, true, false, not, ◌&&◌, ◌==◌, nat_lt, ◌↔◌, List, length, refl, sym, ◌∙◌, ap, arith, subst, Some, get_or, lt-ltb}, lemmas.Bool.Decides.{Decides-eqb}, lemmas.Option.{slice_get-get_or}, lemmas.Bool.{and_parts, and_from, both_ways, ltb-true, ne_eqb, eqb-false, not-true}}
+use Rattle.pmf_event.{specs.declared.event.Event.{Event}, specs.declared.event.Event.TheVariants.{Persist, Ordered, CheckEnd}, specs.declared.span.TheConstants.{ADDRESS_LIMIT}, specs.Span.{Extent, covers_byte}, specs.Store.{event_at, last_store}, specs.Exclusion.{is_included}, specs.Persist.{is_checked}, specs.Transactions.{depth_at, in_transaction, in_scope, is_scoped}, proofs.LineLemmas.{covers-bounds, bounds-cover}, proofs.TransactionLemmas.{inside-from, outside-from}}
 use Rattle.pmf_image.specs.{declared.certificate.Certificate.{Certificate}, declared.questions.Question.TheVariants.{FallsShort, IsShown, IsLost, ScopeFallsShort}, Certificate.{shows_in}, Contradiction.{PersistContradicted, OrderedContradicted, ScopeContradicted, ContradictsEvent, Contradicts}, Questions.{is_asked, compares, answer_of, SomeByte}}
 
 -- the event at the place, as it is read from the list
@@ -27,18 +27,11 @@ module _ (es : List Event) (p : ℕ) (c : Certificate) (d : Event) (some : 0 < p
   contradicts-no_assertion no_persist no_ordered no_close =
       contradicts-from false (get_or es (p - 1) d) refl (other-event (get_or es (p - 1) d) no_persist no_ordered no_close)
 
-pub open-true : (v : Bool) → not v ≡ false → v ≡ true
-open-true true is = refl
-open-true false is = let bad : true ≡ false = is in cc
-
-not_equal : (m n : ℕ) → not (m == n) ≡ true → m ≡ n → ⊥
-not_equal m n other same = let bad : true ≡ false = sym other ∙ ap not ((Decides-eqb m n).1 same) in cc
-
-equal-not : (m n : ℕ) → (m ≡ n → ⊥) → not (m == n) ≡ true
-equal-not m n other = elim (m == n) as (λ v. (m == n) ≡ v → not v ≡ true) [
-  | true ↦ λ same. absurd (other ((Decides-eqb m n).0 same))
-  | false ↦ λ apart. refl
-] refl
+-- a byte of the span that passes the test
+found : (s : Extent) (test : ℕ → Bool) (first end b : ℕ) → first ≡ s.first → end ≡ s.first + s.size → covers_byte s b ≡ true → test b ≡ true → SomeByte test first end
+found s test first end b low high covers passes =
+    let bounds = covers-bounds s b covers in
+    record { byte = b; from = omega (arith, bounds.0); before = omega (arith, bounds.1); passes = passes }
 
 module _ (es : List Event) (p : ℕ) (c : Certificate) where
   pub persist-from : (s : Extent) (r : Bool) (first end : ℕ) → p ≤ c.crash → first ≡ s.first → end ≡ s.first + s.size →
@@ -50,13 +43,7 @@ module _ (es : List Event) (p : ℕ) (c : Certificate) where
         let is = and_parts (is_checked es p some.byte) (nat_lt (shows_in es c some.byte) (last_store es p some.byte)) some.passes in
         (within, some.byte, bounds-cover s some.byte (omega (arith, some.from)) (omega (arith, some.before)), is.0, ltb-true (shows_in es c some.byte) (last_store es p some.byte) is.1),
     λ here.
-        let bounds = covers-bounds s here.1 here.2 in
-        search.1 (record {
-          byte = here.1;
-          from = omega (arith, bounds.0);
-          before = omega (arith, bounds.1);
-          passes = and_from _ _ here.3 (lt-ltb (shows_in es c here.1) (last_store es p here.1) here.4);
-        }),
+        search.1 (found s _ first end here.1 low high here.2 (and_from _ _ here.3 (lt-ltb (shows_in es c here.1) (last_store es p here.1) here.4))),
   )
 
   pub ordered-not_shown : (s t : Extent) (r : Bool) (first end : ℕ) → first ≡ t.first → end ≡ t.first + t.size →
@@ -65,13 +52,7 @@ module _ (es : List Event) (p : ℕ) (c : Certificate) where
   ordered-not_shown s t r first end low high search none = (
     λ bad. let never : false ≡ true = bad in cc,
     λ here.
-        let bounds = covers-bounds t here.2 here.4 in
-        sym none ∙ search.1 (record {
-          byte = here.2;
-          from = omega (arith, bounds.0);
-          before = omega (arith, bounds.1);
-          passes = and_from _ _ here.6 ((Decides-eqb (shows_in es c here.2) (last_store es p here.2)).1 here.7);
-        }),
+        sym none ∙ search.1 (found t _ first end here.2 low high here.4 (and_from _ _ here.6 ((Decides-eqb (shows_in es c here.2) (last_store es p here.2)).1 here.7))),
   )
 
   pub ordered-from : (s t : Extent) (q r : Bool) (first end first_lost end_lost : ℕ) → c.crash ≤ p → first ≡ t.first → end ≡ t.first + t.size →
@@ -93,16 +74,10 @@ module _ (es : List Event) (p : ℕ) (c : Certificate) where
           x_is.0,
           y_is.0,
           (Decides-eqb (shows_in es c y.byte) (last_store es p y.byte)).0 y_is.1,
-          not_equal (shows_in es c x.byte) (last_store es p x.byte) x_is.1,
+          eqb-false (shows_in es c x.byte) (last_store es p x.byte) (not-true _ x_is.1),
         ),
     λ here.
-        let bounds = covers-bounds s here.1 here.3 in
-        search_lost.1 (record {
-          byte = here.1;
-          from = omega (arith, bounds.0);
-          before = omega (arith, bounds.1);
-          passes = and_from _ _ here.5 (equal-not (shows_in es c here.1) (last_store es p here.1) here.8);
-        }),
+        search_lost.1 (found s _ first_lost end_lost here.1 low_lost high_lost here.3 (and_from _ _ here.5 (ap not (ne_eqb _ _ here.8)))),
   )
 
   pub scope-deep : 0 < depth_at es (p - 1) → (false ≡ true) ↔ ScopeContradicted es p c

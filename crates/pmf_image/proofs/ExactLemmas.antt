@@ -1,5 +1,5 @@
 -- What does not hold: contradicted assertions, certified pairs, and pairs of two bytes that one store wrote.
-use Rattle.std.proofs.{Common.{◌≡◌, ℕ, ◌+◌, ◌-◌, ◌<◌, ◌≤◌, Bool, true, false, not, ◌&&◌, ◌||◌, if◌then◌else◌, List, length, refl, sym, ◌∙◌, ap, arith, inl, inr, subst, Option, Some, lt-ltb}, lemmas.Bool.{cases_lt, cases_eq, and_from, and_parts}, lemmas.Bool.Decides.{Decides-eqb}}
+use Rattle.std.proofs.{Common.{◌≡◌, ℕ, ◌+◌, ◌-◌, ◌<◌, ◌≤◌, Bool, true, false, not, ◌&&◌, ◌||◌, if◌then◌else◌, List, length, refl, sym, ◌∙◌, ap, arith, inl, inr, subst, Option, Some, lt-ltb}, lemmas.Bool.{cases_lt, cases_eq, and_from, and_parts, false_from_ne_true}, lemmas.Bool.Decides.{Decides-eqb}}
 use Rattle.pmf_event.{specs.declared.event.Event.{Event}, specs.declared.event.Event.TheVariants.{Persist, Ordered, CheckEnd}, specs.declared.profile.Profile.{Profile}, specs.declared.profile.Profile.TheVariants.{Two}, specs.Line.{line_of_byte}, specs.Span.{Extent, covers_byte}, specs.Places.{greatest}, specs.Store.{event_at, last_store}, specs.Interval.{interval_at}, specs.Persist.{is_checked}, specs.Order.{precedes, share_line, is_stored_before, is_ordered, is_unordered, is_certified}, proofs.PlacesLemmas.{greatest-bound}}
 use Rattle.pmf_image.{specs.Image.{Image, count_of, is_fenced, floor_of, is_in, cut_of, reach_of, shows}, specs.declared.certificate.Certificate.{Certificate}, specs.Certificate.{image_of}, specs.Contradiction.{ContradictsEvent}, specs.Holds.{OrderedHolds, EventHolds}, specs.Laws.{ContradictedDoNotHold, CertifiedPairsDoNotHold, PairsAreOneByte, ProfileTwoIsExact, at_store}, proofs.ImageLemmas.{written-from_checked, last_store-stores, last_store-bound, shown-reaches, count_of-here, count_of-mono, reached-shown, allows_each_torn}, proofs.OrderedLemmas.{shown-ordered}, proofs.FailureLemmas.{certificates-allowed, pair-shown, unordered-parts, shows-bound}}
 
@@ -42,9 +42,6 @@ floor-below_store es k line =
     let bound = greatest-bound (is_fenced es k line) k in
     count_of-mono es (greatest (is_fenced es k line) k - 1) (k - 1) line (omega arith)
 
-not_in : (torn : List ℕ) (x y : ℕ) → (is_in torn x ≡ true → x ≡ y) → (x ≡ y → ⊥) → is_in torn x ≡ false
-not_in torn x y only apart = elim (is_in torn x) as (λ v. is_in torn x ≡ v → v ≡ false) [ true ↦ λ is. absurd (apart (only is)) | false ↦ λ is. refl ] refl
-
 pub reach-torn : (es : List Event) (n b : ℕ) (image : Image) → is_in image.torn b ≡ true → reach_of es n image b ≡ cut_of es n image (line_of_byte b) + 1
 unfolding reach_of
 reach-torn es n b image is = ap (λ v. cut_of es n image (line_of_byte b) + (if v then 1 else 0)) is
@@ -68,7 +65,7 @@ not_holds-torn es p a b x y in_a in_b x_checked y_checked share one apart holds 
     let high = shows-bound es k y torn.image in
     let shown = holds k (last_store-bound es p y) torn.image torn.allowed x y in_a in_b x_checked y_checked (omega arith) in
     let x_is = shown-reaches es k x torn.image (omega arith) in
-    let x_reach = reach-whole es k x torn.image (not_in torn.image.torn x y (torn.torn x).0 apart) in
+    let x_reach = reach-whole es k x torn.image (false_from_ne_true _ (λ is. apart ((torn.torn x).0 is))) in
     let at_k : shows es k torn.image x ≡ k = shown ∙ one in
     let rank : count_of es k (line_of_byte x) ≤ reach_of es k torn.image x = subst (λ j. count_of es j (line_of_byte x) ≤ reach_of es k torn.image x) at_k x_is.1 in
     let moved : count_of es k (line_of_byte x) ≡ count_of es k line = ap (count_of es k) share in

@@ -1,7 +1,7 @@
 -- Failures are real: the image of a certificate that shows one.
-use Rattle.std.{proofs.Common.{◌≡◌, ℕ, ◌+◌, ◌-◌, ◌<◌, ◌≤◌, Bool, true, false, not, ◌&&◌, ◌||◌, ◌==◌, nat_lt, if◌then◌else◌, List, [], refl, sym, ◌∙◌, ap, arith, inl, inr, subst, Some, None, nat_eq, le-leb, ne_eqb}, specs.Option.{option_eq}, proofs.lemmas.Bool.{cases_lt, or_cases, and_parts, and_from, ltb-true}, proofs.lemmas.Bool.Decides.{Decides-eqb}}
+use Rattle.std.{proofs.Common.{◌≡◌, ℕ, ◌+◌, ◌-◌, ◌<◌, ◌≤◌, Bool, true, false, not, ◌&&◌, ◌||◌, ◌==◌, nat_lt, if◌then◌else◌, List, [], refl, sym, ◌∙◌, ap, arith, inl, inr, subst, Some, None, nat_eq, le-leb, ne_eqb}, specs.Option.{option_eq}, proofs.lemmas.Bool.{cases_lt, or_cases, and_parts, and_from, ltb-true, eqb-false, not-true}, proofs.lemmas.Bool.Decides.{Decides-eqb}}
 use Rattle.pmf_event.{specs.declared.event.Event.{Event}, specs.declared.interval.Interval.{Interval}, specs.declared.profile.Profile.{Profile}, specs.declared.profile.Profile.TheVariants.{One, Two}, specs.Line.{line_of_byte}, specs.Places.{greatest, least, count, some_between}, specs.Store.{at, stores, flushes, is_fence, last_store, epoch_of}, specs.Interval.{closes, closing_fence, epoch_after, interval_at, is_open}, specs.Order.{is_closed_by, precedes, share_line, is_stored_before, is_ordered, is_unordered, is_certified}, specs.Persist.{is_checked, is_exposed}, proofs.PlacesLemmas.{greatest-bound, least-below, least-passes, count-mono, count-here, some_between-here}, proofs.EventLemmas.{not_fence_and_store}, proofs.IntervalLemmas.{Closing, no_Closing-from_open}}
-use Rattle.pmf_image.{proofs.CertificateLemmas.{cut-is}, specs.Image.{Image, count_of, is_fenced, floor_of, cut_of, reaches, shows}, specs.declared.certificate.Certificate.{Certificate}, specs.Certificate.{image_of, cut_in}, specs.Laws.{CertificatesAreAllowed, OpenIntervalsAreShown, CertifiedPairsAreShown}, proofs.ImageLemmas.{written-from_checked, last_store-stores, last_store-bound, shown-reaches, count_of-here, count_of-mono, reached-shown, reach-untorn, Closing-from_fenced, floor-below_count, is_in-empty}}
+use Rattle.pmf_image.{proofs.CertificateLemmas.{cut-is}, specs.Image.{Image, count_of, is_fenced, floor_of, cut_of, reaches, shows}, specs.declared.certificate.Certificate.{Certificate}, specs.Certificate.{image_of, cut_in}, specs.Laws.{CertificatesAreAllowed, OpenIntervalsAreShown, OpenIntervalsDoNotHold, at_place, CertifiedPairsAreShown}, proofs.ImageLemmas.{written-from_checked, last_store-stores, last_store-bound, shown-reaches, count_of-here, count_of-mono, reached-shown, reach-untorn, Closing-from_fenced, floor-below_count, untorn-allowed}}
 
 -- ---- the image of a certificate
 
@@ -25,11 +25,7 @@ cut-within es c line =
     ] (cut-is es c line)
 
 pub certificates-allowed : CertificatesAreAllowed
-certificates-allowed es c = record {
-  low = λ line. (cut-within es c line).0;
-  high = λ line. (cut-within es c line).1;
-  torn = λ b some. absurd (is_in-empty b some);
-}
+certificates-allowed es c = untorn-allowed es c.crash (image_of es c) refl (cut-within es c)
 
 -- ---- what a byte shows at its line's floor
 
@@ -59,6 +55,13 @@ shown-where_open es p b exposed =
       | inl less ↦ less
       | inr more ↦ absurd (no_Closing-from_open es p b is.1 (shown-closed es p b (last_store es p b) image refl (no_line-cut es p (line_of_byte b)) written (last_store-stores es p b written) more))
     ]
+
+pub not_holds-where_open : OpenIntervalsDoNotHold
+unfolding is_exposed
+not_holds-where_open es p s b within covered exposed holds =
+    let c = at_place p in
+    let less = shown-where_open es p b exposed in
+    let more = holds p (omega arith) within (image_of es c) (certificates-allowed es c) b covered (and_parts _ _ exposed).0 in omega arith
 
 -- ---- certified pairs
 
@@ -132,12 +135,7 @@ module _ (es : List Event) (p x y : ℕ) (x_written : 0 < last_store es p x) (y_
       (closed_by-closing es p x n (last_store-bound es p y) closing before)
 
 apart-other : (x y : ℕ) → not (share_line x y) ≡ true → (line_of_byte y == line_of_byte x) ≡ false
-apart-other x y apart = elim (line_of_byte y == line_of_byte x) as (λ v. (line_of_byte y == line_of_byte x) ≡ v → v ≡ false) [
-  | true ↦ λ is.
-      let same : line_of_byte x ≡ line_of_byte y = sym ((Decides-eqb (line_of_byte y) (line_of_byte x)).0 is) in
-      let bad : true ≡ false = sym apart ∙ ap not ((Decides-eqb (line_of_byte x) (line_of_byte y)).1 same) in cc
-  | false ↦ λ is. refl
-] refl
+apart-other x y apart = ne_eqb _ _ (λ same. eqb-false (line_of_byte x) (line_of_byte y) (not-true _ apart) (sym same))
 
 pub pair-shown : CertifiedPairsAreShown
 unfolding is_certified is_unordered at_y is_stored_before

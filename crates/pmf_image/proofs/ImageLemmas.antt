@@ -1,7 +1,7 @@
 -- Soundness of closed intervals, the two images that are always there, and the image of an open interval.
-use Rattle.std.proofs.{Common.{◌≡◌, ℕ, zero, suc, ◌+◌, ◌-◌, ◌<◌, ◌≤◌, true, false, ◌==◌, List, [], ◌∷◌, if◌then◌else◌, refl, sym, ◌∙◌, ap, subst, arith, inl, inr, ◌||◌, ◌⊎◌, Some, None, unwrap_or, slice_get, le-leb, ne_eqb}, lemmas.Bool.{cases_lt, cases_eq, or_cases, leb-true, and_parts, and_from, ltb-true}, lemmas.Bool.Decides.{Decides-eqb}}
-use Rattle.pmf_event.{specs.declared.event.Event.{Event}, specs.declared.event.Event.TheVariants.{Store}, specs.Line.{line_of_byte}, specs.Places.{greatest, count, some_between}, specs.Store.{event_at, passes, at, stores, stores_line, flushes, is_fence, last, last_store}, specs.Interval.{interval_at, is_open}, specs.Persist.{is_checked, is_exposed}, proofs.PlacesLemmas.{greatest-bound, greatest-passes, greatest-above, count-zero, count-mono, count-here, count-found, some_between-here, some_between-found}, proofs.LineLemmas.{stores-line, meets-bounds}, proofs.IntervalLemmas.{Closing, Closing-from_closed, no_Closing-from_open}}
-use Rattle.pmf_image.specs.{Image.{count_of, is_fenced, floor_of, Image, IsAllowed, value_of, is_in, cut_of, reach_of, reaches, shows}, Laws.{EachCutIsAllowed, EachByteMayBeTorn, ClosedIntervalsHold, AllowsCuts, EveryPlaceHasImages, OpenIntervalsDoNotHold}}
+use Rattle.std.proofs.{Common.{◌≡◌, ℕ, zero, suc, ◌+◌, ◌-◌, ◌<◌, ◌≤◌, true, false, List, [], ◌∷◌, if◌then◌else◌, refl, sym, ◌∙◌, ap, arith, inl, inr, ◌||◌, Some, unwrap_or, slice_get, ◌↔◌, le-leb, ne_eqb}, lemmas.Bool.{cases_eq, leb-true, and_parts, and_from, ltb-true}, lemmas.Bool.Decides.{Decides-eqb, eqb_tells}}
+use Rattle.pmf_event.{specs.declared.event.Event.{Event}, specs.declared.event.Event.TheVariants.{Store}, specs.Line.{line_of_byte}, specs.Places.{greatest, count, some_between}, specs.Store.{event_at, passes, at, stores, stores_line, flushes, is_fence, last, last_store}, specs.Persist.{is_checked}, proofs.PlacesLemmas.{greatest-bound, greatest-passes, greatest-above, count-zero, count-mono, count-here, count-found, some_between-here, some_between-found}, proofs.LineLemmas.{stores-line, meets-bounds}, proofs.IntervalLemmas.{Closing, Closing-from_closed}}
+use Rattle.pmf_image.specs.{Image.{count_of, is_fenced, floor_of, Image, IsAllowed, value_of, is_in, cut_of, reach_of, reaches, shows}, Laws.{EachCutIsAllowed, EachByteMayBeTorn, ClosedIntervalsHold, AllowsCuts, EveryPlaceHasImages}}
 
 -- ---- soundness
 
@@ -83,31 +83,23 @@ allows_floors : (es : List Event) (n : ℕ) → AllowsCuts es n (floor_of es n)
 unfolding no_cuts
 allows_floors es n = allows-untorn es n (floor_of es n) no_cuts refl (no_cuts-cut_of es n) (λ line. (omega arith, floor-below_count es n line))
 
+-- the cut that stands first in the map is that of its line
+pub cut-first : (es : List Event) (n line cut : ℕ) (cuts : List (ℕ × ℕ)) (torn : List ℕ) →
+    cut_of es n (record { cuts = (line, cut) ∷ cuts; torn = torn }) line ≡ cut
+unfolding cut_of value_of
+cut-first es n line cut cuts torn =
+    ap (λ v. unwrap_or (if v then Some cut else value_of cuts line) (floor_of es n line)) ((Decides-eqb line line).1 refl)
+
+pub cut-rest : (es : List Event) (n line cut other : ℕ) (cuts : List (ℕ × ℕ)) (torn : List ℕ) → (other ≡ line → ⊥) →
+    cut_of es n (record { cuts = (line, cut) ∷ cuts; torn = torn }) other ≡ cut_of es n (record { cuts = cuts; torn = torn }) other
+unfolding cut_of value_of
+cut-rest es n line cut other cuts torn apart =
+    ap (λ v. unwrap_or (if v then Some cut else value_of cuts other) (floor_of es n other)) (ne_eqb line other (λ same. apart (sym same)))
+
 -- every line below m with its cut
 table : (ℕ → ℕ) → ℕ → List (ℕ × ℕ)
 table cut zero = []
 table cut (suc m) = (m, cut m) ∷ table cut m
-
-table-below : (cut : ℕ → ℕ) (m line : ℕ) → line < m → value_of (table cut m) line ≡ Some (cut line)
-unfolding table value_of
-table-below cut zero line within = absurd (omega arith)
-table-below cut (suc m) line within =
-    elim (m == line) as (λ v. (m == line) ≡ v → (if v then Some (cut m) else value_of (table cut m) line) ≡ Some (cut line)) [
-      | true ↦ λ is. ap (λ k. Some (cut k)) ((Decides-eqb m line).0 is)
-      | false ↦ λ is. elim (cases_eq m line) [
-        | inl same ↦ let bad : true ≡ false = sym ((Decides-eqb m line).1 same) ∙ is in cc
-        | inr other ↦ table-below cut m line (omega arith)
-      ]
-    ] refl
-
-table-above : (cut : ℕ → ℕ) (m line : ℕ) → m ≤ line → value_of (table cut m) line ≡ None
-unfolding table value_of
-table-above cut zero line above = refl
-table-above cut (suc m) line above =
-    elim (m == line) as (λ v. (m == line) ≡ v → (if v then Some (cut m) else value_of (table cut m) line) ≡ None) [
-      | true ↦ λ is. let same : m ≡ line = (Decides-eqb m line).0 is in absurd (omega arith)
-      | false ↦ λ is. table-above cut m line (omega arith)
-    ] refl
 
 -- an address above the end of every store
 end_of_event : Event → ℕ
@@ -148,15 +140,19 @@ count-past_end es n line above =
 full : List Event → ℕ → Image
 full es n = record { cuts = table (count_of es n) (end_of es); torn = [] }
 
-full-cut_of : (es : List Event) (n line : ℕ) → cut_of es n (full es n) line ≡ count_of es n line
-unfolding cut_of full
-full-cut_of es n line = elim (cases_lt line (end_of es)) [
-  | inl below ↦ ap (λ o. unwrap_or o (floor_of es n line)) (table-below (count_of es n) (end_of es) line below)
-  | inr above ↦
-      let none = count-past_end es n line above in
-      let floor = floor-below_count es n line in
-      ap (λ o. unwrap_or o (floor_of es n line)) (table-above (count_of es n) (end_of es) line above) ∙ (omega arith)
+-- each cut of the table is the count, if that is 0 from m on
+table-cut : (es : List Event) (n m line : ℕ) → (m ≤ line → count_of es n line ≡ 0) →
+    cut_of es n (record { cuts = table (count_of es n) m; torn = [] }) line ≡ count_of es n line
+unfolding table cut_of value_of
+table-cut es n zero line past = let none = past (omega arith) in let floor = floor-below_count es n line in omega arith
+table-cut es n (suc m) line past = elim (cases_eq line m) [
+  | inl same ↦ rw same (cut-first es n m (count_of es n m) (table (count_of es n) m) [])
+  | inr other ↦ cut-rest es n m (count_of es n m) line (table (count_of es n) m) [] other ∙ table-cut es n m line (λ above. past (omega arith))
 ]
+
+full-cut_of : (es : List Event) (n line : ℕ) → cut_of es n (full es n) line ≡ count_of es n line
+unfolding full
+full-cut_of es n line = table-cut es n (end_of es) line (count-past_end es n line)
 
 allows_counts : (es : List Event) (n : ℕ) → AllowsCuts es n (count_of es n)
 unfolding full
@@ -166,19 +162,6 @@ pub has_images : EveryPlaceHasImages
 has_images es n = (allows_floors es n, allows_counts es n)
 
 -- ---- one cut, and one torn byte
-
--- the cut that stands first in the map is that of its line
-pub cut-first : (es : List Event) (n line cut : ℕ) (cuts : List (ℕ × ℕ)) (torn : List ℕ) →
-    cut_of es n (record { cuts = (line, cut) ∷ cuts; torn = torn }) line ≡ cut
-unfolding cut_of value_of
-cut-first es n line cut cuts torn =
-    ap (λ v. unwrap_or (if v then Some cut else value_of cuts line) (floor_of es n line)) ((Decides-eqb line line).1 refl)
-
-pub cut-rest : (es : List Event) (n line cut other : ℕ) (cuts : List (ℕ × ℕ)) (torn : List ℕ) → (other ≡ line → ⊥) →
-    cut_of es n (record { cuts = (line, cut) ∷ cuts; torn = torn }) other ≡ cut_of es n (record { cuts = cuts; torn = torn }) other
-unfolding cut_of value_of
-cut-rest es n line cut other cuts torn apart =
-    ap (λ v. unwrap_or (if v then Some cut else value_of cuts other) (floor_of es n other)) (ne_eqb line other (λ same. apart (sym same)))
 
 -- one cut more within its bounds leaves every cut within them
 pub within-first : (es : List Event) (n line cut : ℕ) (cuts : List (ℕ × ℕ)) (torn : List ℕ) → floor_of es n line ≤ cut → cut ≤ count_of es n line →
@@ -191,61 +174,45 @@ within-first es n line cut cuts torn low high within other = elim (cases_eq othe
   | inr apart ↦ rw (cut-rest es n line cut other cuts torn apart) (within other)
 ]
 
-pub in-torn : (b other : ℕ) (torn : List ℕ) → is_in (b ∷ torn) other ≡ true → (b ≡ other) ⊎ (is_in torn other ≡ true)
-unfolding is_in
-in-torn b other torn some = elim (or_cases (b == other) (is_in torn other) some) [
-  | inl is ↦ inl ((Decides-eqb b other).0 is)
-  | inr later ↦ inr later
-]
-
-pub torn-first : (b : ℕ) (torn : List ℕ) → is_in (b ∷ torn) b ≡ true
-unfolding is_in
-torn-first b torn = ap (λ v. v || is_in torn b) ((Decides-eqb b b).1 refl)
-
-one_cut : ℕ → ℕ → List ℕ → Image
+abbrev one_cut : ℕ → ℕ → List ℕ → Image
 one_cut line cut torn = record { cuts = (line, cut) ∷ []; torn = torn }
-
-one_cut-here : (es : List Event) (n line cut : ℕ) (torn : List ℕ) → cut_of es n (one_cut line cut torn) line ≡ cut
-unfolding one_cut
-one_cut-here es n line cut torn = cut-first es n line cut [] torn
-
-one_cut-elsewhere : (es : List Event) (n line cut : ℕ) (torn : List ℕ) (other : ℕ) → (other ≡ line → ⊥) →
-    cut_of es n (one_cut line cut torn) other ≡ floor_of es n other
-unfolding one_cut cut_of value_of
-one_cut-elsewhere es n line cut torn other apart = cut-rest es n line cut other [] torn apart
 
 one_cut-within : (es : List Event) (n line cut : ℕ) (torn : List ℕ) → floor_of es n line ≤ cut → cut ≤ count_of es n line → (other : ℕ) →
     (floor_of es n other ≤ cut_of es n (one_cut line cut torn) other) × (cut_of es n (one_cut line cut torn) other ≤ count_of es n other)
-unfolding one_cut cut_of value_of
+unfolding cut_of value_of
 one_cut-within es n line cut torn low high = within-first es n line cut [] torn low high (λ other. (omega arith, floor-below_count es n other))
 
 pub allows_each_cut : EachCutIsAllowed
-unfolding one_cut
+unfolding cut_of value_of
 allows_each_cut es n line cut low high = record {
   image = one_cut line cut [];
   untorn = refl;
-  here = one_cut-here es n line cut [];
-  elsewhere = one_cut-elsewhere es n line cut [];
+  here = cut-first es n line cut [] [];
+  elsewhere = λ other apart. cut-rest es n line cut other [] [] apart;
   allowed = untorn-allowed es n (one_cut line cut []) refl (one_cut-within es n line cut [] low high);
 }
 
-only-torn : (b other : ℕ) → is_in (b ∷ []) other ≡ true → other ≡ b
-only-torn b other some = elim (in-torn b other [] some) [ inl same ↦ sym same | inr none ↦ absurd (is_in-empty other none) ]
+only-torn : (b other : ℕ) → (is_in (b ∷ []) other ≡ true) ↔ (other ≡ b)
+unfolding is_in
+only-torn b other = elim (eqb_tells b other) [
+  | inl same ↦ (λ some. sym same.1, λ is. ap (λ v. v || false) same.0)
+  | inr apart ↦ (λ some. let bad : false ≡ true = sym (ap (λ v. v || false) apart.0) ∙ some in cc, λ is. absurd (apart.1 (sym is)))
+]
 
 pub allows_each_torn : EachByteMayBeTorn
-unfolding one_cut
+unfolding cut_of value_of
 allows_each_torn es n b cut low room =
     let line = line_of_byte b in
     let torn = b ∷ [] in
     let within = one_cut-within es n line cut torn low (omega arith) in record {
       image = one_cut line cut torn;
-      torn = λ other. (only-torn b other, λ same. subst (λ k. is_in (b ∷ []) k ≡ true) (sym same) (torn-first b []));
-      here = one_cut-here es n line cut torn;
-      elsewhere = one_cut-elsewhere es n line cut torn;
+      torn = only-torn b;
+      here = cut-first es n line cut [] torn;
+      elsewhere = λ other apart. cut-rest es n line cut other [] torn apart;
       allowed = record {
         low = λ other. (within other).0;
         high = λ other. (within other).1;
-        torn = λ other some. rw (only-torn b other some, one_cut-here es n line cut torn) room;
+        torn = λ other some. rw ((only-torn b other).0 some, cut-first es n line cut [] torn) room;
       };
     }
 
@@ -291,26 +258,3 @@ reach-untorn es n b image untorn = rw untorn (omega arith)
 pub last_store-above : (es : List Event) (p b k : ℕ) → 0 < k → k ≤ p → at (stores b) es k ≡ true → k ≤ last_store es p b
 unfolding last
 last_store-above es p b k some within is = greatest-above (at (stores b) es) p k some within is
-
-pub not_holds-where_open : OpenIntervalsDoNotHold
-unfolding is_exposed floor_of
-not_holds-where_open es p s b within covered exposed holds =
-    let is = and_parts (is_checked es p b) (is_open (interval_at es p b)) exposed in
-    let written = written-from_checked es p b is.0 in
-    let floors = allows_floors es p in
-    let line = line_of_byte b in
-    let shown = holds p (omega arith) within floors.image floors.allowed b covered is.0 in
-    let here = shown-reaches es p b floors.image (omega arith) in
-    let place = shows es p floors.image b in
-    let top = last_store-above es p b place (omega arith) here.2 here.0 in
-    let reach = reach-untorn es p b floors.image floors.untorn in
-    let cut = floors.cuts line in
-    let rank = count_of-mono es (last_store es p b) place line shown in
-    let rise = count_of-here es b (last_store es p b) written (last_store-stores es p b written) in
-    let flush = greatest (is_fenced es p line) p in
-    elim (cases_lt (last_store es p b) flush) [
-      | inl later ↦ no_Closing-from_open es p b is.1 (Closing-from_fenced es line (last_store es p b) p later)
-      | inr before ↦
-          let fewer = count_of-mono es (flush - 1) (last_store es p b - 1) line (omega arith) in
-          omega (arith, here.1, reach, cut, rank, rise, fewer)
-    ]

@@ -1,7 +1,7 @@
 //! Certificates, and what their images hold.
 
-ghost use Rattle.std.specs.Prelude.{◌≡◌, ◌≤◌, ◌<◌, length};
-ghost use Rattle.pmf_event.specs.{Line.{meets_line}, Store.{last_store}};
+ghost use Rattle.std.specs.{Prelude.{◌≡◌, ◌≤◌, length, Some, nat_eq, if◌then◌else◌}, Option.{option_eq}};
+ghost use Rattle.pmf_event.specs.{Line.{meets_line}, Store.{flushes, is_fence, last_store, stores, stores_line}};
 ghost use Rattle.pmf_image.specs.Certificate.{Fits, IsLine, cut_in, shows_in};
 
 use pmf_event::{Event, LINE_SIZE, Span, line_of};
@@ -23,29 +23,12 @@ pub fn cut(events: &[Event], certificate: Certificate, line: u64) -> u32
     requires line { IsLine line }
     ensures { result ≡ cut_in events.now certificate line }
 {
-    let mut count = 0;
-    let mut flushed = 0;
-    let mut floor = 0;
+    let mut counts = Kept::none();
     for event in &events[..certificate.crash as usize] {
-        match event {
-            Event::Store(span) => {
-                if meets_line(*span, line) {
-                    count += 1;
-                }
-            }
-            Event::Flush(span) => {
-                if meets_line(*span, line) {
-                    flushed = count;
-                }
-            }
-            Event::Fence => floor = flushed,
-            _ => {}
-        }
+        let next = counts.stored + 1;
+        counts.follow(event, line, stores_line(event, line), next);
     }
-    if certificate.full_line == Some(line) {
-        return count;
-    }
-    floor
+    counts.held(certificate, line)
 }
 
 /// The place of the store that the byte shows in the certificate's image, or 0 where it shows none: on the
@@ -56,29 +39,11 @@ pub fn shows(events: &[Event], certificate: Certificate, byte: u64) -> u32
     ensures { result ≡ shows_in events.now certificate byte }
 {
     let line = line_of(byte);
-    let mut stored = 0;
-    let mut flushed = 0;
-    let mut durable = 0;
+    let mut places = Kept::none();
     for (index, event) in events[..certificate.crash as usize].iter().enumerate() {
-        match event {
-            Event::Store(span) => {
-                if span.covers(byte) {
-                    stored = index as u32 + 1;
-                }
-            }
-            Event::Flush(span) => {
-                if meets_line(*span, line) {
-                    flushed = stored;
-                }
-            }
-            Event::Fence => durable = flushed,
-            _ => {}
-        }
+        places.follow(event, line, stores(event, byte), index as u32 + 1);
     }
-    if certificate.full_line == Some(line) {
-        return stored;
-    }
-    durable
+    places.held(certificate, line)
 }
 
 /// The place of the last store of the byte among the events up to the place, or 0 where there is none.
@@ -89,13 +54,91 @@ pub fn last_store(events: &[Event], place: u32, byte: u64) -> u32
 {
     let mut last = 0;
     for (index, event) in events[..place as usize].iter().enumerate() {
-        if let Event::Store(span) = event {
-            if span.covers(byte) {
-                last = index as u32 + 1;
-            }
+        if stores(event, byte) {
+            last = index as u32 + 1;
         }
     }
     last
+}
+
+// What a pass over the events keeps of a line, as numbers: what was stored, what of it was written back, and
+// what of that a fence made durable.
+#[derive(Drop)]
+struct Kept {
+    stored: u32,
+    flushed: u32,
+    durable: u32,
+}
+
+impl Kept {
+    fn none() -> Kept
+        ensures { result ≡ record { stored = 0; flushed = 0; durable = 0 } }
+    {
+        Kept {
+            stored: 0,
+            flushed: 0,
+            durable: 0,
+        }
+    }
+
+    // One more event; where it stores what is asked for, the number of what is stored then.
+    #[inline]
+    #[tactic(auto, unfolding(pmf_event::specs::Store::flushes, pmf_event::specs::Store::is_fence))]
+    fn follow(&mut self, event: &Event, line: u64, stores: bool, number: u32)
+        requires { IsLine line }
+        ensures stored { self.new.stored ≡ (if stores then number else self.old.stored) }
+        ensures flushed { self.new.flushed
+            ≡ (if flushes line event.now then self.old.stored else self.old.flushed) }
+        ensures durable { self.new.durable
+            ≡ (if is_fence event.now then self.old.flushed else self.old.durable) }
+    {
+        match event {
+            Event::Flush(span) => {
+                if meets_line(*span, line) {
+                    self.flushed = self.stored;
+                }
+            }
+            Event::Fence => self.durable = self.flushed,
+            _ => {}
+        }
+        if stores {
+            self.stored = number;
+        }
+    }
+
+    // What the certificate's image holds of it.
+    fn held(&self, certificate: Certificate, line: u64) -> u32
+        ensures { result ≡ (if option_eq nat_eq certificate.full_line (Some line)
+            then self.now.stored else self.now.durable) }
+    {
+        if certificate.full_line == Some(line) {
+            return self.stored;
+        }
+        self.durable
+    }
+}
+
+// Whether the event stores to the byte.
+#[tactic(auto, unfolding(pmf_event::specs::Store::stores))]
+fn stores(event: &Event, byte: u64) -> bool
+    ensures { result ≡ stores byte event.now }
+{
+    match event {
+        Event::Store(span) => span.covers(byte),
+        _ => false,
+    }
+}
+
+// Whether the event stores to the line.
+#[tactic(auto, unfolding(pmf_event::specs::Store::stores_line))]
+fn stores_line(event: &Event, line: u64) -> bool
+    requires { IsLine line }
+    ensures { result ≡ stores_line line event.now }
+{
+    match event {
+        Event::Store(span) => meets_line(*span, line),
+        _ => false,
+    }
 }
 
 // Whether the span has a byte of the line.

@@ -1,7 +1,7 @@
 //! What the events up to a place say of transactions, of the checker's scope, and of one byte.
 
-ghost use Rattle.std.specs.Prelude.{◌≡◌, ◌≤◌, length};
-ghost use Rattle.pmf_event.specs.{Exclusion.{is_included}, Transactions.{depth_at, in_scope, is_scoped}};
+ghost use Rattle.std.specs.Prelude.{◌≡◌, ◌<◌, ◌≤◌, ◌+◌, ◌-◌, ◌^◌, false, not, nat_lt, ◌&&◌, ◌||◌, if◌then◌else◌, length};
+ghost use Rattle.pmf_event.specs.{Exclusion.{excludes, is_included, marks}, Store.{stores}, Transactions.{begins, closes_scope, depth_at, ends, in_scope, is_scoped, opens_scope}};
 
 use pmf_event::Event;
 
@@ -23,30 +23,46 @@ pub fn scope_at(events: &[Event], place: u32, byte: u64) -> Scope
     ensures scope { result.is_open ≡ in_scope events.now place }
     ensures byte { result.has_byte ≡ is_scoped events.now place byte }
 {
-    let mut depth: u32 = 0;
-    let mut is_open = false;
-    let mut has_byte = false;
+    let mut scope = Scope {
+        depth: 0,
+        is_open: false,
+        has_byte: false,
+    };
     for event in &events[..place as usize] {
+        scope.follow(event, byte);
+    }
+    scope
+}
+
+impl Scope {
+    // One more event.
+    #[inline]
+    #[tactic(auto, unfolding(pmf_event::specs::Store::stores, pmf_event::specs::Transactions::begins, pmf_event::specs::Transactions::ends, pmf_event::specs::Transactions::opens_scope, pmf_event::specs::Transactions::closes_scope))]
+    fn follow(&mut self, event: &Event, byte: u64)
+        requires { self.old.depth + 1 < 2 ^ 32 }
+        ensures depth { self.new.depth ≡ (if begins event.now then self.old.depth + 1
+            else if ends event.now then self.old.depth - 1 else self.old.depth) }
+        ensures scope { self.new.is_open
+            ≡ (if closes_scope event.now then false else (opens_scope event.now || self.old.is_open)) }
+        ensures byte { self.new.has_byte ≡ (if closes_scope event.now then false
+            else (((stores byte event.now && nat_lt 0 self.old.depth) && self.old.is_open)
+            || self.old.has_byte)) }
+    {
         match event {
             Event::Store(span) => {
-                if is_open && depth > 0 && span.covers(byte) {
-                    has_byte = true;
+                if span.covers(byte) && self.depth > 0 && self.is_open {
+                    self.has_byte = true;
                 }
             }
-            Event::TxBegin => depth += 1,
-            Event::TxEnd => depth = depth.saturating_sub(1),
-            Event::CheckStart => is_open = true,
+            Event::TxBegin => self.depth += 1,
+            Event::TxEnd => self.depth = self.depth.saturating_sub(1),
+            Event::CheckStart => self.is_open = true,
             Event::CheckEnd => {
-                is_open = false;
-                has_byte = false;
+                self.is_open = false;
+                self.has_byte = false;
             }
             _ => {}
         }
-    }
-    Scope {
-        depth,
-        is_open,
-        has_byte,
     }
 }
 
@@ -57,19 +73,20 @@ pub fn is_included(events: &[Event], place: u32, byte: u64) -> bool
 {
     let mut included = true;
     for event in &events[..place as usize] {
-        match event {
-            Event::Exclude(span) => {
-                if span.covers(byte) {
-                    included = false;
-                }
-            }
-            Event::Include(span) => {
-                if span.covers(byte) {
-                    included = true;
-                }
-            }
-            _ => {}
-        }
+        included = included_after(event, byte, included);
     }
     included
+}
+
+// Whether the byte is included after the event, by whether it was before.
+#[inline]
+#[tactic(auto, unfolding(pmf_event::specs::Exclusion::marks, pmf_event::specs::Exclusion::excludes))]
+fn included_after(event: &Event, byte: u64, included: bool) -> bool
+    ensures { result ≡ (if marks byte event.now then not (excludes byte event.now) else included) }
+{
+    match event {
+        Event::Exclude(span) => included && !span.covers(byte),
+        Event::Include(span) => included || span.covers(byte),
+        _ => included,
+    }
 }

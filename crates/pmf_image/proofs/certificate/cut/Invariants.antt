@@ -2,4 +2,4 @@ use Rattle.pmf_image.{specs.Image.{count_of}, proofs.CertificateLemmas.{Carried}
 use Rattle.pmf_image.proofs.certificate.cut.Given as goal
 
 abbrev pub invariant-loop-event : goal.invariant-loop-event
-invariant-loop-event l = Carried l.events l.line (λ k. count_of l.events k l.line) l.event-index l.count l.flushed l.floor
+invariant-loop-event l = Carried l.events l.line (λ k. count_of l.events k l.line) l.event-index l.counts

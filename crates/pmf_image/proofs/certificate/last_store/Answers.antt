@@ -1,6 +1,6 @@
-use Rattle.std.proofs.Common.{◌≡◌, suc, add-one, sym, ◌∙◌, ap, if◌then◌else◌, Some}
+use Rattle.std.proofs.Common.{◌≡◌, suc, add-one, sym, ◌∙◌, Some}
 use Rattle.pmf_event.{specs.Store.{event_at, stores}, proofs.EventLemmas.{last-none}}
-use Rattle.pmf_image.proofs.{CertificateLemmas.{event-taken, last_store-next, stores-is, stores-other}, certificate.last_store.Goals.{in-Store+then-covers, in-Store+else-covers, in_default}}
+use Rattle.pmf_image.proofs.{CertificateLemmas.{event-taken, last_store-next}, certificate.last_store.Goals.{then-stores, else-stores}}
 use Rattle.pmf_image.proofs.certificate.last_store.Goals as goal
 
 pub loop-index-init : goal.loop-index-init
@@ -8,18 +8,10 @@ loop-index-init c = sym (last-none (stores c.args.byte) c.args.events.now)
 
 pub loop-index-preserved : goal.loop-index-preserved
 loop-index-preserved c =
-    let es = c.args.events.now in
-    let b = c.args.byte in
     let i = c.loop-index.index in
     let e = c.event-item.result in
-    let before = c.loop-index.last in
-    let here : event_at es (suc i) ≡ Some e = event-taken es c.args.place i e c.requires c.loop-index-test.true c.event-item.is in
-    rw add-one (last_store-next es b i before _ e c.loop-index.invariant here (elim c.match-event.branch [
-      | in-Store+then-covers w ↦
-          w.last-is ∙ add-one i
-          ∙ ap (λ v. if v then suc i else before) (sym w.if-covers.true ∙ w.covers.ensures ∙ sym (stores-is b e w.in-Store.span w.in-Store.is))
-      | in-Store+else-covers w ↦
-          w.last-is
-          ∙ ap (λ v. if v then suc i else before) (sym w.if-covers.false ∙ w.covers.ensures ∙ sym (stores-is b e w.in-Store.span w.in-Store.is))
-      | in_default w ↦ w.last-is ∙ ap (λ v. if v then suc i else before) (sym (stores-other b e w.in_default.not-Store))
-    ]))
+    let here : event_at c.args.events.now (suc i) ≡ Some e = event-taken c.args.events.now c.args.place i e c.requires c.loop-index-test.true c.event-item.is in
+    rw add-one (last_store-next c.args.events.now c.args.byte i c.loop-index.last _ e c.loop-index.invariant here (rw (← c.stores.ensures) (elim c.if-stores.branch [
+      | then-stores w ↦ rw w.if-stores.true (w.last-is ∙ add-one i)
+      | else-stores w ↦ rw w.if-stores.false w.last-is
+    ])))

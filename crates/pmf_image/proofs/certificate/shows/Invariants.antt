@@ -3,4 +3,4 @@ use Rattle.pmf_image.proofs.CertificateLemmas.{Carried}
 use Rattle.pmf_image.proofs.certificate.shows.Given as goal
 
 abbrev pub invariant-loop-index : goal.invariant-loop-index
-invariant-loop-index l = Carried l.events (line_of_byte l.byte) (λ k. last_store l.events k l.byte) l.index l.stored l.flushed l.durable
+invariant-loop-index l = Carried l.events (line_of_byte l.byte) (λ k. last_store l.events k l.byte) l.index l.places
