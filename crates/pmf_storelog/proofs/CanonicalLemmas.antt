@@ -1,5 +1,5 @@
 -- What is written of a number and of a span reads as itself.
-use Rattle.std.{proofs.Common.{◌≡◌, ℕ, zero, suc, ◌+◌, ◌*◌, ◌/◌, ◌%◌, ◌^◌, ◌<◌, ◌≤◌, true, false, ◌==◌, if◌then◌else◌, List, [], ◌∷◌, ◌++◌, Some, length, refl, sym, ap, ◌∙◌, arith, inl, inr, Ok, lt-ltb, le-leb}, specs.Fmt.{digits_onto, digit_glyph, digits}, specs.Char.{digit_value}, specs.Str.Parse.{digits_value, AllDigits}, specs.List.{list_all, AllByRecursion}, proofs.lemmas.List.Elements.{All-from_recursion}, proofs.lemmas.Fmt.{digits_is_IsNumeral}, proofs.lemmas.Bool.Decides.{Decides-eqb}, proofs.lemmas.Bool.{cases_eq}, proofs.lemmas.List.Splits.{slice_split_none, slice_split_at}}
+use Rattle.std.{proofs.Common.{◌≡◌, ℕ, zero, suc, ◌+◌, ◌*◌, ◌/◌, ◌%◌, ◌^◌, ◌<◌, ◌≤◌, true, false, ◌==◌, if◌then◌else◌, List, [], ◌∷◌, ◌++◌, Some, length, refl, ap, ◌∙◌, arith, inl, inr, Ok, lt-ltb, le-leb, ◌≢◌}, specs.Fmt.{digits_onto, digit_glyph, digits}, specs.Char.{digit_value}, specs.Str.Parse.{digits_value, AllDigits}, specs.List.{list_all, AllByRecursion}, proofs.lemmas.List.Elements.{All-from_recursion}, proofs.lemmas.Fmt.{digits_is_IsNumeral}, proofs.lemmas.Bool.{cases_eq, ne_eqb, eqb-false}, proofs.lemmas.List.Splits.{slice_split_none, slice_split_at}}
 use Rattle.pmf_event.specs.{Span.{Extent, IsValidExtent, extent_of}, Address.{address}}
 use Rattle.pmf_storelog.specs.{Records.{is_field_end, fields_of, span_of_texts, span_of_numbers, span_or_cause}, Numbers.{is_digit_in, is_numeral, numeral_of, number_of}, Canonical.{field_of, fields_of_span}}
 use native.Mathlib.Nat.{pow-suc}
@@ -13,19 +13,13 @@ onto-length (suc k) (suc m) n acc some small =
       | true ↦ λ is. omega arith
       | false ↦ λ is.
           let step : n < 16 ^ m * 16 = rw (← pow-suc 16 m) small in
-          let more : 0 < n / 16 = not_zero n is in
+          let some : n / 16 ≢ 0 = eqb-false (n / 16) 0 is in
           let below : n / 16 < 16 ^ m = omega arith in
           elim (cases_eq m 0) [
             | inl none ↦ let one : 16 ^ m ≡ 1 = rw none refl in absurd (omega arith)
             | inr left ↦ let rest = onto-length k m (n / 16) (digit_glyph false (n % 16) ∷ acc) (omega arith) below in omega arith
           ]
     ] refl
-  where
-    not_zero : (n : ℕ) → (n / 16 == 0) ≡ false → 0 < n / 16
-    not_zero n is = elim (cases_eq (n / 16) 0) [
-      | inl none ↦ let bad : true ≡ false = sym ((Decides-eqb (n / 16) 0).1 none) ∙ is in cc
-      | inr left ↦ omega arith
-    ]
 
 pub hex-length : (n : ℕ) → n < 2 ^ 64 → length (digits 16 false n) ≤ 16
 unfolding digits
@@ -35,36 +29,42 @@ all_digits : (radix : ℕ) (ds : List ℕ) → AllDigits radix ds → list_all (
 all_digits radix [] each = refl
 all_digits radix (d ∷ ds) each = rw (lt-ltb (digit_value d) radix each.0) (all_digits radix ds each.1)
 
-pub numeral_of-digits : (ds : List ℕ) (n : ℕ) → 0 < length ds → length ds ≤ 16 → AllDigits 16 ds → digits_value 16 ds ≡ n → n < 2 ^ 64 → numeral_of 16 16 ds ≡ Some n
+pub numeral_of-digits : (radix most : ℕ) (ds : List ℕ) (n : ℕ) → 0 < length ds → length ds ≤ most → AllDigits radix ds → digits_value radix ds ≡ n → n < 2 ^ 64 → numeral_of radix most ds ≡ Some n
 unfolding numeral_of is_numeral
-numeral_of-digits ds n some few each value small =
-    rw (lt-ltb 0 (length ds) some, le-leb (length ds) 16 few, all_digits 16 ds each, value, lt-ltb n (2 ^ 64) small) refl
+numeral_of-digits radix most ds n some few each value small =
+    rw (lt-ltb 0 (length ds) some, le-leb (length ds) most few, all_digits radix ds each, value, lt-ltb n (2 ^ 64) small) refl
 
 -- what is written of a number reads as the number
 pub number_of-address : (n : ℕ) → n < 2 ^ 64 → number_of (address n) ≡ Some n
 unfolding number_of
 number_of-address n small =
     let numeral = digits_is_IsNumeral 16 false (omega arith) (omega arith) n (omega arith) in
-    numeral_of-digits (digits 16 false n) n numeral.0.0 (hex-length n small) numeral.0.1 numeral.1 small
+    numeral_of-digits 16 16 (digits 16 false n) n numeral.0.0 (hex-length n small) numeral.0.1 numeral.1 small
 
 -- no byte ends a field
 abbrev pub NoFieldEnd : List ℕ → Type 0
 NoFieldEnd xs = AllByRecursion (λ c. is_field_end c ≡ false) xs
 
-pub no_field_end : (c : ℕ) → digit_value c < 36 → is_field_end c ≡ false
-no_field_end c digit = elim (cases_eq c 59) [
-  | inl same ↦ let large : digit_value c ≡ 36 = ap digit_value same in absurd (omega arith)
-  | inr other ↦ elim (c == 59) as (λ v. (c == 59) ≡ v → v ≡ false) [ true ↦ λ is. absurd (other ((Decides-eqb c 59).0 is)) | false ↦ λ is. refl ] refl
-]
+-- a byte that is no letter or digit is none of them
+pub not_digit : (m c : ℕ) → digit_value m ≡ 36 → digit_value c < 36 → (c == m) ≡ false
+not_digit m c stop digit = ne_eqb c m (λ same. let large : digit_value c ≡ 36 = ap digit_value same ∙ stop in omega arith)
 
-pub digits-NoFieldEnd : (ds : List ℕ) → AllDigits 16 ds → NoFieldEnd ds
-digits-NoFieldEnd [] each = tt
-digits-NoFieldEnd (d ∷ ds) each = (no_field_end d (omega (arith, each.0)), digits-NoFieldEnd ds each.1)
+-- what holds of each digit, and of two lists
+pub each-digits : (P : ℕ → Type 0) (radix : ℕ) → ((c : ℕ) → digit_value c < radix → P c) → (ds : List ℕ) → AllDigits radix ds → AllByRecursion P ds
+each-digits P radix of_digit [] each = tt
+each-digits P radix of_digit (d ∷ ds) each = (of_digit d each.0, each-digits P radix of_digit ds each.1)
+
+pub each-append : (P : ℕ → Type 0) (xs ys : List ℕ) → AllByRecursion P xs → AllByRecursion P ys → AllByRecursion P (xs ++ ys)
+each-append P [] ys each more = more
+each-append P (x ∷ xs) ys each more = (each.0, each-append P xs ys each.1 more)
+
+pub no_field_end : (c : ℕ) → digit_value c < 36 → is_field_end c ≡ false
+no_field_end c digit = not_digit 59 c refl digit
 
 pub address-NoFieldEnd : (n : ℕ) → n < 2 ^ 64 → NoFieldEnd (address n)
 address-NoFieldEnd n small =
     let numeral = digits_is_IsNumeral 16 false (omega arith) (omega arith) n (omega arith) in
-    (refl, (refl, digits-NoFieldEnd (digits 16 false n) numeral.0.1))
+    (refl, (refl, each-digits _ 16 (λ c digit. no_field_end c (omega (arith, digit))) (digits 16 false n) numeral.0.1))
 
 -- a field without its end, and the rest after one
 pub fields_of-more : (front rest : List ℕ) → NoFieldEnd front → fields_of (front ++ 59 ∷ rest) ≡ front ∷ fields_of rest

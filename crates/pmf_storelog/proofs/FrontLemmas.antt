@@ -1,6 +1,6 @@
 -- A decimal number at the front of a text.
-use Rattle.std.{proofs.Common.{◌≡◌, ℕ, ◌^◌, ◌<◌, ◌≤◌, true, false, List, [], ◌∷◌, ◌++◌, Some, length, refl, ap, ◌∙◌, arith, decimal, lt-ltb, le-leb, take_at, drop_at}, specs.Prelude.{⊤}, specs.Char.{digit_value}, specs.List.{list_all}, specs.Str.Parse.{digits_value, AllDigits}, proofs.lemmas.Fmt.{decimal_is_IsNumeral, length-decimal-le}}
-use Rattle.pmf_storelog.specs.Numbers.{is_digit_in, is_numeral, numeral_of, digits_in_front, number_before, number_in_front}
+use Rattle.std.{proofs.Common.{◌≡◌, ℕ, ◌^◌, ◌<◌, false, List, [], ◌∷◌, ◌++◌, Some, length, refl, ap, ◌∙◌, arith, decimal, lt-ltb, take_at, drop_at}, specs.Prelude.{⊤}, specs.Char.{digit_value}, specs.Str.Parse.{AllDigits}, proofs.lemmas.Fmt.{decimal_is_IsNumeral, length-decimal-le}}
+use Rattle.pmf_storelog.{specs.Numbers.{is_digit_in, numeral_of, digits_in_front, number_before, number_in_front}, proofs.CanonicalLemmas.{numeral_of-digits}}
 
 -- the text is empty, or begins with a byte that is no decimal digit
 abbrev pub BeginsWithNoDigit : List ℕ → Type 0
@@ -15,19 +15,10 @@ digits-front : (ds rest : List ℕ) → AllDigits 10 ds → BeginsWithNoDigit re
 digits-front [] rest each none = digits_behind rest none
 digits-front (d ∷ ds) rest each none = rw (lt-ltb (digit_value d) 10 each.0) (let e : digits_in_front (ds ++ rest) ≡ length ds = digits-front ds rest each.1 none in omega (arith, e))
 
-all_decimal : (ds : List ℕ) → AllDigits 10 ds → list_all (is_digit_in 10) ds ≡ true
-all_decimal [] each = refl
-all_decimal (d ∷ ds) each = rw (lt-ltb (digit_value d) 10 each.0) (all_decimal ds each.1)
-
-numeral_of-ten : (ds : List ℕ) (n : ℕ) → 0 < length ds → length ds ≤ 20 → AllDigits 10 ds → digits_value 10 ds ≡ n → n < 2 ^ 64 → numeral_of 10 20 ds ≡ Some n
-unfolding numeral_of is_numeral
-numeral_of-ten ds n some few each value small =
-    rw (lt-ltb 0 (length ds) some, le-leb (length ds) 20 few, all_decimal ds each, value, lt-ltb n (2 ^ 64) small) refl
-
 numeral_of-decimal : (n : ℕ) → n < 2 ^ 64 → numeral_of 10 20 (decimal n) ≡ Some n
 numeral_of-decimal n small =
     let numeral = decimal_is_IsNumeral n small in
-    numeral_of-ten (decimal n) n numeral.0.0 (length-decimal-le 20 n (omega arith) (omega arith) small) numeral.0.1 numeral.1 small
+    numeral_of-digits 10 20 (decimal n) n numeral.0.0 (length-decimal-le 20 n (omega arith) (omega arith) small) numeral.0.1 numeral.1 small
 
 front : (ds rest : List ℕ) → digits_in_front (ds ++ rest) ≡ length ds → number_in_front (ds ++ rest) ≡ number_before rest (numeral_of 10 20 ds)
 unfolding number_in_front

@@ -1,36 +1,21 @@
 -- The lines of the canonical text of a section have no separator and no blank.
-use Rattle.std.{proofs.Common.{◌≡◌, ℕ, ◌^◌, ◌<◌, ◌≤◌, Bool, true, false, ◌==◌, List, [], ◌∷◌, ◌++◌, length, refl, ap, ◌∙◌, arith, rules, inl, inr, length-append, codes}, specs.Prelude.{⊤}, specs.Fmt.{digits}, specs.Char.{digit_value}, specs.Str.Parse.{AllDigits}, specs.List.{AllByRecursion}, proofs.lemmas.Bool.Decides.{Decides-eqb}, proofs.lemmas.Bool.{cases_eq}, proofs.lemmas.Fmt.{digits_is_IsNumeral}, proofs.lemmas.List.Elements.{All-from_recursion}}
+use Rattle.std.{proofs.Common.{◌≡◌, ℕ, ◌^◌, ◌<◌, ◌≤◌, Bool, false, List, ◌++◌, length, refl, arith, rules, length-append, codes}, specs.Fmt.{digits}, specs.Char.{digit_value}, specs.List.{AllByRecursion}, proofs.lemmas.Fmt.{digits_is_IsNumeral}, proofs.lemmas.List.Elements.{All-from_recursion}}
 use Rattle.pmf_event.specs.{declared.event.Event.{Event}, declared.event.Event.TheVariants.{Store, Flush, Fence, Persist, Ordered, Exclude, Include, TxBegin, TxAdd, TxEnd, CheckStart, CheckEnd}, Span.{Extent, IsValidExtent}, Address.{address}}
-use Rattle.pmf_storelog.{specs.Separators.{is_separator, is_blank}, specs.Canonical.{field_of, fields_of_span, fields_of_event, name_of}, specs.Spelling.{AllValid}, proofs.CanonicalLemmas.{fits_of}, proofs.PlainRecordLemmas.{IsPlain}}
+use Rattle.pmf_storelog.{specs.Separators.{is_separator, is_blank}, specs.Canonical.{field_of, fields_of_span, fields_of_event, name_of}, specs.Spelling.{AllValid}, proofs.CanonicalLemmas.{not_digit, each-digits, each-append, fits_of}, proofs.PlainRecordLemmas.{IsPlain}}
 
 -- no byte passes
 abbrev NoneIn : (ℕ → Bool) → List ℕ → Type 0
 NoneIn p xs = AllByRecursion (λ c. p c ≡ false) xs
-
-none-append : (p : ℕ → Bool) (xs ys : List ℕ) → NoneIn p xs → NoneIn p ys → NoneIn p (xs ++ ys)
-none-append p [] ys none more = more
-none-append p (x ∷ xs) ys none more = (none.0, none-append p xs ys none.1 more)
-
--- a byte that is no letter or digit is none of them
-not_digit : (m c : ℕ) → digit_value m ≡ 36 → digit_value c < 36 → (c == m) ≡ false
-not_digit m c stop digit = elim (cases_eq c m) [
-  | inl same ↦ let large : digit_value c ≡ 36 = ap digit_value same ∙ stop in absurd (omega arith)
-  | inr other ↦ elim (c == m) as (λ v. (c == m) ≡ v → v ≡ false) [ true ↦ λ is. absurd (other ((Decides-eqb c m).0 is)) | false ↦ λ is. refl ] refl
-]
 
 -- the text of an event
 abbrev pub text_of_event : Event → List ℕ
 text_of_event event = name_of event ++ fields_of_event event
 
 module _ (p : ℕ → Bool) (digit : (c : ℕ) → digit_value c < 36 → p c ≡ false) (x : p 120 ≡ false) (semicolon : p 59 ≡ false) (named : (event : Event) → NoneIn p (name_of event)) where
-  none-digits : (ds : List ℕ) → AllDigits 16 ds → NoneIn p ds
-  none-digits [] each = tt
-  none-digits (d ∷ ds) each = (digit d (omega (arith, each.0)), none-digits ds each.1)
-
   none-address : (n : ℕ) → n < 2 ^ 64 → NoneIn p (address n)
   none-address n small =
       let numeral = digits_is_IsNumeral 16 false (omega arith) (omega arith) n (omega arith) in
-      (digit 48 (omega arith), (x, none-digits (digits 16 false n) numeral.0.1))
+      (digit 48 (omega arith), (x, each-digits _ 16 (λ c small. digit c (omega (arith, small))) (digits 16 false n) numeral.0.1))
 
   none-field : (n : ℕ) → n < 2 ^ 64 → NoneIn p (field_of n)
   unfolding field_of
@@ -38,28 +23,24 @@ module _ (p : ℕ → Bool) (digit : (c : ℕ) → digit_value c < 36 → p c �
 
   none-span : (s : Extent) → IsValidExtent s.first s.size → NoneIn p (fields_of_span s)
   unfolding fields_of_span
-  none-span s valid = let fits = fits_of s valid in none-append p (field_of s.first) (field_of s.size) (none-field s.first fits.first) (none-field s.size fits.size)
+  none-span s valid = let fits = fits_of s valid in each-append _ (field_of s.first) (field_of s.size) (none-field s.first fits.first) (none-field s.size fits.size)
 
   none-fields : (event : Event) → AllValid event → NoneIn p (fields_of_event event)
   unfolding fields_of_event
   none-fields (Store s) fit =
-      none-append p (field_of s.first ++ codes ";0x0") (field_of s.size)
-      (none-append p (field_of s.first) (codes ";0x0") (none-field s.first (fits_of s fit).first) (semicolon, (digit 48 (omega arith), (x, (digit 48 (omega arith), tt)))))
+      each-append _ (field_of s.first ++ codes ";0x0") (field_of s.size)
+      (each-append _ (field_of s.first) (codes ";0x0") (none-field s.first (fits_of s fit).first) (semicolon, (digit 48 (omega arith), (x, (digit 48 (omega arith), tt)))))
       (none-field s.size (fits_of s fit).size)
   none-fields (Flush s) fit = none-span s fit
-  none-fields Fence fit = tt
   none-fields (Persist s) fit = none-span s fit
-  none-fields (Ordered a b) fit = none-append p (fields_of_span a) (fields_of_span b) (none-span a fit.0) (none-span b fit.1)
+  none-fields (Ordered a b) fit = each-append _ (fields_of_span a) (fields_of_span b) (none-span a fit.0) (none-span b fit.1)
   none-fields (Exclude s) fit = none-span s fit
   none-fields (Include s) fit = none-span s fit
-  none-fields TxBegin fit = tt
   none-fields (TxAdd s) fit = none-span s fit
-  none-fields TxEnd fit = tt
-  none-fields CheckStart fit = tt
-  none-fields CheckEnd fit = tt
+  none-fields _ fit = tt
 
   none-text : (event : Event) → AllValid event → NoneIn p (text_of_event event)
-  none-text event fit = none-append p (name_of event) (fields_of_event event) (named event) (none-fields event fit)
+  none-text event fit = each-append _ (name_of event) (fields_of_event event) (named event) (none-fields event fit)
 
 pub no_separator : (c : ℕ) → digit_value c < 36 → is_separator c ≡ false
 no_separator c digit = rw (not_digit 124 c refl digit, not_digit 10 c refl digit, not_digit 13 c refl digit) refl
@@ -98,6 +79,6 @@ pub text_of_marker-plain : (n : ℕ) → n < 2 ^ 64 → IsPlain (text_of_marker 
 unfolding text_of_marker
 text_of_marker-plain n small = record {
   filled = omega (arith, length-append (codes "PMT.SECTION") (field_of n));
-  whole = All-from_recursion (λ c. is_separator c ≡ false) (text_of_marker n) (none-append is_separator (codes "PMT.SECTION") (field_of n) (search rules) (none-field is_separator no_separator refl refl (λ e. (spelled e).0) n small));
-  close = All-from_recursion (λ c. is_blank c ≡ false) (text_of_marker n) (none-append is_blank (codes "PMT.SECTION") (field_of n) (search rules) (none-field is_blank no_blank refl refl (λ e. (spelled e).1.0) n small));
+  whole = All-from_recursion (λ c. is_separator c ≡ false) (text_of_marker n) (each-append _ (codes "PMT.SECTION") (field_of n) (search rules) (none-field is_separator no_separator refl refl (λ e. (spelled e).0) n small));
+  close = All-from_recursion (λ c. is_blank c ≡ false) (text_of_marker n) (each-append _ (codes "PMT.SECTION") (field_of n) (search rules) (none-field is_blank no_blank refl refl (λ e. (spelled e).1.0) n small));
 }

@@ -1,7 +1,7 @@
 -- What the quick reading finds, it finds as the definition of a record says.
-use Rattle.std.{proofs.Common.{◌≡◌, ℕ, ◌+◌, ◌-◌, length-drop, get_or, append_assoc, length-append, ◌^◌, ◌<◌, ◌≤◌, List, [], ◌∷◌, ◌++◌, Bool, true, false, rules, length, take, drop, refl, sym, ap, subst, ◌∙◌, arith, codes, Result, Ok, nat_eq, bytes_eq, length-take-le, take-append-drop, take_all, take_at, drop_at}, specs.List.{starts_with, slice_split}, proofs.lemmas.Slice.Eq.{starts_is, bytes_eq-Decides}, proofs.lemmas.Bool.Decides.{Decides-eqb}, specs.Str.Parse.{AllDigits, digits_value}, proofs.lemmas.List.{drop_more}, proofs.lemmas.List.Elements.{All-from_recursion}, proofs.lemmas.List.Splits.{slice_split_at}, proofs.Math.Nat.{pow-le-pow_right}, proofs.lemmas.Int.Digits.{digits_value-lt}}
-use Rattle.pmf_storelog.{specs.Numbers.{number_of}, specs.declared.record.Saying.TheVariants.{Happens, Skipped}, specs.Records.{is_field_end, fields_of, record_of, saying_of, transaction_of, saying_of_fields, other_name, event_over, order_of_fields, order_of_texts, span_of_fields, span_of_texts, stored_span}, specs.declared.fault.Cause.{Cause}, specs.Separators.{is_separator, is_blank, parts_of}, specs.Quick.{BeginsWithDigits, BeginsWithEvent, BeginsWithField, BeginsWithFields, BeginsWithNumber, BeginsWithPart, HasFields, IsClean}, proofs.CanonicalLemmas.{numeral_of-digits, NoFieldEnd, no_field_end, fields_of-more, fields_of-last}, proofs.PlainRecordLemmas.{IsPlain, records_in-plain}, proofs.PlainLemmas.{no_separator, no_blank}}
-use Rattle.pmf_event.specs.{declared.event.Event.{Event}, declared.event.Event.TheVariants.{Store, Flush, Fence, Persist, Ordered, TxAdd}, Span.{Extent, extent_of}}
+use Rattle.std.{proofs.Common.{◌≡◌, ℕ, ◌+◌, ◌-◌, length-drop, get_or, append_assoc, length-append, ◌^◌, ◌<◌, ◌≤◌, List, [], ◌∷◌, ◌++◌, Bool, true, false, rules, length, take, drop, refl, sym, ap, subst, ◌∙◌, arith, codes, Result, Ok, nat_eq, bytes_eq, length-take-le, take-append-drop, take_all, take_at, drop_at}, specs.List.{starts_with, slice_split}, proofs.lemmas.Slice.Eq.{starts_is, bytes_eq-Decides}, proofs.lemmas.Bool.{false_from_ne_true}, proofs.lemmas.Bool.Decides.{Decides-eqb}, specs.Str.Parse.{AllDigits, digits_value}, proofs.lemmas.List.{drop_more}, proofs.lemmas.List.Elements.{All-from_recursion}, proofs.lemmas.List.Splits.{slice_split_at}, proofs.Math.Nat.{pow-le-pow_right}, proofs.lemmas.Int.Digits.{digits_value-lt}}
+use Rattle.pmf_storelog.{specs.Numbers.{number_of}, specs.declared.record.Saying.TheVariants.{Happens, Skipped}, specs.Records.{is_field_end, fields_of, record_of, saying_of, transaction_of, saying_of_fields, other_name, order_of_fields, order_of_texts, span_of_fields, span_of_texts, stored_span}, specs.declared.fault.Cause.{Cause}, specs.Separators.{is_separator, is_blank, parts_of}, specs.Quick.{BeginsWithDigits, BeginsWithEvent, BeginsWithField, BeginsWithFields, BeginsWithNumber, BeginsWithPart, HasFields, IsClean}, proofs.CanonicalLemmas.{each-digits, each-append, numeral_of-digits, NoFieldEnd, no_field_end, fields_of-more, fields_of-last}, proofs.PlainRecordLemmas.{IsPlain, records_in-plain}, proofs.PlainLemmas.{no_separator, no_blank}}
+use Rattle.pmf_event.specs.{declared.event.Event.{Event}, declared.event.Event.TheVariants.{Fence, Ordered}, Span.{Extent, extent_of}}
 
 -- fewer than 16 digits leave room for one more
 pub room_for_a_digit : (text : List ℕ) (count : ℕ) → count < 16 → count ≤ length text → AllDigits 16 (take count text) → digits_value 16 (take count text) < 1152921504606846976
@@ -16,7 +16,7 @@ pub begins_with_digits : (text : List ℕ) (value count : ℕ) → 0 < count →
 begins_with_digits text value count some few within small digits is = record {
   within = within;
   digits = digits;
-  value_is = numeral_of-digits (take count text) value (omega (arith, length-take-le count text within)) (omega (arith, length-take-le count text within)) digits (sym is) small;
+  value_is = numeral_of-digits 16 16 (take count text) value (omega (arith, length-take-le count text within)) (omega (arith, length-take-le count text within)) digits (sym is) small;
 }
 
 -- what a slice from n on holds
@@ -34,20 +34,14 @@ begins_with text front starts =
 
 -- letters and digits end no field, and are clean
 word-NoFieldEnd : (cs : List ℕ) → AllDigits 36 cs → NoFieldEnd cs
-word-NoFieldEnd [] word = tt
-word-NoFieldEnd (c ∷ cs) word = (no_field_end c word.0, word-NoFieldEnd cs word.1)
+word-NoFieldEnd = each-digits _ 36 no_field_end
 
 word-IsClean : (cs : List ℕ) → AllDigits 36 cs → IsClean cs
-word-IsClean [] word = tt
-word-IsClean (c ∷ cs) word = ((no_separator c word.0, no_blank c word.0), word-IsClean cs word.1)
+word-IsClean = each-digits _ 36 (λ c digit. (no_separator c digit, no_blank c digit))
 
 digits-word : (ds : List ℕ) → AllDigits 16 ds → AllDigits 36 ds
 digits-word [] each = tt
 digits-word (d ∷ ds) each = (omega (arith, each.0), digits-word ds each.1)
-
-clean-append : (xs ys : List ℕ) → IsClean xs → IsClean ys → IsClean (xs ++ ys)
-clean-append [] ys clean more = more
-clean-append (x ∷ xs) ys clean more = (clean.0, clean-append xs ys clean.1 more)
 
 -- a field of 0x and digits
 pub number_found : (text digits rest : List ℕ) (value count : ℕ) → text ≡ codes "0x" ++ digits → digits ≡ take count digits ++ rest → BeginsWithDigits digits value count → BeginsWithNumber text value rest
@@ -69,7 +63,7 @@ next_field : (text field more : List ℕ) (fields : List (List ℕ)) (rest : Lis
 next_field text field more fields rest whole word others = record {
   line = field ++ 59 ∷ others.line;
   whole = whole ∙ ap (λ l. field ++ 59 ∷ l) others.whole ∙ sym (append_assoc field (59 ∷ others.line) rest);
-  clean = clean-append field (59 ∷ others.line) (word-IsClean field word) ((refl, refl), others.clean);
+  clean = each-append _ field (59 ∷ others.line) (word-IsClean field word) ((refl, refl), others.clean);
   fields_are = fields_of-more field others.line (word-NoFieldEnd field word) ∙ ap (λ fs. field ∷ fs) others.fields_are;
 }
 
@@ -112,42 +106,24 @@ module _ (text more last : List ℕ) (first size : ℕ) (span : Extent) (a : Beg
       (rw (a.value_is, b.value_is, c.value_is, d.value_is, valid, fits) refl)
 
 -- an event of a name and fields
-event_found : (name text rest : List ℕ) {A : Type 0} (read : List (List ℕ) → Result A Cause) (value : A) (len : ℕ) (event : Event) → 0 < length name → IsClean name → NoFieldEnd name → text ≡ name ++ 59 ∷ rest →
-    BeginsWithFields read rest value len → ((fields : List (List ℕ)) → read fields ≡ Ok value → saying_of name fields ≡ Ok (Happens event)) → BeginsWithEvent text event (length name + 1 + len)
+pub event_found : (name text : List ℕ) {A : Type 0} (read : List (List ℕ) → Result A Cause) (value : A) (len : ℕ) (event : Event) → 0 < length name → IsClean name → NoFieldEnd name →
+    starts_with nat_eq text (name ++ 59 ∷ []) ≡ true → BeginsWithFields read (take (length text - (length name + 1)) (drop (length name + 1) text)) value len →
+    ((fields : List (List ℕ)) → read fields ≡ Ok value → saying_of name fields ≡ Ok (Happens event)) → BeginsWithEvent text event (length name + 1 + len)
 unfolding record_of
-event_found name text rest read value len event filled clean one is found means =
+event_found name text read value len event filled clean one starts found means =
     let begins = found.begins in
+    let rest = take (length text - (length name + 1)) (drop (length name + 1) text) in
+    let size : length (name ++ 59 ∷ []) ≡ length name + 1 = length-append name (59 ∷ []) in
+    let is : text ≡ name ++ 59 ∷ rest = rw size at (begins_with text (name ++ 59 ∷ []) starts) ∙ append_assoc name (59 ∷ []) rest in
     record {
       line = name ++ 59 ∷ begins.line;
       rest = found.rest;
       whole = is ∙ ap (λ l. name ++ 59 ∷ l) begins.whole ∙ sym (append_assoc name (59 ∷ begins.line) found.rest);
       long = omega (arith, found.long, ap length begins.whole, length-append begins.line found.rest, length-append name (59 ∷ begins.line));
       filled = omega (arith, length-append name (59 ∷ begins.line));
-      clean = clean-append name (59 ∷ begins.line) clean ((refl, refl), begins.clean);
+      clean = each-append _ name (59 ∷ begins.line) clean ((refl, refl), begins.clean);
       says = ap saying_of_fields (fields_of-more name begins.line one) ∙ ap (saying_of name) begins.fields_are ∙ means found.fields found.spells;
     }
-
--- the events of the usual spelling
-module _ (text rest : List ℕ) (span : Extent) (len : ℕ) where
-  pub store_found : text ≡ codes "STORE;" ++ rest → BeginsWithFields stored_span rest span len → BeginsWithEvent text (Store span) (6 + len)
-  unfolding saying_of
-  store_found is found = event_found (codes "STORE") text rest stored_span span len (Store span) (omega arith) (search rules) (search rules) is found (λ fields spells. ap (event_over Store) spells)
-
-  pub flush_found : text ≡ codes "FLUSH;" ++ rest → BeginsWithFields span_of_fields rest span len → BeginsWithEvent text (Flush span) (6 + len)
-  unfolding saying_of
-  flush_found is found = event_found (codes "FLUSH") text rest span_of_fields span len (Flush span) (omega arith) (search rules) (search rules) is found (λ fields spells. ap (event_over Flush) spells)
-
-  pub persist_found : text ≡ codes "PMT.PERSIST;" ++ rest → BeginsWithFields span_of_fields rest span len → BeginsWithEvent text (Persist span) (12 + len)
-  unfolding saying_of
-  persist_found is found = event_found (codes "PMT.PERSIST") text rest span_of_fields span len (Persist span) (omega arith) (search rules) (search rules) is found (λ fields spells. ap (event_over Persist) spells)
-
-  pub addition_found : text ≡ codes "PMT.TXADD;" ++ rest → BeginsWithFields span_of_fields rest span len → BeginsWithEvent text (TxAdd span) (10 + len)
-  unfolding saying_of transaction_of
-  addition_found is found = event_found (codes "PMT.TXADD") text rest span_of_fields span len (TxAdd span) (omega arith) (search rules) (search rules) is found (λ fields spells. ap (event_over TxAdd) spells)
-
-pub ordered_found : (text rest : List ℕ) (event : Event) (len : ℕ) → text ≡ codes "PMT.ORDERED;" ++ rest → BeginsWithFields order_of_fields rest (Happens event) len → BeginsWithEvent text event (12 + len)
-unfolding saying_of
-ordered_found text rest event len is found = event_found (codes "PMT.ORDERED") text rest order_of_fields (Happens event) len event (omega arith) (search rules) (search rules) is found (λ fields spells. spells)
 
 pub fence_found : (text rest : List ℕ) → text ≡ codes "FENCE" ++ rest → BeginsWithEvent text Fence 5
 unfolding record_of saying_of
@@ -209,23 +185,14 @@ module _ (text name rest : List ℕ) (whole : text ≡ name ++ rest) (front : Li
       let both : true ≡ false = sym ((starts_is Decides-eqb text front (starts_with nat_eq text front) refl).1 more is) ∙ other in cc
 
   not_named : (more : List ℕ) → bytes_eq name (front ++ more) ≡ false
-  not_named more = by_test (bytes_eq name (front ++ more)) refl
-    where
-      by_test : (b : Bool) → bytes_eq name (front ++ more) ≡ b → b ≡ false
-      by_test false is = refl
-      by_test true is =
-          let same : name ≡ front ++ more = (bytes_eq-Decides name (front ++ more)).0 is in
-          absurd (never_begins (more ++ rest) (whole ∙ ap (λ l. l ++ rest) same ∙ append_assoc front more rest))
+  not_named more = false_from_ne_true _ (λ is.
+      let same : name ≡ front ++ more = (bytes_eq-Decides name (front ++ more)).0 is in
+      never_begins (more ++ rest) (whole ∙ ap (λ l. l ++ rest) same ∙ append_assoc front more rest))
 
   not_begun : starts_with nat_eq name front ≡ false
-  not_begun = by_test (starts_with nat_eq name front) refl
-    where
-      by_test : (b : Bool) → starts_with nat_eq name front ≡ b → b ≡ false
-      by_test false is = refl
-      by_test true is =
-          let same = begins_with name front is in
-          absurd (never_begins (take (length name - length front) (drop (length front) name) ++ rest)
-          (whole ∙ ap (λ l. l ++ rest) same ∙ append_assoc front (take (length name - length front) (drop (length front) name)) rest))
+  not_begun = false_from_ne_true _ (λ is.
+      let left = take (length name - length front) (drop (length front) name) in
+      never_begins (left ++ rest) (whole ∙ ap (λ l. l ++ rest) (begins_with name front is) ∙ append_assoc front left rest))
 
 saying_of-other : (text name rest : List ℕ) (others : List (List ℕ)) → text ≡ name ++ rest →
     starts_with nat_eq text (codes "STORE") ≡ false → starts_with nat_eq text (codes "FLUSH") ≡ false → starts_with nat_eq text (codes "FENCE") ≡ false → starts_with nat_eq text (codes "PMT.") ≡ false →

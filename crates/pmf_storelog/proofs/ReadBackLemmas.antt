@@ -1,5 +1,5 @@
 -- What is written of a section is a log that says the section alone.
-use Rattle.std.{proofs.Common.{Equal, ◌≡◌, ℕ, suc, ◌+◌, ◌^◌, ◌<◌, ◌≤◌, true, false, ◌==◌, List, [], ◌∷◌, ◌++◌, None, Ok, length, map, take, All, refl, sym, ap, subst, ◌∙◌, arith, flat_map, append_assoc, append-nil, take_all}, specs.Prelude.{⊤}, proofs.lemmas.List.{length_push}, proofs.lemmas.Bool.Decides.{Decides-eqb}, specs.Cmp.{nat_cmp_is}, specs.Ordering.{match_ordering}}
+use Rattle.std.{proofs.Common.{Equal, ◌≡◌, ℕ, suc, ◌+◌, ◌^◌, ◌<◌, ◌≤◌, List, [], ◌∷◌, ◌++◌, None, Ok, length, map, take, All, refl, sym, ap, subst, ◌∙◌, arith, flat_map, append_assoc, append-nil, take_all, ne_eqb}, proofs.lemmas.List.{length_push}, proofs.lemmas.Bool.Decides.{Decides-eqb}, specs.Cmp.{nat_cmp_is}, specs.Ordering.{match_ordering}}
 use Rattle.pmf_event.specs.{declared.event.Event.{Event}, declared.section.TheConstants.{EVENT_LIMIT}, Section.{Trace}}
 use Rattle.pmf_storelog.{specs.declared.fault.TheConstants.{LOG_LIMIT}, specs.declared.record.Saying.TheVariants.{Happens, Enters}, specs.Separators.{records_of}, specs.Records.{record_of}, specs.Sections.{with_event}, specs.LogText.{current_of, current_at, entered_of, entered_among, numbers_of, events_in, numbered_events, numbered_among, skipped_of, first_fault, first_fault_among, refusal_after, or_else, number_after, section_named, sections_of, value_of, value_unless, fault_of, log_of}, specs.Rising.{with_number}, specs.Canonical.{canonical_text, line_of_event, line_of_marker}, specs.Spelling.{AllValid}, proofs.LogLemmas.{numbers_with, current_of-push, numbers_of-push, events_in-event, events_in-enter, skipped_of-event, skipped_of-enter, first_fault-push, fault_within-short}, proofs.PlainLemmas.{text_of_event, text_of_marker}, proofs.RoundTripLemmas.{EachValid, canonical_records, records_of-canonical, canonical-length}, proofs.SpellingLemmas.{record_of-event, record_of-marker}, specs.LogValue.{LogValue}}
 
@@ -16,10 +16,6 @@ log_value sections skipped = record { sections = sections; skipped = skipped }
 
 same_number : (n : ℕ) → with_number (n ∷ []) n ≡ n ∷ []
 same_number n = ap (λ o. match_ordering o (n ∷ n ∷ []) (n ∷ []) (n ∷ n ∷ [])) (sym (nat_cmp_is n n Equal refl))
-
-below_is_no_end : (n m : ℕ) → n < m → (n == m) ≡ false
-below_is_no_end n m below =
-    elim (n == m) as (λ v. (n == m) ≡ v → v ≡ false) [ true ↦ λ is. let same : n ≡ m = (Decides-eqb n m).0 is in absurd (omega arith) | false ↦ λ is. refl ] refl
 
 no_refusal_at_marker : (n : ℕ) (text : List ℕ) → record_of text ≡ Ok (Enters n) → refusal_after [] (record_of text) ≡ None
 unfolding refusal_after entered_of entered_among
@@ -38,7 +34,7 @@ says-marker n text says = record {
 module _ (n : ℕ) (events : List Event) (records : List (List ℕ)) (has : Says n events records) (event : Event) (text : List ℕ) (says : record_of text ≡ Ok (Happens event)) where
   no_refusal : length events < EVENT_LIMIT → refusal_after records (record_of text) ≡ None
   unfolding refusal_after
-  no_refusal few = rw (says, has.current, has.events_are, below_is_no_end (length events) EVENT_LIMIT few) refl
+  no_refusal few = rw (says, has.current, has.events_are, ne_eqb (length events) EVENT_LIMIT (λ full. omega (arith, full, few))) refl
 
   here : with_event (events_in records) n event n ≡ events ++ event ∷ []
   here = rw (has.events_are, (Decides-eqb n n).1 refl) refl

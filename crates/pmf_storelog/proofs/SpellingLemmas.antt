@@ -1,42 +1,26 @@
 -- What the text of an event reads as: the event.
-use Rattle.std.proofs.{Common.{◌≡◌, ℕ, ◌+◌, ◌^◌, ◌<◌, true, false, ◌==◌, [], ◌∷◌, ◌++◌, refl, ap, ◌∙◌, arith, rules, append_assoc, codes, Ok, le-ltb}, lemmas.Bool.Decides.{Decides-eqb}}
+use Rattle.std.proofs.{Common.{List, Result, append-nil, ne_eqb, ◌≡◌, ℕ, ◌+◌, ◌^◌, ◌<◌, [], ◌∷◌, ◌++◌, refl, ap, ◌∙◌, arith, rules, append_assoc, codes, Ok, le-ltb}}
 use Rattle.pmf_event.specs.{declared.event.Event.{Event}, declared.event.Event.TheVariants.{Store, Flush, Fence, Persist, Ordered, Exclude, Include, TxBegin, TxAdd, TxEnd, CheckStart, CheckEnd}, declared.span.TheConstants.{SPAN_LIMIT, ADDRESS_LIMIT}, Span.{Extent, IsValidExtent, extent_of}, Address.{address}}
-use Rattle.pmf_storelog.{specs.declared.record.Saying.TheVariants.{Happens, Enters}, specs.Records.{record_of, saying_of, transaction_of, saying_of_fields, section_of_fields, section_of_number, event_over, span_of_fields, stored_span, order_of_fields, order_of_texts, fields_of}, specs.Canonical.{field_of, fields_of_span, fields_of_event, name_of}, proofs.CanonicalLemmas.{fits_of, address-NoFieldEnd, fields_of-more, fields_of-last, fields_of-span, span_of_texts-address, number_of-address}, proofs.PlainLemmas.{text_of_event, text_of_marker}, specs.Spelling.{AllValid}}
+use Rattle.pmf_storelog.{specs.declared.record.Saying.{Saying}, specs.declared.record.Saying.TheVariants.{Happens, Enters}, specs.declared.fault.Cause.{Cause}, specs.Records.{record_of, saying_of, transaction_of, saying_of_fields, section_of_fields, section_of_number, event_over, span_of_fields, stored_span, order_of_fields, order_of_texts, fields_of}, specs.Canonical.{field_of, fields_of_span, fields_of_event, name_of}, proofs.CanonicalLemmas.{NoFieldEnd, fits_of, address-NoFieldEnd, fields_of-more, fields_of-last, fields_of-span, span_of_texts-address, number_of-address}, proofs.PlainLemmas.{text_of_event, text_of_marker}, specs.Spelling.{AllValid}}
 
 pub extent_of-valid : (s : Extent) → IsValidExtent s.first s.size → extent_of s.first s.size ≡ Ok s
 extent_of-valid s valid =
-    rw (some s.size valid.not_empty, le-ltb SPAN_LIMIT s.size valid.small, le-ltb ADDRESS_LIMIT (s.first + s.size) valid.ends) refl
-  where
-    some : (n : ℕ) → 0 < n → (n == 0) ≡ false
-    some n l = elim (n == 0) as (λ v. (n == 0) ≡ v → v ≡ false) [ true ↦ λ is. let none : n ≡ 0 = (Decides-eqb n 0).0 is in absurd (omega arith) | false ↦ λ is. refl ] refl
+    rw (ne_eqb s.size 0 (λ none. omega (arith, valid.not_empty, none)), le-ltb SPAN_LIMIT s.size valid.small, le-ltb ADDRESS_LIMIT (s.first + s.size) valid.ends) refl
 
--- the event of a name and the fields of a span
-event_over-span : (kind : Extent → Event) (s : Extent) → IsValidExtent s.first s.size →
-    event_over kind (span_of_fields (address s.first ∷ address s.size ∷ [])) ≡ Ok (Happens (kind s))
-unfolding span_of_fields
-event_over-span kind s valid = ap (event_over kind) (span_of_texts-address s (fits_of s valid) (extent_of-valid s valid))
+-- a record of a name, and one of a name and the fields of a span
+record_of-name : (name : List ℕ) (saying : Result Saying Cause) → NoFieldEnd name → saying_of name [] ≡ saying → record_of (name ++ []) ≡ saying
+unfolding record_of
+record_of-name name saying none says = rw append-nil (ap saying_of_fields (fields_of-last name none) ∙ says)
+
+record_of-span : (name : List ℕ) (kind : Extent → Event) (s : Extent) → NoFieldEnd name → ((fields : List (List ℕ)) → saying_of name fields ≡ event_over kind (span_of_fields fields)) →
+    IsValidExtent s.first s.size → record_of (name ++ fields_of_span s) ≡ Ok (Happens (kind s))
+unfolding record_of span_of_fields
+record_of-span name kind s none says valid =
+    let fits = fits_of s valid in
+    ap saying_of_fields (fields_of-span name s none fits) ∙ says (address s.first ∷ address s.size ∷ [])
+    ∙ ap (event_over kind) (span_of_texts-address s fits (extent_of-valid s valid))
 
 module _ (s : Extent) (valid : IsValidExtent s.first s.size) where
-  record_of-flush : record_of (codes "FLUSH" ++ fields_of_span s) ≡ Ok (Happens (Flush s))
-  unfolding record_of saying_of
-  record_of-flush = ap saying_of_fields (fields_of-span (codes "FLUSH") s (search rules) (fits_of s valid)) ∙ event_over-span Flush s valid
-
-  record_of-persist : record_of (codes "PMT.PERSIST" ++ fields_of_span s) ≡ Ok (Happens (Persist s))
-  unfolding record_of saying_of
-  record_of-persist = ap saying_of_fields (fields_of-span (codes "PMT.PERSIST") s (search rules) (fits_of s valid)) ∙ event_over-span Persist s valid
-
-  record_of-exclude : record_of (codes "PMT.EXCLUDE" ++ fields_of_span s) ≡ Ok (Happens (Exclude s))
-  unfolding record_of saying_of
-  record_of-exclude = ap saying_of_fields (fields_of-span (codes "PMT.EXCLUDE") s (search rules) (fits_of s valid)) ∙ event_over-span Exclude s valid
-
-  record_of-include : record_of (codes "PMT.INCLUDE" ++ fields_of_span s) ≡ Ok (Happens (Include s))
-  unfolding record_of saying_of
-  record_of-include = ap saying_of_fields (fields_of-span (codes "PMT.INCLUDE") s (search rules) (fits_of s valid)) ∙ event_over-span Include s valid
-
-  record_of-tx_add : record_of (codes "PMT.TXADD" ++ fields_of_span s) ≡ Ok (Happens (TxAdd s))
-  unfolding record_of saying_of transaction_of
-  record_of-tx_add = ap saying_of_fields (fields_of-span (codes "PMT.TXADD") s (search rules) (fits_of s valid)) ∙ event_over-span TxAdd s valid
-
   record_of-store : record_of (codes "STORE" ++ (field_of s.first ++ codes ";0x0" ++ field_of s.size)) ≡ Ok (Happens (Store s))
   unfolding record_of saying_of stored_span field_of
   record_of-store =
@@ -75,41 +59,21 @@ record_of-ordered a b valid_a valid_b =
     ∙ ap (λ fs. name ∷ address a.first ∷ address a.size ∷ address b.first ∷ fs) (fields_of-last (address b.size) (address-NoFieldEnd b.size fits_b.size)))
     ∙ order_of_texts-address a b valid_a valid_b
 
-record_of-fence : record_of (codes "FENCE" ++ []) ≡ Ok (Happens Fence)
-unfolding record_of saying_of
-record_of-fence = ap saying_of_fields (fields_of-last (codes "FENCE") (search rules))
-
-record_of-tx_begin : record_of (codes "PMT.TXBEGIN" ++ []) ≡ Ok (Happens TxBegin)
-unfolding record_of saying_of transaction_of
-record_of-tx_begin = ap saying_of_fields (fields_of-last (codes "PMT.TXBEGIN") (search rules))
-
-record_of-tx_end : record_of (codes "PMT.TXEND" ++ []) ≡ Ok (Happens TxEnd)
-unfolding record_of saying_of transaction_of
-record_of-tx_end = ap saying_of_fields (fields_of-last (codes "PMT.TXEND") (search rules))
-
-record_of-check_start : record_of (codes "PMT.CHECKSTART" ++ []) ≡ Ok (Happens CheckStart)
-unfolding record_of saying_of transaction_of
-record_of-check_start = ap saying_of_fields (fields_of-last (codes "PMT.CHECKSTART") (search rules))
-
-record_of-check_end : record_of (codes "PMT.CHECKEND" ++ []) ≡ Ok (Happens CheckEnd)
-unfolding record_of saying_of transaction_of
-record_of-check_end = ap saying_of_fields (fields_of-last (codes "PMT.CHECKEND") (search rules))
-
 -- the text of an event reads as the event
 pub record_of-event : (event : Event) → AllValid event → record_of (text_of_event event) ≡ Ok (Happens event)
-unfolding name_of fields_of_event
+unfolding name_of fields_of_event saying_of transaction_of
 record_of-event (Store s) valid = record_of-store s valid
-record_of-event (Flush s) valid = record_of-flush s valid
-record_of-event Fence valid = record_of-fence
-record_of-event (Persist s) valid = record_of-persist s valid
+record_of-event (Flush s) valid = record_of-span (codes "FLUSH") Flush s (search rules) (λ fields. refl) valid
+record_of-event Fence valid = record_of-name (codes "FENCE") _ (search rules) refl
+record_of-event (Persist s) valid = record_of-span (codes "PMT.PERSIST") Persist s (search rules) (λ fields. refl) valid
 record_of-event (Ordered a b) valid = record_of-ordered a b valid.0 valid.1
-record_of-event (Exclude s) valid = record_of-exclude s valid
-record_of-event (Include s) valid = record_of-include s valid
-record_of-event TxBegin valid = record_of-tx_begin
-record_of-event (TxAdd s) valid = record_of-tx_add s valid
-record_of-event TxEnd valid = record_of-tx_end
-record_of-event CheckStart valid = record_of-check_start
-record_of-event CheckEnd valid = record_of-check_end
+record_of-event (Exclude s) valid = record_of-span (codes "PMT.EXCLUDE") Exclude s (search rules) (λ fields. refl) valid
+record_of-event (Include s) valid = record_of-span (codes "PMT.INCLUDE") Include s (search rules) (λ fields. refl) valid
+record_of-event TxBegin valid = record_of-name (codes "PMT.TXBEGIN") _ (search rules) refl
+record_of-event (TxAdd s) valid = record_of-span (codes "PMT.TXADD") TxAdd s (search rules) (λ fields. refl) valid
+record_of-event TxEnd valid = record_of-name (codes "PMT.TXEND") _ (search rules) refl
+record_of-event CheckStart valid = record_of-name (codes "PMT.CHECKSTART") _ (search rules) refl
+record_of-event CheckEnd valid = record_of-name (codes "PMT.CHECKEND") _ (search rules) refl
 
 -- the text of a marker reads as its number
 pub record_of-marker : (n : ℕ) → n < 2 ^ 64 → record_of (text_of_marker n) ≡ Ok (Enters n)

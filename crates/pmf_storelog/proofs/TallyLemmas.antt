@@ -31,8 +31,11 @@ taken_none run tally sections count skipped = record {
   skipped = skipped ∙ sym skipped_of-nil;
 }
 
-not_ok : (cause : Cause) → IsOk {T = Unit {0}} (Err cause) → ⊥
-not_ok cause is = let same : false ≡ true = is in cc
+-- what holds of one answer that another says was Ok
+said_ok : {S R N T : Type 0} (one : Result (Unit {0}) Cause) (r : Result (Unit {0}) LogFault) → OnOk one S → OnOk one R → OnOk r (IsOk one × N) → (S → R → N → T) → OnOk r T
+said_ok one (Err fault) of_one and_one of_r then_r = tt
+said_ok (Err cause) (Ok done) of_one and_one of_r then_r = let same : false ≡ true = of_r.0 in cc
+said_ok (Ok took) (Ok done) of_one and_one of_r then_r = then_r of_one and_one of_r.1
 
 module _ (run : ℕ) (records : List (List ℕ)) (text : List ℕ) (old : Tally) (taken : HasTaken run records old) where
   -- the first fault is then the new record's
@@ -82,10 +85,8 @@ module _ (run : ℕ) (records : List (List ℕ)) (text : List ℕ) (old : Tally)
       OnOk added (HasSections run (with_number (numbers_of records) (current_of records)) (with_event (events_in records) (current_of records) event) (current_of records) mid.sections) →
       OnOk added (length (events_in records (current_of records)) ≢ EVENT_LIMIT) →
       OnOk r (IsOk added × AddsRecord mid new) → OnOk r (HasTaken run (records ++ text ∷ []) new)
-  happened_ok event mid new added (Err fault) says count skipped sections room adds = tt
-  happened_ok event mid new (Err cause) (Ok done) says count skipped sections room adds = absurd (not_ok cause adds.0)
-  happened_ok event mid new (Ok took) (Ok done) says count skipped sections room adds =
-      taken_event event new says (rw adds.1.sections sections) room (omega (arith, adds.1.count, count)) (adds.1.skipped ∙ skipped)
+  happened_ok event mid new added r says count skipped sections room adds = said_ok added r sections room adds (λ there few more.
+      taken_event event new says (rw more.sections there) few (omega (arith, more.count, count)) (more.skipped ∙ skipped))
 
   pub happened_err : (event : Event) (mid : Tally) (added : Result (Unit {0}) Cause) (r : Result (Unit {0}) LogFault) → record_of text ≡ Ok (Happens event) →
       mid.records ≡ old.records →
@@ -103,10 +104,8 @@ module _ (run : ℕ) (records : List (List ℕ)) (text : List ℕ) (old : Tally)
       OnOk entered (HasSections run (with_number (numbers_of records) number) (events_in records) number mid.sections) →
       OnOk entered (length (with_number (numbers_of records) number) ≤ SECTION_LIMIT) →
       OnOk r (IsOk entered × AddsRecord mid new) → OnOk r (HasTaken run (records ++ text ∷ []) new)
-  entered_ok number mid new entered (Err fault) says count skipped sections room adds = tt
-  entered_ok number mid new (Err cause) (Ok done) says count skipped sections room adds = absurd (not_ok cause adds.0)
-  entered_ok number mid new (Ok took) (Ok done) says count skipped sections room adds =
-      taken_enter number new says (rw adds.1.sections sections) room (omega (arith, adds.1.count, count)) (adds.1.skipped ∙ skipped)
+  entered_ok number mid new entered r says count skipped sections room adds = said_ok entered r sections room adds (λ there few more.
+      taken_enter number new says (rw more.sections there) few (omega (arith, more.count, count)) (more.skipped ∙ skipped))
 
   pub entered_err : (number : ℕ) (mid : Tally) (entered : Result (Unit {0}) Cause) (r : Result (Unit {0}) LogFault) → record_of text ≡ Ok (Enters number) →
       mid.records ≡ old.records →
