@@ -1,5 +1,5 @@
 -- The sections, the skipped records and the first fault of a list of records that more records follow.
-use Rattle.std.proofs.{Common.{◌≡◌, ℕ, zero, suc, ◌+◌, ◌-◌, ◌<◌, ◌≤◌, Bool, true, false, cond, map, List, [], ◌∷◌, ◌++◌, Option, Some, None, Result, Ok, Err, length, take, refl, sym, ap, ◌∙◌, arith, add-one, length-append, ⊎_elim, ◌==◌, filter, append_assoc, append-nil, take_at, take_all, lt-ltb, le-ltb}, lemmas.List.{map-append, take-append-le, get_or_append_left, get_or_at, length_push}, lemmas.List.Elements.{filter-append}, lemmas.List.Sums.{sum_by-append}, Math.Seq.{take-append-add}, lemmas.Bool.{cases_lt}}
+use Rattle.std.proofs.{Common.{◌≡◌, ℕ, zero, suc, ◌+◌, ◌<◌, ◌≤◌, Bool, true, false, cond, map, List, [], ◌∷◌, ◌++◌, Option, Some, None, Result, Ok, Err, length, take, refl, sym, ap, ◌∙◌, arith, add-one, length-append, ⊎_elim, ◌==◌, filter, append_assoc, append-nil, take_at, take_all, lt-ltb, le-ltb}, lemmas.List.{map-append, take-append-le, get_or_append_left, get_or_at, length_push}, lemmas.List.Elements.{filter-append}, lemmas.List.Sums.{sum_by-append}, lemmas.Bool.{cases_lt}}
 use Rattle.pmf_event.specs.declared.event.Event.{Event}
 use Rattle.pmf_storelog.{specs.declared.fault.TheConstants.{LOG_LIMIT}, specs.declared.fault.Cause.{Cause}, specs.declared.fault.Cause.TheVariants.{TooLong}, specs.declared.fault.LogFault.{LogFault}, specs.declared.record.Saying.{Saying}, specs.declared.record.Saying.TheVariants.{Happens, Enters, Skipped}, specs.Records.{record_of}, specs.Sections.{with_event}, specs.Separators.{records_of, ended_records}, specs.LogText.{reading_at, number_after, current_at, current_of, numbered, numbered_among, numbered_events, events_in, entered, entered_among, entered_of, numbers_of, is_skipped, skipped_of, refusal_after, refusal_at, or_else, first_fault_among, first_fault, too_long, shown_within, fault_within, shown_fault, fault_of, IsFaultOfAll}, specs.Rising.{with_number, in_order}, proofs.InOrderLemmas.{in_order-push}, proofs.PartLemmas.{ended_records-more, records_of-unfinished, unfinished}}
 
@@ -164,17 +164,9 @@ none_is_some same = cc
 
 -- the front of bytes that more bytes follow
 take_more_of : (limit : ℕ) (xs ys : List ℕ) → (zs : List ℕ) × (take limit (xs ++ ys) ≡ take limit xs ++ zs)
-take_more_of limit xs ys = ⊎_elim
-    (λ less. ([], take-append-le limit xs ys (omega arith) ∙ sym (append-nil (take limit xs))))
-    (λ le. (
-      take (limit - length xs) ys,
-      ap (λ n. take n (xs ++ ys)) (past limit (length xs) le) ∙ take-append-add xs ys (limit - length xs)
-          ∙ ap (λ front. front ++ take (limit - length xs) ys) (sym (take_all limit xs le)),
-    ))
-    (cases_lt limit (length xs))
-  where
-    past : (m n : ℕ) → n ≤ m → m ≡ n + (m - n)
-    past m n le = omega arith
+take_more_of zero xs ys = ([], refl)
+take_more_of (suc n) [] ys = (take (suc n) ys, refl)
+take_more_of (suc n) (x ∷ xs) ys = let more = take_more_of n xs ys in (more.0, ap (λ l. x ∷ l) more.1)
 
 module _ (limit : ℕ) (bytes : List ℕ) where
   -- within the limit only the ended records show a fault

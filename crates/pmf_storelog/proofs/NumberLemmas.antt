@@ -1,5 +1,5 @@
 -- Reading a numeral digit by digit.
-use Rattle.std.{proofs.Common.{◌≡◌, ℕ, ◌+◌, ◌*◌, ◌^◌, ◌<◌, ◌≤◌, drop, get_or, Bool, true, false, cond, ◌&&◌, nat_lt, List, [], ◌∷◌, Option, Some, None, length, refl, sym, ap, ◌∙◌, arith, lt-ltb, le-ltb, le-leb}, specs.List.{list_all}, proofs.lemmas.List.{drop_more, drop_all}, specs.Char.{digit_value}, specs.Str.Parse.{digits_value_after}, proofs.lemmas.Bool.{lt-leb}, proofs.lemmas.Grind.{common_steps}}
+use Rattle.std.{proofs.Common.{◌≡◌, ℕ, ◌+◌, ◌*◌, ◌^◌, ◌<◌, ◌≤◌, drop, get_or, cond, ◌&&◌, nat_lt, List, [], ◌∷◌, Option, Some, None, length, refl, sym, ap, ◌∙◌, arith, lt-ltb, le-ltb, le-leb}, specs.List.{list_all}, proofs.lemmas.List.{drop_more, drop_all}, specs.Char.{digit_value}, specs.Str.Parse.{digits_value_after}, proofs.lemmas.Bool.{lt-leb}, proofs.Math.Bool.{and-false}, proofs.lemmas.Grind.{common_steps}}
 use Rattle.pmf_storelog.specs.Numbers.{is_digit_in, is_numeral, numeral_of}
 
 -- what digits give after a value
@@ -37,15 +37,10 @@ digits_value_after-ge radix value (c ∷ text) some =
     grows radix value (digit_value c) (digits_value_after radix (value * radix + digit_value c) text) some
     (digits_value_after-ge radix (value * radix + digit_value c) text some)
 
-never : (b : Bool) (x : Option ℕ) → cond (b && false) x None ≡ None
-never true x = refl
-never false x = refl
-
 pub numeral_from-large : (radix value : ℕ) (text : List ℕ) → 0 < radix → 2 ^ 64 ≤ value → numeral_from radix value text ≡ None
 unfolding numeral_from
 numeral_from-large radix value text some large =
-    rw (le-ltb (digits_value_after radix value text) (2 ^ 64) (omega (arith, digits_value_after-ge radix value text some)))
-    (never (list_all (is_digit_in radix) text) (Some (digits_value_after radix value text)))
+    rw (le-ltb (digits_value_after radix value text) (2 ^ 64) (omega (arith, digits_value_after-ge radix value text some)), and-false (list_all (is_digit_in radix) text)) refl
 
 pub numeral_from-end : (radix value : ℕ) → value < 2 ^ 64 → numeral_from radix value [] ≡ Some value
 unfolding numeral_from

@@ -1,5 +1,5 @@
 -- What the quick reading finds, it finds as the definition of a record says.
-use Rattle.std.{proofs.Common.{◌≡◌, ℕ, ◌+◌, ◌-◌, length-drop, get_or, append_assoc, length-append, ◌^◌, ◌<◌, ◌≤◌, List, [], ◌∷◌, ◌++◌, Bool, true, false, rules, length, take, drop, refl, sym, ap, subst, ◌∙◌, arith, codes, Result, Ok, nat_eq, bytes_eq, length-take-le, take-append-drop, take_all, take_at, drop_at}, specs.List.{starts_with, slice_split}, proofs.lemmas.Slice.Eq.{starts_is, bytes_eq-Decides}, proofs.lemmas.Bool.{false_from_ne_true}, proofs.lemmas.Bool.Decides.{Decides-eqb}, specs.Str.Parse.{AllDigits, digits_value}, proofs.lemmas.List.{drop_more}, proofs.lemmas.List.Elements.{All-from_recursion}, proofs.lemmas.List.Splits.{slice_split_at}, proofs.Math.Nat.{pow-le-pow_right}, proofs.lemmas.Int.Digits.{digits_value-lt}}
+use Rattle.std.{proofs.Common.{◌≡◌, ℕ, ◌+◌, ◌-◌, length-drop, get_or, append_assoc, append-nil, length-append, ◌^◌, ◌<◌, ◌≤◌, List, [], ◌∷◌, ◌++◌, true, false, rules, length, take, drop, refl, sym, ap, subst, ◌∙◌, arith, codes, Result, Ok, nat_eq, bytes_eq, length-take-le, take-append-drop, take_all, take_at, drop_at}, specs.List.{starts_with, slice_split, join_with_byte}, proofs.lemmas.Slice.Eq.{starts_is, bytes_eq-Decides}, proofs.lemmas.Bool.{false_from_ne_true}, proofs.lemmas.Bool.Decides.{Decides-eqb}, specs.Str.Parse.{AllDigits, digits_value}, proofs.lemmas.List.{drop_more}, proofs.lemmas.List.Elements.{All-from_recursion}, proofs.lemmas.List.Splits.{slice_split_at, join_with_byte-slice_split}, proofs.Math.Nat.{pow-le-pow_right}, proofs.lemmas.Int.Digits.{digits_value-lt}}
 use Rattle.pmf_storelog.{specs.Numbers.{number_of}, specs.declared.record.Saying.TheVariants.{Happens, Skipped}, specs.Records.{is_field_end, fields_of, record_of, saying_of, transaction_of, saying_of_fields, other_name, order_of_fields, order_of_texts, span_of_fields, span_of_texts, stored_span}, specs.declared.fault.Cause.{Cause}, specs.Separators.{is_separator, is_blank, parts_of}, specs.Quick.{BeginsWithDigits, BeginsWithEvent, BeginsWithField, BeginsWithFields, BeginsWithNumber, BeginsWithPart, HasFields, IsClean}, proofs.CanonicalLemmas.{each-digits, each-append, numeral_of-digits, NoFieldEnd, no_field_end, fields_of-more, fields_of-last}, proofs.PlainRecordLemmas.{IsPlain, records_in-plain}, proofs.PlainLemmas.{no_separator, no_blank}}
 use Rattle.pmf_event.specs.{declared.event.Event.{Event}, declared.event.Event.TheVariants.{Fence, Ordered}, Span.{Extent, extent_of}}
 
@@ -161,23 +161,6 @@ part_found text event len found within ends =
     (subst (λ n. BeginsWithPart (found.line ++ get_or text len 0 ∷ drop (len + 1) text) event n) (sym found.long)
     (part_of found.line (drop (len + 1) text) (get_or text len 0) event plain ends found.says))
 
--- the first part of a list stands at its start
-record FirstPart (p : ℕ → Bool) (xs : List ℕ) : Type 0 where
-  part : List ℕ
-  rest : List ℕ
-  others : List (List ℕ)
-  split : slice_split p xs ≡ part ∷ others
-  whole : xs ≡ part ++ rest
-
-first_part : (p : ℕ → Bool) (xs : List ℕ) → FirstPart p xs
-first_part p [] = record { part = []; rest = []; others = []; split = refl; whole = refl }
-first_part p (x ∷ xs) = by_first (p x) refl (first_part p xs)
-  where
-    by_first : (b : Bool) → p x ≡ b → FirstPart p xs → FirstPart p (x ∷ xs)
-    by_first true ends more = record { part = []; rest = x ∷ xs; others = slice_split p xs; split = rw ends refl; whole = refl }
-    by_first false goes more =
-        record { part = x ∷ more.part; rest = more.rest; others = more.others; split = rw (goes, more.split) refl; whole = ap (λ l. x ∷ l) more.whole }
-
 -- what a text doesn't begin with, its first field doesn't either, and is not
 module _ (text name rest : List ℕ) (whole : text ≡ name ++ rest) (front : List ℕ) (other : starts_with nat_eq text front ≡ false) where
   never_begins : (more : List ℕ) → text ≡ front ++ more → ⊥
@@ -207,6 +190,10 @@ pub record_of-other : (text : List ℕ) →
     starts_with nat_eq text (codes "STORE") ≡ false → starts_with nat_eq text (codes "FLUSH") ≡ false → starts_with nat_eq text (codes "FENCE") ≡ false → starts_with nat_eq text (codes "PMT.") ≡ false →
     record_of text ≡ Ok Skipped
 unfolding record_of fields_of
-record_of-other text store flush fence marker =
-    let first = first_part is_field_end text in
-    ap saying_of_fields first.split ∙ saying_of-other text first.part first.rest first.others first.whole store flush fence marker
+record_of-other text store flush fence marker = by_fields (slice_split is_field_end text) (join_with_byte-slice_split 59 text)
+  where
+    by_fields : (fields : List (List ℕ)) → join_with_byte 59 fields ≡ text → saying_of_fields fields ≡ Ok Skipped
+    by_fields [] whole = refl
+    by_fields (name ∷ []) whole = saying_of-other text name [] [] (sym (append-nil name ∙ whole)) store flush fence marker
+    by_fields (name ∷ next ∷ others) whole =
+        saying_of-other text name (59 ∷ join_with_byte 59 (next ∷ others)) (next ∷ others) (sym whole) store flush fence marker

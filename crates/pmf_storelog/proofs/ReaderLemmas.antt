@@ -1,5 +1,5 @@
 -- What a reader says of all bytes fed to it.
-use Rattle.std.proofs.{Common.{◌≡◌, ◌≢◌, ℕ, ◌+◌, ◌-◌, ◌<◌, ◌≤◌, min, List, [], ◌∷◌, ◌++◌, Some, None, Result, Ok, Err, IfOk, IfErr, length, length-append, take, refl, sym, ap, subst, ◌∙◌, arith, append_assoc, take_all}, lemmas.List.{take_min}, Math.Seq.{take-append-add}}
+use Rattle.std.proofs.{Common.{◌≡◌, ◌≢◌, ℕ, ◌+◌, ◌-◌, ◌<◌, ◌≤◌, min, List, [], ◌∷◌, ◌++◌, Some, None, Result, Ok, Err, IfOk, IfErr, length, length-append, take, refl, sym, ap, subst, ◌∙◌, arith, append_assoc, take_all}, lemmas.List.{take_min}, Math.Seq.{take-append-add}, Math.Nat.{min_comm}}
 use Rattle.pmf_storelog.{specs.declared.fault.TheConstants.{LOG_LIMIT}, specs.declared.fault.Cause.TheVariants.{TooLong}, specs.declared.fault.LogFault.{LogFault}, specs.declared.tally.Tally.{Tally}, specs.declared.progress.Progress.{Progress}, specs.Separators.{records_in, records_of, ended_records}, specs.LogValue.{LogValue}, specs.LogText.{skipped_of, sections_of, first_fault, shown_fault, fault_of, value_of, log_of, out_of_memory}, specs.Answers.{IsShown, Answers}, specs.Tally.{HasTaken}, specs.Progress.{HasParsed, HasParsedTo}, proofs.PartLemmas.{ended_parts-open, records_of-unfinished}, proofs.LogLemmas.{shown_within-short, shown_within-long, shown_within-early, fault_within-short}, proofs.ProgressLemmas.{parsed_open}}
 
 -- what lies within the limit
@@ -7,13 +7,7 @@ pub taken_front : (limit : ℕ) (bytes piece : List ℕ) → length bytes ≤ li
 taken_front limit bytes piece short =
     let room : limit ≡ length bytes + (limit - length bytes) = omega arith in
     ap (λ n. take n (bytes ++ piece)) room ∙ take-append-add bytes piece (limit - length bytes)
-    ∙ ap (λ front. bytes ++ front) (sym (fewer (limit - length bytes)))
-  where
-    fewer : (n : ℕ) → take (min (length piece) n) piece ≡ take n piece
-    fewer n = ap (λ m. take m piece) (swapped (length piece) n) ∙ take_min n piece
-      where
-        swapped : (m n : ℕ) → min m n ≡ min n m
-        swapped m n = omega arith
+    ∙ ap (λ front. bytes ++ front) (sym (ap (λ m. take m piece) (min_comm (length piece) (limit - length bytes)) ∙ take_min (limit - length bytes) piece))
 
 module _ (run : ℕ) (bytes piece rest : List ℕ) (progress : Progress) (reached : HasParsedTo run bytes piece rest progress) where
   all_is : bytes ++ piece ≡ (bytes ++ reached.front) ++ rest
@@ -30,26 +24,6 @@ module _ (run : ℕ) (bytes piece rest : List ℕ) (progress : Progress) (reache
   -- with the rest kept, the whole piece is read
   pub parsed_to : (new : Progress) → new.tally ≡ progress.tally → new.carry.items ≡ progress.carry.items ++ rest → HasParsed run (bytes ++ piece) new
   parsed_to new same carry = rw all_is (parsed_open run (bytes ++ reached.front) progress reached.parsed rest new reached.open_end same carry)
-
--- a fault of a record within the limit is shown
-pub shown_front : (bytes piece front : List ℕ) (fault : LogFault) → take LOG_LIMIT (bytes ++ piece) ≡ front →
-    IsShown fault (first_fault (ended_records front)) → IsShown fault (shown_fault (bytes ++ piece))
-unfolding shown_fault
-shown_front bytes piece front fault is shown = λ memory. shown_within-early LOG_LIMIT (bytes ++ piece) fault (ap (λ all. first_fault (ended_records all)) is ∙ shown memory)
-
--- past the limit the log is too long
-pub shown_long : (run : ℕ) (bytes piece front : List ℕ) (tally : Tally) → take LOG_LIMIT (bytes ++ piece) ≡ front → LOG_LIMIT < length (bytes ++ piece) →
-    HasTaken run (ended_records front) tally → shown_fault (bytes ++ piece) ≡ Some (record { at = tally.records + 1; cause = TooLong })
-unfolding shown_fault
-shown_long run bytes piece front tally is long taken =
-    let same = ap (λ all. ended_records all) is in
-    shown_within-long LOG_LIMIT (bytes ++ piece) long (ap first_fault same ∙ taken.faultless)
-    ∙ ap (λ n. Some (record { at = n + 1; cause = TooLong })) (ap length same ∙ sym taken.count)
-
--- within the limit there is none
-pub shown_none : (run : ℕ) (bytes : List ℕ) (tally : Tally) → length bytes ≤ LOG_LIMIT → HasTaken run (ended_records bytes) tally → shown_fault bytes ≡ None
-unfolding shown_fault
-shown_none run bytes tally short taken = shown_within-short LOG_LIMIT bytes short ∙ taken.faultless
 
 -- a log whose records have no fault has its value
 pub log_of-ok : (run : ℕ) (bytes : List ℕ) (log : LogValue) → length bytes ≤ LOG_LIMIT → first_fault (records_of bytes) ≡ None →
@@ -75,15 +49,18 @@ module _ (run : ℕ) (bytes piece : List ℕ) (total taken : ℕ) (fed : total �
 
   -- a fault of a record comes first
   pub fed_faulty : (fault : LogFault) → IsShown fault (first_fault (ended_records (bytes ++ take taken piece))) → IsShown fault (shown_fault (bytes ++ piece))
-  fed_faulty fault shown = shown_front bytes piece (bytes ++ take taken piece) fault front_is shown
+  unfolding shown_fault
+  fed_faulty fault shown = λ memory. shown_within-early LOG_LIMIT (bytes ++ piece) fault (ap (λ all. first_fault (ended_records all)) front_is ∙ shown memory)
 
   -- where a part of the piece is left over, the log is too long
   pub fed_long : (rest : List ℕ) (progress : Progress) (fault : LogFault) → HasParsedTo run bytes (take taken piece) rest progress → taken < length piece →
       fault ≡ record { at = progress.tally.records + 1; cause = TooLong } → shown_fault (bytes ++ piece) ≡ Some fault
+  unfolding shown_fault
   fed_long rest progress fault reached left is =
-      shown_long run bytes piece (bytes ++ take taken piece) progress.tally front_is (omega (arith, length-append bytes piece))
-      (taken_to run bytes (take taken piece) rest progress reached)
-      ∙ ap (λ f. Some f) (sym is)
+      let same = ap (λ all. ended_records all) front_is in
+      let tally = taken_to run bytes (take taken piece) rest progress reached in
+      shown_within-long LOG_LIMIT (bytes ++ piece) (omega (arith, length-append bytes piece)) (ap first_fault same ∙ tally.faultless)
+      ∙ ap (λ n. Some (record { at = n + 1; cause = TooLong })) (ap length same ∙ sym tally.count) ∙ ap (λ f. Some f) (sym is)
 
   -- else the whole piece is read
   pub fed_whole : (rest : List ℕ) (old new : Progress) → HasParsedTo run bytes (take taken piece) rest old → length piece ≤ taken →
@@ -96,7 +73,8 @@ module _ (run : ℕ) (bytes piece : List ℕ) (total taken : ℕ) (fed : total �
   fed_length all = omega (arith, length-append bytes piece)
 
   pub fed_none : (new : Progress) → length piece ≤ taken → HasParsed run (bytes ++ piece) new → shown_fault (bytes ++ piece) ≡ None
-  fed_none new all parsed = shown_none run (bytes ++ piece) new.tally (omega (arith, length-append bytes piece)) parsed.taken
+  unfolding shown_fault
+  fed_none new all parsed = shown_within-short LOG_LIMIT (bytes ++ piece) (omega (arith, length-append bytes piece)) ∙ parsed.taken.faultless
 
 -- the end of a log: the unfinished part is read as a record
 module _ (run : ℕ) (bytes : List ℕ) (progress : Progress) (parsed : HasParsed run bytes progress) (short : length bytes ≤ LOG_LIMIT) where

@@ -1,6 +1,6 @@
 -- The numbers of a log's sections rise, and are at most as many as it may have.
-use Rattle.std.proofs.{Common.{◌≡◌, ℕ, zero, suc, ◌+◌, ◌<◌, ◌≤◌, List, [], ◌∷◌, ◌++◌, length, map, take, drop, refl, sym, ◌∙◌, ap, subst, arith, inl, inr, Option, Some, None, Result, Ok, Err, ◌⊎◌, length-take-le, take-append-drop, lt-ltb, le-ltb}, lemmas.Bool.{cases_lt}}
-use Rattle.pmf_event.specs.{declared.event.Event.{Event}, declared.name.Name.{Name}, Section.{Trace}}
+use Rattle.std.proofs.{Common.{◌≡◌, ℕ, zero, suc, ◌+◌, ◌<◌, ◌≤◌, List, [], ◌∷◌, ◌++◌, length, map, take, drop, refl, sym, ◌∙◌, ap, subst, arith, inl, inr, Option, Some, None, Result, Ok, Err, ◌⊎◌, length-take-le, take-append-drop, lt-ltb, le-ltb}, lemmas.Bool.{cases_lt}, lemmas.List.{map-id}, lemmas.Simd.{map-map}}
+use Rattle.pmf_event.specs.{declared.name.Name.{Name}, Section.{Trace}}
 use Rattle.pmf_storelog.{specs.declared.fault.Cause.{Cause}, specs.declared.fault.LogFault.{LogFault}, specs.declared.fault.TheConstants.{LOG_LIMIT, SECTION_LIMIT}, specs.declared.record.Saying.{Saying}, specs.declared.record.Saying.TheVariants.{Happens, Enters, Skipped}, specs.LogText.{cause_after, current_at, current_of, entered, entered_among, entered_of, events_in, fault_at, fault_of, fault_within, first_fault, first_fault_among, log_of, number_after, numbers_of, or_else, reading_at, refusal_after, refusal_at, section_named, sections_of, shown_within, too_long, value_of, value_unless}, specs.LogValue.{LogValue}, specs.Separators.{records_of, ended_records}, specs.Rising.{Rises, with_number, in_order}, specs.Laws.{SectionNumbersRise}, proofs.InOrderLemmas.{Has, has-insert, insert-present, in_order-rises}, proofs.LogLemmas.{entered_among-append, in_order-entered, numbers_with}}
 
 -- at most as many numbers of sections as a log may have, and the current one among them if there is one
@@ -69,10 +69,6 @@ module _ (records : List (List ℕ)) where
 abbrev pub name_in : ℕ → ℕ → Name
 name_in run number = record { run = run; number = number }
 
-names_of : (run : ℕ) (events : ℕ → List Event) (numbers : List ℕ) → map (λ (s : Trace). s.name) (map (λ n. section_named run n (events n)) numbers) ≡ map (name_in run) numbers
-names_of run events [] = refl
-names_of run events (n ∷ ns) = ap (λ rest. name_in run n ∷ rest) (names_of run events ns)
-
 too_long_is_one : (bytes : List ℕ) → LOG_LIMIT < length bytes → shown_within LOG_LIMIT bytes ≡ None → ⊥
 unfolding shown_within too_long
 too_long_is_one bytes more is =
@@ -87,16 +83,13 @@ faultless bytes is = elim (cases_lt LOG_LIMIT (length bytes)) [
   | inr most ↦ rw (le-ltb LOG_LIMIT (length bytes) most) at is
 ]
 
-ok_is_err : {X E : Type 0} {x : X} {e : E} → Err e ≡ Ok x → ⊥
-ok_is_err same = cc
-
 ok_same : {X E : Type 0} (x y : X) → ◌≡◌ {A = Result X E} (Ok x) (Ok y) → x ≡ y
 ok_same x y same = cc
 
 -- a log without a fault is its value
 value_from : (fault : Option LogFault) (value log : LogValue) → value_unless fault value ≡ Ok log → (fault ≡ None) × (value ≡ log)
 value_from None value log is = (refl, ok_same value log is)
-value_from (Some fault) value log is = absurd (ok_is_err is)
+value_from (Some fault) value log is = let never : ◌≡◌ {A = Result LogValue LogFault} (Err fault) (Ok log) = is in cc
 
 -- the sections of a log: numbers that rise, at most as many as a log may have
 pub numbers_rise : (run : ℕ) (bytes : List ℕ) (log : LogValue) → log_of run bytes ≡ Ok log →
@@ -106,17 +99,11 @@ numbers_rise run bytes log is =
     let records = records_of bytes in
     let value = value_from (fault_of bytes) (value_of run bytes) log is in
     let opened = opens records (length records) (omega arith) (faultless bytes value.0) in
-    (numbers_of records, in_order-rises (entered_of records), opened.few, ap (λ (v : LogValue). map (λ (s : Trace). s.name) v.sections) (sym value.1) ∙ names_of run (events_in records) (numbers_of records))
-
-numbers_in : (run : ℕ) (events : ℕ → List Event) (numbers : List ℕ) → map (λ (s : Trace). s.name.number) (map (λ n. section_named run n (events n)) numbers) ≡ numbers
-numbers_in run events [] = refl
-numbers_in run events (n ∷ ns) = ap (λ rest. n ∷ rest) (numbers_in run events ns)
+    (numbers_of records, in_order-rises (entered_of records), opened.few, ap (λ (v : LogValue). map (λ (s : Trace). s.name) v.sections) (sym value.1) ∙ map-map (λ (s : Trace). s.name) (λ n. section_named run n (events_in records n)) (numbers_of records))
 
 pub sections_rise : SectionNumbersRise
-unfolding log_of value_of sections_of numbers_of
 sections_rise run bytes log is =
-    let records = records_of bytes in
-    let value = value_from (fault_of bytes) (value_of run bytes) log is in
-    let named = numbers_in run (events_in records) (numbers_of records) in
-    subst (λ (v : LogValue). Rises (map (λ (s : Trace). s.name.number) v.sections)) value.1
-    (subst Rises (sym named) (in_order-rises (entered_of records)))
+    let named = numbers_rise run bytes log is in
+    let numbers : map (λ (s : Trace). s.name.number) log.sections ≡ named.0 =
+    sym (map-map (λ (n : Name). n.number) (λ (s : Trace). s.name) log.sections) ∙ ap (map (λ (n : Name). n.number)) named.3 ∙ map-map (λ (n : Name). n.number) (name_in run) named.0 ∙ map-id named.0 in
+    subst Rises (sym numbers) named.1

@@ -1,6 +1,6 @@
 -- The records of the canonical text of a section, and its length.
 use Rattle.std.{proofs.Common.{◌≡◌, ℕ, zero, suc, ◌*◌, ◌^◌, ◌<◌, ◌≤◌, List, [], ◌∷◌, ◌++◌, length, map, All, refl, ap, ◌∙◌, arith, length-append, flat_map, codes}, specs.Prelude.{⊤}}
-use Rattle.pmf_event.specs.{declared.event.Event.{Event}, declared.event.Event.TheVariants.{Store, Flush, Fence, Persist, Ordered, Exclude, Include, TxBegin, TxAdd, TxEnd, CheckStart, CheckEnd}, Section.{Trace}, Span.{Extent, IsValidExtent}}
+use Rattle.pmf_event.specs.{declared.event.Event.{Event}, declared.event.Event.TheVariants.{Store, Flush, Persist, Ordered, Exclude, Include, TxAdd}, Section.{Trace}, Span.{Extent, IsValidExtent}}
 use Rattle.pmf_storelog.{specs.Separators.{records_of}, specs.Canonical.{field_of, fields_of_span, fields_of_event, name_of, line_of_event, line_of_marker, canonical_text}, specs.Spelling.{AllValid}, proofs.CanonicalLemmas.{fits_of, hex-length}, proofs.PlainRecordLemmas.{IsPlain, text_of_lines, records_of-lines}, proofs.PlainLemmas.{spelled, text_of_event, text_of_event-plain, text_of_marker, text_of_marker-plain}}
 
 -- the spans of each event keep the limits
@@ -51,16 +51,12 @@ fields-length (Store s) fit =
     let fits = fits_of s fit in
     omega (arith, field-length s.first fits.first, field-length s.size fits.size, length-append (field_of s.first) (codes ";0x0"), length-append (field_of s.first ++ codes ";0x0") (field_of s.size))
 fields-length (Flush s) fit = omega (arith, span-length s fit)
-fields-length Fence fit = omega arith
 fields-length (Persist s) fit = omega (arith, span-length s fit)
 fields-length (Ordered a b) fit = omega (arith, span-length a fit.0, span-length b fit.1, length-append (fields_of_span a) (fields_of_span b))
 fields-length (Exclude s) fit = omega (arith, span-length s fit)
 fields-length (Include s) fit = omega (arith, span-length s fit)
-fields-length TxBegin fit = omega arith
 fields-length (TxAdd s) fit = omega (arith, span-length s fit)
-fields-length TxEnd fit = omega arith
-fields-length CheckStart fit = omega arith
-fields-length CheckEnd fit = omega arith
+fields-length _ fit = omega arith
 
 pub line-length : (event : Event) → AllValid event → length (line_of_event event) ≤ 91
 line-length event fit =

@@ -2,8 +2,6 @@
 use Rattle.std.{proofs.Common.{◌≡◌, ℕ, ◌+◌, ◌<◌, Bool, true, false, cond, List, [], ◌∷◌, ◌++◌, Some, None, length, take, drop, get_or, All, refl, sym, ap, subst, ◌∙◌, arith, get_or-take, length-take-le}, specs.List.{slice_split, onto_first, position_or_len}, proofs.lemmas.List.{take_more}, proofs.lemmas.List.Elements.{All-from_get_or}, proofs.lemmas.List.Splits.{slice_split_none, slice_split_first, slice_split_at}, proofs.lemmas.List.Sums.{position_or_len_is}, proofs.lemmas.Bool.{false_from_ne_true}}
 use Rattle.memchr.specs.Find.{IsFirstByte}
 
--- what isn't true is false
-
 module _ (p : ℕ → Bool) where
   -- no byte passes
   pub none_pass : (xs : List ℕ) → IsFirstByte p xs None → All (λ c. p c ≡ false) xs
