@@ -1,9 +1,9 @@
 -- The text of a ledger loads as that ledger.
-use Rattle.std.{proofs.Common.{◌≡◌, ℕ, zero, suc, ◌+◌, ◌-◌, ◌^◌, ◌<◌, ◌≤◌, ◌==◌, List, [], ◌∷◌, ◌++◌, length, map, Some, None, refl, sym, ◌∙◌, ap, subst, arith, rules, inl, inr, append_assoc, length-append, codes, if◌then◌else◌, Contains, decimal, le-ltb, All, flat_map, append-nil, take_at, drop_at}, specs.List.{AllByRecursion}, proofs.lemmas.List.{length_push, length-map}, proofs.lemmas.List.Elements.{recursion_from_All}, proofs.lemmas.Slice.Eq.{bytes_eq-Decides}}
+use Rattle.std.{proofs.Common.{◌≡◌, ℕ, zero, suc, ◌+◌, ◌-◌, ◌^◌, ◌<◌, ◌≤◌, ◌==◌, List, [], ◌∷◌, ◌++◌, length, map, Some, None, refl, sym, ◌∙◌, ap, subst, arith, rules, append_assoc, length-append, codes, if◌then◌else◌, Contains, decimal, le-ltb, All, flat_map, append-nil, take_at, drop_at}, specs.List.{AllByRecursion}, proofs.lemmas.List.{length_push, length-map}, proofs.lemmas.List.Elements.{recursion_from_All, All-contains}, proofs.lemmas.Slice.Eq.{bytes_eq-Decides}}
 use Rattle.pmf_event.specs.{declared.event.Event.{Event}, declared.name.Name.{Name}, declared.profile.Profile.{Profile}, declared.profile.Profile.TheVariants.{One, Two}, declared.row.Row.{Row}, declared.section.TheConstants.{EVENT_LIMIT}, Section.{Trace}}
 use Rattle.pmf_storelog.{specs.Canonical.{line_of_event}, specs.Spelling.{AllValid}, proofs.EventLineLemmas.{event_of_line-event}, proofs.FrontLemmas.{BeginsWithNoDigit, number_in_front-decimal}, proofs.PlainRecordLemmas.{text_of_lines}, proofs.PlainLemmas.{text_of_event}}
 use Rattle.pmf_verdict.specs.{Checked.{Checked, checked_by, rows_in}, Rows.{rows_of}, Text.{text_of_row, text_of_rows}}
-use Rattle.pmf_ledger.{specs.declared.head.Head.{Head}, specs.declared.loading.LedgerFault.TheVariants.{FalseRows}, specs.declared.loading.TheConstants.{LEDGER_LIMIT}, specs.Gathered.{IsLedgerOf}, specs.LedgerText.{IsSpelled, version_of, text_of_head, text_of_block, text_of_end, text_of_ledger}, specs.LedgerValue.{LedgerValue}, specs.Loading.{Reading, Stage, AtBlock, AtEvents, AtRows, AtEnd, AtFault, at, unread, alone, number_behind, profile_of, head_of, head_of_run, head_of_number, head_of_events, head_of_rows, end_of, after_version, after_head, after_end, after_event, after_row, after_line, after_lines, with_events, with_section, with_rows, lines_of, left_of, reading_of, fault_of, LoadsAs}, specs.Names.{Rises}, proofs.lemmas.AddingLemmas.{Contains-cons, Contains-cons_cases}, proofs.lemmas.ReadingLemmas.{event-added, rows-told, end-here, line-version, line-block, line-event, line-row}, proofs.lemmas.SpelledLemmas.{OneLine, one-append, decimal-one, text_without_end, row-one, event-one, lines_of-lines, left_of-lines, lines-append, each-append}}
+use Rattle.pmf_ledger.{specs.declared.head.Head.{Head}, specs.declared.loading.LedgerFault.TheVariants.{FalseRows}, specs.declared.loading.TheConstants.{LEDGER_LIMIT}, specs.Gathered.{IsLedgerOf}, specs.LedgerText.{IsSpelled, version_of, text_of_head, text_of_block, text_of_end, text_of_ledger}, specs.LedgerValue.{LedgerValue}, specs.Loading.{Reading, Stage, AtVersion, AtBlock, AtEvents, AtRows, AtEnd, AtFault, at, unread, alone, number_behind, profile_of, head_of, head_of_run, head_of_number, head_of_events, head_of_rows, end_of, after_version, after_head, after_end, after_event, after_row, after_line, after_line_at, after_lines, with_events, with_section, with_rows, lines_of, left_of, reading_of, fault_of, LoadsAs}, specs.Names.{Rises}, proofs.lemmas.AddingLemmas.{from_map, to_map}, proofs.lemmas.ReadingLemmas.{event-added, rows-told, end-here, line-at}, proofs.lemmas.SpelledLemmas.{OneLine, one-append, decimal-one, text_without_end, row-one, event-one, lines_of-lines, left_of-lines, lines-append, each-append}}
 
 -- the text lines of a ledger
 unfoldable head_line : Name → ℕ → ℕ → List ℕ
@@ -115,14 +115,7 @@ number_behind-word word n rest small none =
     (number_in_front-decimal n rest small none)
 
 regroup : (a b c d e f g h : List ℕ) → a ++ b ++ c ++ d ++ e ++ f ++ g ++ h ≡ a ++ (b ++ (c ++ (d ++ (e ++ (f ++ (g ++ (h ++ [])))))))
-regroup a b c d e f g h =
-    ap (λ last. a ++ b ++ c ++ d ++ e ++ f ++ g ++ last) (sym (append-nil h))
-    ∙ append_assoc (a ++ b ++ c ++ d ++ e ++ f) g (h ++ [])
-    ∙ append_assoc (a ++ b ++ c ++ d ++ e) f (g ++ (h ++ []))
-    ∙ append_assoc (a ++ b ++ c ++ d) e (f ++ (g ++ (h ++ [])))
-    ∙ append_assoc (a ++ b ++ c) d (e ++ (f ++ (g ++ (h ++ []))))
-    ∙ append_assoc (a ++ b) c (d ++ (e ++ (f ++ (g ++ (h ++ [])))))
-    ∙ append_assoc a b (c ++ (d ++ (e ++ (f ++ (g ++ (h ++ []))))))
+regroup a b c d e f g h = simp (append_assoc, append-nil) refl
 
 head_told : Name → ℕ → ℕ → Head
 head_told name events rows = record { name = name; events = events; rows = rows }
@@ -192,10 +185,10 @@ events-at r stage section (suc more) told = refl
 
 -- rows
 row-step : (r : Reading) (section : Trace) (row : Row) (rows : List Row) (n : ℕ) → after_line (with_rows r section (row ∷ rows)) n (text_without_end row) ≡ with_rows r section rows
-unfolding with_rows after_row
+unfolding with_rows after_row after_line_at
 row-step r section row rows n =
     let here = at r (AtRows section (row ∷ rows)) in
-    line-row here n (text_without_end row) section (row ∷ rows) refl
+    line-at here n (text_without_end row) (AtRows section (row ∷ rows)) refl
     ∙ ap (λ same. if same then with_rows here section rows else at here (AtFault (FalseRows section.name))) ((bytes_eq-Decides (text_of_row row) (text_of_row row)).1 refl)
     ∙ rows-at r (AtRows section (row ∷ rows)) section rows
 
@@ -212,12 +205,12 @@ module _ (r : Reading) (name : Name) (told : ℕ) where
 
   event-step : (done left : List Event) (event : Event) (n : ℕ) → AllValid event → length done < EVENT_LIMIT →
       after_line (with_events r (of_events done) (length (event ∷ left)) told) n (text_of_event event) ≡ with_events r (of_events (done ++ event ∷ [])) (length left) told
-  unfolding with_events of_events
+  unfolding with_events of_events after_line_at
   event-step done left event n valid few =
       let stage = AtEvents (of_events done) (length (event ∷ left)) told in
       let here = at r stage in
       let one_less : length (event ∷ left) - 1 ≡ length left = omega arith in
-      line-event here n (text_of_event event) (of_events done) (length (event ∷ left)) told refl
+      line-at here n (text_of_event event) stage refl
       ∙ ap (after_event here n (of_events done) (length (event ∷ left)) told) (event_of_line-event event valid)
       ∙ event-added here n (of_events done) (length (event ∷ left)) told event (λ full. omega (arith, full, few))
       ∙ events-at r stage (of_events (done ++ event ∷ [])) (length (event ∷ left) - 1) told
@@ -245,10 +238,10 @@ module _ (profile : Profile) (blocks : List Trace) (section : Trace) (spelled : 
   rows = rows_of profile section.events
 
   head-step : (n : ℕ) → after_line r n (head_line section.name (length section.events) (length rows)) ≡ with_events r (record { name = section.name; events = [] }) (length section.events) (length rows)
-  unfolding after_blocks head_told
+  unfolding after_blocks head_told after_line_at
   head-step n =
       let text = head_line section.name (length section.events) (length rows) in
-      line-block r n text refl
+      line-at r n text AtBlock refl
       ∙ ap (after_head r n text) (head_of-line section.name (length section.events) (length rows) spelled.run spelled.number (let few = spelled.few in omega (arith, few)) short)
 
   leads-block : Leads r (block_lines (checked_by profile section)) (after_blocks profile (blocks ++ section ∷ []))
@@ -316,21 +309,14 @@ unfolding fault_of
 no_fault text is none = rw (none, is) refl
 
 -- the sections as a set
-held-trace : (profile : Profile) (sections : List Checked) → AllBy profile sections → (s : Trace) → Contains sections (checked_by profile s) → Contains (traces sections) s
-unfolding AllBy
-held-trace profile [] by s found = absurd (omega (arith, found.1))
-held-trace profile (c ∷ sections) by s found = elim (Contains-cons_cases (checked_by profile s) c sections found) [
-  | inl same ↦ Contains-cons s c.section (traces sections) (inl (ap (λ (v : Checked). v.section) same))
-  | inr behind ↦ Contains-cons s c.section (traces sections) (inr (held-trace profile sections by.1 s behind))
-]
+held-trace : (profile : Profile) (sections : List Checked) (s : Trace) → Contains sections (checked_by profile s) → Contains (traces sections) s
+held-trace profile sections s = to_map (λ (c : Checked). c.section) sections (checked_by profile s)
 
-trace-held : (profile : Profile) (sections : List Checked) → AllBy profile sections → (s : Trace) → Contains (traces sections) s → Contains sections (checked_by profile s)
-unfolding AllBy
-trace-held profile [] by s found = absurd (omega (arith, found.1))
-trace-held profile (c ∷ sections) by s found = elim (Contains-cons_cases s c.section (traces sections) found) [
-  | inl same ↦ Contains-cons (checked_by profile s) c sections (inl (ap (checked_by profile) same ∙ sym (ap (λ own. checked_by own c.section) by.0)))
-  | inr behind ↦ Contains-cons (checked_by profile s) c sections (inr (trace-held profile sections by.1 s behind))
-]
+trace-held : (profile : Profile) (sections : List Checked) → All (λ (c : Checked). c.profile ≡ profile) sections → (s : Trace) → Contains (traces sections) s → Contains sections (checked_by profile s)
+trace-held profile sections checked s found =
+    let there = from_map (λ (c : Checked). c.section) sections s found in
+    let by = All-contains (λ (c : Checked). c.profile ≡ profile) sections there.0 checked there.1 in
+    subst (Contains sections) (ap (λ p. checked_by p there.0.section) by ∙ ap (checked_by profile) there.2) there.1
 
 profile_of-version : (profile : Profile) → profile_of (version_of profile) ≡ Some profile
 unfolding profile_of
@@ -356,19 +342,19 @@ module _ (l : LedgerValue) (rises : Rises l.sections) (checked : All (λ (c : Ch
       omega (arith, short, same, long, all)
 
   end-step : (n : ℕ) → after_line (after_blocks l.profile (traces l.sections)) n (end_line (length l.sections)) ≡ whole
-  unfolding whole after_blocks
+  unfolding whole after_blocks after_line_at
   end-step n =
       let r = after_blocks l.profile (traces l.sections) in
       let few = sections-few l.sections in
       let small : length l.sections < 2 ^ 64 = omega (arith, few, few_lines) in
-      line-block r n (end_line (length l.sections)) refl
+      line-at r n (end_line (length l.sections)) AtBlock refl
       ∙ ap (after_head r n (end_line (length l.sections))) (head_of-end (length l.sections))
       ∙ ap (after_end r n) (end_of-line (length l.sections) small)
       ∙ end-here r n (length l.sections) (length l.sections) (sym (length-map l.sections (λ (s : Checked). s.section))) refl
 
   version-step : (n : ℕ) → after_line unread n (version_of l.profile) ≡ after_blocks l.profile []
-  unfolding after_blocks
-  version-step n = line-version unread n (version_of l.profile) refl ∙ ap (after_version unread n) (profile_of-version l.profile)
+  unfolding after_blocks after_line_at
+  version-step n = line-at unread n (version_of l.profile) AtVersion refl ∙ ap (after_version unread n) (profile_of-version l.profile)
 
   leads-ledger : Leads unread (ledger_lines l) whole
   leads-ledger =
@@ -386,7 +372,7 @@ module _ (l : LedgerValue) (rises : Rises l.sections) (checked : All (λ (c : Ch
     profile_is = refl;
     checked = checked;
     rises = rises;
-    same = λ s. (held-trace l.profile l.sections by_profile s, trace-held l.profile l.sections by_profile s);
+    same = λ s. (held-trace l.profile l.sections s, trace-held l.profile l.sections checked s);
   }
 
   -- what is written of a ledger loads as the ledger

@@ -1,23 +1,21 @@
 -- A ledger text read text line by text line: what is left of it, and where the reading ends.
-use Rattle.std.proofs.Common.{◌≡◌, ℕ, zero, suc, ◌+◌, ◌-◌, ◌<◌, ◌≤◌, true, false, ◌==◌, List, [], ◌∷◌, ◌++◌, length, take, drop, get_or, Option, Some, None, refl, sym, ◌∙◌, ap, subst, arith, length-append, Result, Ok, Err, codes, if◌then◌else◌, bytes_eq, le-ltb, lt-ltb, append_assoc, append-nil, length-drop, length-take-le}
+use Rattle.std.proofs.Common.{◌≡◌, ℕ, zero, suc, ◌+◌, ◌-◌, ◌<◌, ◌≤◌, true, false, ◌==◌, List, [], ◌∷◌, ◌++◌, length, take, drop, get_or, Bool, Option, Some, None, refl, sym, ◌∙◌, ap, subst, arith, length-append, Result, Ok, Err, if◌then◌else◌, le-ltb, lt-ltb, append_assoc, append-nil, length-drop, length-take-le}
 use Rattle.memchr.specs.Find.{IsFirstByte, is_byte}
-use Rattle.pmf_event.specs.{declared.event.Event.{Event}, declared.name.Name.{Name}, declared.profile.Profile.{Profile}, declared.row.Row.{Row}, declared.section.TheConstants.{EVENT_LIMIT}, Section.{Trace}}
+use Rattle.pmf_event.specs.{declared.event.Event.{Event}, declared.name.Name.{Name}, declared.profile.Profile.{Profile}, declared.row.Row.{Row}, Section.{Trace}}
 use Rattle.pmf_storelog.{specs.declared.fault.Cause.TheVariants.{TooManyEvents}, specs.declared.line.LineFault.{LineFault}, specs.Lines.{event_of_line}, proofs.SplitLemmas.{split_none, split_some, split_filled}}
-use Rattle.pmf_verdict.specs.{Rows.{rows_of}, Text.{text_of_row}}
-use Rattle.pmf_ledger.{specs.declared.head.Head.{Head}, specs.declared.blocks.Blocks.{Blocks}, specs.declared.blocks.Next.{Next}, specs.declared.loading.LedgerFault.{LedgerFault}, specs.declared.loading.LedgerFault.TheVariants.{NotALedger, FalseRows, Conflict, Log, OutOfMemory}, specs.declared.loading.TheConstants.{LEDGER_LIMIT}, specs.Following.{IsNext, StandsFor, IsStoppedBy, is_over}, specs.Gathered.{IsLedgerOf}, specs.Gathering.{Agrees}, specs.Loading.{Reading, Stage, AtVersion, AtBlock, AtEvents, AtRows, AtEnd, AtFault, at, unread, profile_of, head_of, end_of, after_version, after_head, after_end, after_event, after_row, after_line_at, with_rows, with_section, with_events, after_line, after_lines, is_line_end, parts_of, lines_of, left_of, reading_of, fault_at_end, fault_of, IsFirstOther, IsRefusedWith, LoadsAs}, proofs.lemmas.ReadingLemmas.{Agrees-ledger, line-fault}}
+use Rattle.pmf_verdict.specs.{Rows.{rows_of}}
+use Rattle.pmf_ledger.{specs.declared.head.Head.{Head}, specs.declared.blocks.Blocks.{Blocks}, specs.declared.blocks.Next.{Next}, specs.declared.loading.LedgerFault.{LedgerFault}, specs.declared.loading.LedgerFault.TheVariants.{NotALedger, FalseRows, Conflict, Log, OutOfMemory}, specs.declared.loading.TheConstants.{LEDGER_LIMIT}, specs.Following.{IsNext, StandsFor, IsStoppedBy, is_over}, specs.Gathered.{IsLedgerOf}, specs.Gathering.{Agrees}, specs.Loading.{Reading, Stage, AtVersion, AtBlock, AtEvents, AtRows, AtEnd, AtFault, at, unread, profile_of, head_of, end_of, after_version, after_head, after_end, after_event, after_row, after_line_at, with_rows, with_section, with_events, after_line, after_lines, is_line_end, parts_of, lines_of, left_of, reading_of, fault_at_end, fault_of, IsFirstOther, IsRefusedWith, LoadsAs}, proofs.lemmas.ReadingLemmas.{line-at}, proofs.lemmas.UniqueLemmas.{Agrees-ledger}}
 use Rattle.pmf_ledger.specs.declared.blocks.Next.TheVariants as next
 
 -- the first of some parts, with more behind it
 take_before : {X : Type 0} (x : X) (xs : List X) → 0 < length xs → take (length (x ∷ xs) - 1) (x ∷ xs) ≡ x ∷ take (length xs - 1) xs
-take_before x [] some = absurd (omega arith)
-take_before x (y ∷ ys) some =
-    let e : length (x ∷ y ∷ ys) - 1 ≡ suc (length (y ∷ ys) - 1) = omega arith in
+take_before x xs some =
+    let e : length (x ∷ xs) - 1 ≡ suc (length xs - 1) = omega arith in
     rw e refl
 
 last_before : {X : Type 0} (x d : X) (xs : List X) → 0 < length xs → get_or (x ∷ xs) (length (x ∷ xs) - 1) d ≡ get_or xs (length xs - 1) d
-last_before x d [] some = absurd (omega arith)
-last_before x d (y ∷ ys) some =
-    let e : length (x ∷ y ∷ ys) - 1 ≡ suc (length (y ∷ ys) - 1) = omega arith in
+last_before x d xs some =
+    let e : length (x ∷ xs) - 1 ≡ suc (length xs - 1) = omega arith in
     rw e refl
 
 parts_filled : (text : List ℕ) → 0 < length (parts_of text)
@@ -60,13 +58,13 @@ unfolding with_rows
 extends-rows r section [] = record { more = section ∷ []; whole = refl; one = omega arith }
 extends-rows r section (row ∷ rows) = same_blocks r _ refl
 
+extends-if : (r : Reading) (v : Bool) (e f : Reading) → Extends r e → Extends r f → Extends r (if v then e else f)
+extends-if r true e f first second = first
+extends-if r false e f first second = second
+
 extends-section : (r : Reading) (section : Trace) (told : ℕ) → Extends r (with_section r section told)
 unfolding with_section
-extends-section r section told =
-    elim (length (rows_of r.profile section.events) == told) as (λ v. Extends r (if v then with_rows r section (rows_of r.profile section.events) else at r (AtFault (FalseRows section.name)))) [
-      | true ↦ extends-rows r section (rows_of r.profile section.events)
-      | false ↦ same_blocks r _ refl
-    ]
+extends-section r section told = extends-if r _ _ _ (extends-rows r section (rows_of r.profile section.events)) (same_blocks r (at r (AtFault (FalseRows section.name))) refl)
 
 extends-events : (r : Reading) (section : Trace) (more told : ℕ) → Extends r (with_events r section more told)
 unfolding with_events
@@ -75,20 +73,14 @@ extends-events r section (suc more) told = same_blocks r _ refl
 
 extends-event : (r : Reading) (n : ℕ) (section : Trace) (more told : ℕ) (found : Result Event LineFault) → Extends r (after_event r n section more told found)
 extends-event r n section more told (Ok event) =
-    elim (length section.events == EVENT_LIMIT) as (λ v. Extends r (if v then at r (AtFault (Log (record { at = n; cause = TooManyEvents }))) else with_events r (record { name = section.name; events = section.events ++ event ∷ [] }) (more - 1) told)) [
-      | true ↦ same_blocks r _ refl
-      | false ↦ extends-events r _ (more - 1) told
-    ]
+    extends-if r _ _ _ (same_blocks r (at r (AtFault (Log (record { at = n; cause = TooManyEvents })))) refl)
+    (extends-events r (record { name = section.name; events = section.events ++ event ∷ [] }) (more - 1) told)
 extends-event r n section more told (Err refusal) = same_blocks r _ refl
 
 extends-row : (r : Reading) (n : ℕ) (text : List ℕ) (section : Trace) (rows : List Row) → Extends r (after_row r n text section rows)
 unfolding after_row
 extends-row r n text section [] = same_blocks r _ refl
-extends-row r n text section (row ∷ rows) =
-    elim (bytes_eq (text ++ codes "\n") (text_of_row row)) as (λ v. Extends r (if v then with_rows r section rows else at r (AtFault (FalseRows section.name)))) [
-      | true ↦ extends-rows r section rows
-      | false ↦ same_blocks r _ refl
-    ]
+extends-row r n text section (row ∷ rows) = extends-if r _ _ _ (extends-rows r section rows) (same_blocks r (at r (AtFault (FalseRows section.name))) refl)
 
 extends-end : (r : Reading) (n : ℕ) (found : Option ℕ) → Extends r (after_end r n found)
 extends-end r n None = same_blocks r _ refl
@@ -134,10 +126,10 @@ later r n (text ∷ texts) =
 
 -- a fault stays
 stays : (r : Reading) (found : LedgerFault) (n : ℕ) (texts : List (List ℕ)) → r.stage ≡ AtFault found → after_lines r n texts ≡ r
-unfolding after_lines
+unfolding after_lines after_line_at
 stays r found n [] is = refl
 stays r found n (text ∷ texts) is =
-    let same = line-fault r n text found is in
+    let same = line-at r n text (AtFault found) is in
     ap (λ e. after_lines e (suc n) texts) same ∙ stays r found (suc n) texts is
 
 -- in the text at this line, with this rest: the reading so far leads to the reading of the whole
@@ -149,10 +141,9 @@ pub record IsAt (text rest : List ℕ) (line : ℕ) (r : Reading) : Type 0 where
   pub short : line + length rest ≤ length text + 1
 
 lines-count : (text : List ℕ) → 1 + length (lines_of text) ≡ length (parts_of text)
-lines-count text = of_parts (parts_of text) (parts_filled text)
-  where
-    of_parts : (parts : List (List ℕ)) → 0 < length parts → 1 + length (take (length parts - 1) parts) ≡ length parts
-    of_parts parts some = let long = length-take-le (length parts - 1) parts (omega arith) in omega (arith, long, some)
+lines-count text =
+    let filled = parts_filled text in
+    let long = length-take-le (length (parts_of text) - 1) (parts_of text) (omega arith) in omega (arith, long, filled)
 
 pub IsAt-start : (text : List ℕ) → length text ≤ LEDGER_LIMIT → IsAt text text 1 unread
 unfolding reading_of

@@ -34,10 +34,6 @@ Contains-reverse xs x found = subst (λ zs. Contains zs x) (reverse-reverse xs) 
 pub none_of_empty : {X : Type 0} (xs : List X) (x : X) → length xs ≡ 0 → Contains xs x → ⊥
 none_of_empty xs x empty found = let inside = found.1 in omega (arith, empty, inside)
 
-pub empty_is : {X : Type 0} (xs : List X) → length xs ≡ 0 → xs ≡ []
-empty_is [] none = refl
-empty_is (x ∷ xs) none = absurd (omega (arith, none))
-
 -- the last of a rising list, as it is read
 module _ (xs front : List Checked) (x read : Checked) (is : xs ≡ front ++ x ∷ []) (found : read ≡ get_or xs (length xs - 1) read) where
   pub last_is : read ≡ x

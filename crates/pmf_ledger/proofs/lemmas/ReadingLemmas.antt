@@ -1,15 +1,9 @@
 -- A reading after one step, where what is kept stood for it.
-use Rattle.std.proofs.{Common.{◌≡◌, ℕ, zero, suc, ◌+◌, ◌-◌, ◌<◌, ◌≤◌, true, false, ◌==◌, List, [], ◌∷◌, ◌++◌, length, drop, get_or, Some, refl, sym, ◌∙◌, ap, subst, arith, inl, inr, Contains, Ok, codes, bytes_eq}, lemmas.List.{drop_more, length_push, append_cancel_right}, lemmas.List.Elements.{Contains-append_left, Contains-push, Contains-push_cases}, lemmas.Slice.Eq.{bytes_eq-Decides}, lemmas.Bool.Decides.{Decides-eqb}}
+use Rattle.std.proofs.{Common.{◌≡◌, ℕ, zero, suc, ◌+◌, ◌-◌, ◌<◌, ◌≤◌, true, false, ◌==◌, List, [], ◌∷◌, ◌++◌, length, drop, get_or, Some, refl, sym, ◌∙◌, ap, subst, arith, inl, inr, Contains, Ok, codes, bytes_eq, Bool}, lemmas.List.{drop_more, length_push, append_cancel_right}, lemmas.List.Elements.{Contains-append_left, Contains-push, Contains-push_cases}, lemmas.Bool.{ne_eqb, false_from_ne_true}, lemmas.Slice.Eq.{bytes_eq-Decides}, lemmas.Bool.Decides.{Decides-eqb}}
 use Rattle.pmf_event.specs.{declared.event.Event.{Event}, declared.name.Name.{Name}, declared.profile.Profile.{Profile}, declared.row.Row.{Row}, declared.section.TheConstants.{EVENT_LIMIT}, Section.{Trace}}
-use Rattle.pmf_storelog.specs.{declared.fault.Cause.TheVariants.{TooManyEvents}, declared.line.LineFault.{LineFault}, declared.line.LineFault.TheVariants.{NoEvent, Refused}, Lines.{event_of_line}}
+use Rattle.pmf_storelog.specs.{declared.fault.Cause.TheVariants.{TooManyEvents}, declared.line.LineFault.{LineFault}, declared.line.LineFault.TheVariants.{NoEvent, Refused}}
 use Rattle.pmf_verdict.specs.{Checked.{Checked, checked_by}, Rows.{rows_of}, Text.{text_of_row}}
-use Rattle.pmf_ledger.{specs.declared.blocks.Blocks.{Blocks}, specs.declared.loading.LedgerFault.{LedgerFault}, specs.declared.loading.LedgerFault.TheVariants.{NotALedger, FalseRows, Log}, specs.Following.{HasRead, IsStoppedBy}, specs.Gathered.{Gathers, HoldsOther, IsLedgerOf}, specs.Gathering.{Agrees, HaveSameMembers}, specs.LedgerValue.{LedgerValue}, specs.Loading.{Reading, Stage, AtVersion, AtBlock, AtEvents, AtRows, AtEnd, AtFault, at, profile_of, head_of, after_version, after_head, after_end, fault_at, after_event, after_row, after_line, after_line_at, with_events, with_section, with_rows, IsFirstOther}, proofs.lemmas.AddingLemmas.{Contains-cons, Contains-cons_cases}, proofs.lemmas.StandingLemmas.{held-once}}
-
--- the set of a ledger agrees
-pub Agrees-ledger : (profile : Profile) (set : List Trace) (ledger : LedgerValue) → IsLedgerOf profile set ledger → Agrees set
-Agrees-ledger profile set ledger is = λ s t here there same.
-    ap (λ (c : Checked). c.section)
-    (held-once ledger.sections is.rises (checked_by ledger.profile s) (checked_by ledger.profile t) ((is.same s).1 here) ((is.same t).1 there) same)
+use Rattle.pmf_ledger.{specs.declared.blocks.Blocks.{Blocks}, specs.declared.loading.LedgerFault.{LedgerFault}, specs.declared.loading.LedgerFault.TheVariants.{NotALedger, FalseRows, Log}, specs.Following.{HasRead, IsStoppedBy}, specs.Gathered.{Gathers, HoldsOther, IsLedgerOf}, specs.Gathering.{Agrees, HaveSameMembers}, specs.LedgerValue.{LedgerValue}, specs.Loading.{Reading, Stage, AtBlock, AtEvents, AtRows, AtEnd, AtFault, at, after_end, fault_at, after_event, after_row, after_line, after_line_at, with_events, with_section, with_rows, IsFirstOther}, proofs.lemmas.AddingLemmas.{Contains-cons, Contains-cons_cases}, proofs.lemmas.UniqueLemmas.{Agrees-ledger}}
 
 pub IsLedgerOf-members : (profile : Profile) (xs ys : List Trace) (ledger : LedgerValue) → IsLedgerOf profile xs ledger → HaveSameMembers xs ys → IsLedgerOf profile ys ledger
 IsLedgerOf-members profile xs ys ledger is alike = record {
@@ -48,36 +42,13 @@ HasRead-at r stage blocks read = record { ledger = read.ledger; count = read.cou
 
 -- one text line, at each stage
 module _ (r : Reading) (n : ℕ) (text : List ℕ) where
-  pub line-version : r.stage ≡ AtVersion → after_line r n text ≡ after_version r n (profile_of text)
-  unfolding after_line after_line_at
-  line-version is = ap (λ stage. after_line_at stage r n text) is
-
-  pub line-block : r.stage ≡ AtBlock → after_line r n text ≡ after_head r n text (head_of text)
-  unfolding after_line after_line_at
-  line-block is = ap (λ stage. after_line_at stage r n text) is
-
-  pub line-event : (section : Trace) (more told : ℕ) → r.stage ≡ AtEvents section more told → after_line r n text ≡ after_event r n section more told (event_of_line text)
-  unfolding after_line after_line_at
-  line-event section more told is = ap (λ stage. after_line_at stage r n text) is
-
-  pub line-row : (section : Trace) (rows : List Row) → r.stage ≡ AtRows section rows → after_line r n text ≡ after_row r n text section rows
-  unfolding after_line after_line_at
-  line-row section rows is = ap (λ stage. after_line_at stage r n text) is
-
-  pub line-end : r.stage ≡ AtEnd → after_line r n text ≡ at r (AtFault (NotALedger n))
-  unfolding after_line after_line_at
-  line-end is = ap (λ stage. after_line_at stage r n text) is
-
-  pub line-fault : (found : LedgerFault) → r.stage ≡ AtFault found → after_line r n text ≡ r
-  unfolding after_line after_line_at
-  line-fault found is = ap (λ stage. after_line_at stage r n text) is
+  pub line-at : (stage : Stage) → r.stage ≡ stage → after_line r n text ≡ after_line_at stage r n text
+  unfolding after_line
+  line-at stage is = ap (λ s. after_line_at s r n text) is
 
 -- the end
 pub end-otherwise : (r : Reading) (n told count : ℕ) → count ≡ length r.blocks → (told ≡ count → ⊥) → after_end r n (Some told) ≡ at r (AtFault (NotALedger n))
-end-otherwise r n told count is other = rw (not_same (length r.blocks) (λ same. other (same ∙ sym is))) refl
-  where
-    not_same : (k : ℕ) → (told ≡ k → ⊥) → (told == k) ≡ false
-    not_same k apart = elim (told == k) as (λ v. (told == k) ≡ v → v ≡ false) [ true ↦ λ e. absurd (apart ((Decides-eqb told k).0 e)) | false ↦ λ e. refl ] refl
+end-otherwise r n told count is other = rw (ne_eqb told (length r.blocks) (λ same. other (same ∙ sym is))) refl
 
 pub end-here : (r : Reading) (n told count : ℕ) → count ≡ length r.blocks → told ≡ count → after_end r n (Some told) ≡ at r AtEnd
 end-here r n told count is same = rw ((Decides-eqb told (length r.blocks)).1 (same ∙ is)) refl
@@ -97,12 +68,9 @@ unfolding with_events
 events-none r section zero told none = refl
 events-none r section (suc more) told none = absurd (omega arith)
 
-unequal : (a b : ℕ) → (a ≡ b → ⊥) → (a == b) ≡ false
-unequal a b apart = elim (a == b) as (λ v. (a == b) ≡ v → v ≡ false) [ true ↦ λ e. absurd (apart ((Decides-eqb a b).0 e)) | false ↦ λ e. refl ] refl
-
 pub event-added : (r : Reading) (n : ℕ) (section : Trace) (more told : ℕ) (event : Event) → (length section.events ≡ EVENT_LIMIT → ⊥) →
     after_event r n section more told (Ok event) ≡ with_events r (record { name = section.name; events = section.events ++ event ∷ [] }) (more - 1) told
-event-added r n section more told event few = rw (unequal (length section.events) EVENT_LIMIT few) refl
+event-added r n section more told event few = rw (ne_eqb (length section.events) EVENT_LIMIT few) refl
 
 pub event-too_many : (r : Reading) (n : ℕ) (section : Trace) (more told : ℕ) (event : Event) → length section.events ≡ EVENT_LIMIT →
     after_event r n section more told (Ok event) ≡ at r (AtFault (Log (record { at = n; cause = TooManyEvents })))
@@ -118,7 +86,7 @@ rows-told r section told same = rw ((Decides-eqb (length (rows_of r.profile sect
 
 pub rows-false : (r : Reading) (section : Trace) (told : ℕ) → (length (rows_of r.profile section.events) ≡ told → ⊥) → with_section r section told ≡ at r (AtFault (FalseRows section.name))
 unfolding with_section
-rows-false r section told other = rw (unequal (length (rows_of r.profile section.events)) told other) refl
+rows-false r section told other = rw (ne_eqb (length (rows_of r.profile section.events)) told other) refl
 
 -- rows
 pub rows-more : (r : Reading) (section : Trace) (rows : List Row) (k : ℕ) → k < length rows → with_rows r section (drop k rows) ≡ at r (AtRows section (drop k rows))
@@ -168,21 +136,13 @@ taken_stage r section = refl
 
 -- a line that is the same with a line end behind it
 pub ended-same : (text line : List ℕ) → bytes_eq text line ≡ bytes_eq (text ++ codes "\n") (line ++ codes "\n")
-ended-same text line =
-    elim (bytes_eq text line) as (λ v. bytes_eq text line ≡ v → v ≡ bytes_eq (text ++ codes "\n") (line ++ codes "\n")) [
-      | true ↦ λ is. sym ((bytes_eq-Decides (text ++ codes "\n") (line ++ codes "\n")).1 (ap (λ xs. xs ++ codes "\n") ((bytes_eq-Decides text line).0 is)))
-      | false ↦ λ is.
-          elim (bytes_eq (text ++ codes "\n") (line ++ codes "\n")) as (λ w. bytes_eq (text ++ codes "\n") (line ++ codes "\n") ≡ w → false ≡ w) [
-            | true ↦ λ both.
-                let same = append_cancel_right text line (codes "\n") ((bytes_eq-Decides (text ++ codes "\n") (line ++ codes "\n")).0 both) in
-                let bad : false ≡ true = sym is ∙ (bytes_eq-Decides text line).1 same in cc
-            | false ↦ λ apart. refl
-          ] refl
-    ] refl
+ended-same text line = by_line (bytes_eq text line) refl
+  where
+    by_line : (v : Bool) → bytes_eq text line ≡ v → v ≡ bytes_eq (text ++ codes "\n") (line ++ codes "\n")
+    by_line true is = sym ((bytes_eq-Decides (text ++ codes "\n") (line ++ codes "\n")).1 (ap (λ xs. xs ++ codes "\n") ((bytes_eq-Decides text line).0 is)))
+    by_line false is = sym (false_from_ne_true _ (λ both.
+        let same = append_cancel_right text line (codes "\n") ((bytes_eq-Decides (text ++ codes "\n") (line ++ codes "\n")).0 both) in
+        let bad : false ≡ true = sym is ∙ (bytes_eq-Decides text line).1 same in cc))
 
 pub ended-other : (text spelled : List ℕ) → ((front : List ℕ) → spelled ≡ front ++ 10 ∷ [] → ⊥) → false ≡ bytes_eq (text ++ 10 ∷ []) spelled
-ended-other text spelled none =
-    elim (bytes_eq (text ++ 10 ∷ []) spelled) as (λ v. bytes_eq (text ++ 10 ∷ []) spelled ≡ v → false ≡ v) [
-      | true ↦ λ is. absurd (none text (sym ((bytes_eq-Decides (text ++ 10 ∷ []) spelled).0 is)))
-      | false ↦ λ is. refl
-    ] refl
+ended-other text spelled none = sym (false_from_ne_true _ (λ is. none text (sym ((bytes_eq-Decides (text ++ 10 ∷ []) spelled).0 is))))

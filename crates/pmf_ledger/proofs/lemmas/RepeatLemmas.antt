@@ -1,7 +1,7 @@
 -- Names that stand twice in a list, which a sort has put in their order.
-use Rattle.std.{proofs.Common.{◌≡◌, ℕ, zero, suc, ◌+◌, ◌-◌, ◌<◌, ◌≤◌, Bool, true, false, List, [], ◌∷◌, length, map, refl, sym, ◌∙◌, ap, subst, arith, inl, inr, get_or, eqb-true, eq-eqb, ◌⊎◌, ◌&&◌, eqb, count_by, cond, IsPermutation, MatchOption, Option, Some, None, is_lt, Less, Equal}, specs.Cmp.{nat_cmp_is}, proofs.lemmas.Bool.{cases_order, cases_lt, cases_Bool, true≢false}, proofs.lemmas.List.Sums.{sum_by-cons}, proofs.lemmas.List.Sorted.{sum_by-IsPermutation}, specs.Ordering.{nat_cmp, ordering_then}}
+use Rattle.std.{proofs.Common.{◌≡◌, ℕ, zero, suc, ◌+◌, ◌-◌, ◌<◌, ◌≤◌, Bool, true, false, List, [], ◌∷◌, length, map, refl, sym, ◌∙◌, ap, subst, arith, inl, inr, get_or, eqb-true, eq-eqb, ◌⊎◌, ◌&&◌, eqb, count_by, cond, IsPermutation, MatchOption, Option, Some, None, is_lt, Less, Equal}, specs.Cmp.{nat_cmp_is}, proofs.lemmas.Bool.{and_parts, cases_eq, cases_lt, cases_Bool, true≢false}, proofs.lemmas.List.Sums.{sum_by-cons}, proofs.lemmas.List.Sorted.{sum_by-IsPermutation}, specs.Ordering.{nat_cmp, ordering_then}}
 use Rattle.pmf_event.specs.{declared.name.Name.{Name}, Section.{Trace}}
-use Rattle.pmf_ledger.{specs.Names.{IsBefore}, specs.Repeats.{AreOwn, DoNotFall, IsLeastTwiceIn, StandsTwiceIn, is_name, names_of}, proofs.lemmas.NameLemmas.{before-trans, before-itself}}
+use Rattle.pmf_ledger.{specs.Names.{IsBefore}, specs.Repeats.{AreOwn, DoNotFall, IsLeastTwiceIn, StandsTwiceIn, is_name, names_of}, proofs.lemmas.NameLemmas.{before-trans, before-itself, before-total, name-same}}
 
 -- the order of names is that by which a sort compares them
 pub before-compares : (a b : Name) → IsBefore a b → is_lt (ordering_then (nat_cmp a.run b.run) (nat_cmp a.number b.number)) ≡ false → ⊥
@@ -17,12 +17,9 @@ abbrev pub IsAtMost : Name → Name → Type 0
 IsAtMost a b = IsBefore a b ⊎ (a ≡ b)
 
 at_most-unless_before : (a b : Name) → (IsBefore b a → ⊥) → IsAtMost a b
-at_most-unless_before a b never = elim (cases_order a.run b.run) [
-  | inl same ↦ elim (cases_order a.number b.number) [
-    | inl equal ↦ inr (ap (λ r. record { run = r; number = a.number }) same ∙ ap (λ n. record { run = b.run; number = n }) equal)
-    | inr other ↦ elim other [ inl less ↦ inl (inr (same, less)) | inr more ↦ absurd (never (inr (sym same, more))) ]
-  ]
-  | inr other ↦ elim other [ inl less ↦ inl (inl less) | inr more ↦ absurd (never (inl more)) ]
+at_most-unless_before a b never = elim (before-total a b) [
+  | inl less ↦ inl less
+  | inr other ↦ elim other [ inl same ↦ inr same | inr more ↦ absurd (never more) ]
 ]
 
 at_most-trans : (a b c : Name) → IsAtMost a b → IsAtMost b c → IsAtMost a c
@@ -39,30 +36,27 @@ module _ (names : List Name) (d : Name) where
   abbrev pub name_at : ℕ → Name
   name_at k = get_or names k d
 
-  rises_by : (n i m : ℕ) → RisesTo n names → i + 1 + m < n → IsBefore (name_at i) (name_at (i + 1 + m))
-  rises_by n i zero rises inside = let k : i + 1 ≡ i + 1 + 0 = omega arith in subst (λ x. IsBefore (name_at i) (name_at x)) k (rises i d (omega (arith, inside)))
-  rises_by n i (suc m) rises inside =
-      before-trans (name_at i) (name_at (i + 1 + m)) (name_at (i + 1 + suc m)) (rises_by n i m rises (omega (arith, inside)))
-      (let k : i + 1 + m + 1 ≡ i + 1 + suc m = omega arith in subst (λ x. IsBefore (name_at (i + 1 + m)) (name_at x)) k (rises (i + 1 + m) d (omega (arith, inside))))
+  -- what relates each of the first n to the next, and passes on, relates each to all behind it
+  chain_by : (R : Name → Name → Type 0) → ((a b c : Name) → R a b → R b c → R a c) → (n i m : ℕ) → ((k : ℕ) → k + 1 < n → R (name_at k) (name_at (k + 1))) → i + 1 + m < n → R (name_at i) (name_at (i + 1 + m))
+  chain_by R trans n i zero step inside = let k : i + 1 ≡ i + 1 + 0 = omega arith in subst (λ x. R (name_at i) (name_at x)) k (step i (omega (arith, inside)))
+  chain_by R trans n i (suc m) step inside =
+      trans (name_at i) (name_at (i + 1 + m)) (name_at (i + 1 + suc m)) (chain_by R trans n i m step (omega (arith, inside)))
+      (let k : i + 1 + m + 1 ≡ i + 1 + suc m = omega arith in subst (λ x. R (name_at (i + 1 + m)) (name_at x)) k (step (i + 1 + m) (omega (arith, inside))))
+
+  chain : (R : Name → Name → Type 0) → ((a b c : Name) → R a b → R b c → R a c) → (n i j : ℕ) → ((k : ℕ) → k + 1 < n → R (name_at k) (name_at (k + 1))) → i < j → j < n → R (name_at i) (name_at j)
+  chain R trans n i j step less inside =
+      let k : i + 1 + (j - i - 1) ≡ j = omega (arith, less) in
+      subst (λ x. R (name_at i) (name_at x)) k (chain_by R trans n i (j - i - 1) step (omega (arith, less, inside)))
 
   -- of two of the rising ones the first comes before
   rises_between : (n i j : ℕ) → RisesTo n names → i < j → j < n → IsBefore (name_at i) (name_at j)
-  rises_between n i j rises less inside =
-      let k : i + 1 + (j - i - 1) ≡ j = omega (arith, less) in
-      subst (λ x. IsBefore (name_at i) (name_at x)) k (rises_by n i (j - i - 1) rises (omega (arith, less, inside)))
-
-  at_most_by : (i m : ℕ) → DoNotFall names → i + m < length names → IsAtMost (name_at i) (name_at (i + m))
-  at_most_by i zero sorted inside = inr (let k : i ≡ i + 0 = omega arith in ap name_at k)
-  at_most_by i (suc m) sorted inside =
-      let k : i + m + 1 ≡ i + suc m = omega arith in
-      subst (λ x. IsAtMost (name_at i) (name_at x)) k
-      (at_most-trans (name_at i) (name_at (i + m)) (name_at (i + m + 1)) (at_most_by i m sorted (omega (arith, inside)))
-      (at_most-unless_before (name_at (i + m)) (name_at (i + m + 1)) (sorted (i + m) d (omega (arith, inside)))))
+  rises_between n i j rises = chain IsBefore before-trans n i j (λ k. rises k d)
 
   at_most_between : (i j : ℕ) → DoNotFall names → i ≤ j → j < length names → IsAtMost (name_at i) (name_at j)
-  at_most_between i j sorted less inside =
-      let k : i + (j - i) ≡ j = omega (arith, less) in
-      subst (λ x. IsAtMost (name_at i) (name_at x)) k (at_most_by i (j - i) sorted (omega (arith, less, inside)))
+  at_most_between i j sorted less inside = elim (cases_eq i j) [
+    | inl same ↦ inr (ap name_at same)
+    | inr apart ↦ chain IsAtMost at_most-trans (length names) i j (λ k more. at_most-unless_before (name_at k) (name_at (k + 1)) (sorted k d more)) (omega (arith, less, apart)) inside
+  ]
 
 module _ {X : Type 0} (p : X → Bool) where
   counted-yes : (x : X) (xs : List X) → p x ≡ true → count_by p (x ∷ xs) ≡ count_by p xs + 1
@@ -98,27 +92,18 @@ module _ {X : Type 0} (p : X → Bool) where
   some_one (x ∷ xs) (suc j) d inside is = let r = some_one xs j d (omega (arith, inside)) is in let c = counted-more x xs in omega (arith, r, c)
 
   -- what stands at two places is counted twice
-  some_two : (xs : List X) (i j : ℕ) (d : X) → i < j → j < length xs → p (get_or xs i d) ≡ true → p (get_or xs j d) ≡ true → 1 < count_by p xs
+  pub some_two : (xs : List X) (i j : ℕ) (d : X) → i < j → j < length xs → p (get_or xs i d) ≡ true → p (get_or xs j d) ≡ true → 1 < count_by p xs
   some_two [] i j d less inside first second = omega (arith, inside)
   some_two (x ∷ xs) i zero d less inside first second = omega (arith, less)
   some_two (x ∷ xs) zero (suc j) d less inside first second = let r = some_one xs j d (omega (arith, inside)) second in let c = counted-yes x xs first in omega (arith, r, c)
   some_two (x ∷ xs) (suc i) (suc j) d less inside first second = let r = some_two xs i j d (omega (arith, less)) (omega (arith, inside)) first second in let c = counted-more x xs in omega (arith, r, c)
 
-both_left : (x y : Bool) → (x && y) ≡ true → x ≡ true
-both_left true y is = refl
-both_left false y is = absurd (true≢false (sym is))
-
-both_right : (x y : Bool) → (x && y) ≡ true → y ≡ true
-both_right true y is = is
-both_right false y is = absurd (true≢false (sym is))
-
 is_name-is : (name n : Name) → is_name name n ≡ true → n ≡ name
 is_name-is name n is =
-    let run = eqb-true n.run name.run (both_left (eqb n.run name.run) (eqb n.number name.number) is) in
-    let number = eqb-true n.number name.number (both_right (eqb n.run name.run) (eqb n.number name.number) is) in
-    ap (λ r. record { run = r; number = n.number }) run ∙ ap (λ m. record { run = name.run; number = m }) number
+    let both = and_parts (eqb n.run name.run) (eqb n.number name.number) is in
+    name-same n name (eqb-true n.run name.run both.0) (eqb-true n.number name.number both.1)
 
-is_name-yes : (name n : Name) → n ≡ name → is_name name n ≡ true
+pub is_name-yes : (name n : Name) → n ≡ name → is_name name n ≡ true
 is_name-yes name n is = subst (λ m. is_name m n ≡ true) is (rw (eq-eqb n.run n.run refl, eq-eqb n.number n.number refl) refl)
 
 module _ (names : List Name) (d : Name) where

@@ -1,5 +1,5 @@
 -- The text lines of what is spelled: where no line end stands in them, the text is split into them again.
-use Rattle.std.{proofs.Common.{◌≡◌, ℕ, zero, suc, ◌+◌, ◌-◌, ◌%◌, ◌/◌, true, false, ◌==◌, List, [], ◌∷◌, ◌++◌, length, get_or, refl, sym, ◌∙◌, ap, arith, rules, inl, inr, append_assoc, length-append, codes, nat_lt, if◌then◌else◌, take_at, decimal}, specs.Fmt.{digits_onto, digit_glyph, digits}, specs.List.{slice_split, AllByRecursion}, proofs.lemmas.Bool.{cases_eq}, proofs.lemmas.Bool.Decides.{Decides-eqb}, proofs.lemmas.Grind.{flat_map-append}, proofs.lemmas.List.Elements.{All-from_recursion, recursion_from_All}, proofs.lemmas.List.Splits.{slice_split_at}}
+use Rattle.std.{proofs.Common.{◌≡◌, ℕ, zero, suc, ◌+◌, ◌-◌, ◌%◌, ◌/◌, true, false, ◌==◌, List, [], ◌∷◌, ◌++◌, length, get_or, refl, sym, ◌∙◌, ap, arith, rules, inl, inr, append_assoc, length-append, codes, nat_lt, if◌then◌else◌, take_at, decimal}, specs.Fmt.{digits_onto, digit_glyph, digits}, specs.List.{slice_split, AllByRecursion}, proofs.lemmas.Bool.{cases_eq, ne_eqb}, proofs.lemmas.Grind.{flat_map-append}, proofs.lemmas.List.Elements.{All-from_recursion, recursion_from_All}, proofs.lemmas.List.Splits.{slice_split_at}}
 use Rattle.pmf_event.specs.{declared.event.Event.{Event}, declared.finding.Finding.{Finding}, declared.finding.Finding.TheVariants.{PersistPass, PersistFail, PersistEmpty, OrderedPass, OrderedFail, OrderedSameLine, OrderedEmpty, FlushDoubled, FlushNeedless, NoBackup, DupLog, CheckPass, CheckFail, TxStillOpen, Unmatched, Outside, Nested, Unopened, Unclosed}, declared.row.Row.{Row}, Address.{address}}
 use Rattle.pmf_storelog.{specs.Separators.{is_separator}, specs.Spelling.{AllValid}, proofs.EventLineLemmas.{text-one_line}, proofs.PlainRecordLemmas.{text_of_lines}, proofs.PlainLemmas.{text_of_event}}
 use Rattle.pmf_verdict.specs.Text.{text_of_pair, text_of_finding}
@@ -13,14 +13,11 @@ pub one-append : (xs ys : List ℕ) → OneLine xs → OneLine ys → OneLine (x
 one-append [] ys one more = more
 one-append (x ∷ xs) ys one more = (one.0, one-append xs ys one.1 more)
 
-unequal : (a b : ℕ) → (a ≡ b → ⊥) → (a == b) ≡ false
-unequal a b apart = elim (a == b) as (λ v. (a == b) ≡ v → v ≡ false) [ true ↦ λ e. absurd (apart ((Decides-eqb a b).0 e)) | false ↦ λ e. refl ] refl
-
 -- a digit is no line end
 glyph-one : (d : ℕ) → is_line_end (digit_glyph false d) ≡ false
 glyph-one d = elim (nat_lt d 10) as (λ v. is_line_end (if v then 48 + d else 87 + d) ≡ false) [
-  | true ↦ unequal (48 + d) 10 (λ same. omega (arith, same))
-  | false ↦ unequal (87 + d) 10 (λ same. omega (arith, same))
+  | true ↦ ne_eqb (48 + d) 10 (λ same. omega (arith, same))
+  | false ↦ ne_eqb (87 + d) 10 (λ same. omega (arith, same))
 ]
 
 onto-one : (k base n : ℕ) (acc : List ℕ) → OneLine acc → OneLine (digits_onto k base false n acc)
@@ -79,7 +76,7 @@ row-one row = one-append (decimal row.place) (text_of_finding row.place row.find
 not_separator : (c : ℕ) → is_separator c ≡ false → is_line_end c ≡ false
 not_separator c none = elim (cases_eq c 10) [
   | inl same ↦ let bad : true ≡ false = sym (ap is_separator same) ∙ none in cc
-  | inr other ↦ unequal c 10 other
+  | inr other ↦ ne_eqb c 10 other
 ]
 
 event-recursion : (text : List ℕ) → AllByRecursion (λ c. is_separator c ≡ false) text → OneLine text
