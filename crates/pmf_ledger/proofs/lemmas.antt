@@ -5,6 +5,7 @@ pub mod PlaceLemmas
 pub mod AddingLemmas
 pub mod StandingLemmas
 pub mod CountLemmas
+pub mod KeptLemmas
 pub mod UpgradeLemmas
 pub mod TrueRowsLemmas
 pub mod MergingLemmas
@@ -18,4 +19,5 @@ pub mod GivingLemmas
 pub mod AlikeLemmas
 pub mod SpelledLemmas
 pub mod LedgerTextLemmas
+pub mod ToldLemmas
 pub mod LoadedLemmas

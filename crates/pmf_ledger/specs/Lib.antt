@@ -5,6 +5,7 @@ pub use Rattle.pmf_verdict.specs.Sound
 pub use Rattle.pmf_verdict.specs.Exact
 pub use Rattle.pmf_verdict.specs.Explained
 pub use Rattle.pmf_verdict.specs.Outcome
+pub use Rattle.pmf_verdict.specs.Kept
 pub use Rattle.pmf_storelog.specs.Canonical
 pub use Rattle.pmf_storelog.specs.Numbers
 pub use Rattle.pmf_storelog.specs.Lines
@@ -18,8 +19,10 @@ pub mod Taking
 pub mod Joining
 pub mod Gathering
 pub mod Report
+pub mod AllKept
 pub mod LedgerText
 pub mod Loading
+pub mod Told
 pub mod FaultText
 pub mod Following
 pub mod Laws

@@ -1,6 +1,6 @@
 //! Laws of gatherings, of their ledgers and of ledger texts, each the clause of an empty function.
 
-ghost use Rattle.pmf_ledger.specs.{Gathering.{GivesItsLedger, GivesWhereItMay, JoiningAssociates, JoiningCommutes, JoiningRepeats, OnlyTheSetCounts, RefusesForCause}, Laws.{EqualSetsHaveOneLedger, TextsLoadAsOneLedger, WhatLoadsIsNotRefused}};
+ghost use Rattle.pmf_ledger.specs.{AllKept.{AllRowsAreTrue, NoEmptyIsFilled, NoFailIsKept}, Gathering.{GivesItsLedger, GivesWhereItMay, JoiningAssociates, JoiningCommutes, JoiningRepeats, OnlyTheSetCounts, RefusesForCause}, Laws.{EqualSetsHaveOneLedger, TextsLoadAsOneLedger, WhatLoadsIsNotRefused}, Told.{ReportsTellSections, ReportsTellTotals}};
 
 /// Whatever ledger a gathering gives, in whatever order it took and joined, it is the ledger of the set that
 /// was gathered: each of its sections once, in the order of their names. That set agrees, and all is by one
@@ -56,4 +56,34 @@ pub fn texts_load_as_one_ledger()
 /// A text that loads as a ledger is not refused, memory aside.
 pub fn what_loads_is_not_refused()
     ensures { WhatLoadsIsNotRefused }
+{}
+
+/// The rows of every checked section are true: what passed holds in every crash image that the rules allow, and what failed
+/// has one that shows it.
+pub fn all_rows_are_true()
+    ensures { AllRowsAreTrue }
+{}
+
+/// Where the ledger of a set counts no row as FAIL, all that its sections assert holds, in every crash image that the rules
+/// allow.
+pub fn no_fail_is_kept()
+    ensures { NoFailIsKept }
+{}
+
+/// Where it counts none as EMPTY, each assertion of its sections had something to check.
+pub fn no_empty_is_filled()
+    ensures { NoEmptyIsFilled }
+{}
+
+/// A report, read text line by text line, tells exactly the sections that it is of, each with its own rows: a line
+/// `3 PERSIST PASS` stands below the header of a section exactly where the section has that row.
+#[tactic(auto, using(crate::proofs::lemmas::ToldLemmas::reports_tell_sections))]
+pub fn reports_tell_their_sections()
+    ensures { ReportsTellSections }
+{}
+
+/// And its last text line tells their sums.
+#[tactic(auto, using(crate::proofs::lemmas::ToldLemmas::reports_tell_totals))]
+pub fn reports_tell_their_totals()
+    ensures { ReportsTellTotals }
 {}

@@ -22,7 +22,7 @@ in-upto profile es p f only some (suc n) within =
       | inr before ↦ Contains-append_left (rows_upto profile es n) here (row_at p f) (in-upto profile es p f only some n (omega arith))
     ]
 
-row-of : (profile : Profile) (es : List Event) (p : ℕ) (e : Event) (f : Finding) → event_at es p ≡ Some e → findings_of profile es p (Some e) ≡ f ∷ [] →
+pub row-of : (profile : Profile) (es : List Event) (p : ℕ) (e : Event) (f : Finding) → event_at es p ≡ Some e → findings_of profile es p (Some e) ≡ f ∷ [] →
     Contains (rows_of profile es) (row_at p f)
 unfolding rows_of
 row-of profile es p e f here only =
@@ -30,16 +30,16 @@ row-of profile es p e f here only =
     Contains-append_left (rows_upto profile es (length es)) (rows_at_end es (length es)) (row_at p f)
     (in-upto profile es p f (ap (findings_of profile es p) here ∙ only) within.0 (length es) within.1)
 
-persist-row : (profile : Profile) (es : List Event) (p : ℕ) (s : Extent) → event_at es p ≡ Some (Persist s) → Contains (rows_of profile es) (row_at p (persist_finding es p s))
+pub persist-row : (profile : Profile) (es : List Event) (p : ℕ) (s : Extent) → event_at es p ≡ Some (Persist s) → Contains (rows_of profile es) (row_at p (persist_finding es p s))
 unfolding findings_of
 persist-row profile es p s here = row-of profile es p (Persist s) (persist_finding es p s) here refl
 
-ordered-row : (profile : Profile) (es : List Event) (p : ℕ) (a b : Extent) → event_at es p ≡ Some (Ordered a b) →
+pub ordered-row : (profile : Profile) (es : List Event) (p : ℕ) (a b : Extent) → event_at es p ≡ Some (Ordered a b) →
     Contains (rows_of profile es) (row_at p (ordered_finding profile es p a b))
 unfolding findings_of
 ordered-row profile es p a b here = row-of profile es p (Ordered a b) (ordered_finding profile es p a b) here refl
 
-check-row : (profile : Profile) (es : List Event) (p : ℕ) → event_at es p ≡ Some CheckEnd → Contains (rows_of profile es) (row_at p (check_finding es (p - 1)))
+pub check-row : (profile : Profile) (es : List Event) (p : ℕ) → event_at es p ≡ Some CheckEnd → Contains (rows_of profile es) (row_at p (check_finding es (p - 1)))
 unfolding findings_of
 check-row profile es p here = row-of profile es p CheckEnd (check_finding es (p - 1)) here refl
 
@@ -193,7 +193,7 @@ module _ (profile : Profile) (es : List Event) (p : ℕ) (a b : Extent) (here : 
       let checked = (checked-parts profile es p x y pair.passes).0 in
       let bad : true ≡ false = sym checked ∙ shut in cc
 
-holds-by_row : (profile : Profile) (es : List Event) (p : ℕ) (a b : Extent) → event_at es p ≡ Some (Ordered a b) → IsPassOrEmpty (rows_of profile es) p → OrderedHolds es p a b
+pub holds-by_row : (profile : Profile) (es : List Event) (p : ℕ) (a b : Extent) → event_at es p ≡ Some (Ordered a b) → IsPassOrEmpty (rows_of profile es) p → OrderedHolds es p a b
 holds-by_row profile es p a b here row = elim row [ inl passed ↦ holds-kept profile es p a b here passed | inr empty ↦ holds-unchecked profile es p a b here empty ]
 
 order-exact : (profile : Profile) (es : List Event) (p : ℕ) (a b : Extent) → event_at es p ≡ Some (Ordered a b) → OrderIsExact profile es (rows_of profile es) p a b

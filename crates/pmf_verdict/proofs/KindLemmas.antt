@@ -117,7 +117,7 @@ ordered-kind profile es p a b =
     let unordered = least_pair (is_unordered profile es p) a b in
     kind-ordered (is_none (first_byte (is_checked es p) a)) (is_none (first_byte (is_checked es p) b)) (finding_of_pairs es p certified unordered) (kind-pairs es p certified unordered)
 
-check-kind : (es : List Event) (p : ℕ) → kind_of (check_finding es p) ≡ 3
+pub check-kind : (es : List Event) (p : ℕ) → kind_of (check_finding es p) ≡ 3
 unfolding check_finding
 check-kind es p = kind-check (not (in_scope es p)) (in_transaction es p) (depth_at es p) (first_from (is_left_open es p) 0 ADDRESS_LIMIT)
 

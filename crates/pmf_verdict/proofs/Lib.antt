@@ -4,5 +4,6 @@ pub mod SoundLemmas
 pub mod WalkLemmas
 pub mod ExplainLemmas
 pub mod HoldingLemmas
+pub mod KeptLemmas
 pub mod TextLemmas
 pub mod FitLemmas

@@ -17,3 +17,4 @@ pub mod Exact
 pub mod Explained
 pub mod Text
 pub mod Outcome
+pub mod Kept

@@ -1,7 +1,7 @@
 //! A section with the rows that the checker gives it.
 
 ghost use Rattle.std.specs.Prelude.{◌≡◌, ◌↔◌, IsTrue, IfOk};
-ghost use Rattle.pmf_verdict.specs.{Checked.{Checked, rows_in}, Rows.{rows_of}, Explained.{FailuresAreReal}, Sound.{PersistsHold, OrdersHold, ScopesHold}, Exact.{IsExact, SameLinesAreOneStore}};
+ghost use Rattle.pmf_verdict.specs.{Checked.{Checked, rows_in}, Rows.{rows_of}, Explained.{FailuresAreReal}, Kept.{IsTold}, Sound.{PersistsHold, OrdersHold, ScopesHold}, Exact.{IsExact, SameLinesAreOneStore}};
 
 use pmf_event::{Name, Profile, Row, Rows, Section};
 use std::alloc::{AllocError, Global};
@@ -86,6 +86,8 @@ impl Verdict {
         // So they say which assertions hold.
         ensures exact { IsExact self.now.profile self.now.section.events result.now }
         ensures same_lines { SameLinesAreOneStore self.now.profile self.now.section.events result.now }
+        // Without one that counts as FAIL all that is asserted holds, and without an EMPTY each assertion had something to check.
+        ensures told { IsTold self.now.section.events result.now }
     {
         self.rows.as_slice()
     }

@@ -26,7 +26,7 @@ event_lines : (events : List Event) → flat_map line_of_event events ≡ text_o
 event_lines [] = refl
 event_lines (event ∷ events) = ap (λ rest. line_of_event event ++ rest) (event_lines events)
 
-row_lines : (rows : List Row) → text_of_rows rows ≡ text_of_lines (map text_without_end rows)
+pub row_lines : (rows : List Row) → text_of_rows rows ≡ text_of_lines (map text_without_end rows)
 row_lines [] = refl
 row_lines (row ∷ rows) = ap (λ rest. text_of_row row ++ rest) (row_lines rows)
 
@@ -81,7 +81,7 @@ events-one : (events : List Event) → AllByRecursion AllValid events → AllByR
 events-one [] valid = tt
 events-one (event ∷ events) valid = (event-one event valid.0, events-one events valid.1)
 
-rows-one : (rows : List Row) → AllByRecursion OneLine (map text_without_end rows)
+pub rows-one : (rows : List Row) → AllByRecursion OneLine (map text_without_end rows)
 rows-one [] = tt
 rows-one (row ∷ rows) = (row-one row, rows-one rows)
 
@@ -108,7 +108,7 @@ ledger-one : (l : LedgerValue) → AllByRecursion IsSpelled l.sections → AllBy
 ledger-one l spelled = (version-one l.profile, each-append (flat_map block_lines l.sections) (end_line (length l.sections) ∷ []) (blocks-one l.sections spelled) (end-one (length l.sections), tt))
 
 -- numbers behind words
-number_behind-word : (word : List ℕ) (n : ℕ) (rest : List ℕ) → n < 2 ^ 64 → BeginsWithNoDigit rest → number_behind word (word ++ (decimal n ++ rest)) ≡ Some (n, rest)
+pub number_behind-word : (word : List ℕ) (n : ℕ) (rest : List ℕ) → n < 2 ^ 64 → BeginsWithNoDigit rest → number_behind word (word ++ (decimal n ++ rest)) ≡ Some (n, rest)
 unfolding number_behind
 number_behind-word word n rest small none =
     rw (take_at word (decimal n ++ rest) (length word) refl, (bytes_eq-Decides word word).1 refl, drop_at word (decimal n ++ rest) (length word) refl)

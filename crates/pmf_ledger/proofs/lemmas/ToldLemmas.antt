@@ -1,0 +1,309 @@
+-- The report of some sections tells these sections.
+use Rattle.std.{proofs.Common.{◌≡◌, ℕ, ◌^◌, ◌<◌, ◌==◌, true, false, nat_lt, if◌then◌else◌, List, [], ◌∷◌, ◌++◌, length, map, Option, Some, None, option_map, refl, sym, ◌∙◌, ap, arith, rules, append_assoc, append-nil, codes, decimal, flat_map, All, lt-ltb, take_at, drop_at}, specs.Prelude.{⊤}, specs.List.{prefix_len, AllByRecursion}, specs.Char.{digit_value}, specs.Fmt.{digits}, specs.Str.Parse.{AllDigits}, proofs.lemmas.Fmt.{digits_is_IsNumeral}, proofs.lemmas.Bool.Decides.{Decides-eqb}, proofs.lemmas.List.Elements.{recursion_from_All}, proofs.lemmas.Slice.Eq.{bytes_eq-Decides}}
+use Rattle.pmf_event.specs.{Address.{address}, declared.finding.Finding.{Finding}, declared.finding.Finding.TheVariants.{PersistPass, PersistFail, PersistEmpty, OrderedPass, OrderedFail, OrderedSameLine, OrderedEmpty, FlushDoubled, FlushNeedless, NoBackup, DupLog, CheckPass, CheckFail, TxStillOpen, Unmatched, Outside, Nested, Unopened, Unclosed}, declared.row.Row.{Row}}
+use Rattle.pmf_storelog.{specs.Numbers.{is_digit_in, is_numeral, numeral_of, number_before, number_in_front}, proofs.CanonicalLemmas.{hex-length, numeral_of-digits}, proofs.FrontLemmas.{BeginsWithNoDigit, number_in_front-decimal}, proofs.PlainRecordLemmas.{text_of_lines}}
+use Rattle.pmf_verdict.specs.{Checked.{Checked, rows_in}, Rows.{row_at}, Text.{text_of_pair, text_of_finding, text_of_rows}}
+use Rattle.pmf_ledger.{specs.declared.totals.Totals.{Totals}, specs.Loading.{number_behind}, specs.Report.{totals_of, text_of_counts, text_of_header, text_of_section, text_of_totals, report_of}, specs.Told.{told_by, at_last, address_in_front, address_behind, byte_told, crash_told, pair_told, lines_told, number_told, words_at, finding_told, row_told, Told, shown, header_told, row_before, rows_told, header_before, sections_in, sections_told, counts_told, sums_told, last_sums, totals_told, FitsFinding, FitsRow, FitsSection, FitsTotals, ReportsTellSections, ReportsTellTotals}, proofs.lemmas.LedgerTextLemmas.{row_lines, rows-one, number_behind-word}, proofs.lemmas.SpelledLemmas.{OneLine, one-append, decimal-one, text_without_end, lines_of-lines, lines-append, each-append}}
+
+-- ---- numbers
+
+-- the text is empty, or begins with a byte that is no hexadecimal digit
+abbrev BeginsWithNoHex : List ℕ → Type 0
+BeginsWithNoHex [] = ⊤
+BeginsWithNoHex (c ∷ rest) = is_digit_in 16 c ≡ false
+
+hex-behind : (rest : List ℕ) → BeginsWithNoHex rest → prefix_len (is_digit_in 16) rest ≡ 0
+hex-behind [] none = refl
+hex-behind (c ∷ rest) none = rw none refl
+
+hex-front : (ds rest : List ℕ) → AllDigits 16 ds → BeginsWithNoHex rest → prefix_len (is_digit_in 16) (ds ++ rest) ≡ length ds
+hex-front [] rest each none = hex-behind rest none
+hex-front (d ∷ ds) rest each none = rw (lt-ltb (digit_value d) 16 each.0) (let e : prefix_len (is_digit_in 16) (ds ++ rest) ≡ length ds = hex-front ds rest each.1 none in omega (arith, e))
+
+hex-read : (ds rest : List ℕ) → prefix_len (is_digit_in 16) (ds ++ rest) ≡ length ds → address_in_front (codes "0x" ++ (ds ++ rest)) ≡ number_before rest (numeral_of 16 16 ds)
+unfolding address_in_front
+hex-read ds rest count = rw (count, take_at ds rest (length ds) refl, drop_at ds rest (length ds) refl) refl
+
+-- what is written of an address reads as the address, whatever follows it that begins with no digit
+address_behind-word : (word : List ℕ) (n : ℕ) (rest : List ℕ) → n < 2 ^ 64 → BeginsWithNoHex rest → address_behind word (word ++ (address n ++ rest)) ≡ Some (n, rest)
+unfolding address_behind
+address_behind-word word n rest small none =
+    let ds = digits 16 false n in
+    let numeral = digits_is_IsNumeral 16 false (omega arith) (omega arith) n (omega arith) in
+    rw (take_at word (address n ++ rest) (length word) refl, (bytes_eq-Decides word word).1 refl, drop_at word (address n ++ rest) (length word) refl)
+    (hex-read ds rest (hex-front ds rest numeral.0.1 none) ∙ ap (number_before rest) (numeral_of-digits ds n numeral.0.0 (hex-length n small) numeral.0.1 numeral.1 small))
+
+-- ---- rows
+
+two : (a n b m : List ℕ) → a ++ n ++ b ++ m ≡ a ++ (n ++ (b ++ (m ++ [])))
+two a n b m = ap (λ last. a ++ n ++ b ++ last) (sym (append-nil m)) ∙ append_assoc (a ++ n) b (m ++ []) ∙ append_assoc a n (b ++ (m ++ []))
+
+one : (a n : List ℕ) → a ++ n ≡ a ++ (n ++ [])
+one a n = ap (λ last. a ++ last) (sym (append-nil n))
+
+byte-is : (finding : ℕ → Finding) (b : ℕ) → b < 2 ^ 64 → byte_told finding (codes " byte=" ++ address b) ≡ Some (finding b)
+byte-is finding b small =
+    ap (byte_told finding) (one (codes " byte=") (address b))
+    ∙ ap (told_by (λ byte rest. at_last (finding byte) rest)) (address_behind-word (codes " byte=") b [] small tt)
+
+crash-is : (k : ℕ) (finding : ℕ → Finding) (b : ℕ) → k < 2 ^ 64 → b < 2 ^ 64 → crash_told k finding (codes " byte=" ++ address b ++ codes " crash=" ++ decimal k) ≡ Some (finding b)
+crash-is k finding b here small =
+    let checked = λ (byte crash : ℕ) (last : List ℕ). if crash == k then at_last (finding byte) last else None in
+    ap (crash_told k finding) (two (codes " byte=") (address b) (codes " crash=") (decimal k))
+    ∙ ap (told_by (λ byte rest. told_by (checked byte) (number_behind (codes " crash=") rest))) (address_behind-word (codes " byte=") b (codes " crash=" ++ (decimal k ++ [])) small refl)
+    ∙ ap (told_by (checked b)) (number_behind-word (codes " crash=") k [] here tt)
+    ∙ ap (λ v. if v then Some (finding b) else None) ((Decides-eqb k k).1 refl)
+
+pair-is : (tells : ℕ → ℕ → List ℕ → Option Finding) (x y : ℕ) (last : List ℕ) → x < 2 ^ 64 → y < 2 ^ 64 → BeginsWithNoHex last →
+    pair_told tells (codes " byte=" ++ (address x ++ (codes " after=" ++ (address y ++ last)))) ≡ tells x y last
+pair-is tells x y last one_small other_small none =
+    ap (told_by (λ byte rest. told_by (λ after more. tells byte after more) (address_behind (codes " after=") rest))) (address_behind-word (codes " byte=") x (codes " after=" ++ (address y ++ last)) one_small refl)
+    ∙ ap (told_by (λ after more. tells x after more)) (address_behind-word (codes " after=") y last other_small none)
+
+lines-is : (finding : ℕ → ℕ → Finding) (line n : ℕ) → line < 2 ^ 64 → n < 2 ^ 64 → lines_told finding (codes " line=" ++ address line ++ codes " lines=" ++ decimal n) ≡ Some (finding line n)
+lines-is finding line n one_small other_small =
+    ap (lines_told finding) (two (codes " line=") (address line) (codes " lines=") (decimal n))
+    ∙ ap (told_by (λ first rest. told_by (λ lines last. at_last (finding first lines) last) (number_behind (codes " lines=") rest))) (address_behind-word (codes " line=") line (codes " lines=" ++ (decimal n ++ [])) one_small refl)
+    ∙ ap (told_by (λ lines last. at_last (finding line lines) last)) (number_behind-word (codes " lines=") n [] other_small tt)
+
+number-is : (word : List ℕ) (finding : ℕ → Finding) (n : ℕ) → n < 2 ^ 64 → number_told word finding (word ++ decimal n) ≡ Some (finding n)
+number-is word finding n small =
+    ap (number_told word finding) (one word (decimal n)) ∙ ap (told_by (λ number rest. at_last (finding number) rest)) (number_behind-word word n [] small tt)
+
+-- each finding is told by its words
+finding-is : (k : ℕ) (f : Finding) → k < 2 ^ 64 → FitsFinding f → finding_told (words_at k) (text_of_finding k f) ≡ Some f
+unfolding text_of_finding text_of_pair words_at
+finding-is k (PersistFail byte) here fits = crash-is k PersistFail byte here fits
+finding-is k (OrderedFail byte after crash) here fits =
+    let last = codes " crash=" ++ decimal crash in
+    let tells = λ (x y : ℕ) (rest : List ℕ). number_told (codes " crash=") (λ n. OrderedFail x y n) rest in
+    ap (pair_told tells) (append_assoc (codes " byte=" ++ address byte ++ codes " after=" ++ address after) (codes " crash=") (decimal crash)
+    ∙ append_assoc (codes " byte=" ++ address byte ++ codes " after=") (address after) last ∙ append_assoc (codes " byte=" ++ address byte) (codes " after=") (address after ++ last)
+    ∙ append_assoc (codes " byte=") (address byte) (codes " after=" ++ (address after ++ last)))
+    ∙ pair-is tells byte after last fits.0 fits.1 refl ∙ number-is (codes " crash=") (λ n. OrderedFail byte after n) crash fits.2
+finding-is k (OrderedSameLine byte after) here fits =
+    let tells = λ (x y : ℕ) (rest : List ℕ). at_last (OrderedSameLine x y) rest in
+    ap (pair_told tells) (two (codes " byte=") (address byte) (codes " after=") (address after)) ∙ pair-is tells byte after [] fits.0 fits.1 tt
+finding-is k (FlushDoubled line lines) here fits = lines-is FlushDoubled line lines fits.0 fits.1
+finding-is k (FlushNeedless line lines) here fits = lines-is FlushNeedless line lines fits.0 fits.1
+finding-is k (NoBackup byte) here fits = byte-is NoBackup byte fits
+finding-is k (DupLog byte) here fits = byte-is DupLog byte fits
+finding-is k (CheckFail byte) here fits = crash-is k CheckFail byte here fits
+finding-is k (TxStillOpen depth) here fits = number-is (codes " depth=") TxStillOpen depth fits
+finding-is k (Unclosed start) here fits = number-is (codes " start=") Unclosed start fits
+finding-is k _ here fits = refl
+
+begins : (k : ℕ) (f : Finding) → BeginsWithNoDigit (text_of_finding k f)
+unfolding text_of_finding
+begins k PersistPass = refl
+begins k _ = refl
+
+row-is : (row : Row) → FitsRow row → row_told (text_without_end row) ≡ Some row
+unfolding row_told
+row-is row fits =
+    ap (told_by (λ k rest. option_map (row_at k) (finding_told (words_at k) rest))) (number_in_front-decimal row.place (text_of_finding row.place row.finding) fits.0 (begins row.place row.finding))
+    ∙ ap (option_map (row_at row.place)) (finding-is row.place row.finding fits.0 fits.1)
+
+-- ---- text lines
+
+counts_line : Totals → List ℕ
+counts_line t = codes " pass=" ++ decimal t.pass ++ codes " fail=" ++ decimal t.fail ++ codes " warn=" ++ decimal t.warn ++ codes " empty=" ++ decimal t.empty
+
+named : Checked → List ℕ
+named s = codes "section " ++ decimal s.section.name.run ++ codes "." ++ decimal s.section.name.number ++ codes " events=" ++ decimal (length s.section.events)
+
+header_line : Checked → List ℕ
+header_line s = named s ++ counts_line (totals_of (s ∷ []))
+
+total_line : Totals → List ℕ
+total_line t = codes "total sections=" ++ decimal t.sections ++ counts_line t
+
+abbrev section_lines : Checked → List (List ℕ)
+section_lines s = header_line s ∷ map text_without_end (rows_in s)
+
+abbrev report_lines : List Checked → List (List ℕ)
+report_lines sections = flat_map section_lines sections ++ total_line (totals_of sections) ∷ []
+
+section-text : (s : Checked) → text_of_section s ≡ text_of_lines (section_lines s)
+unfolding text_of_section text_of_header text_of_counts header_line named counts_line
+section-text s =
+    ap (λ front. front ++ text_of_rows (rows_in s)) (sym (append_assoc (named s) (counts_line (totals_of (s ∷ []))) (10 ∷ [])))
+    ∙ ap (λ rest. (header_line s ++ 10 ∷ []) ++ rest) (row_lines (rows_in s))
+
+sections-text : (sections : List Checked) → flat_map text_of_section sections ≡ text_of_lines (flat_map section_lines sections)
+sections-text [] = refl
+sections-text (s ∷ sections) =
+    ap (λ front. front ++ flat_map text_of_section sections) (section-text s)
+    ∙ ap (λ rest. text_of_lines (section_lines s) ++ rest) (sections-text sections)
+    ∙ sym (lines-append (section_lines s) (flat_map section_lines sections))
+
+total-text : (t : Totals) → text_of_totals t ≡ text_of_lines (total_line t ∷ [])
+unfolding text_of_totals text_of_counts total_line counts_line
+total-text t = sym (append_assoc (codes "total sections=" ++ decimal t.sections) (counts_line t) (10 ∷ [])) ∙ sym (append-nil (total_line t ++ 10 ∷ []))
+
+report-text : (sections : List Checked) → report_of sections ≡ text_of_lines (report_lines sections)
+report-text sections =
+    ap (λ front. front ++ text_of_totals (totals_of sections)) (sections-text sections)
+    ∙ ap (λ rest. text_of_lines (flat_map section_lines sections) ++ rest) (total-text (totals_of sections))
+    ∙ sym (lines-append (flat_map section_lines sections) (total_line (totals_of sections) ∷ []))
+
+-- no line end stands in them
+more-one : (front word : List ℕ) (n : ℕ) → OneLine front → OneLine word → OneLine (front ++ word ++ decimal n)
+more-one front word n first second = one-append (front ++ word) (decimal n) (one-append front word first second) (decimal-one n)
+
+word-one : (word : List ℕ) (n : ℕ) → OneLine word → OneLine (word ++ decimal n)
+word-one word n first = one-append word (decimal n) first (decimal-one n)
+
+counts-one : (t : Totals) → OneLine (counts_line t)
+unfolding counts_line
+counts-one t =
+    let first = codes " pass=" ++ decimal t.pass in
+    let second = first ++ codes " fail=" ++ decimal t.fail in
+    let third = second ++ codes " warn=" ++ decimal t.warn in
+    more-one third (codes " empty=") t.empty (more-one second (codes " warn=") t.warn
+    (more-one first (codes " fail=") t.fail (word-one (codes " pass=") t.pass (search rules)) (search rules)) (search rules)) (search rules)
+
+header-one : (s : Checked) → OneLine (header_line s)
+unfolding header_line named
+header-one s =
+    let run = codes "section " ++ decimal s.section.name.run in
+    let name = run ++ codes "." ++ decimal s.section.name.number in
+    one-append (named s) (counts_line (totals_of (s ∷ [])))
+    (more-one name (codes " events=") (length s.section.events) (more-one run (codes ".") s.section.name.number (word-one (codes "section ") s.section.name.run (search rules)) (search rules)) (search rules))
+    (counts-one (totals_of (s ∷ [])))
+
+total-one : (t : Totals) → OneLine (total_line t)
+unfolding total_line
+total-one t = one-append (codes "total sections=" ++ decimal t.sections) (counts_line t) (word-one (codes "total sections=") t.sections (search rules)) (counts-one t)
+
+sections-one : (sections : List Checked) → AllByRecursion OneLine (flat_map section_lines sections)
+sections-one [] = tt
+sections-one (s ∷ sections) = each-append (section_lines s) (flat_map section_lines sections) (header-one s, rows-one (rows_in s)) (sections-one sections)
+
+report-one : (sections : List Checked) → AllByRecursion OneLine (report_lines sections)
+report-one sections = each-append (flat_map section_lines sections) (total_line (totals_of sections) ∷ []) (sections-one sections) (total-one (totals_of sections), tt)
+
+-- ---- sections
+
+header-is : (s : Checked) → FitsSection s → header_told (header_line s) ≡ Some (record { name = s.section.name; events = length s.section.events; rows = [] })
+unfolding header_told header_line named counts_line
+header-is s fits =
+    let t = totals_of (s ∷ []) in
+    let name = s.section.name in
+    let e = decimal (length s.section.events) in
+    let third = e ++ counts_line t in
+    let second = decimal name.number ++ (codes " events=" ++ third) in
+    ap header_told
+    (append_assoc (codes "section " ++ decimal name.run ++ codes "." ++ decimal name.number ++ codes " events=") e (counts_line t)
+    ∙ append_assoc (codes "section " ++ decimal name.run ++ codes "." ++ decimal name.number) (codes " events=") third
+    ∙ append_assoc (codes "section " ++ decimal name.run ++ codes ".") (decimal name.number) (codes " events=" ++ third)
+    ∙ append_assoc (codes "section " ++ decimal name.run) (codes ".") second
+    ∙ append_assoc (codes "section ") (decimal name.run) (codes "." ++ second))
+    ∙ ap (told_by (λ run rest. told_by (λ number more. told_by (told run number) (number_behind (codes " events=") more)) (number_behind (codes ".") rest)))
+    (number_behind-word (codes "section ") name.run (codes "." ++ second) fits.run refl)
+    ∙ ap (told_by (λ number more. told_by (told name.run number) (number_behind (codes " events=") more))) (number_behind-word (codes ".") name.number (codes " events=" ++ third) fits.number refl)
+    ∙ ap (told_by (told name.run name.number)) (number_behind-word (codes " events=") (length s.section.events) (counts_line t) fits.events refl)
+  where
+    told : ℕ → ℕ → ℕ → List ℕ → Option Told
+    told run number events rest = Some (record { name = record { run = run; number = number }; events = events; rows = [] })
+
+header-no_row : (s : Checked) → row_told (header_line s) ≡ None
+unfolding row_told number_in_front numeral_of is_numeral header_line named
+header-no_row s = refl
+
+total-no_row : (t : Totals) → row_told (total_line t) ≡ None
+unfolding row_told number_in_front numeral_of is_numeral total_line
+total-no_row t = refl
+
+total-no_header : (t : Totals) → header_told (total_line t) ≡ None
+unfolding header_told number_behind total_line
+total-no_header t = refl
+
+-- behind some rows the others are told alike, and none of the rows is a header
+rows-are : (rows : List Row) (lines : List (List ℕ)) → AllByRecursion FitsRow rows → rows_told lines ≡ [] →
+    (rows_told (map text_without_end rows ++ lines) ≡ rows) × (sections_in (map text_without_end rows ++ lines) ≡ sections_in lines)
+unfolding rows_told sections_in
+rows-are [] lines fit none = (none, refl)
+rows-are (row ∷ rows) lines fit none =
+    let rest = rows-are rows lines fit.1 none in
+    let line = text_without_end row in
+    let more = map text_without_end rows ++ lines in
+    (
+      ap (λ o. row_before o (rows_told more)) (row-is row fit.0) ∙ ap (λ rs. row ∷ rs) rest.0,
+      ap (λ o. header_before o (header_told line) (rows_told more) (sections_in more)) (row-is row fit.0) ∙ rest.1,
+    )
+
+-- no row stands before the next header or the sums
+no_row : (sections : List Checked) (t : Totals) → rows_told (flat_map section_lines sections ++ total_line t ∷ []) ≡ []
+unfolding rows_told
+no_row [] t = ap (λ o. row_before o []) (total-no_row t)
+no_row (s ∷ sections) t =
+    ap (λ o. row_before o (rows_told ((map text_without_end (rows_in s) ++ flat_map section_lines sections) ++ total_line t ∷ []))) (header-no_row s)
+
+sections-are : (sections : List Checked) (t : Totals) → AllByRecursion FitsSection sections → sections_in (flat_map section_lines sections ++ total_line t ∷ []) ≡ map shown sections
+unfolding sections_in rows_told
+sections-are [] t fit =
+    ap (λ o. header_before o (header_told (total_line t)) [] []) (total-no_row t) ∙ ap (λ h. header_before None h [] []) (total-no_header t)
+sections-are (s ∷ sections) t fit =
+    let rows = rows_in s in
+    let behind = flat_map section_lines sections ++ total_line t ∷ [] in
+    let lines = (map text_without_end rows ++ flat_map section_lines sections) ++ total_line t ∷ [] in
+    let order : lines ≡ map text_without_end rows ++ behind = append_assoc (map text_without_end rows) (flat_map section_lines sections) (total_line t ∷ []) in
+    let found = rows-are rows behind (recursion_from_All FitsRow rows fit.0.rows) (no_row sections t) in
+    ap (λ o. header_before o (header_told (header_line s)) (rows_told lines) (sections_in lines)) (header-no_row s)
+    ∙ ap (λ h. header_before None h (rows_told lines) (sections_in lines)) (header-is s fit.0)
+    ∙ ap (λ rs. record { name = s.section.name; events = length s.section.events; rows = rs } ∷ sections_in lines) (ap rows_told order ∙ found.0)
+    ∙ ap (λ told. shown s ∷ told) (ap sections_in order ∙ found.1 ∙ sections-are sections t fit.1)
+
+pub reports_tell_sections : ReportsTellSections
+unfolding sections_told
+reports_tell_sections sections fit =
+    ap sections_told (report-text sections) ∙ ap sections_in (lines_of-lines (report_lines sections) (report-one sections))
+    ∙ sections-are sections (totals_of sections) (recursion_from_All FitsSection sections fit)
+
+-- ---- sums
+
+counts-are : (t : Totals) → FitsTotals t → counts_told t.sections (counts_line t) ≡ Some t
+unfolding counts_told counts_line
+counts-are t fits =
+    let last = decimal t.empty ++ [] in
+    let fourth = decimal t.warn ++ (codes " empty=" ++ last) in
+    let third = decimal t.fail ++ (codes " warn=" ++ fourth) in
+    ap (counts_told t.sections)
+    (ap (λ digits. codes " pass=" ++ decimal t.pass ++ codes " fail=" ++ decimal t.fail ++ codes " warn=" ++ decimal t.warn ++ codes " empty=" ++ digits) (sym (append-nil (decimal t.empty)))
+    ∙ append_assoc (codes " pass=" ++ decimal t.pass ++ codes " fail=" ++ decimal t.fail ++ codes " warn=" ++ decimal t.warn) (codes " empty=") last
+    ∙ append_assoc (codes " pass=" ++ decimal t.pass ++ codes " fail=" ++ decimal t.fail ++ codes " warn=") (decimal t.warn) (codes " empty=" ++ last)
+    ∙ append_assoc (codes " pass=" ++ decimal t.pass ++ codes " fail=" ++ decimal t.fail) (codes " warn=") fourth
+    ∙ append_assoc (codes " pass=" ++ decimal t.pass ++ codes " fail=") (decimal t.fail) (codes " warn=" ++ fourth)
+    ∙ append_assoc (codes " pass=" ++ decimal t.pass) (codes " fail=") third
+    ∙ append_assoc (codes " pass=") (decimal t.pass) (codes " fail=" ++ third))
+    ∙ ap (told_by (λ pass rest. told_by (fails pass) (number_behind (codes " fail=") rest))) (number_behind-word (codes " pass=") t.pass (codes " fail=" ++ third) fits.pass refl)
+    ∙ ap (told_by (fails t.pass)) (number_behind-word (codes " fail=") t.fail (codes " warn=" ++ fourth) fits.fail refl)
+    ∙ ap (told_by (warns t.pass t.fail)) (number_behind-word (codes " warn=") t.warn (codes " empty=" ++ last) fits.warn refl)
+    ∙ ap (told_by (empties t.pass t.fail t.warn)) (number_behind-word (codes " empty=") t.empty [] fits.empty tt)
+  where
+    empties : ℕ → ℕ → ℕ → ℕ → List ℕ → Option Totals
+    empties pass fail warn empty rest = at_last (record { sections = t.sections; pass = pass; fail = fail; warn = warn; empty = empty }) rest
+
+    warns : ℕ → ℕ → ℕ → List ℕ → Option Totals
+    warns pass fail warn rest = told_by (empties pass fail warn) (number_behind (codes " empty=") rest)
+
+    fails : ℕ → ℕ → List ℕ → Option Totals
+    fails pass fail rest = told_by (warns pass fail) (number_behind (codes " warn=") rest)
+
+sums-are : (t : Totals) → FitsTotals t → sums_told (total_line t) ≡ Some t
+unfolding sums_told total_line counts_line
+sums-are t fits =
+    ap sums_told (append_assoc (codes "total sections=") (decimal t.sections) (counts_line t))
+    ∙ ap (told_by counts_told) (number_behind-word (codes "total sections=") t.sections (counts_line t) fits.sections refl) ∙ counts-are t fits
+
+last-sums : (lines : List (List ℕ)) (line : List ℕ) → last_sums (lines ++ line ∷ []) ≡ sums_told line
+last-sums [] line = refl
+last-sums (one ∷ []) line = refl
+last-sums (one ∷ other ∷ lines) line = last-sums (other ∷ lines) line
+
+pub reports_tell_totals : ReportsTellTotals
+unfolding totals_told
+reports_tell_totals sections fits =
+    ap totals_told (report-text sections) ∙ ap last_sums (lines_of-lines (report_lines sections) (report-one sections))
+    ∙ last-sums (flat_map section_lines sections) (total_line (totals_of sections)) ∙ sums-are (totals_of sections) fits
