@@ -172,9 +172,9 @@ last-event : (es : List Event) (k : ℕ) (e : Event) → slice_get es k ≡ Some
 unfolding event_at
 last-event es k e is = is
 
-pub ends-stay : EndsStay
-ends-stay es p fs q zero size cut goes = end-by es p (p + 0) fs q (q + 0) (behind-there es p p (p + 0) fs q q (q + 0) (omega arith) (omega arith) (behind-cut es p fs q cut))
-ends-stay es p fs q (suc n) size cut goes = elim ((slice_get_cases es (p + n)).1) [
+pub ends_stay : EndsStay
+ends_stay es p fs q zero size cut goes = end-by es p (p + 0) fs q (q + 0) (behind-there es p p (p + 0) fs q q (q + 0) (omega arith) (omega arith) (behind-cut es p fs q cut))
+ends_stay es p fs q (suc n) size cut goes = elim ((slice_get_cases es (p + n)).1) [
   | inr past ↦ absurd (omega (arith, past.0))
   | inl some ↦ end-by es p (p + suc n) fs q (q + suc n) (behind-at es p fs q n some.0 cut goes (last-event es (p + n) some.0 some.2) (suc n) (omega arith))
 ]

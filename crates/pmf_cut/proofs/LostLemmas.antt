@@ -15,9 +15,9 @@ pub record Member (past : Past) (first n k : ℕ) : Type 0 where
   pub within : k < first + n
   pub before : (b : ℕ) → first ≤ b → b < k → state_at past.bytes b ≡ false
 
-pub member-first : (past : Past) (first n k : ℕ) → first_from (passing (λ (v : Bool). v) past.bytes) first n ≡ Some k → Member past first n k
+pub member_first : (past : Past) (first n k : ℕ) → first_from (passing (λ (v : Bool). v) past.bytes) first n ≡ Some k → Member past first n k
 unfolding passing
-member-first past first n k is = let found = first-passes (λ b. state_at past.bytes b) first n k is in record { from = found.from; within = found.within; before = found.before }
+member_first past first n k is = let found = first-passes (λ b. state_at past.bytes b) first n k is in record { from = found.from; within = found.within; before = found.before }
 
 -- a member stays one where a range is put in, and the range's bytes are members
 pub put-kept : (old new : Past) (first end : ℕ) → ChangesBetween first end (λ v. true) old.bytes new.bytes → (b : ℕ) → state_at old.bytes b ≡ true → state_at new.bytes b ≡ true

@@ -50,30 +50,30 @@ stands-none part fs events depth scope shadow = record {
 -- ---- depth and scope
 
 module _ (fs : List Event) (m : ℕ) where
-  pub depth-begin : event_at fs (suc m) ≡ Some TxBegin → depth_at fs (suc m) ≡ suc (depth_at fs m)
+  pub depth_begin : event_at fs (suc m) ≡ Some TxBegin → depth_at fs (suc m) ≡ suc (depth_at fs m)
   unfolding begins ends
-  depth-begin here = depth-begun fs m TxBegin here refl refl
+  depth_begin here = depth-begun fs m TxBegin here refl refl
 
-  pub depth-end : event_at fs (suc m) ≡ Some TxEnd → depth_at fs (suc m) ≡ depth_at fs m - 1
+  pub depth_end : event_at fs (suc m) ≡ Some TxEnd → depth_at fs (suc m) ≡ depth_at fs m - 1
   unfolding begins ends
-  depth-end here = depth-ended fs m TxEnd here refl refl
+  depth_end here = depth-ended fs m TxEnd here refl refl
 
-  pub depth-other : (e : Event) → event_at fs (suc m) ≡ Some e → (e ≡ TxBegin → ⊥) → (e ≡ TxEnd → ⊥) → depth_at fs (suc m) ≡ depth_at fs m
-  depth-other e here no_begin no_end = depth-kept fs m e here (begins-other e no_begin) (ends-other e no_end)
+  pub depth_other : (e : Event) → event_at fs (suc m) ≡ Some e → (e ≡ TxBegin → ⊥) → (e ≡ TxEnd → ⊥) → depth_at fs (suc m) ≡ depth_at fs m
+  depth_other e here no_begin no_end = depth-kept fs m e here (begins-other e no_begin) (ends-other e no_end)
 
-  pub scope-start : event_at fs (suc m) ≡ Some CheckStart → in_scope fs (suc m) ≡ true
+  pub scope_start : event_at fs (suc m) ≡ Some CheckStart → in_scope fs (suc m) ≡ true
   unfolding opens_scope closes_scope
-  scope-start here = elim (in_scope fs m) as (λ v. in_scope fs m ≡ v → in_scope fs (suc m) ≡ true) [
+  scope_start here = elim (in_scope fs m) as (λ v. in_scope fs m ≡ v → in_scope fs (suc m) ≡ true) [
     | true ↦ λ is. in_scope-same fs m (suc m) (scope-stays fs m CheckStart here refl (scope-some fs m is)) ∙ is
     | false ↦ λ none. scoped-from fs (suc m) (let now = scope-opened fs m CheckStart here refl refl (scope-none fs m none) in omega arith)
   ] refl
 
-  pub scope-end : event_at fs (suc m) ≡ Some CheckEnd → in_scope fs (suc m) ≡ false
+  pub scope_end : event_at fs (suc m) ≡ Some CheckEnd → in_scope fs (suc m) ≡ false
   unfolding closes_scope
-  scope-end here = unscoped-from fs (suc m) (scope-closed fs m CheckEnd here refl)
+  scope_end here = unscoped-from fs (suc m) (scope-closed fs m CheckEnd here refl)
 
-  pub scope-other : (e : Event) → event_at fs (suc m) ≡ Some e → (e ≡ CheckStart → ⊥) → (e ≡ CheckEnd → ⊥) → in_scope fs (suc m) ≡ in_scope fs m
-  scope-other e here no_start no_end = in_scope-same fs m (suc m) (scope-kept fs m e here (closes-other e no_end) (opens-other e no_start))
+  pub scope_other : (e : Event) → event_at fs (suc m) ≡ Some e → (e ≡ CheckStart → ⊥) → (e ≡ CheckEnd → ⊥) → in_scope fs (suc m) ≡ in_scope fs m
+  scope_other e here no_start no_end = in_scope-same fs m (suc m) (scope-kept fs m e here (closes-other e no_end) (opens-other e no_start))
 
 -- ---- some list is there
 
@@ -84,11 +84,11 @@ HasList shadow events = (fs : List Event) × (length fs ≡ events) × StandsFor
 pub list-none : (shadow : Shadow) → ((told : ℕ → ℕ) (es : List Event) → StandsFor shadow told es 0) → ∥ HasList shadow 0 ∥₁
 list-none shadow stands = ∣ ([], refl, stands (λ k. k) []) ∣₁
 
-pub room-from : (shadow : Shadow) (events : ℕ) → ∥ HasList shadow events ∥₁ → events < EVENT_LIMIT → shadow.fences < EVENT_LIMIT
-room-from shadow events some below = ∥∥₁_elim some (hlevel props) (λ it. let few = stands-fences shadow (λ k. k) it.0 events it.2 in omega arith)
+pub room_from : (shadow : Shadow) (events : ℕ) → ∥ HasList shadow events ∥₁ → events < EVENT_LIMIT → shadow.fences < EVENT_LIMIT
+room_from shadow events some below = ∥∥₁_elim some (hlevel props) (λ it. let few = stands-fences shadow (λ k. k) it.0 events it.2 in omega arith)
 
-pub list-kept : (old new : Shadow) (events : ℕ) → Keeps old new → ∥ HasList old events ∥₁ → ∥ HasList new events ∥₁
-list-kept old new events keeps some = ∥∥₁_map some (λ it. (it.0, it.1, keeps (λ k. k) it.0 events it.2))
+pub list_kept : (old new : Shadow) (events : ℕ) → Keeps old new → ∥ HasList old events ∥₁ → ∥ HasList new events ∥₁
+list_kept old new events keeps some = ∥∥₁_map some (λ it. (it.0, it.1, keeps (λ k. k) it.0 events it.2))
 
 pub list-next : (old new : Shadow) (events place : ℕ) (e : Event) → FollowsAt place old new e → place ≡ events + 1 → ∥ HasList old events ∥₁ → ∥ HasList new (events + 1) ∥₁
 list-next old new events place e follows next some = ∥∥₁_map some (λ it.

@@ -86,6 +86,7 @@ fn extend(
 }
 
 // Whether the two places stand to each that was seen alike.
+#[tactic(auto, using(std::proofs::lemmas::List::drop_more, std::proofs::lemmas::List::drop_all), unfolding(crate::specs::Comparing::agrees))]
 fn all_agree(seen: &[(u32, u32)], x: u32, y: u32) -> bool
     ensures { result ≡ agrees seen.now x y }
 {

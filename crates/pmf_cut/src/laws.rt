@@ -10,6 +10,7 @@ pub fn findings_stay()
 {}
 
 /// What is found of a scope where the whole ends is found where its last part ends.
+#[tactic(auto, using(crate::proofs::CutLemmas::ends_stay))]
 pub fn ends_stay()
     ensures { EndsStay }
 {}

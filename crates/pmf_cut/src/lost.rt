@@ -52,6 +52,7 @@ impl Past {
     }
 
     // Whether a byte of the span is old, and not excluded.
+    #[tactic(auto, using(crate::proofs::LostLemmas::member_first))]
     fn has_old(&self, shadow: &Shadow, span: Span) -> bool
         ensures { result ≡ false → NoneOld self.now shadow.now span.first (span.first + span.size) }
     {

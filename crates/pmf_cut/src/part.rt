@@ -64,6 +64,7 @@ impl Part {
     }
 
     /// Takes the event that happens next. After an `Err` the part is of no use.
+    #[tactic(auto, using(crate::proofs::PartLemmas::room_from, crate::proofs::PartLemmas::list_kept))]
     pub fn take(&mut self, event: Event) -> Result<(), PartFault>
         ensures follows { OnOk result (Follows self.old self.new event) }
         ensures part { OnOk result (GoesOnWith self.old self.new event) }
@@ -98,6 +99,7 @@ impl Part {
 }
 
 // How many transactions run after the event.
+#[tactic(auto, using(crate::proofs::PartLemmas::depth_begin, crate::proofs::PartLemmas::depth_end, crate::proofs::PartLemmas::depth_other))]
 fn depth_after(depth: u32, event: Event) -> u32
     requires { depth < EVENT_LIMIT }
     ensures is { (fs : List Event) (m : ℕ) → event_at fs (suc m) ≡ Some event → depth ≡ depth_at fs m → result ≡ depth_at fs (suc m) }
@@ -111,6 +113,7 @@ fn depth_after(depth: u32, event: Event) -> u32
 }
 
 // Whether there is a scope after the event.
+#[tactic(auto, using(crate::proofs::PartLemmas::scope_start, crate::proofs::PartLemmas::scope_end, crate::proofs::PartLemmas::scope_other))]
 fn scope_after(is_scoped: bool, event: Event) -> bool
     ensures { (fs : List Event) (m : ℕ) → event_at fs (suc m) ≡ Some event → is_scoped ≡ in_scope fs m → result ≡ in_scope fs (suc m) }
 {

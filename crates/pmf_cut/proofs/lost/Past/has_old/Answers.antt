@@ -1,20 +1,10 @@
 use Rattle.std.proofs.Common.{◌-◌, ◌+◌, sym, ◌∙◌, subst, arith}
-use Rattle.pmf_cut.{specs.Lost.{NoneOld}, proofs.LostLemmas.{member-first, none-old-rest, none-old-run}}
+use Rattle.pmf_cut.{specs.Lost.{NoneOld}, proofs.LostLemmas.{member_first, none-old-rest, none-old-run}}
 use Rattle.pmf_cut.proofs.lost.Past.has_old.Goals as goal
-
-pub standing_from-until-requires : goal.standing_from-until-requires
-standing_from-until-requires c =
-    let found = member-first c.args.self.now c.loop-byte.first (c.end-end.result - c.loop-byte.first) c.in-Some.byte (sym c.first_where.ensures ∙ c.in-Some.is) in
-    let within = found.within in let below = c.loop-byte.invariant.0 in omega arith
-
-pub loop-byte-smaller : goal.loop-byte-smaller
-loop-byte-smaller c =
-    let found = member-first c.args.self.now c.loop-byte.first (c.end-end.result - c.loop-byte.first) c.in-Some.byte (sym c.first_where.ensures ∙ c.in-Some.is) in
-    let from = found.from in let within = found.within in let further = c.standing_from-until.ensures.further in let upto = c.standing_from-until.ensures.within in omega arith
 
 pub loop-byte-preserved : goal.loop-byte-preserved
 loop-byte-preserved c =
-    let found = member-first c.args.self.now c.loop-byte.first (c.end-end.result - c.loop-byte.first) c.in-Some.byte (sym c.first_where.ensures ∙ c.in-Some.is) in
+    let found = member_first c.args.self.now c.loop-byte.first (c.end-end.result - c.loop-byte.first) c.in-Some.byte (sym c.first_where.ensures ∙ c.in-Some.is) in
     let from = found.from in let further = c.standing_from-until.ensures.further in let at = c.loop-byte.invariant.1 in (
       c.standing_from-until.ensures.within,
       omega arith,

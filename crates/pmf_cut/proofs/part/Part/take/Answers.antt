@@ -1,16 +1,6 @@
 use Rattle.std.proofs.Common.{◌+◌, refl, arith}
-use Rattle.pmf_cut.proofs.{PartLemmas.{room-from, list-kept, list-next, follows-part}, WholeLemmas.{part-next}}
+use Rattle.pmf_cut.proofs.{PartLemmas.{room_from, list_kept, list-next, follows-part}, WholeLemmas.{part-next}}
 use Rattle.pmf_cut.proofs.part.Part.take.Goals as goal
-
-pub follow-requires : goal.follow-requires
-follow-requires c = room-from c.args.self.now.shadow c.args.self.now.events c.args.self.now.some (let few = c.args.self.now.few in omega arith)
-
-pub invariant_of-self : goal.invariant_of-self
-invariant_of-self c = record {
-  few = c.args.self.now.few;
-  shallow = c.args.self.now.shallow;
-  some = list-kept c.args.self.now.shadow c.follow.new.self c.args.self.now.events c.in_err-follow.ensures.unchanged c.args.self.now.some;
-}
 
 pub invariant_of-self-2 : goal.invariant_of-self-2
 invariant_of-self-2 c = record {
