@@ -5,7 +5,7 @@ pub mod PlaceLemmas
 pub mod AddingLemmas
 pub mod StandingLemmas
 pub mod CountLemmas
-pub mod KeptLemmas
+pub mod AllKeptLemmas
 pub mod UpgradeLemmas
 pub mod TrueRowsLemmas
 pub mod MergingLemmas

@@ -1,4 +1,4 @@
-use Rattle.pmf_ledger.proofs.lemmas.KeptLemmas.{no_fail_is_kept}
+use Rattle.pmf_ledger.proofs.lemmas.AllKeptLemmas.{no_fail_is_kept}
 use Rattle.pmf_ledger.proofs.laws.no_fail_is_kept.Goals as goal
 
 pub returns : goal.returns

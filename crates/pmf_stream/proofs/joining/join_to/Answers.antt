@@ -1,5 +1,5 @@
 use Rattle.std.proofs.Common.{map, sym, ◌∙◌}
-use Rattle.pmf_ledger.proofs.lemmas.KeptLemmas.{no_fail_is_kept, no_empty_is_filled}
+use Rattle.pmf_ledger.proofs.lemmas.AllKeptLemmas.{no_fail_is_kept, no_empty_is_filled}
 use Rattle.pmf_stream.{specs.Joining.{IsJoinedText, IsRefusalOfTexts}, proofs.lemmas.AnsweringLemmas.{Answers-written}}
 use Rattle.pmf_stream.proofs.joining.join_to.Goals as goal
 
