@@ -14,6 +14,7 @@
 
 mod blocks;
 mod copying;
+mod fitting;
 mod head;
 mod joining;
 mod laws;

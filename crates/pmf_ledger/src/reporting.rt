@@ -1,8 +1,9 @@
 //! The report of a ledger: a text line for each section, its rows, and the sums.
 
-ghost use Rattle.std.specs.Prelude.{◌≡◌, ◌++◌, ◌∷◌, [], OnOk, IfOk, string_bytes};
-ghost use Rattle.pmf_ledger.specs.Report.{report_of, text_of_counts, text_of_header, text_of_section, text_of_totals, totals_of};
+ghost use Rattle.std.specs.Prelude.{◌≡◌, ◌++◌, ◌∷◌, [], map, Some, OnOk, IfOk, string_bytes};
+ghost use Rattle.pmf_ledger.specs.{Report.{report_of, text_of_counts, text_of_header, text_of_section, text_of_totals, totals_of}, Told.{FitsTotals, sections_told, shown, totals_told}};
 
+use crate::fitting::sections_fit;
 use crate::ledger::Ledger;
 use crate::totals::Totals;
 use crate::writing::push_rows;
@@ -24,7 +25,8 @@ impl Ledger {
     /// The report: for each section, in the order of their names, a text line with its counts and its rows, and a
     /// last text line with the sums. Takes memory for the text alone.
     pub fn write_report(&self, alloc: Global) -> Result<Vec<u8>, AllocError>
-        ensures { IfOk result (λ text. text.items ≡ report_of self.now.sections) }
+        ensures text { IfOk result (λ text. text.items ≡ report_of self.now.sections) }
+        ensures told { IfOk result (λ text. sections_told text.items ≡ map shown self.now.sections) }
     {
         let (text, _) = self.report(alloc)?;
         Ok(text)
@@ -33,6 +35,18 @@ impl Ledger {
     /// The report, and the sums of its last text line. Looks through all rows once to count them, and once to write
     /// them. Takes memory for the text alone.
     pub fn report(&self, alloc: Global) -> Result<(Vec<u8>, Totals), AllocError>
+        ensures text { IfOk result (λ made. made.0.items ≡ report_of self.now.sections) }
+        // Read line by line, it tells these sections, each with its own rows, and their sums.
+        ensures told { IfOk result (λ made. sections_told made.0.items ≡ map shown self.now.sections) }
+        ensures told_totals { IfOk result (λ made. FitsTotals (totals_of self.now.sections) → totals_told made.0.items ≡ Some (totals_of self.now.sections)) }
+        ensures totals { IfOk result (λ made. made.1 ≡ totals_of self.now.sections) }
+    {
+        sections_fit(self.verdicts());
+        let made = self.written(alloc)?;
+        Ok(made)
+    }
+
+    fn written(&self, alloc: Global) -> Result<(Vec<u8>, Totals), AllocError>
         ensures text { IfOk result (λ made. made.0.items ≡ report_of self.now.sections) }
         ensures totals { IfOk result (λ made. made.1 ≡ totals_of self.now.sections) }
     {

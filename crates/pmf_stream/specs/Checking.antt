@@ -1,7 +1,7 @@
 -- What check_stream reads, and the report or ledger text that it writes. Defined here.
-use Rattle.std.specs.{Prelude.{◌≡◌, ◌≢◌, ◌<◌, ◌≤◌, ◌⊎◌, Bool, true, false, List, ◌++◌, length, ℕ, Option, None, Ok, Err}, Io.KnownBytes.{IsAtEnd}}
+use Rattle.std.specs.{Prelude.{◌≡◌, ◌≢◌, ◌<◌, ◌≤◌, ◌⊎◌, Bool, true, false, List, ◌++◌, length, map, ℕ, Option, None, Ok, Err}, Io.KnownBytes.{IsAtEnd}}
 use Rattle.pmf_storelog.specs.{declared.fault.LogFault.{LogFault}, declared.fault.TheConstants.{LOG_LIMIT}, LogValue.{LogValue}, LogText.{log_of, shown_fault, IsFaultOfAll, out_of_memory}}
-use Rattle.pmf_ledger.specs.{Gathered.{IsLedgerOf}, AllKept.{AllKept, AllFilled}, LedgerText.{text_of_ledger}, LedgerValue.{LedgerValue}, Report.{report_of, totals_of}}
+use Rattle.pmf_ledger.specs.{Gathered.{IsLedgerOf}, AllKept.{AllKept, AllFilled}, LedgerText.{text_of_ledger}, LedgerValue.{LedgerValue}, Report.{report_of, totals_of}, Told.{sections_told, shown}}
 use Rattle.pmf_farm.specs.{declared.fault.FarmFault.{FarmFault}, Running.{IsTaken}}
 use Rattle.pmf_board.specs.{declared.board.TheConstants.{MOST_WORKERS}, Workers.{AreWorkers}}
 use Rattle.pmf_stream.specs.{declared.checking.CheckLogFault.{CheckLogFault}, declared.checking.Done.{Done}, declared.reading.TheConstants.{PIECE}, Reading.{HasReadBytes}}
@@ -35,13 +35,14 @@ text_asked false ledger = report_of ledger.sections
 text_asked true ledger = text_of_ledger ledger
 
 -- the workers take the log's sections, this is the report, or the ledger text, of the ledger of those by the profile,
--- and what is told of it is so; where no row fails, all that the sections assert holds, and where none is EMPTY, each
+-- and what is told of it is so; a report tells just the sections of the ledger, each with its own rows; where no row fails, all that the sections assert holds, and where none is EMPTY, each
 -- assertion had something to check
 pub record Reports (settings : Settings) (log : LogValue) (done : Done) (text : List ℕ) : Type 0 where
   pub taken : IsTaken settings.workers log.sections
   pub ledger : LedgerValue
   pub gathered : IsLedgerOf settings.profile log.sections ledger
   pub text_is : text ≡ text_asked settings.ledger ledger
+  pub told : settings.ledger ≡ false → sections_told text ≡ map shown ledger.sections
   pub skipped : done.skipped ≡ log.skipped
   pub fails : done.fails ≡ (totals_of ledger.sections).fail
   pub kept : done.fails ≡ 0 → AllKept log.sections

@@ -1,7 +1,7 @@
 -- What the texts of ledgers give that are joined, text after text. Defined here.
-use Rattle.std.specs.Prelude.{◌≡◌, ◌≢◌, ℕ, zero, suc, ◌<◌, ◌≤◌, Bool, List, [], length, take, slice_index_or, None, All, flat_map}
+use Rattle.std.specs.Prelude.{◌≡◌, ◌≢◌, ℕ, zero, suc, ◌<◌, ◌≤◌, Bool, List, [], false, length, map, take, slice_index_or, None, All, flat_map}
 use Rattle.pmf_event.specs.{declared.profile.Profile.{Profile}, declared.profile.Profile.TheVariants.{One}, Section.{Trace}}
-use Rattle.pmf_ledger.specs.{declared.joining.JoinFault.{JoinFault}, Gathered.{GathersBoth, IsLeastClash, IsLedgerOf, Unites}, AllKept.{AllKept, AllFilled}, LedgerValue.{LedgerValue}, Loading.{IsRefusedWith, LoadsAs, fault_of, reading_of}, Report.{totals_of}}
+use Rattle.pmf_ledger.specs.{declared.joining.JoinFault.{JoinFault}, Gathered.{GathersBoth, IsLeastClash, IsLedgerOf, Unites}, AllKept.{AllKept, AllFilled}, LedgerValue.{LedgerValue}, Loading.{IsRefusedWith, LoadsAs, fault_of, reading_of}, Report.{totals_of}, Told.{sections_told, shown}}
 use Rattle.pmf_stream.specs.{declared.joining.Joined.{Joined}, declared.joining.JoinTextFault.{JoinTextFault}, Checking.{text_asked}}
 use Rattle.pmf_ledger.specs.declared.joining.JoinFault.TheVariants as join
 use Rattle.pmf_stream.specs.declared.joining.JoinTextFault.TheVariants as fault
@@ -60,12 +60,14 @@ IsJoinedAt before zero text new = LoadsAs text new
 IsJoinedAt before (suc index) text new =
     (after : LedgerValue) × LoadsAs text after × IsJoinOfTwo before after new
 
--- this text is written of the texts' ledger, and what is told of it is so; where no row fails, all that the sections of all
+-- this text is written of the texts' ledger, and what is told of it is so; a report tells just its sections, each with its own rows;
+-- where no row fails, all that the sections of all
 -- texts assert holds, and where none is EMPTY, each assertion had something to check
 pub record IsJoinedText (as_ledger : Bool) (texts : List (List ℕ)) (joined : Joined) (text : List ℕ) : Type 0 where
   pub ledger : LedgerValue
   pub joins : IsJoinOf texts ledger
   pub text_is : text ≡ text_asked as_ledger ledger
+  pub told : as_ledger ≡ false → sections_told text ≡ map shown ledger.sections
   pub fails : joined.fails ≡ (totals_of ledger.sections).fail
   pub kept : joined.fails ≡ 0 → AllKept (flat_map blocks_of texts)
   pub filled : (totals_of ledger.sections).empty ≡ 0 → AllFilled (flat_map blocks_of texts)

@@ -1,9 +1,9 @@
 //! From a stream of bytes to its report, or its ledger text.
 
-ghost use Rattle.std.specs.Prelude.{◌≡◌, ◌≢◌, ◌++◌, ◌+◌, ℕ, List, [], Option, None, IfOk, IfErr, MatchResult};
+ghost use Rattle.std.specs.Prelude.{◌≡◌, ◌≢◌, ◌++◌, ◌+◌, ℕ, false, List, [], map, Option, None, IfOk, IfErr, MatchResult};
 ghost use Rattle.pmf_storelog.specs.{declared.fault.TheConstants.{LOG_LIMIT}, LogText.{out_of_memory, shown_fault}, Reader.{HasRead}};
 ghost use Rattle.pmf_farm.specs.Running.{IsTaken};
-ghost use Rattle.pmf_ledger.specs.{Gathered.{IsLedgerOf}, Report.{totals_of}};
+ghost use Rattle.pmf_ledger.specs.{Gathered.{IsLedgerOf}, Report.{totals_of}, Told.{sections_told, shown}};
 ghost use Rattle.pmf_stream.specs.{Answering.{Answers, RefusesReading, TellsFaults, failed_reads}, Checking.{IsCheckFaultOf, IsLogOf, IsReportOf, Reports, text_asked}, Failures.{CanCountOneMore}, Reading.{ReadsWithin}};
 
 use crate::failed::Failed;
@@ -98,6 +98,7 @@ pub(crate) fn write_asked(
 ) -> Result<(Vec<u8>, u128), AllocError>
     ensures text { IfOk result (λ made. made.0.items ≡ text_asked as_ledger ledger.now) }
     ensures fails { IfOk result (λ made. made.1 ≡ (totals_of ledger.now.sections).fail) }
+    ensures told { IfOk result (λ made. as_ledger ≡ false → sections_told made.0.items ≡ map shown ledger.now.sections) }
 {
     if as_ledger {
         let text = ledger.write_ledger(alloc)?;

@@ -227,8 +227,7 @@ rows-are [] lines fit none = (none, refl)
 rows-are (row ∷ rows) lines fit none =
     let rest = rows-are rows lines fit.1 none in
     let line = text_without_end row in
-    let more = map text_without_end rows ++ lines in
-    (
+    let more = map text_without_end rows ++ lines in (
       ap (λ o. row_before o (rows_told more)) (row-is row fit.0) ∙ ap (λ rs. row ∷ rs) rest.0,
       ap (λ o. header_before o (header_told line) (rows_told more) (sections_in more)) (row-is row fit.0) ∙ rest.1,
     )

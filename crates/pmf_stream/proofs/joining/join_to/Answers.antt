@@ -11,6 +11,7 @@ returns-clause-answer g c =
       ledger = c.in-Ok.ledger;
       joins = c.in-Ok.ensures;
       text_is = c.in_ok-text.ensures.text;
+      told = c.in_ok-text.ensures.told;
       fails = c.in_ok-text.ensures.fails;
       kept = λ none. no_fail_is_kept _ _ c.in-Ok.ledger c.in-Ok.ensures.gathered (sym c.in_ok-text.ensures.fails ∙ none);
       filled = no_empty_is_filled _ _ c.in-Ok.ledger c.in-Ok.ensures.gathered;

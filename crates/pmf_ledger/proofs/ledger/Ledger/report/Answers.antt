@@ -1,30 +1,10 @@
-use Rattle.std.proofs.{Common.{◌+◌, ◌<◌, ◌^◌, ◌++◌, ◌∷◌, [], take, sym, ◌∙◌, ap, subst, rules, flat_map}, lemmas.List.{flat_map_more, take_more}}
-use Rattle.pmf_ledger.{specs.Report.{IsWithin, both, text_of_section}, proofs.lemmas.CountLemmas.{IsWithin-all, Sums, Sums-more, Sums-none}}
+use Rattle.std.proofs.Common.{All, ◌∙◌, ap, subst}
+use Rattle.pmf_ledger.{specs.Told.{FitsSection, sections_told, totals_told}, proofs.lemmas.ToldLemmas.{reports_tell_sections, reports_tell_totals}}
 use Rattle.pmf_ledger.proofs.ledger.Ledger.report.Goals as goal
 
-pub loop-verdict-init : goal.loop-verdict-init
-loop-verdict-init c = record {
-  text = search rules;
-  sums = subst (Sums c.deref-verdict-items.result.now 0) (sym c.none-totals.ensures) (Sums-none c.deref-verdict-items.result.now);
-}
+pub returns-clause-told : goal.returns-clause-told
+returns-clause-told c =
+    ap sections_told c.in_ok-made.ensures.text ∙ reports_tell_sections c.args.self.now.sections (subst (λ sections. All FitsSection sections) c.verdicts.ensures.value c.sections_fit.ensures)
 
-pub add-requires : goal.add-requires
-add-requires c =
-    let sections = c.deref-verdict-items.result.now in
-    let more = Sums-more sections c.loop-verdict.verdict-index c.loop-verdict.totals c.verdict-item.result c.loop-verdict-test.true c.verdict-item.is
-    (subst (IsWithin 1 (2 ^ 64)) c.of-counts.ensures.value c.of-counts.ensures.small) c.loop-verdict.invariant.sums in
-    let few : c.loop-verdict.verdict-index + 1 < 2 ^ 64 = search rules in
-    rw c.of-counts.ensures.value (IsWithin-all (c.loop-verdict.verdict-index + 1) _ few more.small)
-
-pub loop-verdict-preserved : goal.loop-verdict-preserved
-loop-verdict-preserved c =
-    let sections = c.deref-verdict-items.result.now in
-    let index = c.loop-verdict.verdict-index in
-    let verdict = c.verdict-item.result in
-    let more = Sums-more sections index c.loop-verdict.totals verdict c.loop-verdict-test.true c.verdict-item.is
-    (subst (IsWithin 1 (2 ^ 64)) c.of-counts.ensures.value c.of-counts.ensures.small) c.loop-verdict.invariant.sums in
-    record {
-      text = c.in_ok-push_section.ensures ∙ ap (λ text. text ++ text_of_section verdict) c.loop-verdict.invariant.text ∙ flat_map_more text_of_section [] (take index sections) verdict
-          ∙ ap (flat_map text_of_section) (ap (λ v. take index sections ++ v ∷ []) c.verdict-item.is ∙ sym (take_more sections index verdict c.loop-verdict-test.true));
-      sums = subst (Sums sections (index + 1)) (sym (c.add.ensures ∙ ap (both c.loop-verdict.totals) c.of-counts.ensures.value)) more;
-    }
+pub returns-clause-told_totals : goal.returns-clause-told_totals
+returns-clause-told_totals c = λ fits. ap totals_told c.in_ok-made.ensures.text ∙ reports_tell_totals c.args.self.now.sections fits

@@ -1,6 +1,6 @@
 use Rattle.std.proofs.Common.{◌≡◌, take, flat_map, string_bytes}
 use Rattle.pmf_ledger.{specs.Report.{text_of_section}, proofs.lemmas.CountLemmas.{Sums}}
-use Rattle.pmf_ledger.proofs.ledger.Ledger.report.Given as goal
+use Rattle.pmf_ledger.proofs.ledger.Ledger.written.Given as goal
 
 abbrev pub invariant-loop-verdict : goal.invariant-loop-verdict
 invariant-loop-verdict l = record {
