@@ -1,15 +1,13 @@
 -- Where a certificate comes from, and that its image is allowed and contradicts the assertion.
-use Rattle.std.proofs.{Common.{◌≡◌, ℕ, zero, suc, ◌-◌, Bool, true, false, not, ◌&&◌, if◌then◌else◌, List, refl, sym, ◌∙◌, ap, arith, subst, Option, Some, None, is_none, Contains}, lemmas.Bool.{and_parts}}
-use Rattle.pmf_event.{specs.declared.event.Event.{Event}, specs.declared.event.Event.TheVariants.{CheckEnd}, specs.declared.finding.Finding.{Finding}, specs.declared.finding.Finding.TheVariants.{PersistPass, PersistFail, PersistEmpty, OrderedPass, OrderedFail, OrderedSameLine, OrderedEmpty, CheckPass, CheckFail, TxStillOpen, Unopened}, specs.declared.profile.Profile.{Profile}, specs.declared.span.TheConstants.{ADDRESS_LIMIT}, specs.Span.{Extent}, specs.Line.{line_of_byte}, specs.Store.{event_at, last_store}, specs.Interval.{interval_at, is_open}, specs.Exclusion.{is_included}, specs.Ranges.{first_from, first_byte}, specs.Persist.{is_checked, is_exposed, pass_unless, persist_finding}, specs.Order.{is_unordered, is_certified, least_pair, finding_of_pairs, ordered_finding}, specs.Transactions.{in_transaction, depth_at, in_scope, is_scoped, is_left_open, scope_passes_unless, check_finding}, proofs.RangeLemmas.{first-passes}, proofs.LeastPairLemmas.{pair-from, certified-unordered}, proofs.LineLemmas.{bounds-cover}, proofs.TransactionLemmas.{left_open-exposed}}
+use Rattle.std.proofs.{Common.{◌≡◌, ℕ, zero, suc, ◌-◌, Bool, true, false, not, if◌then◌else◌, List, refl, sym, ◌∙◌, ap, arith, subst, Option, Some, None, is_none, Contains}, lemmas.Bool.{and_parts}}
+use Rattle.pmf_event.{specs.declared.event.Event.{Event}, specs.declared.event.Event.TheVariants.{CheckEnd}, specs.declared.finding.Finding.{Finding}, specs.declared.finding.Finding.TheVariants.{PersistFail, PersistEmpty, OrderedFail, OrderedEmpty, CheckFail, TxStillOpen, Unopened}, specs.declared.profile.Profile.{Profile}, specs.declared.span.TheConstants.{ADDRESS_LIMIT}, specs.Span.{Extent}, specs.Line.{line_of_byte}, specs.Store.{event_at, last_store}, specs.Interval.{interval_at, is_open}, specs.Exclusion.{is_included}, specs.Ranges.{first_from, first_byte}, specs.Persist.{is_checked, is_exposed, pass_unless, persist_finding}, specs.Order.{is_unordered, is_certified, least_pair, finding_of_pairs, ordered_finding}, specs.Transactions.{in_transaction, depth_at, in_scope, is_scoped, is_left_open, scope_passes_unless, check_finding}, proofs.RangeLemmas.{first-passes}, proofs.LeastPairLemmas.{pair-from, certified-unordered}, proofs.LineLemmas.{bounds-cover}, proofs.TransactionLemmas.{left_open-exposed}}
 use Rattle.pmf_image.{specs.declared.certificate.Certificate.{Certificate}, specs.Contradiction.{PersistContradicted, OrderedContradicted, ScopeContradicted, ContradictsEvent, Contradicts}, proofs.ImageLemmas.{last_store-bound}, proofs.FailureLemmas.{shown-where_open, pair-shown}, proofs.ExactLemmas.{checked-parts}}
 use Rattle.pmf_verdict.{specs.Rows.{row_at, rows_of}, specs.Explained.{certificate_of}, proofs.KindLemmas.{persist-from_rows, ordered-from_rows, check-from_rows}}
 
 -- ---- a failure of a persist assertion
 
 fails-persist : (v : Bool) (o : Option ℕ) (b : ℕ) → PersistFail b ≡ (if v then PersistEmpty else pass_unless o) → o ≡ Some b
-fails-persist true o b is = let bad : PersistFail b ≡ PersistEmpty = is in cc
-fails-persist false None b is = let bad : PersistFail b ≡ PersistPass = is in cc
-fails-persist false (Some k) b is = let same : PersistFail b ≡ PersistFail k = is in cc
+fails-persist v o b is = grind arith
 
 exposed-checked : (es : List Event) (p b : ℕ) → is_exposed es p b ≡ true → is_checked es p b ≡ true
 unfolding is_exposed
@@ -25,19 +23,9 @@ persist-contradicted es p s b is =
 
 -- ---- a failure of an order assertion
 
-fails-pairs : (es : List Event) (p : ℕ) (c u : Option (ℕ × ℕ)) (x y n : ℕ) → OrderedFail x y n ≡ finding_of_pairs es p c u → (c ≡ Some (x, y)) × (n ≡ last_store es p y)
-fails-pairs es p (Some (k, l)) u x y n is =
-    let same : OrderedFail x y n ≡ OrderedFail k l (last_store es p l) = is in
-    let one : k ≡ x = cc in let other : l ≡ y = cc in let crash : n ≡ last_store es p l = cc in
-    (ap (λ z. Some (z, l)) one ∙ ap (λ z. Some (x, z)) other, crash ∙ ap (last_store es p) other)
-fails-pairs es p None (Some (k, l)) x y n is = let bad : OrderedFail x y n ≡ OrderedSameLine k l = is in cc
-fails-pairs es p None None x y n is = let bad : OrderedFail x y n ≡ OrderedPass = is in cc
-
 fails-ordered : (es : List Event) (p : ℕ) (v w : Bool) (c u : Option (ℕ × ℕ)) (x y n : ℕ) →
     OrderedFail x y n ≡ (if v then OrderedEmpty else if w then OrderedEmpty else finding_of_pairs es p c u) → (c ≡ Some (x, y)) × (n ≡ last_store es p y)
-fails-ordered es p true w c u x y n is = let bad : OrderedFail x y n ≡ OrderedEmpty = is in cc
-fails-ordered es p false true c u x y n is = let bad : OrderedFail x y n ≡ OrderedEmpty = is in cc
-fails-ordered es p false false c u x y n is = fails-pairs es p c u x y n is
+fails-ordered es p v w c u x y n is = grind arith
 
 ordered-contradicted : (profile : Profile) (es : List Event) (p : ℕ) (a b : Extent) (x y n : ℕ) → OrderedFail x y n ≡ ordered_finding profile es p a b →
     OrderedContradicted es p a b (record { crash = n; full_line = Some (line_of_byte y) })
@@ -56,16 +44,11 @@ ordered-contradicted profile es p a b x y n is =
 
 fails-check : (u v : Bool) (d : ℕ) (o : Option ℕ) (b : ℕ) → CheckFail b ≡ (if not u then Unopened else if v then TxStillOpen d else scope_passes_unless o) →
     (u ≡ true) × (v ≡ false) × (o ≡ Some b)
-fails-check false v d o b is = let bad : CheckFail b ≡ Unopened = is in cc
-fails-check true true d o b is = let bad : CheckFail b ≡ TxStillOpen d = is in cc
-fails-check true false d None b is = let bad : CheckFail b ≡ CheckPass = is in cc
-fails-check true false d (Some k) b is = let same : CheckFail b ≡ CheckFail k = is in (refl, refl, cc)
+fails-check u v d o b is = grind arith
 
 left_open-parts : (es : List Event) (p b : ℕ) → is_left_open es p b ≡ true → (is_scoped es p b ≡ true) × (is_included es (suc p) b ≡ true)
 unfolding is_left_open
-left_open-parts es p b is =
-    and_parts (is_scoped es p b) (is_included es (suc p) b)
-    (and_parts (is_scoped es p b && is_included es (suc p) b) (is_open (interval_at es (suc p) b)) is).0
+left_open-parts es p b is = grind arith
 
 scope_contradicted-after : (es : List Event) (p b : ℕ) → CheckFail b ≡ check_finding es p → ScopeContradicted es (suc p) (record { crash = suc p; full_line = None })
 unfolding check_finding

@@ -1,18 +1,15 @@
 -- Failures are real: a certificate that the rows give speaks of the section's events, and its image is allowed
 -- and contradicts the assertion.
 use Rattle.std.proofs.Common.{◌≡◌, ℕ, ◌≤◌, List, length, refl, ap, arith, subst, Some, None, Contains}
-use Rattle.pmf_event.{specs.declared.event.Event.{Event}, specs.declared.event.Event.TheVariants.{Persist, Ordered, CheckEnd}, specs.declared.finding.Finding.{Finding}, specs.declared.finding.Finding.TheVariants.{PersistFail, OrderedFail, CheckFail}, specs.declared.profile.Profile.{Profile}, specs.Line.{line_of_byte}, proofs.LineLemmas.{line-bounds}}
-use Rattle.pmf_image.{specs.declared.certificate.Certificate.{Certificate}, specs.Certificate.{Fits, IsLine}, specs.Contradiction.{ContradictsEvent}, proofs.FailureLemmas.{certificates-allowed}}
+use Rattle.pmf_event.{specs.declared.event.Event.{Event}, specs.declared.event.Event.TheVariants.{Persist, Ordered, CheckEnd}, specs.declared.finding.Finding.{Finding}, specs.declared.finding.Finding.TheVariants.{PersistFail, OrderedFail, CheckFail}, specs.declared.profile.Profile.{Profile}, specs.Line.{line_of_byte}}
+use Rattle.pmf_image.{specs.declared.certificate.Certificate.{Certificate}, specs.Certificate.{Fits}, specs.Contradiction.{ContradictsEvent}, proofs.FailureLemmas.{certificates-allowed}}
 use Rattle.pmf_verdict.{specs.Rows.{row_at, rows_of}, specs.Explained.{certificate_of, FailuresAreReal}, proofs.KindLemmas.{persist-from_rows, ordered-from_rows, check-from_rows}, proofs.RowsLemmas.{place-within}, proofs.ExplainLemmas.{contradicted-by}}
 
 bare-fits : (es : List Event) (p : ℕ) → p ≤ length es → Fits es (record { crash = p; full_line = None })
 bare-fits es p within = record { crash = within; full_line = λ line is. let bad : None ≡ Some line = is in cc }
 
 full-fits : (es : List Event) (n y : ℕ) → n ≤ length es → Fits es (record { crash = n; full_line = Some (line_of_byte y) })
-full-fits es n y within = record {
-  crash = within;
-  full_line = λ line is. let same : line_of_byte y ≡ line = (let both : Some (line_of_byte y) ≡ Some line = is in cc) in subst (λ l. IsLine l) same (line-bounds y).2;
-}
+full-fits es n y within = grind arith
 
 certificate-fits : (profile : Profile) (es : List Event) (p : ℕ) (c : Certificate) (f : Finding) → Contains (rows_of profile es) (row_at p f) → certificate_of p f ≡ Some c → Fits es c
 certificate-fits profile es p c (PersistFail b) found is =

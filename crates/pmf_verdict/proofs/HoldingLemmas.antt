@@ -1,6 +1,6 @@
 -- Which assertions hold, by their rows.
-use Rattle.std.proofs.{Common.{◌≡◌, ℕ, zero, suc, ◌-◌, ◌<◌, ◌≤◌, Bool, true, false, not, ◌&&◌, nat_lt, if◌then◌else◌, List, [], ◌∷◌, map, length, refl, sym, ◌∙◌, ap, subst, arith, inl, inr, ◌↔◌, ◌⊎◌, ◌||◌, Option, Some, None, Contains, is_none, ltb-false}, lemmas.List.Elements.{Contains-append_left, Contains-append_right}, lemmas.Bool.{cases_eq, and_parts, not-true, not-false}}
-use Rattle.pmf_event.{specs.declared.event.Event.{Event}, specs.declared.event.Event.TheVariants.{Persist, Ordered, CheckEnd}, specs.declared.finding.Finding.{Finding}, specs.declared.finding.Finding.TheVariants.{PersistPass, PersistFail, PersistEmpty, OrderedPass, OrderedFail, OrderedSameLine, OrderedEmpty, CheckPass, CheckFail, TxStillOpen, Unopened}, specs.declared.profile.Profile.{Profile}, specs.declared.profile.Profile.TheVariants.{One, Two}, specs.declared.span.TheConstants.{ADDRESS_LIMIT}, specs.Line.{line_of_byte}, specs.Span.{Extent, covers_byte}, specs.Store.{event_at, last_store}, specs.Ranges.{first_from, first_byte}, specs.Persist.{is_checked, is_exposed, pass_unless, persist_finding}, specs.Interval.{interval_at}, specs.Order.{precedes, share_line, is_stored_before, is_ordered, is_unordered, is_certified, least_pair, finding_of_pairs, ordered_finding}, specs.Transactions.{in_transaction, depth_at, in_scope, is_left_open, scope_passes_unless, check_finding}, proofs.RangeLemmas.{none-passes}, proofs.LeastPairLemmas.{pair-from, unpaired}, proofs.LineLemmas.{covers-bounds}}
+use Rattle.std.proofs.{Common.{◌≡◌, ℕ, zero, suc, ◌-◌, ◌<◌, ◌≤◌, Bool, true, false, not, if◌then◌else◌, List, [], ◌∷◌, map, length, refl, sym, ◌∙◌, ap, subst, arith, inl, inr, ◌↔◌, ◌⊎◌, Option, Some, None, Contains, is_none}, lemmas.List.Elements.{Contains-append_left, Contains-append_right}, lemmas.Bool.{cases_eq}}
+use Rattle.pmf_event.{specs.declared.event.Event.{Event}, specs.declared.event.Event.TheVariants.{Persist, Ordered, CheckEnd}, specs.declared.finding.Finding.{Finding}, specs.declared.finding.Finding.TheVariants.{PersistPass, PersistFail, PersistEmpty, OrderedPass, OrderedFail, OrderedSameLine, OrderedEmpty, CheckPass, CheckFail}, specs.declared.profile.Profile.{Profile}, specs.declared.profile.Profile.TheVariants.{One, Two}, specs.declared.span.TheConstants.{ADDRESS_LIMIT}, specs.Line.{line_of_byte}, specs.Span.{Extent, covers_byte}, specs.Store.{event_at, last_store}, specs.Ranges.{first_from, first_byte}, specs.Persist.{is_checked, is_exposed, pass_unless, persist_finding}, specs.Order.{is_stored_before, is_ordered, is_unordered, is_certified, least_pair, finding_of_pairs, ordered_finding}, specs.Transactions.{in_transaction, in_scope, is_left_open, scope_passes_unless, check_finding}, proofs.RangeLemmas.{none-passes}, proofs.LeastPairLemmas.{pair-from, unpaired}, proofs.LineLemmas.{covers-bounds}}
 use Rattle.pmf_image.{specs.declared.certificate.Certificate.{Certificate}, specs.Contradiction.{ContradictsEvent}, specs.Holds.{PersistHolds, OrderedHolds, ScopeHolds, EventHolds, Holds}, proofs.ExactLemmas.{not_holds-contradicted, holds-by_profile_two, checked-parts}}
 use Rattle.pmf_verdict.{specs.Rows.{findings_of, row_at, rows_upto, rows_at_end, rows_of}, specs.Explained.{certificate_of}, specs.Exact.{IsPassOrEmpty, IsNotFailed, AreApart, OrderIsExact, IsExact, SameLinesAreOneStore}, proofs.RowsLemmas.{place-within}, proofs.KindLemmas.{kind_of, persist-kind, ordered-kind, persist-from_rows, ordered-from_rows}, proofs.ExplainLemmas.{contradicted-by}, proofs.SoundLemmas.{passes_hold, orders_hold, scopes_hold}}
 
@@ -50,8 +50,7 @@ not_holds-failed : (profile : Profile) (es : List Event) (p : ℕ) (c : Certific
 not_holds-failed profile es p c f found is within holds = not_holds-contradicted es p c within (contradicted-by profile es p c f found is) holds
 
 none-from : {A : Type 0} (o : Option A) → is_none o ≡ true → o ≡ None
-none-from None is = refl
-none-from (Some x) is = let bad : false ≡ true = is in cc
+none-from o is = grind arith
 
 -- ---- persist assertions
 
@@ -66,9 +65,7 @@ module _ (profile : Profile) (es : List Event) (p : ℕ) (s : Extent) (here : ev
   passed-by_row _ kind found holds = absurd (omega (arith, kind))
 
   unchecked-persist : (v : Bool) (o : Option ℕ) → PersistEmpty ≡ (if v then PersistEmpty else pass_unless o) → v ≡ true
-  unchecked-persist true o is = refl
-  unchecked-persist false None is = let bad : PersistEmpty ≡ PersistPass = is in cc
-  unchecked-persist false (Some b) is = let bad : PersistEmpty ≡ PersistFail b = is in cc
+  unchecked-persist v o is = grind arith
 
   holds-empty : Contains (rows_of profile es) (row_at p PersistEmpty) → PersistHolds es p s
   unfolding persist_finding
@@ -114,11 +111,7 @@ module _ (profile : Profile) (es : List Event) (p : ℕ) (a b : Extent) (here : 
 
   unchecked-ordered : (v w : Bool) (c u : Option (ℕ × ℕ)) → OrderedEmpty ≡ (if v then OrderedEmpty else if w then OrderedEmpty else finding_of_pairs es p c u) →
       (v ≡ true) ⊎ (w ≡ true)
-  unchecked-ordered true w c u is = inl refl
-  unchecked-ordered false true c u is = inr refl
-  unchecked-ordered false false (Some (x, y)) u is = let bad : OrderedEmpty ≡ OrderedFail x y (last_store es p y) = is in cc
-  unchecked-ordered false false None (Some (x, y)) is = let bad : OrderedEmpty ≡ OrderedSameLine x y = is in cc
-  unchecked-ordered false false None None is = let bad : OrderedEmpty ≡ OrderedPass = is in cc
+  unchecked-ordered v w c u is = grind arith
 
   -- the row is what the assertion finds
   own-ordered : (f : Finding) → kind_of f ≡ 2 → Contains (rows_of profile es) (row_at p f) → f ≡ ordered_finding profile es p a b
@@ -154,21 +147,11 @@ module _ (profile : Profile) (es : List Event) (p : ℕ) (a b : Extent) (here : 
 
   same_line-pairs : (v w : Bool) (c u : Option (ℕ × ℕ)) (x y : ℕ) →
       OrderedSameLine x y ≡ (if v then OrderedEmpty else if w then OrderedEmpty else finding_of_pairs es p c u) → u ≡ Some (x, y)
-  same_line-pairs true w c u x y is = let bad : OrderedSameLine x y ≡ OrderedEmpty = is in cc
-  same_line-pairs false true c u x y is = let bad : OrderedSameLine x y ≡ OrderedEmpty = is in cc
-  same_line-pairs false false (Some (k, l)) u x y is = let bad : OrderedSameLine x y ≡ OrderedFail k l (last_store es p l) = is in cc
-  same_line-pairs false false None None x y is = let bad : OrderedSameLine x y ≡ OrderedPass = is in cc
-  same_line-pairs false false None (Some (k, l)) x y is =
-      let same : OrderedSameLine x y ≡ OrderedSameLine k l = is in
-      let one : k ≡ x = cc in let other : l ≡ y = cc in
-      ap (λ z. Some (z, l)) one ∙ ap (λ z. Some (x, z)) other
+  same_line-pairs v w c u x y is = grind arith
 
   same_line-none : (v w : Bool) (c u : Option (ℕ × ℕ)) (x y : ℕ) →
       OrderedSameLine x y ≡ (if v then OrderedEmpty else if w then OrderedEmpty else finding_of_pairs es p c u) → c ≡ None
-  same_line-none true w c u x y is = let bad : OrderedSameLine x y ≡ OrderedEmpty = is in cc
-  same_line-none false true c u x y is = let bad : OrderedSameLine x y ≡ OrderedEmpty = is in cc
-  same_line-none false false (Some (k, l)) u x y is = let bad : OrderedSameLine x y ≡ OrderedFail k l (last_store es p l) = is in cc
-  same_line-none false false None u x y is = refl
+  same_line-none v w c u x y is = grind arith
 
   -- no pair of a SAMELINE row is certified
   none-certified : (x y : ℕ) → Contains (rows_of profile es) (row_at p (OrderedSameLine x y)) →
@@ -221,9 +204,7 @@ module _ (profile : Profile) (es : List Event) (p : ℕ) (here : event_at es p �
 
   closes : in_scope es (p - 1) ≡ true → in_transaction es (p - 1) ≡ false → check_finding es (p - 1) ≡ scope_passes_unless (first_from (is_left_open es (p - 1)) 0 ADDRESS_LIMIT)
   unfolding check_finding
-  closes inside outside =
-      ap (λ v. if not v then Unopened else if in_transaction es (p - 1) then TxStillOpen (depth_at es (p - 1)) else scope_passes_unless (first_from (is_left_open es (p - 1)) 0 ADDRESS_LIMIT)) inside
-      ∙ ap (λ v. if v then TxStillOpen (depth_at es (p - 1)) else scope_passes_unless (first_from (is_left_open es (p - 1)) 0 ADDRESS_LIMIT)) outside
+  closes inside outside = grind arith
 
   scope-exact : in_scope es (p - 1) ≡ true → in_transaction es (p - 1) ≡ false → ScopeHolds es p ↔ Contains (rows_of profile es) (row_at p CheckPass)
   scope-exact inside outside = (
@@ -241,28 +222,10 @@ rows_exact profile es = record {
 
 -- ---- pairs of one store
 
-neither-first : (u v : Bool) → (u || v) ≡ false → u ≡ false
-neither-first true v is = is
-neither-first false v is = refl
-
-neither-second : (u v : Bool) → (u || v) ≡ false → v ≡ false
-neither-second true v is = let bad : true ≡ false = is in cc
-neither-second false v is = is
-
 -- an unordered pair that is not certified was last written by one store
 one_store : (es : List Event) (p k l : ℕ) → is_unordered Two es p k l ≡ true → is_certified Two es p k l ≡ false → last_store es p k ≡ last_store es p l
 unfolding is_unordered is_certified is_ordered is_stored_before
-one_store es p k l unordered uncertified =
-    let apart : (not (share_line k l) || nat_lt (last_store es p l) (last_store es p k)) ≡ false =
-    sym (ap (λ v. v && (not (share_line k l) || nat_lt (last_store es p l) (last_store es p k))) unordered) ∙ uncertified in
-    let same = not-false (share_line k l) (neither-first (not (share_line k l)) (nat_lt (last_store es p l) (last_store es p k)) apart) in
-    let after = ltb-false (last_store es p l) (last_store es p k) (neither-second (not (share_line k l)) (nat_lt (last_store es p l) (last_store es p k)) apart) in
-    let parts = and_parts (is_checked es p k && is_checked es p l) _ unordered in
-    let unkept = not-true (precedes (interval_at es p k) (interval_at es p l) || (share_line k l && nat_lt (last_store es p k) (last_store es p l))) parts.1 in
-    let before = ltb-false (last_store es p k) (last_store es p l)
-    (sym (ap (λ v. v && nat_lt (last_store es p k) (last_store es p l)) same)
-    ∙ neither-second (precedes (interval_at es p k) (interval_at es p l)) (share_line k l && nat_lt (last_store es p k) (last_store es p l)) unkept) in
-    omega arith
+one_store es p k l unordered uncertified = grind arith
 
 pub same_lines : (profile : Profile) (es : List Event) → SameLinesAreOneStore profile es (rows_of profile es)
 same_lines One es two p x y a b here found k l in_a in_b unordered = let bad : One ≡ Two = two in cc

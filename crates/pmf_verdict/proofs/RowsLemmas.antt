@@ -15,10 +15,7 @@ rows_upto-none profile es = refl
 -- the rows after one more event, by its findings
 pub rows_upto-next : (profile : Profile) (es : List Event) (p : ℕ) (e : Event) (fs : List Finding) → event_at es (suc p) ≡ Some e → findings_of profile es (suc p) (Some e) ≡ fs →
     rows_upto profile es (suc p) ≡ rows_upto profile es p ++ map (row_at (suc p)) fs
-rows_upto-next profile es p e fs here found =
-    rows_upto-more profile es p
-    ∙ ap (λ o. rows_upto profile es p ++ map (row_at (suc p)) (findings_of profile es (suc p) o)) here
-    ∙ ap (λ fs. rows_upto profile es p ++ map (row_at (suc p)) fs) found
+rows_upto-next profile es p e fs here found = grind (arith, rows_upto-more)
 
 -- the rows of a write-back, one finding after the other
 pub rows_upto-flush : (profile : Profile) (es : List Event) (p : ℕ) (s : Extent) (one other : Option Finding) → event_at es (suc p) ≡ Some (Flush s) →

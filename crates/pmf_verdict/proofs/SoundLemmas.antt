@@ -1,6 +1,6 @@
 -- What a PASS row says of its checked bytes, and that the assertion holds.
 use Rattle.std.proofs.Common.{◌≡◌, ℕ, zero, suc, ◌-◌, ◌<◌, Bool, true, false, not, ◌&&◌, if◌then◌else◌, List, refl, sym, ◌∙◌, ap, arith, subst, Option, Some, None, is_none, lt-ltb}
-use Rattle.pmf_event.{specs.declared.event.Event.{Event}, specs.declared.event.Event.TheVariants.{CheckEnd}, specs.declared.finding.Finding.TheVariants.{PersistPass, PersistFail, PersistEmpty, OrderedPass, OrderedFail, OrderedSameLine, OrderedEmpty, CheckPass, CheckFail, TxStillOpen, Unopened}, specs.declared.profile.Profile.{Profile}, specs.declared.span.TheConstants.{ADDRESS_LIMIT}, specs.Span.{Extent, covers_byte}, specs.Store.{event_at, last_store}, specs.Interval.{interval_at, is_open}, specs.Exclusion.{is_included}, specs.Ranges.{first_from, first_byte}, specs.Persist.{is_checked, is_exposed, pass_unless, persist_finding}, specs.Order.{is_ordered, is_unordered, is_certified, least_pair, finding_of_pairs, ordered_finding}, specs.Transactions.{in_transaction, depth_at, in_scope, is_scoped, is_left_open, scope_passes_unless, check_finding}, proofs.RangeLemmas.{none-passes}, proofs.LeastPairLemmas.{unpaired}, proofs.LineLemmas.{covers-bounds, bounds-cover}, proofs.TransactionLemmas.{scoped-written, left_open-exposed}}
+use Rattle.pmf_event.{specs.declared.event.Event.{Event}, specs.declared.event.Event.TheVariants.{CheckEnd}, specs.declared.finding.Finding.TheVariants.{PersistPass, PersistEmpty, OrderedPass, OrderedEmpty, CheckPass, TxStillOpen, Unopened}, specs.declared.profile.Profile.{Profile}, specs.declared.span.TheConstants.{ADDRESS_LIMIT}, specs.Span.{Extent, covers_byte}, specs.Store.{event_at}, specs.Interval.{interval_at, is_open}, specs.Exclusion.{is_included}, specs.Ranges.{first_from, first_byte}, specs.Persist.{is_checked, is_exposed, pass_unless, persist_finding}, specs.Order.{is_ordered, is_unordered, is_certified, least_pair, finding_of_pairs, ordered_finding}, specs.Transactions.{in_transaction, depth_at, in_scope, is_scoped, is_left_open, scope_passes_unless, check_finding}, proofs.RangeLemmas.{none-passes}, proofs.LeastPairLemmas.{unpaired}, proofs.LineLemmas.{covers-bounds, bounds-cover}, proofs.TransactionLemmas.{scoped-written, left_open-exposed}}
 use Rattle.pmf_image.{specs.Holds.{ScopeHolds}, proofs.ImageLemmas.{holds-where_closed}, proofs.OrderedLemmas.{holds-where_ordered}}
 use Rattle.pmf_verdict.{specs.Rows.{rows_of}, specs.Sound.{PersistsHold, OrdersHold, ScopesHold}, proofs.KindLemmas.{persist-from_rows, ordered-from_rows, check-from_rows}}
 
@@ -8,9 +8,7 @@ use Rattle.pmf_verdict.{specs.Rows.{rows_of}, specs.Sound.{PersistsHold, OrdersH
 
 -- no checked byte of an assertion that passes has an open interval
 none-exposed : (v : Bool) (o : Option ℕ) → (if v then PersistEmpty else pass_unless o) ≡ PersistPass → o ≡ None
-none-exposed true o is = let bad : PersistEmpty ≡ PersistPass = is in cc
-none-exposed false None is = refl
-none-exposed false (Some b) is = let bad : PersistFail b ≡ PersistPass = is in cc
+none-exposed v o is = grind arith
 
 closed-from_exposed : (es : List Event) (p b : ℕ) → is_exposed es p b ≡ false → is_checked es p b ≡ true → is_open (interval_at es p b) ≡ false
 unfolding is_exposed
@@ -33,17 +31,10 @@ passes_hold profile es p found =
 
 none-unordered : (es : List Event) (p : ℕ) (v w : Bool) (c u : Option (ℕ × ℕ)) →
     (if v then OrderedEmpty else if w then OrderedEmpty else finding_of_pairs es p c u) ≡ OrderedPass → u ≡ None
-none-unordered es p true w c u is = let bad : OrderedEmpty ≡ OrderedPass = is in cc
-none-unordered es p false true c u is = let bad : OrderedEmpty ≡ OrderedPass = is in cc
-none-unordered es p false false (Some (x, y)) u is = let bad : OrderedFail x y (last_store es p y) ≡ OrderedPass = is in cc
-none-unordered es p false false None (Some (x, y)) is = let bad : OrderedSameLine x y ≡ OrderedPass = is in cc
-none-unordered es p false false None None is = refl
+none-unordered es p v w c u is = grind arith
 
 ordered-from : (u v w : Bool) → u ≡ true → v ≡ true → (u && v && not w) ≡ false → w ≡ true
-ordered-from true true true one other none = refl
-ordered-from true true false one other none = let bad : true ≡ false = none in cc
-ordered-from true false w one other none = let bad : false ≡ true = other in cc
-ordered-from false v w one other none = let bad : false ≡ true = one in cc
+ordered-from u v w one other none = grind arith
 
 pass-ordered : (profile : Profile) (es : List Event) (p : ℕ) (a b : Extent) → ordered_finding profile es p a b ≡ OrderedPass →
     (x y : ℕ) → covers_byte a x ≡ true → covers_byte b y ≡ true → is_checked es p x ≡ true → is_checked es p y ≡ true →
@@ -63,15 +54,11 @@ orders_hold profile es p found =
 -- ---- scopes
 
 none-left_open : (u v : Bool) (d : ℕ) (o : Option ℕ) → (if u then Unopened else if v then TxStillOpen d else scope_passes_unless o) ≡ CheckPass → o ≡ None
-none-left_open true v d o is = let bad : Unopened ≡ CheckPass = is in cc
-none-left_open false true d o is = let bad : TxStillOpen d ≡ CheckPass = is in cc
-none-left_open false false d None is = refl
-none-left_open false false d (Some b) is = let bad : CheckFail b ≡ CheckPass = is in cc
+none-left_open u v d o is = grind arith
 
 checked-from_scoped : (es : List Event) (p b : ℕ) → is_scoped es p b ≡ true → is_included es (suc p) b ≡ true → is_checked es (suc p) b ≡ true
 unfolding is_checked is_included
-checked-from_scoped es p b scoped included =
-    ap (λ v. v && is_included es (suc p) b) (lt-ltb 0 (last_store es (suc p) b) (scoped-written es p b scoped)) ∙ included
+checked-from_scoped es p b scoped included = grind (arith, ap, suc, lt-ltb, scoped-written)
 
 itself : ℕ → Extent
 itself b = record { first = b; size = 1 }

@@ -1,10 +1,10 @@
 -- One more event of a walk: the shadow and the transactions stand for it, and the rows are those of its
 -- findings.
-use Rattle.std.proofs.Common.{◌≡◌, ℕ, suc, ◌-◌, true, List, [], ◌∷◌, ◌++◌, map, refl, sym, ◌∙◌, ap, arith, subst, Option, Some, None, option_map, append-nil}
-use Rattle.pmf_event.specs.{declared.event.Event.{Event}, declared.event.Event.TheVariants.{Store, TxAdd, TxEnd, CheckStart, CheckEnd}, declared.finding.Finding.{Finding}, declared.finding.Finding.TheVariants.{OrderedFail, Unclosed}, declared.profile.Profile.{Profile}, Span.{Extent}, Store.{event_at}, FlushWarnings.{if_any}, Transactions.{store_finding, add_finding, end_finding, start_finding, check_finding}}
+use Rattle.std.proofs.Common.{◌≡◌, ℕ, suc, ◌-◌, true, List, [], ◌∷◌, ◌++◌, map, refl, sym, ◌∙◌, ap, arith, subst, Option, Some, option_map, append-nil}
+use Rattle.pmf_event.specs.{declared.event.Event.{Event}, declared.event.Event.TheVariants.{Store, TxAdd, TxEnd, CheckStart, CheckEnd}, declared.finding.Finding.{Finding}, declared.profile.Profile.{Profile}, Span.{Extent}, Store.{event_at}, FlushWarnings.{if_any}, Transactions.{store_finding, add_finding, end_finding, start_finding, check_finding}}
 use Rattle.pmf_shadow.{specs.declared.shadow.Shadow.{Shadow}, specs.Shadow.{StandsFor, FollowsAt}, specs.Told.{finding_as_told}, specs.Laws.{is_unseen}, proofs.StandsLemmas.{follows-within, unseen-follows}}
 use Rattle.pmf_txcheck.{specs.declared.state.TxState.{TxState}, specs.Laws.{is_untracked}, specs.Tracking.{Tracks, FollowsAt as FollowsTransactionAt}, proofs.TrackLemmas.{follows-within as tracks-within, untracked-follows}}
-use Rattle.pmf_verdict.{specs.declared.checking.Walk.{Walk}, specs.Rows.{findings_of, row_at, rows_upto}, specs.Walks.{Walks}, proofs.RowsLemmas.{rows_upto-next}}
+use Rattle.pmf_verdict.{specs.declared.checking.Walk.{Walk}, specs.Rows.{findings_of, row_at}, specs.Walks.{Walks}, proofs.RowsLemmas.{rows_upto-next}}
 
 -- the shadow was told of each event at its own place
 pub stands-next : (place : ℕ) (old new : Shadow) (e : Event) → FollowsAt place old new e → (es : List Event) (p : ℕ) → event_at es (suc p) ≡ Some e → place ≡ suc p →
@@ -17,13 +17,10 @@ pub tracks-next : (place : ℕ) (old new : TxState) (e : Event) → FollowsTrans
 tracks-next place old new e follows es p here at_place tracks = tracks-within place old new e follows (λ k. k) es p here (sym at_place) tracks
 
 pub as_told-same : (f : Finding) → finding_as_told (λ k. k) f ≡ f
-as_told-same (OrderedFail byte after crash) = refl
-as_told-same (Unclosed start) = refl
-as_told-same _ = refl
+as_told-same f = grind arith
 
 pub if_any-as_told-same : (f : Option Finding) → option_map (finding_as_told (λ k. k)) f ≡ f
-if_any-as_told-same None = refl
-if_any-as_told-same (Some f) = ap (λ v. Some v) (as_told-same f)
+if_any-as_told-same f = grind arith
 
 module _ (old new : Walk) (es : List Event) (p : ℕ) (e : Event) (here : event_at es (suc p) ≡ Some e) (walks : Walks old es p) where
   -- the shadow and the transactions followed the event, and its findings were said
@@ -31,13 +28,7 @@ module _ (old new : Walk) (es : List Event) (p : ℕ) (e : Event) (here : event_
       new ≡ record { shadow = shadow; transactions = transactions; rows = old.rows ++ map (row_at place) fs; profile = old.profile } →
       StandsFor shadow (λ k. k) es (suc p) → Tracks transactions (λ k. k) es (suc p) → place ≡ suc p →
       findings_of old.profile es (suc p) (Some e) ≡ fs → Walks new es (suc p)
-  walks-said shadow transactions place fs is stands tracks at_place found = subst (λ walk. Walks walk es (suc p)) (sym is) (record {
-    stands = stands;
-    tracks = tracks;
-    rows_are = ap (λ rs. rs ++ map (row_at place) fs) walks.rows_are
-        ∙ ap (λ q. rows_upto old.profile es p ++ map (row_at q) fs) at_place
-        ∙ sym (rows_upto-next old.profile es p e fs here found);
-  })
+  walks-said shadow transactions place fs is stands tracks at_place found = grind (arith, subst, suc, sym, ap, map, rows_upto-next)
 
   -- the same of an event without findings
   pub walks-silent : (shadow : Shadow) (transactions : TxState) →
