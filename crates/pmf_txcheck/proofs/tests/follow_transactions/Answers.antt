@@ -1,23 +1,12 @@
-use Rattle.std.proofs.Common.{◌≡◌, true, refl, sym, subst, arith}
-use Rattle.pmf_event.{specs.declared.event.Event.{Event}, specs.declared.event.Event.TheVariants.{Store, Flush, Fence, Persist, Ordered, Exclude, Include, TxBegin, TxAdd, TxEnd, CheckStart, CheckEnd}, specs.Span.{Extent}, proofs.TransactionLemmas.{depth-bound}}
+use Rattle.std.proofs.Common.{◌≡◌, true, sym, subst, arith}
+use Rattle.pmf_event.{specs.declared.event.Event.{Event}, specs.declared.event.Event.TheVariants.{Store, TxBegin, TxAdd, TxEnd, CheckStart, CheckEnd}, specs.Span.{Extent}, proofs.TransactionLemmas.{depth-bound}}
 use Rattle.pmf_txcheck.{specs.Laws.{is_untracked}, specs.Tracking.{FollowsAt}, proofs.TrackLemmas.{untracked-follows}}
 use Rattle.pmf_txcheck.proofs.tests.follow_transactions.Goals as goal
 
 untracked-unless : (e : Event) → ((s : Extent) → e ≡ Store s → ⊥) → (e ≡ TxBegin → ⊥) → ((s : Extent) → e ≡ TxAdd s → ⊥) → (e ≡ TxEnd → ⊥) → (e ≡ CheckStart → ⊥) → (e ≡ CheckEnd → ⊥) →
     is_untracked e ≡ true
 unfolding is_untracked
-untracked-unless (Store s) no_store no_begin no_add no_end no_start no_close = absurd (no_store s refl)
-untracked-unless TxBegin no_store no_begin no_add no_end no_start no_close = absurd (no_begin refl)
-untracked-unless (TxAdd s) no_store no_begin no_add no_end no_start no_close = absurd (no_add s refl)
-untracked-unless TxEnd no_store no_begin no_add no_end no_start no_close = absurd (no_end refl)
-untracked-unless CheckStart no_store no_begin no_add no_end no_start no_close = absurd (no_start refl)
-untracked-unless CheckEnd no_store no_begin no_add no_end no_start no_close = absurd (no_close refl)
-untracked-unless (Flush s) no_store no_begin no_add no_end no_start no_close = refl
-untracked-unless Fence no_store no_begin no_add no_end no_start no_close = refl
-untracked-unless (Persist s) no_store no_begin no_add no_end no_start no_close = refl
-untracked-unless (Ordered a b) no_store no_begin no_add no_end no_start no_close = refl
-untracked-unless (Exclude s) no_store no_begin no_add no_end no_start no_close = refl
-untracked-unless (Include s) no_store no_begin no_add no_end no_start no_close = refl
+untracked-unless e no_store no_begin no_add no_end no_start no_close = grind arith
 
 pub begin-requires : goal.begin-requires
 begin-requires c =

@@ -1,23 +1,12 @@
-use Rattle.std.proofs.Common.{◌≡◌, true, refl, sym, subst}
-use Rattle.pmf_event.specs.{declared.event.Event.{Event}, declared.event.Event.TheVariants.{Store, Flush, Fence, Persist, Ordered, Exclude, Include, TxBegin, TxAdd, TxEnd, CheckStart, CheckEnd}, Span.{Extent}}
+use Rattle.std.proofs.Common.{◌≡◌, true, sym, subst, arith}
+use Rattle.pmf_event.specs.{declared.event.Event.{Event}, declared.event.Event.TheVariants.{Store, Flush, Fence, Exclude, Include}, Span.{Extent}}
 use Rattle.pmf_shadow.{specs.Laws.{is_unseen}, specs.Shadow.{FollowsAt}, proofs.StandsLemmas.{unseen-follows}}
 use Rattle.pmf_shadow.proofs.shadow.Shadow.follow.Goals as goal
 
 unseen-unless : (e : Event) → ((s : Extent) → e ≡ Store s → ⊥) → ((s : Extent) → e ≡ Flush s → ⊥) → (e ≡ Fence → ⊥) → ((s : Extent) → e ≡ Exclude s → ⊥) → ((s : Extent) → e ≡ Include s → ⊥) →
     is_unseen e ≡ true
 unfolding is_unseen
-unseen-unless (Store s) no_store no_flush no_fence no_exclude no_include = absurd (no_store s refl)
-unseen-unless (Flush s) no_store no_flush no_fence no_exclude no_include = absurd (no_flush s refl)
-unseen-unless Fence no_store no_flush no_fence no_exclude no_include = absurd (no_fence refl)
-unseen-unless (Exclude s) no_store no_flush no_fence no_exclude no_include = absurd (no_exclude s refl)
-unseen-unless (Include s) no_store no_flush no_fence no_exclude no_include = absurd (no_include s refl)
-unseen-unless (Persist s) no_store no_flush no_fence no_exclude no_include = refl
-unseen-unless (Ordered a b) no_store no_flush no_fence no_exclude no_include = refl
-unseen-unless TxBegin no_store no_flush no_fence no_exclude no_include = refl
-unseen-unless (TxAdd s) no_store no_flush no_fence no_exclude no_include = refl
-unseen-unless TxEnd no_store no_flush no_fence no_exclude no_include = refl
-unseen-unless CheckStart no_store no_flush no_fence no_exclude no_include = refl
-unseen-unless CheckEnd no_store no_flush no_fence no_exclude no_include = refl
+unseen-unless e no_store no_flush no_fence no_exclude no_include = grind arith
 
 pub returns-in_ok-store-in-Store-clause-follows : goal.returns-in_ok-store-in-Store-clause-follows
 returns-in_ok-store-in-Store-clause-follows c = subst (FollowsAt c.args.place c.args.self.now c.store.new.self) (sym c.in-Store.is) c.in_ok-store-in-Store.ensures.follows
