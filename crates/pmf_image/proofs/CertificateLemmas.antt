@@ -35,18 +35,13 @@ fenced-by_fence es n line k fence some within =
     ap (λ v. at (flushes line) es k && v) (some_between-here (at is_fence es) k (suc n + 1) (suc n) (omega arith) (omega arith) fence)
     ∙ and-true (at (flushes line) es k)
 
-not_fenced-at_fence : (es : List Event) (n line : ℕ) → at is_fence es (suc n) ≡ true → is_fenced es (suc n) line (suc n) ≡ false
-unfolding is_fenced
-not_fenced-at_fence es n line fence =
-    ap (λ v. v && some_between (at is_fence es) (suc n) (suc n + 1))
-    (false_from_ne_true (at (flushes line) es (suc n)) (λ flush. not_fence_and_flush es line (suc n) fence flush))
-
 greatest-at_fence : (es : List Event) (n line : ℕ) → at is_fence es (suc n) ≡ true →
     greatest (is_fenced es (suc n) line) (suc n) ≡ last (flushes line) es n
-unfolding last
+unfolding last is_fenced
 greatest-at_fence es n line fence =
+    let at_fence = false_from_ne_true (at (flushes line) es (suc n)) (λ flush. not_fence_and_flush es line (suc n) fence flush) in
     greatest-step (is_fenced es (suc n) line) n
-    ∙ ap (λ v. if v then suc n else greatest (is_fenced es (suc n) line) n) (not_fenced-at_fence es n line fence)
+    ∙ ap (λ v. if v && some_between (at is_fence es) (suc n) (suc n + 1) then suc n else greatest (is_fenced es (suc n) line) n) at_fence
     ∙ greatest-same (is_fenced es (suc n) line) (at (flushes line) es) n (λ k some within. fenced-by_fence es n line k fence some within)
 
 -- another event fences nothing

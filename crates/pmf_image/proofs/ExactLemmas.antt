@@ -1,5 +1,5 @@
 -- What does not hold: contradicted assertions, certified pairs, and pairs of two bytes that one store wrote.
-use Rattle.std.proofs.{Common.{◌≡◌, ℕ, ◌+◌, ◌-◌, ◌<◌, ◌≤◌, Bool, true, false, not, ◌&&◌, ◌||◌, if◌then◌else◌, List, length, refl, sym, ◌∙◌, ap, arith, inl, inr, subst, Option, Some, lt-ltb}, lemmas.Bool.{cases_lt, cases_eq, and_from, and_parts, false_from_ne_true}, lemmas.Bool.Decides.{Decides-eqb}}
+use Rattle.std.proofs.{Common.{◌≡◌, ℕ, ◌+◌, ◌-◌, ◌≤◌, Bool, true, false, not, ◌&&◌, ◌||◌, if◌then◌else◌, List, length, refl, sym, ◌∙◌, ap, arith, inl, inr, subst, Option, Some, lt-ltb, ltb-false, nat_lt}, lemmas.Bool.{cases_lt, cases_eq, and_from, and_parts, false_from_ne_true}, lemmas.Bool.Decides.{Decides-eqb}}
 use Rattle.pmf_event.{specs.declared.event.Event.{Event}, specs.declared.event.Event.TheVariants.{Persist, Ordered, CheckEnd}, specs.declared.profile.Profile.{Profile}, specs.declared.profile.Profile.TheVariants.{Two}, specs.Line.{line_of_byte}, specs.Span.{Extent, covers_byte}, specs.Places.{greatest}, specs.Store.{event_at, last_store}, specs.Interval.{interval_at}, specs.Persist.{is_checked}, specs.Order.{precedes, share_line, is_stored_before, is_ordered, is_unordered, is_certified}, proofs.PlacesLemmas.{greatest-bound}}
 use Rattle.pmf_image.{specs.Image.{Image, count_of, is_fenced, floor_of, is_in, cut_of, reach_of, shows}, specs.declared.certificate.Certificate.{Certificate}, specs.Certificate.{image_of}, specs.Contradiction.{ContradictsEvent}, specs.Holds.{OrderedHolds, EventHolds}, specs.Laws.{ContradictedDoNotHold, CertifiedPairsDoNotHold, PairsAreOneByte, ProfileTwoIsExact, at_store}, proofs.ImageLemmas.{written-from_checked, last_store-stores, last_store-bound, shown-reaches, count_of-here, count_of-mono, reached-shown, allows_each_torn}, proofs.OrderedLemmas.{shown-ordered}, proofs.FailureLemmas.{certificates-allowed, pair-shown, unordered-parts, shows-bound}}
 
@@ -76,14 +76,7 @@ not_holds-torn es p a b x y in_a in_b x_checked y_checked share one apart holds 
 
 not_stored_before : (es : List Event) (p x y : ℕ) → is_stored_before es p x y ≡ false → last_store es p y ≤ last_store es p x
 unfolding is_stored_before
-not_stored_before es p x y not_before = elim (cases_lt (last_store es p x) (last_store es p y)) [
-  | inl before ↦ let bad : true ≡ false = sym (lt-ltb (last_store es p x) (last_store es p y) before) ∙ not_before in cc
-  | inr after ↦ after
-]
-
-stored_before-from : (es : List Event) (p x y : ℕ) → last_store es p x < last_store es p y → is_stored_before es p x y ≡ true
-unfolding is_stored_before
-stored_before-from es p x y before = lt-ltb (last_store es p x) (last_store es p y) before
+not_stored_before es p x y not_before = ltb-false (last_store es p x) (last_store es p y) not_before
 
 -- bytes of one line that profile Two leaves unordered: the first isn't stored before the second
 unordered-later : (es : List Event) (p x y : ℕ) → share_line x y ≡ true → is_ordered Two es p x y ≡ false → is_stored_before es p x y ≡ false
@@ -94,14 +87,10 @@ unordered-later es p x y share is = by (precedes (interval_at es p x) (interval_
   by false true w same is = is
   by false false w same is = let bad : false ≡ true = same in cc
 
-certified-apart : (profile : Profile) (es : List Event) (p x y : ℕ) → is_unordered profile es p x y ≡ true → share_line x y ≡ false → is_certified profile es p x y ≡ true
-unfolding is_certified
-certified-apart profile es p x y unordered apart = and_from _ _ unordered (ap (λ v. not v || is_stored_before es p y x) apart)
-
-certified-later : (profile : Profile) (es : List Event) (p x y : ℕ) → is_unordered profile es p x y ≡ true → share_line x y ≡ true → is_stored_before es p y x ≡ true →
+certified-from : (profile : Profile) (es : List Event) (p x y : ℕ) → is_unordered profile es p x y ≡ true → (not (share_line x y) || nat_lt (last_store es p y) (last_store es p x)) ≡ true →
     is_certified profile es p x y ≡ true
-unfolding is_certified
-certified-later profile es p x y unordered share later = and_from _ _ unordered (ap (λ v. not v || is_stored_before es p y x) share ∙ later)
+unfolding is_certified is_stored_before
+certified-from profile es p x y unordered certain = and_from _ _ unordered certain
 
 not_holds-unordered : (es : List Event) (p : ℕ) (a b : Extent) (x y : ℕ) → covers_byte a x ≡ true → covers_byte b y ≡ true →
     is_unordered Two es p x y ≡ true → (x ≡ y → ⊥) → OrderedHolds es p a b → ⊥
@@ -111,10 +100,10 @@ not_holds-unordered es p a b x y in_a in_b unordered apart holds =
       | true ↦ λ share.
           let least = not_stored_before es p x y (unordered-later es p x y share parts.2) in
           elim (cases_lt (last_store es p y) (last_store es p x)) [
-            | inl later ↦ not_holds-certified Two es p a b x y in_a in_b (certified-later Two es p x y unordered share (stored_before-from es p y x later)) holds
+            | inl later ↦ not_holds-certified Two es p a b x y in_a in_b (certified-from Two es p x y unordered (rw (share, lt-ltb _ _ later) refl)) holds
             | inr one ↦ not_holds-torn es p a b x y in_a in_b parts.0 parts.1 ((Decides-eqb (line_of_byte x) (line_of_byte y)).0 share) (omega arith) apart holds
           ]
-      | false ↦ λ apart_lines. not_holds-certified Two es p a b x y in_a in_b (certified-apart Two es p x y unordered apart_lines) holds
+      | false ↦ λ apart_lines. not_holds-certified Two es p a b x y in_a in_b (certified-from Two es p x y unordered (rw apart_lines refl)) holds
     ] refl
 
 one_byte-from_holds : (es : List Event) (p : ℕ) (a b : Extent) → OrderedHolds es p a b → PairsAreOneByte es p a b

@@ -55,13 +55,6 @@ floor-below_count es n line =
     let bound = greatest-bound (is_fenced es n line) n in
     count-mono (at (stores_line line) es) (greatest (is_fenced es n line) n - 1) n (omega arith)
 
-no_cuts : Image
-no_cuts = record { cuts = []; torn = [] }
-
-no_cuts-cut_of : (es : List Event) (n line : ℕ) → cut_of es n no_cuts line ≡ floor_of es n line
-unfolding no_cuts cut_of value_of
-no_cuts-cut_of es n line = refl
-
 pub is_in-empty : (b : ℕ) → is_in [] b ≡ true → ⊥
 unfolding is_in
 is_in-empty b some = let bad : false ≡ true = some in cc
@@ -80,8 +73,8 @@ allows-untorn es n cut image untorn cuts within =
     record { image = image; untorn = untorn; cuts = cuts; allowed = untorn-allowed es n image untorn (λ line. rw (cuts line) (within line)) }
 
 allows_floors : (es : List Event) (n : ℕ) → AllowsCuts es n (floor_of es n)
-unfolding no_cuts
-allows_floors es n = allows-untorn es n (floor_of es n) no_cuts refl (no_cuts-cut_of es n) (λ line. (omega arith, floor-below_count es n line))
+unfolding cut_of value_of
+allows_floors es n = allows-untorn es n (floor_of es n) (record { cuts = []; torn = [] }) refl (λ line. refl) (λ line. (omega arith, floor-below_count es n line))
 
 -- the cut that stands first in the map is that of its line
 pub cut-first : (es : List Event) (n line cut : ℕ) (cuts : List (ℕ × ℕ)) (torn : List ℕ) →
@@ -137,9 +130,6 @@ count-past_end es n line above =
           let below = place-below_end line es found.place found.passes in absurd (omega arith)
     ]
 
-full : List Event → ℕ → Image
-full es n = record { cuts = table (count_of es n) (end_of es); torn = [] }
-
 -- each cut of the table is the count, if that is 0 from m on
 table-cut : (es : List Event) (n m line : ℕ) → (m ≤ line → count_of es n line ≡ 0) →
     cut_of es n (record { cuts = table (count_of es n) m; torn = [] }) line ≡ count_of es n line
@@ -150,13 +140,10 @@ table-cut es n (suc m) line past = elim (cases_eq line m) [
   | inr other ↦ cut-rest es n m (count_of es n m) line (table (count_of es n) m) [] other ∙ table-cut es n m line (λ above. past (omega arith))
 ]
 
-full-cut_of : (es : List Event) (n line : ℕ) → cut_of es n (full es n) line ≡ count_of es n line
-unfolding full
-full-cut_of es n line = table-cut es n (end_of es) line (count-past_end es n line)
-
 allows_counts : (es : List Event) (n : ℕ) → AllowsCuts es n (count_of es n)
-unfolding full
-allows_counts es n = allows-untorn es n (count_of es n) (full es n) refl (full-cut_of es n) (λ line. (floor-below_count es n line, omega arith))
+allows_counts es n =
+    allows-untorn es n (count_of es n) (record { cuts = table (count_of es n) (end_of es); torn = [] }) refl
+    (λ line. table-cut es n (end_of es) line (count-past_end es n line)) (λ line. (floor-below_count es n line, omega arith))
 
 pub has_images : EveryPlaceHasImages
 has_images es n = (allows_floors es n, allows_counts es n)

@@ -1,5 +1,5 @@
 -- Soundness of ordered pairs: what is durable before a store is shown wherever that store is.
-use Rattle.std.proofs.{Common.{◌≡◌, ℕ, ◌+◌, ◌-◌, ◌<◌, ◌≤◌, Bool, true, false, ◌&&◌, ◌==◌, if◌then◌else◌, List, refl, sym, ◌∙◌, arith, inl, inr, subst, Some, None}, lemmas.Bool.{cases_lt, cases_eq, leb-true, or_cases, and_parts, ltb-true}, lemmas.Bool.Decides.{Decides-eqb}}
+use Rattle.std.proofs.{Common.{◌≡◌, ℕ, ◌+◌, ◌-◌, ◌<◌, ◌≤◌, Bool, true, false, ◌&&◌, ◌==◌, if◌then◌else◌, List, sym, arith, inl, inr, subst, Some, None}, lemmas.Bool.{cases_lt, cases_eq, leb-true, or_cases, and_parts, ltb-true}, lemmas.Bool.Decides.{Decides-eqb, eqb_tells}}
 use Rattle.pmf_event.{specs.declared.event.Event.{Event}, specs.declared.interval.Interval.{Interval}, specs.declared.profile.Profile.{Profile}, specs.declared.profile.Profile.TheVariants.{One, Two}, specs.Line.{line_of_byte}, specs.Places.{some_between}, specs.Store.{at, stores, flushes, is_fence, last_store, epoch_of}, specs.Interval.{closes, closing_fence, epoch_after, interval_at}, specs.Order.{is_closed_by, precedes, share_line, is_stored_before, is_ordered}, proofs.PlacesLemmas.{least-passes, count-mono, some_between-found}, proofs.IntervalLemmas.{Closing}}
 use Rattle.pmf_image.{specs.Image.{Image, IsAllowed, count_of, cut_of, is_in, reach_of, shows}, specs.Laws.{OrderedPairsHold}, proofs.ImageLemmas.{below_the_floor, cut-reaches, reached-shown, written-from_checked, last_store-stores, shown-reaches, last_store-above, count_of-here, count_of-mono}}
 
@@ -11,15 +11,10 @@ precedes-parts false true x y is = let bad : false ≡ true = is in cc
 precedes-parts false false x y is = is
 
 closed_by-some : (es : List Event) (f epoch : ℕ) → is_closed_by (epoch_after es f) epoch ≡ true → (0 < f) × (epoch_of es f + 1 ≤ epoch)
-closed_by-some es f epoch is = elim (f == 0) as (λ v. (f == 0) ≡ v → is_closed_by (if v then None else Some (epoch_of es f + 1)) epoch ≡ true → (0 < f) × (epoch_of es f + 1 ≤ epoch)) [
-  | true ↦ λ none bad. let no : false ≡ true = bad in cc
-  | false ↦ λ some within.
-      let bound = leb-true (epoch_of es f + 1) epoch within in
-      elim (cases_eq f 0) [
-        | inl none ↦ let bad : true ≡ false = sym ((Decides-eqb f 0).1 none) ∙ some in cc
-        | inr other ↦ (omega arith, bound)
-      ]
-] refl is
+closed_by-some es f epoch is = elim (eqb_tells f 0) [
+  | inl none ↦ let bad : false ≡ true = rw none.0 at is in cc
+  | inr some ↦ (omega (arith, some.1), leb-true (epoch_of es f + 1) epoch (rw some.0 at is))
+]
 
 -- a fence in an earlier epoch than a place's stands before the place
 earlier-place : (es : List Event) (f k : ℕ) → epoch_of es f + 1 ≤ epoch_of es k → f < k
