@@ -1,6 +1,6 @@
 -- What the calls do to what a pass knows, of one step and of several.
 use Rattle.std.proofs.{Common.{◌≡◌, ℕ, ◌+◌, ◌-◌, ◌%◌, ◌<◌, ◌≤◌, true, false, cond, ◌&&◌, eqb, count_by, ◌⊎◌, inl, inr, ⊎_elim, [], ◌∷◌, ◌++◌, refl, sym, ◌∙◌, ap, subst, arith, Option, Some, None, is_some, IfSome, IfNone, eq-eqb, le-leb}, lemmas.Bool.{lt-leb, cases_lt, true≢false}}
-use Rattle.pmf_board.{specs.declared.entry.Entry.{Entry}, specs.declared.task.Task.{Task}, specs.declared.view.View.{View}, specs.Machine.{entry}, specs.Views.{task, both, most_seen, seen, took, marked, HasSeenDone, HasSeenClosed, NeverFalls}, specs.Rule.{Agrees, entry_of}, specs.Calls.{Stays, Takes, round_from}, proofs.lemmas.KeepLemmas.{bit, times-took, dones-both}, proofs.lemmas.SightLemmas.{most-append_left, most-append_right, most-more, most-here, dones-more, dones-here, dones-cons}}
+use Rattle.pmf_board.{specs.declared.entry.Entry.{Entry}, specs.declared.task.Task.{Task}, specs.declared.view.View.{View}, specs.Machine.{entry}, specs.Views.{task, both, most_seen, seen, took, HasSeenDone, HasSeenClosed, NeverFalls}, specs.Rule.{Agrees, entry_of}, specs.Calls.{Stays, Takes, round_from}, proofs.lemmas.KeepLemmas.{bit, times-took, dones-both}, proofs.lemmas.SightLemmas.{most-append_left, most-append_right, most-more, most-here, dones-more, dones-here, dones-cons}}
 
 NeverFalls-step : (v w : View) (s : ℕ) (e : Entry) → w.saw ≡ (seen v s e).saw → NeverFalls v w
 NeverFalls-step v w s e is = subst (λ saw. NeverFalls v (record { took = w.took; marked = w.marked; saw = saw; shares = w.shares })) (sym is)

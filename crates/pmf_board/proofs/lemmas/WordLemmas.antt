@@ -1,5 +1,5 @@
 -- Entries as numbers.
-use Rattle.std.proofs.{Common.{◌≡◌, ℕ, zero, suc, ◌+◌, ◌%◌, ◌≤◌, Bool, true, false, cond, leb, bit_or, List, [], ◌∷◌, map, get_or, replicate, refl, ap, arith, le-leb}, lemmas.Bool.{lt-leb}}
+use Rattle.std.proofs.{Common.{◌≡◌, ℕ, zero, suc, ◌+◌, ◌%◌, ◌≤◌, ◌==◌, Bool, true, false, cond, leb, bit_or, List, [], ◌∷◌, map, get_or, replicate, refl, ap, arith, le-leb}, lemmas.Bool.{lt-leb, agree_below_at}, lemmas.Bool.Decides.{Decides-eqb}}
 use Rattle.pmf_board.specs.{declared.entry.Entry.{Entry}, Machine.{entry, untouched, entry_at, opening, handed_out, finished}, Rule.{word_of, entry_of}}
 
 entry-is : (h h' : ℕ) (d d' : Bool) → h ≡ h' → d ≡ d' → entry h d ≡ entry h' d'
@@ -18,25 +18,8 @@ pub word-handed_out : (e : Entry) → word_of (handed_out e) ≡ word_of e + 1
 word-handed_out e = omega arith
 
 or_16 : (h : ℕ) (d : Bool) → h ≤ 8 → bit_or (h + cond d 16 0) 16 ≡ h + 16
-or_16 zero false few = refl
-or_16 (suc zero) false few = refl
-or_16 (suc (suc zero)) false few = refl
-or_16 (suc (suc (suc zero))) false few = refl
-or_16 (suc (suc (suc (suc zero)))) false few = refl
-or_16 (suc (suc (suc (suc (suc zero))))) false few = refl
-or_16 (suc (suc (suc (suc (suc (suc zero)))))) false few = refl
-or_16 (suc (suc (suc (suc (suc (suc (suc zero))))))) false few = refl
-or_16 (suc (suc (suc (suc (suc (suc (suc (suc zero)))))))) false few = refl
-or_16 zero true few = refl
-or_16 (suc zero) true few = refl
-or_16 (suc (suc zero)) true few = refl
-or_16 (suc (suc (suc zero))) true few = refl
-or_16 (suc (suc (suc (suc zero)))) true few = refl
-or_16 (suc (suc (suc (suc (suc zero))))) true few = refl
-or_16 (suc (suc (suc (suc (suc (suc zero)))))) true few = refl
-or_16 (suc (suc (suc (suc (suc (suc (suc zero))))))) true few = refl
-or_16 (suc (suc (suc (suc (suc (suc (suc (suc zero)))))))) true few = refl
-or_16 (suc (suc (suc (suc (suc (suc (suc (suc (suc h))))))))) d few = absurd (omega arith)
+or_16 h true few = (Decides-eqb _ _).0 (agree_below_at (λ k. bit_or (k + 16) 16 == k + 16) (λ k. true) 9 h refl (omega arith))
+or_16 h false few = (Decides-eqb _ _).0 (agree_below_at (λ k. bit_or (k + 0) 16 == k + 16) (λ k. true) 9 h refl (omega arith))
 
 -- a mark sets one bit
 pub word-finished : (e : Entry) → e.handouts ≤ 8 → bit_or (word_of e) 16 ≡ word_of (finished e)
