@@ -1,6 +1,6 @@
 -- What is kept of a ledger, and what was gathered there.
 use Rattle.std.proofs.{Common.{◌≡◌, ℕ, zero, suc, List, [], ◌∷◌, ◌++◌, map, get_or, set, replicate, Some, None, refl, sym, ◌∙◌, ap, subst, inl, inr, ◌⊎◌, ◌↔◌, slice_get, Contains, Option, Ok, Err, IsOk, get_or-set_same}, lemmas.List.Elements.{Contains-append_left, Contains-append_right, Contains-append_cases}, lemmas.Option.{same_Some, slice_get_within, get_or_from_slice_get}}
-use Rattle.pmf_ledger.{proofs.lemmas.AddingLemmas.{Contains-cons, Contains-cons_cases}, proofs.lemmas.MergingLemmas.{none_of_empty}, specs.Repeats.{section_at}}
+use Rattle.pmf_ledger.{proofs.lemmas.AddingLemmas.{Contains-cons, Contains-cons_cases, from_map, to_map}, proofs.lemmas.MergingLemmas.{none_of_empty}, specs.Repeats.{section_at}}
 use Rattle.pmf_world.specs.{declared.step.WorldStep.{WorldStep}, Turns.{Turned}, Steps.{WorldState, after, arrive_found, join_found, opening_of, set_at, stepped, turned, with_set, world_of}, Laws.{Brings, IsGathered, LedgersAreOfTheGathered, SetsAreOfTheGathered}}
 use Rattle.pmf_world.specs.declared.step.WorldStep.TheVariants as step
 
@@ -16,17 +16,6 @@ pub get_or-replicate_default : {X : Type 0} (n k : ℕ) (d : X) → get_or (repl
 get_or-replicate_default zero k d = refl
 get_or-replicate_default (suc n) zero d = refl
 get_or-replicate_default (suc n) (suc k) d = get_or-replicate_default n k d
-
-pub from_map : {X Y : Type 0} (f : X → Y) (xs : List X) (y : Y) → Contains (map f xs) y → (x : X) × Contains xs x × (f x ≡ y)
-from_map f [] y found = absurd (none_of_empty [] y refl found)
-from_map f (x ∷ xs) y found = elim (Contains-cons_cases y (f x) (map f xs) found) [
-  | inl same ↦ (x, Contains-cons x x xs (inl refl), sym same)
-  | inr behind ↦ let there = from_map f xs y behind in (there.0, Contains-cons there.0 x xs (inr there.1), there.2)
-]
-
-pub to_map : {X Y : Type 0} (f : X → Y) (xs : List X) (x : X) → Contains xs x → Contains (map f xs) (f x)
-to_map f [] x found = absurd (none_of_empty [] x refl found)
-to_map f (z ∷ xs) x found = Contains-cons (f x) (f z) (map f xs) (elim (Contains-cons_cases x z xs found) [ inl same ↦ inl (ap f same) | inr behind ↦ inr (to_map f xs x behind) ])
 
 -- a step that brings nothing
 kept : {Has Was None : Type 0} → Has ↔ Was → (None → ⊥) → Has ↔ (Was ⊎ None)

@@ -9,13 +9,8 @@ after-more first before step = refl
 
 -- a refusal but for want of memory is the definition's
 refused-by : (world : WorldValue) (step : WorldStep) (f : WorldFault) → f ≢ fault.OutOfMemory → Refuses world step f → (state : WorldState) → StandsFor world state → stepped state step ≡ Err f
-refused-by world step fault.NoSuchWorker other is = is
-refused-by world step fault.NoSuchSection other is = is
-refused-by world step fault.NoSuchMessage other is = is
-refused-by world step fault.NoSuchLedger other is = is
-refused-by world step fault.Gone other is = is
-refused-by world step fault.Misplaced other is = is
 refused-by world step fault.OutOfMemory other is = absurd (other refl)
+refused-by world step f other is = is
 
 module _ (old new : WorldValue) (text grown : List ℕ) (number : ℕ) (step : WorldStep) where
   pub played-ok : (told : WorldAnswer) → Steps old step told new → grown ≡ text ++ text_of_step number (Ok told) → PlaysStep old text number step new grown

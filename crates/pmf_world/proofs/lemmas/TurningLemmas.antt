@@ -23,14 +23,8 @@ module _ (old new : FloorValue) (turn : Turned) (ledgers : List LedgerValue) whe
   kept-turned (Err refused) is kept = subst (λ f. IsKept f ledgers) (sym is.2) kept
 
   pub kept-turned_if_room : (r : Result WorldAnswer WorldFault) → IsTurnedIfRoom old turn r new → IsKept old ledgers → IsKept new ledgers
-  kept-turned_if_room (Ok told) is kept = kept-turned (Ok told) is kept
-  kept-turned_if_room (Err fault.NoSuchWorker) is kept = kept-turned (Err fault.NoSuchWorker) is kept
-  kept-turned_if_room (Err fault.NoSuchSection) is kept = kept-turned (Err fault.NoSuchSection) is kept
-  kept-turned_if_room (Err fault.NoSuchMessage) is kept = kept-turned (Err fault.NoSuchMessage) is kept
-  kept-turned_if_room (Err fault.NoSuchLedger) is kept = kept-turned (Err fault.NoSuchLedger) is kept
-  kept-turned_if_room (Err fault.Gone) is kept = kept-turned (Err fault.Gone) is kept
-  kept-turned_if_room (Err fault.Misplaced) is kept = kept-turned (Err fault.Misplaced) is kept
   kept-turned_if_room (Err fault.OutOfMemory) is kept = subst (λ f. IsKept f ledgers) (sym is) kept
+  kept-turned_if_room r is kept = kept-turned r is kept
 
 module _ (old : WorldValue) (newest : WorldStep) (turn : FarmState → Turned) (floor new : FloorValue) (ledgers : List LedgerValue) (is_old : world_on floor ledgers ≡ old)
     (by : (state : WorldState) → stepped state newest ≡ turned state (turn state.farm)) where

@@ -1,44 +1,36 @@
 -- What one ledger of a world takes or is joined with, and the world after it.
-use Rattle.std.{proofs.Common.{rules, ◌≡◌, ℕ, zero, suc, ◌+◌, ◌<◌, ◌≤◌, true, List, [], ◌∷◌, ◌++◌, length, set, get_or, slice_get, refl, sym, ◌∙◌, ap, subst, Some, Ok, inl, inr, arith, if◌then◌else◌, eqb, eqb-true, ◌↔◌, cond, count_by, Contains, IfOk, OnOk, OnErr, Result, Err, All, eq-eqb}, specs.List.{list_any}, proofs.lemmas.Bool.{cases_Bool}, proofs.lemmas.List.{get_or_default, map-append, set-get_or}, proofs.lemmas.List.Elements.{All-append, All-cons, All-get_or, Contains-append_cases, Contains-append_left, Contains-get_or}, proofs.lemmas.List.Folds.{Any-from_list_any, list_any_at}, proofs.lemmas.List.Sums.{get_or-le-sum_by, sum_by-cons}, proofs.lemmas.Option.{slice_get-get_or}}
+use Rattle.std.{proofs.Common.{rules, ◌≡◌, ℕ, zero, suc, ◌+◌, ◌<◌, ◌≤◌, true, List, [], ◌∷◌, ◌++◌, length, set, get_or, slice_get, refl, sym, ◌∙◌, ap, subst, Some, Ok, inl, inr, arith, if◌then◌else◌, eqb, eqb-true, ◌↔◌, Contains, IfOk, OnOk, OnErr, Result, Err, All, eq-eqb}, specs.List.{list_any}, proofs.lemmas.Bool.{cases_Bool, cases_order}, proofs.lemmas.List.{get_or-map, get_or_default, length-map, map-append, set-get_or}, proofs.lemmas.List.Elements.{All-append, All-cons, All-get_or, Contains-append_cases, Contains-append_left, Contains-get_or}, proofs.lemmas.List.Folds.{Any-from_list_any, list_any_at}, proofs.lemmas.Option.{slice_get-get_or}}
 use Rattle.pmf_event.specs.{declared.name.Name.{Name}, declared.profile.Profile.{Profile}, Section.{Trace}}
-use Rattle.pmf_ledger.{specs.declared.taking.Taken.{Taken}, specs.Gathered.{ClashesAt, Gains, Gathers, GathersBoth, Holds, HoldsOther, IsLedgerOf, Unites}, specs.LedgerValue.{LedgerValue}, specs.Repeats.{HaveOwnNames, is_name, names_of, no_section, section_at}, proofs.lemmas.AddingLemmas.{Contains-cons_cases}, proofs.lemmas.MergingLemmas.{none_of_empty}}
+use Rattle.pmf_ledger.{specs.declared.taking.Taken.{Taken}, specs.Gathered.{ClashesAt, Gains, Gathers, GathersBoth, Holds, HoldsOther, IsLedgerOf, Unites}, specs.LedgerValue.{LedgerValue}, specs.Repeats.{HaveOwnNames, is_name, names_of, no_section, section_at}, proofs.lemmas.AddingLemmas.{from_map, to_map}, proofs.lemmas.RepeatLemmas.{is_name-yes, some_two}}
 use Rattle.pmf_verdict.specs.Checked.{Checked}
-use Rattle.pmf_world.{specs.Floors.{IsSent}, specs.Steps.{WorldState, set_at, with_set, arrive_found, join_found}, specs.Worlds.{IsOfWorld, StandsFor, Steps, WorldValue, ledger_at, sections_at}, specs.Gatherings.{JoinsAt, TakesAt, answer_of, with_ledger}, proofs.lemmas.GatheredLemmas.{from_map, to_map}, proofs.lemmas.WorldStandsLemmas.{StandsFor-set}}
+use Rattle.pmf_world.{specs.Floors.{IsSent}, specs.Steps.{WorldState, set_at, with_set, arrive_found, join_found}, specs.Worlds.{IsOfWorld, StandsFor, Steps, WorldValue, ledger_at, sections_at}, specs.Gatherings.{JoinsAt, TakesAt, answer_of, with_ledger}, proofs.lemmas.WorldStandsLemmas.{StandsFor-set}}
 use Rattle.pmf_ledger.specs.declared.taking.Taken.TheVariants as taken
 use Rattle.pmf_world.specs.declared.step.WorldAnswer.TheVariants as answer
 use Rattle.pmf_world.specs.declared.step.WorldStep.TheVariants as step
 
-has_its_name : (name : Name) → is_name name name ≡ true
-has_its_name name = rw (eq-eqb name.run name.run refl, eq-eqb name.number name.number refl) refl
+-- sections with names of their own have two names at two places
+apart : (ss : List Trace) → HaveOwnNames ss → (i j : ℕ) → i < j → j < length ss → (section_at ss i).name ≡ (section_at ss j).name → ⊥
+apart ss own i j less inside same =
+    let name = (section_at ss j).name in
+    let long = length-map ss (λ (r : Trace). r.name) in
+    let at : (k : ℕ) → k < length ss → get_or (names_of ss) k name ≡ (section_at ss k).name = λ k there. get_or-map (λ (r : Trace). r.name) ss k no_section name there in
+    own name (some_two (is_name name) (names_of ss) i j name less (omega (arith, inside, long))
+    (is_name-yes name (get_or (names_of ss) i name) (at i (omega (arith, less, inside)) ∙ same)) (is_name-yes name (get_or (names_of ss) j name) (at j inside)))
 
-module _ (x : Trace) (xs : List Trace) where
-  counted : (name : Name) → count_by (is_name name) (names_of (x ∷ xs)) ≡ cond (is_name name x.name) 1 0 + count_by (is_name name) (names_of xs)
-  counted name = sum_by-cons (λ n. cond (is_name name n) 1 0) x.name (names_of xs)
-
-  own_behind : HaveOwnNames (x ∷ xs) → HaveOwnNames xs
-  own_behind own name more = own name (let all = counted name in omega (arith, all, more))
-
-  -- the first one's name doesn't stand behind it
-  not_behind : HaveOwnNames (x ∷ xs) → (r : Trace) → Contains xs r → x.name ≡ r.name → ⊥
-  not_behind own r there named =
-      let one : ◌≡◌ {A = ℕ} (cond (is_name x.name x.name) 1 0) 1 = ap (λ b. cond b 1 0) (has_its_name x.name) in
-      let found = subst (Contains (names_of xs)) (sym named) (to_map (λ (q : Trace). q.name) xs r there) in
-      let at = subst (λ n. cond (is_name x.name n) 1 0 ≤ count_by (is_name x.name) (names_of xs)) found.2 (get_or-le-sum_by (λ n. cond (is_name x.name n) 1 0) (names_of xs) found.0 x.name found.1) in
-      own x.name (let all = counted x.name in omega (arith, all, one, at))
+-- where they have one name it is one place
+same_place : (ss : List Trace) → HaveOwnNames ss → (i j : ℕ) → i < length ss → j < length ss → (section_at ss i).name ≡ (section_at ss j).name → i ≡ j
+same_place ss own i j of_i of_j same = elim (cases_order i j) [
+  | inl even ↦ even
+  | inr other ↦ absurd (elim other [ inl less ↦ apart ss own i j less of_j same | inr more ↦ apart ss own j i more of_i (sym same) ])
+]
 
 -- of sections with names of their own two with one name are one
 pub same_section : (ss : List Trace) → HaveOwnNames ss → (s t : Trace) → Contains ss s → Contains ss t → s.name ≡ t.name → s ≡ t
-same_section [] own s t has_s has_t same = absurd (none_of_empty [] s refl has_s)
-same_section (x ∷ xs) own s t has_s has_t same = elim (Contains-cons_cases s x xs has_s) [
-  | inl first ↦ elim (Contains-cons_cases t x xs has_t) [
-    | inl second ↦ first ∙ sym second
-    | inr behind ↦ absurd (not_behind x xs own t behind (ap (λ (r : Trace). r.name) (sym first) ∙ same))
-  ]
-  | inr before ↦ elim (Contains-cons_cases t x xs has_t) [
-    | inl second ↦ absurd (not_behind x xs own s before (ap (λ (r : Trace). r.name) (sym second) ∙ sym same))
-    | inr behind ↦ same_section xs (own_behind x xs own) s t before behind same
-  ]
-]
+same_section ss own s t has_s has_t same =
+    let at_s : section_at ss has_s.0 ≡ s = sym (get_or_default ss has_s.0 s no_section has_s.1) ∙ has_s.2 in
+    let at_t : section_at ss has_t.0 ≡ t = sym (get_or_default ss has_t.0 t no_section has_t.1) ∙ has_t.2 in
+    let one = same_place ss own has_s.0 has_t.0 has_s.1 has_t.1 (ap (λ (r : Trace). r.name) at_s ∙ same ∙ sym (ap (λ (r : Trace). r.name) at_t)) in
+    sym at_s ∙ ap (section_at ss) one ∙ at_t
 
 -- a ledger of some sections holds none of them with other events
 pub holds_no_other : (profile : Profile) (ss : List Trace) (l : LedgerValue) (s : Trace) → HaveOwnNames ss → IsOfWorld profile ss l → Contains ss s → HoldsOther l s → ⊥
@@ -66,20 +58,12 @@ is_ours-joined profile ss a b m of_a of_b unites = (
 has_section : (ss : List Trace) (s : ℕ) → s < length ss → Contains ss (section_at ss s)
 has_section ss s here = Contains-get_or ss s no_section here
 
--- sections that are one have one number
-same_number : (ss : List Trace) → HaveOwnNames ss → (s t : ℕ) → s < length ss → t < length ss → section_at ss s ≡ section_at ss t → s ≡ t
-same_number [] own s t of_s of_t same = omega (arith, of_s)
-same_number (x ∷ xs) own zero zero of_s of_t same = refl
-same_number (x ∷ xs) own zero (suc t) of_s of_t same = absurd (not_behind x xs own (section_at xs t) (has_section xs t (omega (arith, of_t))) (ap (λ (r : Trace). r.name) same))
-same_number (x ∷ xs) own (suc s) zero of_s of_t same = absurd (not_behind x xs own (section_at xs s) (has_section xs s (omega (arith, of_s))) (ap (λ (r : Trace). r.name) (sym same)))
-same_number (x ∷ xs) own (suc s) (suc t) of_s of_t same = ap suc (same_number xs (own_behind x xs own) s t (omega (arith, of_s)) (omega (arith, of_t)) same)
-
 -- a set of numbers has a number where their sections have its section
 has_number : (ss : List Trace) (set : List ℕ) (s : ℕ) → HaveOwnNames ss → All (λ n. n < length ss) set → s < length ss → Contains (sections_at ss set) (section_at ss s) → Contains set s
 has_number ss set s own within here found =
     let there = from_map (section_at ss) set (section_at ss s) found in
     let less = subst (λ n. n < length ss) there.1.2 (All-get_or (λ n. n < length ss) set there.1.0 there.0 there.1.1 within) in
-    subst (Contains set) (same_number ss own there.0 s less here there.2) there.1
+    subst (Contains set) (same_place ss own there.0 s less here (ap (λ (r : Trace). r.name) there.2)) there.1
 
 -- and the test of a number finds it where it is
 finds : (set : List ℕ) (s : ℕ) → Contains set s ↔ (list_any (eqb s) set ≡ true)
