@@ -19,5 +19,5 @@ pub mod GivingLemmas
 pub mod AlikeLemmas
 pub mod SpelledLemmas
 pub mod LedgerTextLemmas
-pub mod ToldLemmas
+pub mod ReportToldLemmas
 pub mod LoadedLemmas

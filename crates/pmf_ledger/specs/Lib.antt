@@ -22,7 +22,7 @@ pub mod Report
 pub mod AllKept
 pub mod LedgerText
 pub mod Loading
-pub mod Told
+pub mod ReportTold
 pub mod FaultText
 pub mod Following
 pub mod Laws

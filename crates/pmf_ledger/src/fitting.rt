@@ -1,7 +1,7 @@
 //! That the numbers of checked sections fit in 64 bits, as their types say.
 
 ghost use Rattle.std.specs.Prelude.{All};
-ghost use Rattle.pmf_ledger.specs.Told.{FitsFinding, FitsRow, FitsSection};
+ghost use Rattle.pmf_ledger.specs.ReportTold.{FitsFinding, FitsRow, FitsSection};
 
 use pmf_event::{Finding, Name, Row};
 use pmf_verdict::Verdict;

@@ -1,6 +1,6 @@
 //! Laws of gatherings, of their ledgers and of ledger texts, each the clause of an empty function.
 
-ghost use Rattle.pmf_ledger.specs.{AllKept.{AllRowsAreTrue, NoEmptyIsFilled, NoFailIsKept}, Gathering.{GivesItsLedger, GivesWhereItMay, JoiningAssociates, JoiningCommutes, JoiningRepeats, OnlyTheSetCounts, RefusesForCause}, Laws.{EqualSetsHaveOneLedger, TextsLoadAsOneLedger, WhatLoadsIsNotRefused}, Told.{ReportsTellSections, ReportsTellTotals}};
+ghost use Rattle.pmf_ledger.specs.{AllKept.{AllRowsAreTrue, NoEmptyIsFilled, NoFailIsKept}, Gathering.{GivesItsLedger, GivesWhereItMay, JoiningAssociates, JoiningCommutes, JoiningRepeats, OnlyTheSetCounts, RefusesForCause}, Laws.{EqualSetsHaveOneLedger, TextsLoadAsOneLedger, WhatLoadsIsNotRefused}, ReportTold.{ReportsTellSections, ReportsTellTotals}};
 
 /// Whatever ledger a gathering gives, in whatever order it took and joined, it is the ledger of the set that
 /// was gathered: each of its sections once, in the order of their names. That set agrees, and all is by one
@@ -77,13 +77,13 @@ pub fn no_empty_is_filled()
 
 /// A report, read text line by text line, tells exactly the sections that it is of, each with its own rows: a line
 /// `3 PERSIST PASS` stands below the header of a section exactly where the section has that row.
-#[tactic(auto, using(crate::proofs::lemmas::ToldLemmas::reports_tell_sections))]
+#[tactic(auto, using(crate::proofs::lemmas::ReportToldLemmas::reports_tell_sections))]
 pub fn reports_tell_their_sections()
     ensures { ReportsTellSections }
 {}
 
 /// And its last text line tells their sums.
-#[tactic(auto, using(crate::proofs::lemmas::ToldLemmas::reports_tell_totals))]
+#[tactic(auto, using(crate::proofs::lemmas::ReportToldLemmas::reports_tell_totals))]
 pub fn reports_tell_their_totals()
     ensures { ReportsTellTotals }
 {}

@@ -1,7 +1,7 @@
 //! The report of a ledger: a text line for each section, its rows, and the sums.
 
 ghost use Rattle.std.specs.Prelude.{◌≡◌, ◌++◌, ◌∷◌, [], map, Some, OnOk, IfOk, string_bytes};
-ghost use Rattle.pmf_ledger.specs.{Report.{report_of, text_of_counts, text_of_header, text_of_section, text_of_totals, totals_of}, Told.{FitsTotals, sections_told, shown, totals_told}};
+ghost use Rattle.pmf_ledger.specs.{Report.{report_of, text_of_counts, text_of_header, text_of_section, text_of_totals, totals_of}, ReportTold.{FitsTotals, sections_told, shown, totals_told}};
 
 use crate::fitting::sections_fit;
 use crate::ledger::Ledger;

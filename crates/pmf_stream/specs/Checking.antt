@@ -1,7 +1,7 @@
 -- What check_stream reads, and the report or ledger text that it writes. Defined here.
 use Rattle.std.specs.{Prelude.{◌≡◌, ◌≢◌, ◌<◌, ◌≤◌, ◌⊎◌, Bool, true, false, List, ◌++◌, length, map, ℕ, Option, None, Ok, Err}, Io.KnownBytes.{IsAtEnd}}
 use Rattle.pmf_storelog.specs.{declared.fault.LogFault.{LogFault}, declared.fault.TheConstants.{LOG_LIMIT}, LogValue.{LogValue}, LogText.{log_of, shown_fault, IsFaultOfAll, out_of_memory}}
-use Rattle.pmf_ledger.specs.{Gathered.{IsLedgerOf}, AllKept.{AllKept, AllFilled}, LedgerText.{text_of_ledger}, LedgerValue.{LedgerValue}, Report.{report_of, totals_of}, Told.{sections_told, shown}}
+use Rattle.pmf_ledger.specs.{Gathered.{IsLedgerOf}, AllKept.{AllKept, AllFilled}, LedgerText.{text_of_ledger}, LedgerValue.{LedgerValue}, Report.{report_of, totals_of}, ReportTold.{sections_told, shown}}
 use Rattle.pmf_farm.specs.{declared.fault.FarmFault.{FarmFault}, Running.{IsTaken}}
 use Rattle.pmf_board.specs.{declared.board.TheConstants.{MOST_WORKERS}, Workers.{AreWorkers}}
 use Rattle.pmf_stream.specs.{declared.checking.CheckLogFault.{CheckLogFault}, declared.checking.Done.{Done}, declared.reading.TheConstants.{PIECE}, Reading.{HasReadBytes}}

@@ -1,7 +1,7 @@
 -- What the texts of ledgers give that are joined, text after text. Defined here.
 use Rattle.std.specs.Prelude.{◌≡◌, ◌≢◌, ℕ, zero, suc, ◌<◌, ◌≤◌, Bool, List, [], false, length, map, take, slice_index_or, None, All, flat_map}
 use Rattle.pmf_event.specs.{declared.profile.Profile.{Profile}, declared.profile.Profile.TheVariants.{One}, Section.{Trace}}
-use Rattle.pmf_ledger.specs.{declared.joining.JoinFault.{JoinFault}, Gathered.{GathersBoth, IsLeastClash, IsLedgerOf, Unites}, AllKept.{AllKept, AllFilled}, LedgerValue.{LedgerValue}, Loading.{IsRefusedWith, LoadsAs, fault_of, reading_of}, Report.{totals_of}, Told.{sections_told, shown}}
+use Rattle.pmf_ledger.specs.{declared.joining.JoinFault.{JoinFault}, Gathered.{GathersBoth, IsLeastClash, IsLedgerOf, Unites}, AllKept.{AllKept, AllFilled}, LedgerValue.{LedgerValue}, Loading.{IsRefusedWith, LoadsAs, fault_of, reading_of}, Report.{totals_of}, ReportTold.{sections_told, shown}}
 use Rattle.pmf_stream.specs.{declared.joining.Joined.{Joined}, declared.joining.JoinTextFault.{JoinTextFault}, Checking.{text_asked}}
 use Rattle.pmf_ledger.specs.declared.joining.JoinFault.TheVariants as join
 use Rattle.pmf_stream.specs.declared.joining.JoinTextFault.TheVariants as fault

@@ -3,7 +3,7 @@
 ghost use Rattle.std.specs.Prelude.{◌≡◌, ◌≢◌, ◌++◌, ◌+◌, ℕ, false, List, [], map, Option, None, IfOk, IfErr, MatchResult};
 ghost use Rattle.pmf_storelog.specs.{declared.fault.TheConstants.{LOG_LIMIT}, LogText.{out_of_memory, shown_fault}, Reader.{HasRead}};
 ghost use Rattle.pmf_farm.specs.Running.{IsTaken};
-ghost use Rattle.pmf_ledger.specs.{Gathered.{IsLedgerOf}, Report.{totals_of}, Told.{sections_told, shown}};
+ghost use Rattle.pmf_ledger.specs.{Gathered.{IsLedgerOf}, Report.{totals_of}, ReportTold.{sections_told, shown}};
 ghost use Rattle.pmf_stream.specs.{Answering.{Answers, RefusesReading, TellsFaults, failed_reads}, Checking.{IsCheckFaultOf, IsLogOf, IsReportOf, Reports, text_asked}, Failures.{CanCountOneMore}, Reading.{ReadsWithin}};
 
 use crate::failed::Failed;

@@ -1,5 +1,5 @@
 use Rattle.std.proofs.Common.{take, All}
-use Rattle.pmf_ledger.specs.Told.{FitsRow}
+use Rattle.pmf_ledger.specs.ReportTold.{FitsRow}
 use Rattle.pmf_ledger.proofs.fitting.rows_fit.Given as goal
 
 abbrev pub invariant-loop-row : goal.invariant-loop-row

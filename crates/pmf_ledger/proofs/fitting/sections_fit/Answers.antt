@@ -1,5 +1,5 @@
 use Rattle.std.proofs.{Common.{subst}, lemmas.List.Elements.{All-more}}
-use Rattle.pmf_ledger.specs.Told.{FitsSection}
+use Rattle.pmf_ledger.specs.ReportTold.{FitsSection}
 use Rattle.pmf_ledger.proofs.fitting.sections_fit.Goals as goal
 
 pub loop-verdict-preserved : goal.loop-verdict-preserved

@@ -1,5 +1,5 @@
 use Rattle.std.proofs.Common.{take, All}
-use Rattle.pmf_ledger.specs.Told.{FitsSection}
+use Rattle.pmf_ledger.specs.ReportTold.{FitsSection}
 use Rattle.pmf_ledger.proofs.fitting.sections_fit.Given as goal
 
 abbrev pub invariant-loop-verdict : goal.invariant-loop-verdict

@@ -1,5 +1,5 @@
 use Rattle.std.proofs.Common.{All, ◌∙◌, ap, subst}
-use Rattle.pmf_ledger.{specs.Told.{FitsSection, sections_told, totals_told}, proofs.lemmas.ToldLemmas.{reports_tell_sections, reports_tell_totals}}
+use Rattle.pmf_ledger.{specs.ReportTold.{FitsSection, sections_told, totals_told}, proofs.lemmas.ReportToldLemmas.{reports_tell_sections, reports_tell_totals}}
 use Rattle.pmf_ledger.proofs.ledger.Ledger.report.Goals as goal
 
 pub returns-clause-told : goal.returns-clause-told

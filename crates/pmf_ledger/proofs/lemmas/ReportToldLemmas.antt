@@ -3,7 +3,7 @@ use Rattle.std.{proofs.Common.{◌≡◌, ℕ, ◌^◌, ◌<◌, ◌==◌, true,
 use Rattle.pmf_event.specs.{Address.{address}, declared.finding.Finding.{Finding}, declared.finding.Finding.TheVariants.{PersistPass, PersistFail, PersistEmpty, OrderedPass, OrderedFail, OrderedSameLine, OrderedEmpty, FlushDoubled, FlushNeedless, NoBackup, DupLog, CheckPass, CheckFail, TxStillOpen, Unmatched, Outside, Nested, Unopened, Unclosed}, declared.row.Row.{Row}}
 use Rattle.pmf_storelog.{specs.Numbers.{is_digit_in, is_numeral, numeral_of, number_before, number_in_front}, proofs.CanonicalLemmas.{hex-length, numeral_of-digits}, proofs.FrontLemmas.{BeginsWithNoDigit, number_in_front-decimal}, proofs.PlainRecordLemmas.{text_of_lines}}
 use Rattle.pmf_verdict.specs.{Checked.{Checked, rows_in}, Rows.{row_at}, Text.{text_of_pair, text_of_finding, text_of_rows}}
-use Rattle.pmf_ledger.{specs.declared.totals.Totals.{Totals}, specs.Loading.{number_behind}, specs.Report.{totals_of, text_of_counts, text_of_header, text_of_section, text_of_totals, report_of}, specs.Told.{told_by, at_last, address_in_front, address_behind, byte_told, crash_told, pair_told, lines_told, number_told, words_at, finding_told, row_told, Told, shown, header_told, row_before, rows_told, header_before, sections_in, sections_told, counts_told, sums_told, last_sums, totals_told, FitsFinding, FitsRow, FitsSection, FitsTotals, ReportsTellSections, ReportsTellTotals}, proofs.lemmas.LedgerTextLemmas.{row_lines, rows-one, number_behind-word}, proofs.lemmas.SpelledLemmas.{OneLine, one-append, decimal-one, text_without_end, lines_of-lines, lines-append, each-append}}
+use Rattle.pmf_ledger.{specs.declared.totals.Totals.{Totals}, specs.Loading.{number_behind}, specs.Report.{totals_of, text_of_counts, text_of_header, text_of_section, text_of_totals, report_of}, specs.ReportTold.{told_by, at_last, address_in_front, address_behind, byte_told, crash_told, pair_told, lines_told, number_told, words_at, finding_told, row_told, Told, shown, header_told, row_before, rows_told, header_before, sections_in, sections_told, counts_told, sums_told, last_sums, totals_told, FitsFinding, FitsRow, FitsSection, FitsTotals, ReportsTellSections, ReportsTellTotals}, proofs.lemmas.LedgerTextLemmas.{row_lines, rows-one, number_behind-word}, proofs.lemmas.SpelledLemmas.{OneLine, one-append, decimal-one, text_without_end, lines_of-lines, lines-append, each-append}}
 
 -- ---- numbers
 
