@@ -1,5 +1,5 @@
 -- A ledger text read text line by text line: what is left of it, and where the reading ends.
-use Rattle.std.proofs.Common.{◌≡◌, ℕ, zero, suc, ◌+◌, ◌-◌, ◌<◌, ◌≤◌, true, false, ◌==◌, List, [], ◌∷◌, ◌++◌, length, take, drop, get_or, Bool, Option, Some, None, refl, sym, ◌∙◌, ap, subst, arith, length-append, Result, Ok, Err, if◌then◌else◌, le-ltb, lt-ltb, append_assoc, append-nil, length-drop, length-take-le}
+use Rattle.std.proofs.Common.{◌≡◌, ℕ, zero, suc, ◌+◌, ◌-◌, ◌<◌, ◌≤◌, true, false, List, [], ◌∷◌, ◌++◌, length, take, drop, get_or, Bool, Option, Some, None, refl, sym, ◌∙◌, ap, subst, arith, length-append, Result, Ok, Err, if◌then◌else◌, le-ltb, lt-ltb, append_assoc, append-nil, length-drop, length-take-le}
 use Rattle.memchr.specs.Find.{IsFirstByte, is_byte}
 use Rattle.pmf_event.specs.{declared.event.Event.{Event}, declared.name.Name.{Name}, declared.profile.Profile.{Profile}, declared.row.Row.{Row}, Section.{Trace}}
 use Rattle.pmf_storelog.{specs.declared.fault.Cause.TheVariants.{TooManyEvents}, specs.declared.line.LineFault.{LineFault}, specs.Lines.{event_of_line}, proofs.SplitLemmas.{split_none, split_some, split_filled}}

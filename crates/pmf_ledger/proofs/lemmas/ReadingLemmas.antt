@@ -1,5 +1,5 @@
 -- A reading after one step, where what is kept stood for it.
-use Rattle.std.proofs.{Common.{◌≡◌, ℕ, zero, suc, ◌+◌, ◌-◌, ◌<◌, ◌≤◌, true, false, ◌==◌, List, [], ◌∷◌, ◌++◌, length, drop, get_or, Some, refl, sym, ◌∙◌, ap, subst, arith, inl, inr, Contains, Ok, codes, bytes_eq, Bool}, lemmas.List.{drop_more, length_push, append_cancel_right}, lemmas.List.Elements.{Contains-append_left, Contains-push, Contains-push_cases}, lemmas.Bool.{ne_eqb, false_from_ne_true}, lemmas.Slice.Eq.{bytes_eq-Decides}, lemmas.Bool.Decides.{Decides-eqb}}
+use Rattle.std.proofs.{Common.{◌≡◌, ℕ, zero, suc, ◌+◌, ◌-◌, ◌<◌, ◌≤◌, true, false, List, [], ◌∷◌, ◌++◌, length, drop, get_or, Some, refl, sym, ◌∙◌, ap, subst, arith, inl, inr, Contains, Ok, codes, bytes_eq, Bool}, lemmas.List.{drop_more, length_push, append_cancel_right}, lemmas.List.Elements.{Contains-append_left, Contains-push, Contains-push_cases}, lemmas.Bool.{ne_eqb, false_from_ne_true}, lemmas.Slice.Eq.{bytes_eq-Decides}, lemmas.Bool.Decides.{Decides-eqb}}
 use Rattle.pmf_event.specs.{declared.event.Event.{Event}, declared.name.Name.{Name}, declared.profile.Profile.{Profile}, declared.row.Row.{Row}, declared.section.TheConstants.{EVENT_LIMIT}, Section.{Trace}}
 use Rattle.pmf_storelog.specs.{declared.fault.Cause.TheVariants.{TooManyEvents}, declared.line.LineFault.{LineFault}, declared.line.LineFault.TheVariants.{NoEvent, Refused}}
 use Rattle.pmf_verdict.specs.{Checked.{Checked, checked_by}, Rows.{rows_of}, Text.{text_of_row}}
