@@ -54,12 +54,6 @@ within-line x at y before from same =
     }
 
 module _ (fs : List Event) (m : ℕ) (gs : List Event) (q : ℕ) where
-  pub compared-none : Compared fs m gs q [] 0
-  compared-none = record {
-    below = record { bytes = λ b none. absurd (omega arith); order = λ x y none. absurd (omega arith) };
-    line = λ some. absurd (omega arith);
-  }
-
   module _ (a b : Standing) (at end : ℕ) (one : AllStandSo (λ k. k) fs m at end a) (other : AllStandSo (λ k. k) gs q at end b) (agree : standings_agree a b ≡ true) where
     part-excluded : a.excluded ≡ b.excluded
     part-excluded = (booleans_Decides a.excluded b.excluded).0 (and_parts (beq a.excluded b.excluded) _ agree).0

@@ -29,18 +29,6 @@ closing-bound : (es : List Event) (p b : ℕ) → closing_fence (stores b) (line
 unfolding closing_fence
 closing-bound es p b = least-bound (closes es (line_of_byte b) (last_store es p b)) p
 
--- what is unwritten is undurable
-pub unwritten-undurable : (es : List Event) (p b : ℕ) → is_unwritten es p b ≡ true → is_undurable es p b ≡ true
-unfolding is_unwritten is_undurable first_write_back closing_fence
-unwritten-undurable es p b is =
-    let k = last_store es p b in
-    let line = line_of_byte b in
-    let parts = lacks-parts k (least (writes_back es line k) p) is in
-    elim (cases_lt 0 (least (closes es line k) p)) [
-      | inl some ↦ let more = first-from_closing es line k p some in let none = parts.1 in absurd (omega arith)
-      | inr none ↦ lacks-from k (least (closes es line k) p) parts.0 (omega arith)
-    ]
-
 pub undurable-stored_to : (es : List Event) (p b : ℕ) → is_undurable es p b ≡ true → 0 < last_store es p b
 unfolding is_undurable
 undurable-stored_to es p b is = (lacks-parts (last_store es p b) (closing_fence (stores b) (line_of_byte b) es p) is).0
