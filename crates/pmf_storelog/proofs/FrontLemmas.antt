@@ -1,19 +1,24 @@
 -- A decimal number at the front of a text.
-use Rattle.std.{proofs.Common.{◌≡◌, ℕ, ◌^◌, ◌<◌, false, List, [], ◌∷◌, ◌++◌, Some, length, refl, ap, ◌∙◌, arith, decimal, lt-ltb, take_at, drop_at}, specs.Prelude.{⊤}, specs.Char.{digit_value}, specs.Str.Parse.{AllDigits}, proofs.lemmas.Fmt.{decimal_is_IsNumeral, length-decimal-le}}
+use Rattle.std.{proofs.Common.{◌≡◌, ℕ, ◌^◌, ◌<◌, false, List, [], ◌∷◌, ◌++◌, Some, length, refl, ap, ◌∙◌, arith, decimal, lt-ltb, take_at, drop_at}, specs.Prelude.{⊤}, specs.Char.{digit_value}, specs.List.{prefix_len}, specs.Str.Parse.{AllDigits}, proofs.lemmas.Fmt.{decimal_is_IsNumeral, length-decimal-le}}
 use Rattle.pmf_storelog.{specs.Numbers.{is_digit_in, numeral_of, digits_in_front, number_before, number_in_front}, proofs.CanonicalLemmas.{numeral_of-digits}}
 
--- the text is empty, or begins with a byte that is no decimal digit
+-- the text is empty, or begins with a byte that is no digit in this radix
+abbrev pub BeginsWithNone : ℕ → List ℕ → Type 0
+BeginsWithNone radix [] = ⊤
+BeginsWithNone radix (c ∷ rest) = is_digit_in radix c ≡ false
+
+-- no decimal one
 abbrev pub BeginsWithNoDigit : List ℕ → Type 0
-BeginsWithNoDigit [] = ⊤
-BeginsWithNoDigit (c ∷ rest) = is_digit_in 10 c ≡ false
+BeginsWithNoDigit text = BeginsWithNone 10 text
 
-digits_behind : (rest : List ℕ) → BeginsWithNoDigit rest → digits_in_front rest ≡ 0
-digits_behind [] none = refl
-digits_behind (c ∷ rest) none = rw none refl
+digits_behind : (radix : ℕ) (rest : List ℕ) → BeginsWithNone radix rest → prefix_len (is_digit_in radix) rest ≡ 0
+digits_behind radix [] none = refl
+digits_behind radix (c ∷ rest) none = rw none refl
 
-digits-front : (ds rest : List ℕ) → AllDigits 10 ds → BeginsWithNoDigit rest → digits_in_front (ds ++ rest) ≡ length ds
-digits-front [] rest each none = digits_behind rest none
-digits-front (d ∷ ds) rest each none = rw (lt-ltb (digit_value d) 10 each.0) (let e : digits_in_front (ds ++ rest) ≡ length ds = digits-front ds rest each.1 none in omega (arith, e))
+pub digits-front : (radix : ℕ) (ds rest : List ℕ) → AllDigits radix ds → BeginsWithNone radix rest → prefix_len (is_digit_in radix) (ds ++ rest) ≡ length ds
+digits-front radix [] rest each none = digits_behind radix rest none
+digits-front radix (d ∷ ds) rest each none =
+    rw (lt-ltb (digit_value d) radix each.0) (let e : prefix_len (is_digit_in radix) (ds ++ rest) ≡ length ds = digits-front radix ds rest each.1 none in omega (arith, e))
 
 numeral_of-decimal : (n : ℕ) → n < 2 ^ 64 → numeral_of 10 20 (decimal n) ≡ Some n
 numeral_of-decimal n small =
@@ -28,4 +33,4 @@ front ds rest count = rw (count, take_at ds rest (length ds) refl, drop_at ds re
 pub number_in_front-decimal : (n : ℕ) (rest : List ℕ) → n < 2 ^ 64 → BeginsWithNoDigit rest → number_in_front (decimal n ++ rest) ≡ Some (n, rest)
 number_in_front-decimal n rest small none =
     let numeral = decimal_is_IsNumeral n small in
-    front (decimal n) rest (digits-front (decimal n) rest numeral.0.1 none) ∙ ap (number_before rest) (numeral_of-decimal n small)
+    front (decimal n) rest (digits-front 10 (decimal n) rest numeral.0.1 none) ∙ ap (number_before rest) (numeral_of-decimal n small)

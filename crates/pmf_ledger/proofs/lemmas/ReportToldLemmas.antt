@@ -1,37 +1,24 @@
 -- The report of some sections tells these sections.
-use Rattle.std.{proofs.Common.{◌≡◌, ℕ, ◌^◌, ◌<◌, ◌==◌, true, false, nat_lt, if◌then◌else◌, List, [], ◌∷◌, ◌++◌, length, map, Option, Some, None, option_map, refl, sym, ◌∙◌, ap, arith, rules, append_assoc, append-nil, codes, decimal, flat_map, All, lt-ltb, take_at, drop_at}, specs.Prelude.{⊤}, specs.List.{prefix_len, AllByRecursion}, specs.Char.{digit_value}, specs.Fmt.{digits}, specs.Str.Parse.{AllDigits}, proofs.lemmas.Fmt.{digits_is_IsNumeral}, proofs.lemmas.Bool.Decides.{Decides-eqb}, proofs.lemmas.List.Elements.{recursion_from_All}, proofs.lemmas.Slice.Eq.{bytes_eq-Decides}}
+use Rattle.std.{proofs.Common.{◌≡◌, ℕ, ◌^◌, ◌<◌, ◌==◌, true, false, nat_lt, if◌then◌else◌, List, [], ◌∷◌, ◌++◌, length, map, Option, Some, None, option_map, refl, sym, ◌∙◌, ap, arith, rules, append_assoc, append-nil, codes, decimal, flat_map, All, take_at, drop_at}, specs.List.{prefix_len, AllByRecursion}, specs.Fmt.{digits}, proofs.lemmas.Fmt.{digits_is_IsNumeral}, proofs.lemmas.Bool.Decides.{Decides-eqb}, proofs.lemmas.List.Elements.{recursion_from_All}, proofs.lemmas.Slice.Eq.{bytes_eq-Decides}}
 use Rattle.pmf_event.specs.{Address.{address}, declared.finding.Finding.{Finding}, declared.finding.Finding.TheVariants.{PersistPass, PersistFail, PersistEmpty, OrderedPass, OrderedFail, OrderedSameLine, OrderedEmpty, FlushDoubled, FlushNeedless, NoBackup, DupLog, CheckPass, CheckFail, TxStillOpen, Unmatched, Outside, Nested, Unopened, Unclosed}, declared.row.Row.{Row}}
-use Rattle.pmf_storelog.{specs.Numbers.{is_digit_in, is_numeral, numeral_of, number_before, number_in_front}, proofs.CanonicalLemmas.{hex-length, numeral_of-digits}, proofs.FrontLemmas.{BeginsWithNoDigit, number_in_front-decimal}, proofs.PlainRecordLemmas.{text_of_lines}}
+use Rattle.pmf_storelog.{specs.Numbers.{is_digit_in, is_numeral, numeral_of, number_before, number_in_front}, proofs.CanonicalLemmas.{hex-length, numeral_of-digits}, proofs.FrontLemmas.{BeginsWithNone, BeginsWithNoDigit, digits-front, number_in_front-decimal}, proofs.PlainRecordLemmas.{text_of_lines}}
 use Rattle.pmf_verdict.specs.{Checked.{Checked, rows_in}, Rows.{row_at}, Text.{text_of_pair, text_of_finding, text_of_rows}}
 use Rattle.pmf_ledger.{specs.declared.totals.Totals.{Totals}, specs.Loading.{number_behind}, specs.Report.{totals_of, text_of_counts, text_of_header, text_of_section, text_of_totals, report_of}, specs.ReportTold.{told_by, at_last, address_in_front, address_behind, byte_told, crash_told, pair_told, lines_told, number_told, words_at, finding_told, row_told, Told, shown, header_told, row_before, rows_told, header_before, sections_in, sections_told, counts_told, sums_told, last_sums, totals_told, FitsFinding, FitsRow, FitsSection, FitsTotals, ReportsTellSections, ReportsTellTotals}, proofs.lemmas.LedgerTextLemmas.{row_lines, rows-one, number_behind-word}, proofs.lemmas.SpelledLemmas.{OneLine, one-append, decimal-one, text_without_end, lines_of-lines, lines-append, each-append}}
 
 -- ---- numbers
-
--- the text is empty, or begins with a byte that is no hexadecimal digit
-abbrev BeginsWithNoHex : List ℕ → Type 0
-BeginsWithNoHex [] = ⊤
-BeginsWithNoHex (c ∷ rest) = is_digit_in 16 c ≡ false
-
-hex-behind : (rest : List ℕ) → BeginsWithNoHex rest → prefix_len (is_digit_in 16) rest ≡ 0
-hex-behind [] none = refl
-hex-behind (c ∷ rest) none = rw none refl
-
-hex-front : (ds rest : List ℕ) → AllDigits 16 ds → BeginsWithNoHex rest → prefix_len (is_digit_in 16) (ds ++ rest) ≡ length ds
-hex-front [] rest each none = hex-behind rest none
-hex-front (d ∷ ds) rest each none = rw (lt-ltb (digit_value d) 16 each.0) (let e : prefix_len (is_digit_in 16) (ds ++ rest) ≡ length ds = hex-front ds rest each.1 none in omega (arith, e))
 
 hex-read : (ds rest : List ℕ) → prefix_len (is_digit_in 16) (ds ++ rest) ≡ length ds → address_in_front (codes "0x" ++ (ds ++ rest)) ≡ number_before rest (numeral_of 16 16 ds)
 unfolding address_in_front
 hex-read ds rest count = rw (count, take_at ds rest (length ds) refl, drop_at ds rest (length ds) refl) refl
 
 -- what is written of an address reads as the address, whatever follows it that begins with no digit
-address_behind-word : (word : List ℕ) (n : ℕ) (rest : List ℕ) → n < 2 ^ 64 → BeginsWithNoHex rest → address_behind word (word ++ (address n ++ rest)) ≡ Some (n, rest)
+address_behind-word : (word : List ℕ) (n : ℕ) (rest : List ℕ) → n < 2 ^ 64 → BeginsWithNone 16 rest → address_behind word (word ++ (address n ++ rest)) ≡ Some (n, rest)
 unfolding address_behind
 address_behind-word word n rest small none =
     let ds = digits 16 false n in
     let numeral = digits_is_IsNumeral 16 false (omega arith) (omega arith) n (omega arith) in
     rw (take_at word (address n ++ rest) (length word) refl, (bytes_eq-Decides word word).1 refl, drop_at word (address n ++ rest) (length word) refl)
-    (hex-read ds rest (hex-front ds rest numeral.0.1 none) ∙ ap (number_before rest) (numeral_of-digits ds n numeral.0.0 (hex-length n small) numeral.0.1 numeral.1 small))
+    (hex-read ds rest (digits-front 16 ds rest numeral.0.1 none) ∙ ap (number_before rest) (numeral_of-digits 16 16 ds n numeral.0.0 (hex-length n small) numeral.0.1 numeral.1 small))
 
 -- ---- rows
 
@@ -54,7 +41,7 @@ crash-is k finding b here small =
     ∙ ap (told_by (checked b)) (number_behind-word (codes " crash=") k [] here tt)
     ∙ ap (λ v. if v then Some (finding b) else None) ((Decides-eqb k k).1 refl)
 
-pair-is : (tells : ℕ → ℕ → List ℕ → Option Finding) (x y : ℕ) (last : List ℕ) → x < 2 ^ 64 → y < 2 ^ 64 → BeginsWithNoHex last →
+pair-is : (tells : ℕ → ℕ → List ℕ → Option Finding) (x y : ℕ) (last : List ℕ) → x < 2 ^ 64 → y < 2 ^ 64 → BeginsWithNone 16 last →
     pair_told tells (codes " byte=" ++ (address x ++ (codes " after=" ++ (address y ++ last)))) ≡ tells x y last
 pair-is tells x y last one_small other_small none =
     ap (told_by (λ byte rest. told_by (λ after more. tells byte after more) (address_behind (codes " after=") rest))) (address_behind-word (codes " byte=") x (codes " after=" ++ (address y ++ last)) one_small refl)
