@@ -314,4 +314,5 @@ try_tools() {
     check 'inputs at the limits, and one past them' tests/limits "$program"
     check 'the gate: edits in batches, stamps, what runs beside what, and whole runs that are played' tests/try-gate
     check 'the launcher builds where it has to, and only there' tests/try-launcher
+    check 'a main that lets its answer go, or makes one of its own, is no program' tests/main-ends
 }

@@ -1,19 +1,21 @@
 //! What the program does for the words of its command line, and how it ends.
 //!
 //! [`execute`] does what the words ask for, over the streams of `pmf_stream`; which words ask for what is said in
-//! `pmf_words`. The statuses stand in `specs/Statuses`: each answer of a command has one, by [`Ending`]. Every text that is
-//! written to standard output, help too, goes out by `write_text`.
+//! `pmf_words`. The statuses stand in `specs/Statuses`: each answer of a command has one, by [`Ending`], and the process ends with it,
+//! by [`Ended`]. Every text that is written to standard output, help too, goes out by `write_text`.
 //!
 //! Not promised here: the words of help and fault lines.
 #![tactic(auto)]
 
 mod commands;
 mod diagnostics;
+mod ended;
 mod ending;
 mod files;
 mod status;
 
 pub use commands::execute;
+pub use ended::Ended;
 pub use ending::Ending;
 pub use pmf_request::{Cuts, Files, Lengths, Request, Simulation};
 pub use pmf_words::request_of;

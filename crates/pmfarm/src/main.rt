@@ -6,13 +6,10 @@
 //! Not promised here: what a device does with the bytes, or the words of help and fault lines.
 #![tactic(auto)]
 
-ghost use Rattle.std.specs.{Prelude.{◌≡◌}, Process.{exit_status}};
-ghost use Rattle.pmf_command.specs.Statuses.{exit_code_of};
-
 #[cfg(test)]
 mod words_tests;
 
-pub use pmf_command::{Cuts, Files, Lengths, Request, Simulation, Status, request_of};
+pub use pmf_command::{Cuts, Ended, Files, Lengths, Request, Simulation, Status, request_of};
 pub use pmf_farm::{FarmFault, Gate, OpenGate, Turn};
 pub use pmf_query::{
     Answer, EventFault, EventRefusal, Linted, LogRefusal, Overview, Query, Question, Sought, Whole,
@@ -27,14 +24,7 @@ pub use pmf_world::{
     MOST_LEDGERS, SCHEDULE_LIMIT, SimFault, World, WorldAnswer, WorldFault, WorldNewFault,
     WorldStep, sim_text,
 };
-use std::process::ExitCode;
 
-fn main(rt: HostRuntime) -> ExitCode {
-    exit_of(pmf_command::execute(&rt, &rt))
-}
-
-fn exit_of(status: Status) -> ExitCode
-    ensures { exit_status result ≡ exit_code_of status }
-{
-    ExitCode::from(status.exit_code())
+fn main(rt: HostRuntime) -> Ended {
+    pmf_command::execute(&rt, &rt)
 }

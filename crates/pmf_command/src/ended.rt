@@ -1,0 +1,282 @@
+//! How the process ends: as what was asked for was answered.
+
+ghost use Rattle.std.specs.{Prelude.{◌≡◌, ◌⊎◌, ◌↔◌, ◌+◌, map, Result}, Io.KnownBytes.{Appends}, Process.{exit_status}};
+ghost use Rattle.clap.specs.Words.{kind_of};
+ghost use Rattle.pmf_stream.specs.{Simulated.{IsSimRefusalOf, IsSimulationOf}, Answering.{Answers, TellsFaults, failed_reads, failed_writes}, Asked.{IsAnswerOf, IsRefusalOf}, Checking.{IsCheckFaultOf, IsReportOf}, Failures.{CanCountOneMore}, Joining.{IsJoinedText, IsRefusalOfTexts}, declared.checking.CheckLogFault.{CheckLogFault}, declared.checking.Done.{Done}, declared.cutting.Pieces.{Pieces}, declared.fault.StreamFault.{StreamFault}, declared.joining.Joined.{Joined}, declared.joining.JoinTextFault.{JoinTextFault}};
+ghost use Rattle.pmf_cut.specs.declared.fault.CutFault.{CutFault};
+ghost use Rattle.pmf_command.specs.{Statuses.{IsAnswerTo, exit_code_of, status_of, status_of_asked, status_of_check_fault, status_of_cut_fault, status_of_done, status_of_fault, status_of_joined, status_of_pieces, status_of_sim_fault, status_of_text_fault}, declared.status.Status.{Status}};
+
+use crate::diagnostics::{
+    Spoken, fail, fail_file, out_of_memory, print_cuts, print_skipped, refuse_words,
+};
+use crate::ending::Ending;
+use crate::status::Status;
+use pmf_farm::OpenGate;
+use pmf_query::Query;
+use pmf_request::{Lengths, Settings};
+use pmf_stream::{
+    JoinTextFault, Joined, Outlet, Sink, Source, StdSink, StreamFault, answer_stream, check_stream,
+    cut_stream, join_to, sim_to, write_text,
+};
+use std::alloc::Global;
+use std::fmt::Display;
+use std::io;
+use std::io::{Eprint, Print};
+use std::marker::Model;
+use std::process::{ExitCode, Termination};
+use std::sync::Wait;
+use std::thread::Threads;
+
+/// How the process ends. The functions of this module alone make one, each as what it did was answered or refused, and it can be
+/// neither dropped nor copied: a `main` that returns one ends so.
+pub struct Ended {
+    status: Status,
+}
+
+impl Model for Ended {
+    ghost Value = { Status };
+
+    ghost view = { λ ended. ended.status };
+}
+
+impl Termination for Ended {
+    fn report<R: Eprint>(self, _rt: &R) -> ExitCode
+        ensures { exit_status result ≡ exit_code_of self }
+    {
+        let Ended { status } = self;
+        ExitCode::from(status.exit_code())
+    }
+}
+
+/// The words of the command line are refused.
+pub(crate) fn refused<R: Eprint>(rt: &R, text: &str) -> Ended
+    ensures { result ≡ Status.Refused }
+{
+    Ended {
+        status: refuse_words(rt, text),
+    }
+}
+
+/// Memory ran out before anything was answered.
+pub(crate) fn exhausted<R: Eprint>(rt: &R) -> Ended
+    ensures { result ≡ Status.NoMemory }
+{
+    Ended {
+        status: out_of_memory(rt),
+    }
+}
+
+/// A file was not read.
+pub(crate) fn unread<R: Eprint, E: Display + Drop>(
+    rt: &R,
+    name: &str,
+    fault: StreamFault<E>,
+) -> Ended
+    ensures { (result ≡ Status.NoMemory) ⊎ (result ≡ Status.DeviceFault) }
+{
+    let status = match fault {
+        StreamFault::OutOfMemory => out_of_memory(rt),
+        fault => fail_file(rt, name, fault, Status::DeviceFault),
+    };
+    Ended { status }
+}
+
+/// What was to be read is not answered.
+pub(crate) fn unanswered<R: Eprint, E: Ending + Display + Drop>(
+    rt: &R,
+    fault: StreamFault<E>,
+) -> Ended
+    ensures { result ≡ status_of_fault E.ends_as fault }
+{
+    let status = fault.status();
+    Ended {
+        status: fail(rt, fault, status),
+    }
+}
+
+/// Checks the log of the source by workers whose gate is open, and writes its report to the sink.
+pub(crate) fn check_to<R: Eprint, T: Threads + Wait + Sync, S: Source, W: Sink>(
+    rt: &R,
+    threads: &T,
+    alloc: Global,
+    source: &mut S,
+    sink: &mut W,
+    settings: Settings,
+) -> Ended
+    requires read { CanCountOneMore (S.failed_calls source.old) }
+    requires write { CanCountOneMore (W.failed_calls sink.old) }
+    ensures { (answer : Result Done (StreamFault CheckLogFault))
+        × (result ≡ status_of status_of_done status_of_check_fault answer)
+        × Answers (IsReportOf settings (S.left source.old) (S.left source.new))
+        (IsCheckFaultOf settings (S.left source.old) (S.left source.new))
+        (W.held sink.old) (W.held sink.new) answer
+        × TellsFaults (S.failed_calls source.old) (S.failed_calls source.new)
+        (W.failed_calls sink.old) (W.failed_calls sink.new) sink.old sink.new answer }
+{
+    let answer = check_stream(threads, alloc, source, sink, settings, &OpenGate);
+    if let Ok(done) = &answer {
+        print_skipped(rt, done.skipped);
+    }
+    report_ending(rt, answer)
+}
+
+/// Reads the log of the source and writes the answer of what is asked of it to the sink.
+pub(crate) fn answer_to<
+    R: Eprint,
+    S: Source,
+    W: Sink,
+    T: Ending + Drop,
+    E: Ending + Display + Drop,
+    Q: Query<Told = T, Refusal = E>,
+>(rt: &R, alloc: Global, source: &mut S, sink: &mut W, query: &Q) -> Ended
+    requires read { CanCountOneMore (S.failed_calls source.old) }
+    requires write { CanCountOneMore (W.failed_calls sink.old) }
+    ensures { (answer : Result T (StreamFault E))
+        × (result ≡ status_of T.ends_as E.ends_as answer)
+        × Answers (IsAnswerOf (Q.IsAnswer query.now) (S.left source.old) (S.left source.new))
+        (IsRefusalOf (Q.IsRefusal query.now) (S.left source.old) (S.left source.new))
+        (W.held sink.old) (W.held sink.new) answer
+        × TellsFaults (S.failed_calls source.old) (S.failed_calls source.new)
+        (W.failed_calls sink.old) (W.failed_calls sink.new) sink.old sink.new answer }
+{
+    let answer = answer_stream(alloc, source, sink, query);
+    report_ending(rt, answer)
+}
+
+/// Writes the log of the source to the sink with its sections cut, in files of so many bytes where they are told, and says on standard
+/// error what that may have changed.
+pub(crate) fn cut_to<R: Eprint, S: Source, W: Outlet>(
+    rt: &R,
+    alloc: Global,
+    source: &mut S,
+    sink: &mut W,
+    lengths: Lengths,
+    bytes: Option<u64>,
+) -> Ended
+    requires read { CanCountOneMore (S.failed_calls source.old) }
+    requires write { CanCountOneMore (W.failed_calls sink.old) }
+    ensures { (answer : Result Pieces (StreamFault CutFault))
+        × (result ≡ status_of status_of_pieces status_of_cut_fault answer)
+        × (S.failed_calls source.new ≡ S.failed_calls source.old + failed_reads answer)
+        × (W.failed_calls sink.new ≡ W.failed_calls sink.old + failed_writes answer) }
+{
+    let answer = cut_stream(alloc, source, sink, &mut Spoken { rt }, lengths, bytes);
+    if let Ok(pieces) = &answer {
+        print_cuts(rt, pieces.cuts, bytes.is_some().then_some(pieces.files));
+    }
+    report_ending(rt, answer)
+}
+
+/// Joins the texts of the files with these names and writes the report of all, or their ledger text, to the sink.
+pub(crate) fn join_all<R: Eprint, W: Sink>(
+    rt: &R,
+    alloc: Global,
+    names: &[&str],
+    texts: &[Vec<u8>],
+    sink: &mut W,
+    as_ledger: bool,
+) -> Ended
+    requires { CanCountOneMore (W.failed_calls sink.old) }
+    ensures { (answer : Result Joined (StreamFault JoinTextFault))
+        × (result ≡ status_of status_of_joined status_of_text_fault answer)
+        × Answers (IsJoinedText as_ledger (map (λ text. text.items) texts.now))
+        (IsRefusalOfTexts (map (λ text. text.items) texts.now))
+        (W.held sink.old) (W.held sink.new) answer
+        × TellsFaults 0 0 (W.failed_calls sink.old) (W.failed_calls sink.new)
+        sink.old sink.new answer }
+{
+    let answer = join_to(alloc, texts, sink, as_ledger);
+    report_joined(rt, names, answer)
+}
+
+/// Plays the schedule with the sections of the log, and writes what comes of it to the sink.
+pub(crate) fn play_to<R: Eprint, W: Sink>(
+    rt: &R,
+    alloc: Global,
+    log: &[u8],
+    schedule: &[u8],
+    workers: u32,
+    ledgers: u32,
+    sink: &mut W,
+) -> Ended
+    requires { CanCountOneMore (W.failed_calls sink.old) }
+    ensures { (answer : Result (Unit {0}) (StreamFault SimFault))
+        × (result ≡ status_of status_of_asked status_of_sim_fault answer)
+        × Answers (IsSimulationOf log.now schedule.now workers ledgers)
+        (IsSimRefusalOf log.now schedule.now workers ledgers)
+        (W.held sink.old) (W.held sink.new) answer
+        × TellsFaults 0 0 (W.failed_calls sink.old) (W.failed_calls sink.new)
+        sink.old sink.new answer }
+{
+    let answer = sim_to(alloc, log, schedule, workers, ledgers, sink);
+    report_ending(rt, answer)
+}
+
+/// Writes what `clap` has to say: help and the version to standard output, a fault to standard
+/// error.
+pub(crate) fn report_words<R: Print + Eprint>(rt: &R, alloc: Global, error: &clap::Error) -> Ended
+    ensures { IsAnswerTo (kind_of error.now) result }
+{
+    Ended {
+        status: say_words(rt, alloc, error),
+    }
+}
+
+// The same, with its status.
+fn say_words<R: Print + Eprint>(rt: &R, alloc: Global, error: &clap::Error) -> Status
+    ensures { IsAnswerTo (kind_of error.now) result }
+{
+    let Ok(text) = format!(in alloc; "{error}") else {
+        return out_of_memory(rt);
+    };
+    match Status::of_kind(error.kind()) {
+        Status::NoFail => show(rt, &mut StdSink::new(io::writer(rt)), text.as_bytes()),
+        Status::NoMemory => out_of_memory(rt),
+        _ => refuse_words(rt, text.as_str()),
+    }
+}
+
+/// Writes a text to the sink.
+fn show<R: Eprint, W: Sink>(rt: &R, sink: &mut W, text: &[u8]) -> Status
+    requires { CanCountOneMore (W.failed_calls sink.old) }
+    ensures whole { (result ≡ Status.NoFail) → Appends (W.held sink.old) (W.held sink.new) text.now }
+    ensures failed { (result ≡ Status.DeviceFault) ↔ (W.failed_calls sink.new ≡ W.failed_calls sink.old + 1) }
+    ensures statuses { (result ≡ Status.NoFail) ⊎ (result ≡ Status.DeviceFault) }
+{
+    match write_text(sink, text) {
+        Ok(()) => Status::NoFail,
+        Err(cut) => fail(rt, cut, Status::DeviceFault),
+    }
+}
+
+/// Says on standard error why a stream is not answered, if it is not, and how the program ends.
+fn report_ending<R: Eprint, T: Ending + Drop, E: Ending + Display + Drop>(
+    rt: &R,
+    answer: Result<T, StreamFault<E>>,
+) -> Ended
+    ensures { result ≡ status_of T.ends_as E.ends_as answer }
+{
+    match answer {
+        Ok(done) => Ended {
+            status: done.status(),
+        },
+        Err(fault) => unanswered(rt, fault),
+    }
+}
+
+/// Says on standard error why the texts of these files are not joined, if they are not, and how the program ends.
+fn report_joined<R: Eprint>(
+    rt: &R,
+    names: &[&str],
+    answer: Result<Joined, StreamFault<JoinTextFault>>,
+) -> Ended
+    ensures { result ≡ status_of status_of_joined status_of_text_fault answer }
+{
+    if let Err(StreamFault::Refused(JoinTextFault::Load { index, fault })) = &answer {
+        if let Some(name) = names.get(*index) {
+            let status = fail_file(rt, *name, *fault, fault.status());
+            return Ended { status };
+        }
+    }
+    report_ending(rt, answer)
+}
