@@ -1,6 +1,6 @@
 -- Depth and scope after one more event.
 use Rattle.std.proofs.{Common.{◌≡◌, ℕ, zero, suc, ◌+◌, ◌-◌, ◌<◌, Bool, true, false, ◌&&◌, List, [], ◌∷◌, ◌++◌, Some, length, get_or, refl, sym, ap, ◌∙◌, arith, inl, inr, nat_lt}, lemmas.Bool.{cases_eq, cases_lt}, lemmas.List.{get_or_append_left, get_or_at}}
-use Rattle.pmf_event.{specs.declared.event.Event.{Event}, specs.declared.event.Event.TheVariants.{TxEnd}, specs.Store.{event_at}, specs.Transactions.{begins, ends, opens_scope, closes_scope, depth_at, in_scope, in_transaction, scope_at}, proofs.TransactionLemmas.{depth-start, scope_start, depth-begun, depth-ended, depth-kept, scope-stays, scope-opened, scope-kept, scope-closed, scoped-from, unscoped-from, in_scope-same}}
+use Rattle.pmf_event.{specs.declared.event.Event.{Event}, specs.declared.event.Event.TheVariants.{TxEnd}, specs.Store.{event_at}, specs.Transactions.{begins, ends, opens_scope, closes_scope, depth_at, in_scope, in_transaction, scope_at}, proofs.TransactionLemmas.{depth-start, scope-start, depth-begun, depth-ended, depth-kept, scope-stays, scope-opened, scope-kept, scope-closed, scoped-from, unscoped-from, in_scope-same}}
 use Rattle.pmf_query.specs.Covering.{is_inside}
 
 -- what begins a transaction ends none
@@ -35,7 +35,7 @@ pub starts_outside : (es : List Event) → 0 ≡ depth_at es 0
 starts_outside es = sym (depth-start es)
 
 pub starts_unscoped : (es : List Event) → false ≡ in_scope es 0
-starts_unscoped es = sym (unscoped-from es 0 (scope_start es))
+starts_unscoped es = sym (unscoped-from es 0 (scope-start es))
 
 -- the event at an index stands at the place behind it
 pub event_here : (es : List Event) (k : ℕ) (e : Event) → k < length es → e ≡ get_or es k e → event_at es (suc k) ≡ Some e
