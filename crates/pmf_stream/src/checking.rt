@@ -109,7 +109,6 @@ pub(crate) fn write_asked(
 }
 
 /// What is written of the log's ledger by the settings, and what is told of it.
-#[tactic(auto, using(pmf_ledger::proofs::lemmas::AllKeptLemmas::no_fail_is_kept, pmf_ledger::proofs::lemmas::AllKeptLemmas::no_empty_is_filled))]
 fn report_log(
     alloc: Global,
     log: &Log,
