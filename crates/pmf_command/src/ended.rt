@@ -4,6 +4,7 @@ ghost use Rattle.std.specs.{Prelude.{◌≡◌, ◌⊎◌, ◌↔◌, ◌+◌, m
 ghost use Rattle.clap.specs.Words.{kind_of};
 ghost use Rattle.pmf_stream.specs.{Simulated.{IsSimRefusalOf, IsSimulationOf}, Answering.{Answers, TellsFaults, failed_reads, failed_writes}, Asked.{IsAnswerOf, IsRefusalOf}, Checking.{IsCheckFaultOf, IsReportOf}, Failures.{CanCountOneMore}, Joining.{IsJoinedText, IsRefusalOfTexts}, declared.checking.CheckLogFault.{CheckLogFault}, declared.checking.Done.{Done}, declared.cutting.Pieces.{Pieces}, declared.fault.StreamFault.{StreamFault}, declared.joining.Joined.{Joined}, declared.joining.JoinTextFault.{JoinTextFault}};
 ghost use Rattle.pmf_cut.specs.declared.fault.CutFault.{CutFault};
+ghost use Rattle.pmf_world.specs.declared.simulating.SimFault.{SimFault};
 ghost use Rattle.pmf_command.specs.{Statuses.{IsAnswerTo, exit_code_of, status_of, status_of_asked, status_of_check_fault, status_of_cut_fault, status_of_done, status_of_fault, status_of_joined, status_of_pieces, status_of_sim_fault, status_of_text_fault}, declared.status.Status.{Status}};
 
 use crate::diagnostics::{
