@@ -49,17 +49,7 @@ pub(crate) fn order(a: Name, b: Name) -> Ordering
     ensures equal { (result ≡ Ordering.Equal) → a ≡ b }
     ensures greater { (result ≡ Ordering.Greater) → IsBefore b a }
 {
-    if a.run < b.run {
-        Ordering::Less
-    } else if a.run > b.run {
-        Ordering::Greater
-    } else if a.number < b.number {
-        Ordering::Less
-    } else if a.number > b.number {
-        Ordering::Greater
-    } else {
-        Ordering::Equal
-    }
+    a.cmp(&b)
 }
 
 fn is_same(a: Name, b: Name) -> bool

@@ -1,5 +1,5 @@
 -- The order of names is one, and a section that is put where its name belongs leaves the names rising.
-use Rattle.std.proofs.{Common.{◌≡◌, ℕ, ◌+◌, ◌-◌, ◌<◌, ◌≤◌, List, length, refl, sym, ◌∙◌, ap, subst, arith, inl, inr, get_or, ◌⊎◌, AllPairs, insert, Ordering, Less, Equal, Greater}, lemmas.Bool.{cases_order}, lemmas.List.Edits.{length-insert, get_or-insert_below, get_or-insert_at, get_or-insert_above}}
+use Rattle.std.{proofs.Common.{◌≡◌, ℕ, ◌+◌, ◌-◌, ◌<◌, ◌≤◌, List, length, refl, sym, ◌∙◌, ap, subst, arith, inl, inr, get_or, ◌⊎◌, AllPairs, insert, Ordering, Less, Equal, Greater}, specs.Cmp.{nat_cmp_is}, specs.Ordering.{nat_cmp, ordering_then}, proofs.lemmas.Bool.{cases_order}, proofs.lemmas.List.Edits.{length-insert, get_or-insert_below, get_or-insert_at, get_or-insert_above}}
 use Rattle.pmf_event.specs.declared.name.Name.{Name}
 use Rattle.pmf_ledger.specs.Names.{IsBefore}
 
@@ -72,4 +72,40 @@ before-total a b = elim (cases_order a.run b.run) [
     | inr apart ↦ elim apart [ inl less ↦ inl (inr (run, less)) | inr more ↦ inr (inr (inr (sym run, more))) ]
   ]
   | inr apart ↦ elim apart [ inl less ↦ inl (inl less) | inr more ↦ inr (inr (inl more)) ]
+]
+
+-- the order of names is the one by which std compares them
+abbrev pub compared : Name → Name → Ordering
+compared a b = ordering_then (nat_cmp a.run b.run) (nat_cmp a.number b.number)
+
+pub compares-before : (a b : Name) → IsBefore a b → compared a b ≡ Less
+compares-before a b before = elim before [
+  | inl low ↦ ap (λ o. ordering_then o (nat_cmp a.number b.number)) (sym (nat_cmp_is a.run b.run Less low))
+  | inr even ↦ ap (λ o. ordering_then o (nat_cmp a.number b.number)) (sym (nat_cmp_is a.run b.run Equal even.0)) ∙ sym (nat_cmp_is a.number b.number Less even.1)
+]
+
+compares-behind : (a b : Name) → IsBefore b a → compared a b ≡ Greater
+compares-behind a b before = elim before [
+  | inl low ↦ ap (λ o. ordering_then o (nat_cmp a.number b.number)) (sym (nat_cmp_is a.run b.run Greater low))
+  | inr even ↦ ap (λ o. ordering_then o (nat_cmp a.number b.number)) (sym (nat_cmp_is a.run b.run Equal (sym even.0))) ∙ sym (nat_cmp_is a.number b.number Greater even.1)
+]
+
+compares-same : (a b : Name) → a ≡ b → compared a b ≡ Equal
+compares-same a b same =
+    ap (λ o. ordering_then o (nat_cmp a.number b.number)) (sym (nat_cmp_is a.run b.run Equal (ap (λ (n : Name). n.run) same)))
+    ∙ sym (nat_cmp_is a.number b.number Equal (ap (λ (n : Name). n.number) same))
+
+-- and what it answers tells which comes before
+abbrev pub Tells : Name → Name → Ordering → Type 0
+Tells a b Less = IsBefore a b
+Tells a b Equal = a ≡ b
+Tells a b Greater = IsBefore b a
+
+pub compares-tells : (a b : Name) → Tells a b (compared a b)
+compares-tells a b = elim (before-total a b) [
+  | inl before ↦ subst (Tells a b) (sym (compares-before a b before)) before
+  | inr other ↦ elim other [
+    | inl same ↦ subst (Tells a b) (sym (compares-same a b same)) same
+    | inr behind ↦ subst (Tells a b) (sym (compares-behind a b behind)) behind
+  ]
 ]

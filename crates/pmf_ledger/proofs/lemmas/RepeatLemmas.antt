@@ -1,16 +1,11 @@
 -- Names that stand twice in a list, which a sort has put in their order.
 use Rattle.std.{proofs.Common.{◌≡◌, ℕ, zero, suc, ◌+◌, ◌-◌, ◌<◌, ◌≤◌, Bool, true, false, List, [], ◌∷◌, length, map, refl, sym, ◌∙◌, ap, subst, arith, inl, inr, get_or, eqb-true, eq-eqb, ◌⊎◌, eqb, count_by, cond, IsPermutation, MatchOption, Option, Some, None, is_lt, Less, Equal}, specs.Cmp.{nat_cmp_is}, proofs.lemmas.Bool.{and_parts, cases_eq, cases_lt, cases_Bool, true≢false}, proofs.lemmas.List.Sums.{sum_by-cons}, proofs.lemmas.List.Sorted.{sum_by-IsPermutation}, specs.Ordering.{nat_cmp, ordering_then}}
 use Rattle.pmf_event.specs.{declared.name.Name.{Name}, Section.{Trace}}
-use Rattle.pmf_ledger.{specs.Names.{IsBefore}, specs.Repeats.{AreOwn, DoNotFall, IsLeastTwiceIn, StandsTwiceIn, is_name, names_of}, proofs.lemmas.NameLemmas.{before-trans, before-itself, before-total, name-same}}
+use Rattle.pmf_ledger.{specs.Names.{IsBefore}, specs.Repeats.{AreOwn, DoNotFall, IsLeastTwiceIn, StandsTwiceIn, is_name, names_of}, proofs.lemmas.NameLemmas.{before-trans, before-itself, before-total, name-same, compares-before}}
 
 -- the order of names is that by which a sort compares them
 pub before-compares : (a b : Name) → IsBefore a b → is_lt (ordering_then (nat_cmp a.run b.run) (nat_cmp a.number b.number)) ≡ false → ⊥
-before-compares a b before is = elim before [
-  | inl low ↦ true≢false (sym (ap (λ o. is_lt (ordering_then o (nat_cmp a.number b.number))) (sym (nat_cmp_is a.run b.run Less low))) ∙ is)
-  | inr even ↦
-      true≢false
-      (sym (ap (λ o. is_lt (ordering_then o (nat_cmp a.number b.number))) (sym (nat_cmp_is a.run b.run Equal even.0)) ∙ ap is_lt (sym (nat_cmp_is a.number b.number Less even.1))) ∙ is)
-]
+before-compares a b before is = true≢false (sym (ap is_lt (compares-before a b before)) ∙ is)
 
 -- the name comes before the other, or is the same
 abbrev pub IsAtMost : Name → Name → Type 0
