@@ -43,7 +43,7 @@ module _ (es fs : List Event) (p : ℕ) (same : SameEvents es fs p) where
   pub count_at-same : (test : Event → Bool) → count (at test es) p ≡ count (at test fs) p
   count_at-same test = count-same (at test es) (at test fs) p (at-same_up_to test)
 
-  epoch_of-same : (k : ℕ) → k ≤ p → epoch_of es k ≡ epoch_of fs k
+  pub epoch_of-same : (k : ℕ) → k ≤ p → epoch_of es k ≡ epoch_of fs k
   unfolding epoch_of
   epoch_of-same k within = count-same (at is_fence es) (at is_fence fs) (k - 1) (λ i some below. at-same is_fence i (omega arith))
 
@@ -51,7 +51,7 @@ module _ (es fs : List Event) (p : ℕ) (same : SameEvents es fs p) where
   unfolding writes_back
   writes_back-same line k w some within = ap (λ v. nat_lt k w && v) (at-same (flushes line) w within)
 
-  first_write_back-same : (stored : Event → Bool) (line : ℕ) → first_write_back stored line es p ≡ first_write_back stored line fs p
+  pub first_write_back-same : (stored : Event → Bool) (line : ℕ) → first_write_back stored line es p ≡ first_write_back stored line fs p
   unfolding first_write_back
   first_write_back-same stored line = grind (arith, least-same, writes_back-same, last-same)
 
@@ -75,7 +75,7 @@ module _ (es fs : List Event) (p : ℕ) (same : SameEvents es fs p) where
 
 -- ---- lists that go on
 
-slice_get-front : (xs ys : List Event) (k : ℕ) → k < length xs → slice_get (xs ++ ys) k ≡ slice_get xs k
+pub slice_get-front : (xs ys : List Event) (k : ℕ) → k < length xs → slice_get (xs ++ ys) k ≡ slice_get xs k
 slice_get-front [] ys k below = absurd (omega arith)
 slice_get-front (x ∷ xs) ys zero below = refl
 slice_get-front (x ∷ xs) ys (suc k) below = slice_get-front xs ys k (omega arith)

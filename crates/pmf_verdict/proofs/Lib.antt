@@ -5,5 +5,6 @@ pub mod WalkLemmas
 pub mod ExplainLemmas
 pub mod HoldingLemmas
 pub mod KeptLemmas
+pub mod LookBackLemmas
 pub mod TextLemmas
 pub mod FitLemmas

@@ -18,3 +18,4 @@ pub mod Explained
 pub mod Text
 pub mod Outcome
 pub mod Kept
+pub mod LookBack

@@ -14,12 +14,14 @@
 
 mod checking;
 mod explaining;
+mod laws;
 mod outcome;
 mod text;
 mod verdict;
 
 pub use checking::{CheckFault, check};
 pub use explaining::{certificate_of, explain};
+pub use laws::{later_events_change_no_row, rows_look_back};
 pub use outcome::{Outcome, outcome_of};
 pub use text::{push_row, write_rows, write_rows_at};
 pub use verdict::Verdict;
