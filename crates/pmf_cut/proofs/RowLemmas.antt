@@ -1,6 +1,7 @@
 -- What is found behind a cut: of the part as of the whole.
 use Rattle.std.{proofs.Common.{◌≡◌, ◌⊎◌, ℕ, ◌<◌, Bool, true, false, not, ◌&&◌, ◌||◌, ◌==◌, nat_lt, if◌then◌else◌, List, refl, sym, ◌∙◌, ap, subst, arith, inl, inr, Option, Some, None, is_some, is_none, lt-ltb, le-ltb, ne_eqb}, specs.Cmp.{both_ways}, proofs.lemmas.Bool.{cases_lt, ltb-true, and_parts, and_from, not-true, not_from_false, false_from_ne_true}, proofs.lemmas.Bool.Decides.{Decides-eqb}}
 use Rattle.pmf_event.{specs.declared.event.Event.{Event}, specs.declared.finding.Finding.{Finding}, specs.declared.finding.Finding.TheVariants.{PersistEmpty, OrderedPass, OrderedEmpty}, specs.declared.profile.Profile.{Profile}, specs.declared.profile.Profile.TheVariants.{One, Two}, specs.Span.{Extent, covers_byte}, specs.Line.{line_of_byte}, specs.Ranges.{first_byte}, specs.Store.{stores, last_store}, specs.Interval.{closing_fence, interval_at, is_open}, specs.Exclusion.{is_excluded}, specs.Persist.{is_checked, is_exposed, pass_unless, persist_finding}, specs.Order.{precedes, share_line, is_stored_before, is_ordered, is_unordered, is_certified, has_partner, paired, with_partner, least_pair, finding_of_pairs, ordered_finding}, specs.LineBytes.{is_undurable}, proofs.IntervalLemmas.{is_open-interval_at}, proofs.LineLemmas.{covers-bounds, bounds-cover}, proofs.RangeLemmas.{some-or-none, first_from-same, first_from-none, none-passes, first-passes}}
+use Rattle.pmf_verdict.proofs.KeptLemmas.{persist-empty, ordered-empty as ordered-none}
 use Rattle.pmf_cut.specs.{Behind.{IsBehind}, Laws.{IsSameOrEmpty, IsSameOrder, KnowsPairs}}
 
 -- ---- persist assertions
@@ -49,10 +50,6 @@ wider-some few many s k wider is = elim (some-or-none (first_byte many s)) [
   | inl found ↦ ap (λ (o : Option ℕ). is_none o) found.1
   | inr none ↦ let bad : None ≡ Some k = sym (narrower-none few many s wider none) ∙ is in cc
 ]
-
-persist-empty : (es : List Event) (p : ℕ) (s : Extent) → first_byte (is_checked es p) s ≡ None → persist_finding es p s ≡ PersistEmpty
-unfolding persist_finding
-persist-empty es p s none = ap (λ (o : Option ℕ). if is_none o then PersistEmpty else pass_unless (first_byte (is_exposed es p) s)) none
 
 persist-checked : (es : List Event) (p : ℕ) (s : Extent) → is_none (first_byte (is_checked es p) s) ≡ false → persist_finding es p s ≡ pass_unless (first_byte (is_exposed es p) s)
 unfolding persist_finding
@@ -133,14 +130,6 @@ unfolding least_pair has_partner
 no-pair test a b never =
     ap (with_partner test b) (first_from-none (λ x. is_some (first_byte (test x) b)) a.first a.size (λ x low high.
     ap (λ (o : Option ℕ). is_some o) (first_from-none (test x) b.first b.size (λ y from to. never x y (bounds-cover a x low high) (bounds-cover b y from to)))))
-
-ordered-none : (profile : Profile) (es : List Event) (p : ℕ) (a b : Extent) → (first_byte (is_checked es p) a ≡ None) ⊎ (first_byte (is_checked es p) b ≡ None) →
-    ordered_finding profile es p a b ≡ OrderedEmpty
-unfolding ordered_finding
-ordered-none profile es p a b (inl none) = ap (λ (o : Option ℕ). if is_none o then OrderedEmpty else (if is_none (first_byte (is_checked es p) b) then OrderedEmpty else finding_of_pairs es p (least_pair (is_certified profile es p) a b) (least_pair (is_unordered profile es p) a b))) none
-ordered-none profile es p a b (inr none) =
-    ap (λ (o : Option ℕ). if is_none (first_byte (is_checked es p) a) then OrderedEmpty else (if is_none o then OrderedEmpty else finding_of_pairs es p (least_pair (is_certified profile es p) a b) (least_pair (is_unordered profile es p) a b))) none
-    ∙ elim (is_none (first_byte (is_checked es p) a)) as (λ v. (if v then OrderedEmpty else OrderedEmpty) ≡ OrderedEmpty) [ true ↦ refl | false ↦ refl ]
 
 ordered-some : (profile : Profile) (es : List Event) (p : ℕ) (a b : Extent) → is_none (first_byte (is_checked es p) a) ≡ false → is_none (first_byte (is_checked es p) b) ≡ false →
     ordered_finding profile es p a b ≡ finding_of_pairs es p (least_pair (is_certified profile es p) a b) (least_pair (is_unordered profile es p) a b)
