@@ -1,5 +1,5 @@
 -- Walks over the elements of a range, and what a question has found so far.
-use Rattle.std.proofs.Common.{◌≡◌, ℕ, zero, suc, ◌+◌, ◌-◌, ◌<◌, ◌≤◌, min, max, Bool, true, false, if◌then◌else◌, List, length, get_or, refl, sym, ◌∙◌, ap, subst, arith, Option, Some, None, is_some}
+use Rattle.std.proofs.Common.{◌≡◌, ℕ, zero, suc, ◌+◌, ◌-◌, ◌<◌, ◌≤◌, min, max, Bool, true, false, if◌then◌else◌, List, length, get_or, refl, sym, ◌∙◌, ap, arith, Option, Some, None, is_some}
 use Rattle.pmf_event.{specs.Ranges.{first_from, lesser, least_from}, proofs.RangeLemmas.{first_from-none, first_from-some, first_from-same, least_from-same, least_from-split, least_from-alike, lesser-none, lesser-assoc}}
 use Rattle.pmf_runs.{specs.declared.leaf.Leaf.{Leaf}, specs.declared.walk.Counted.{Counted}, specs.Ranks.{rank, at_rank, Rises}, specs.Walks.{end_of}, specs.Leaves.{leaf_state}, proofs.RankLemmas.{IsRank, rank-is, rank-unique, rank-above, rises-le, lt-true, lt-false}, proofs.LeafLemmas.{state-read}, specs.Lines.{counted_from}, proofs.LineCountLemmas.{counted-same, counted-split, counted-none}}
 
@@ -7,11 +7,7 @@ use Rattle.pmf_runs.{specs.declared.leaf.Leaf.{Leaf}, specs.declared.walk.Counte
 
 -- the first element has the numbers below the first key
 pub rank-front : (keys : List ℕ) (b : ℕ) → (0 < length keys → b < get_or keys 0 0) → 0 ≡ rank keys b
-rank-front keys b before = sym (rank-unique keys b 0 (record {
-  bound = omega arith;
-  upto = λ k below. absurd (omega arith);
-  beyond = before;
-}))
+rank-front keys b before = sym (rank-unique keys b 0 (grind arith))
 
 pub end-key : (keys : List ℕ) (index end : ℕ) → index < length keys → end_of keys index end ≡ min end (get_or keys index 0)
 unfolding end_of
@@ -30,11 +26,7 @@ pub record Walks (keys : List ℕ) (first end start index : ℕ) : Type 0 where
   pub at : start < end → IsRank keys start index
 
 pub walks-start : (keys : List ℕ) (first end index : ℕ) → index ≡ rank keys first → Walks keys first end first index
-walks-start keys first end index at = record {
-  from = omega arith;
-  upto = omega arith;
-  at = λ some. subst (IsRank keys first) (sym at) (rank-is keys first);
-}
+walks-start keys first end index at = grind (arith, rank-is)
 
 -- the walk passes over the elements from the index up to next, and comes to the end of the last of them
 record Past (keys : List ℕ) (first end start index next until : ℕ) : Type 0 where
@@ -45,17 +37,7 @@ record Past (keys : List ℕ) (first end start index next until : ℕ) : Type 0 
 
 past : (keys : List ℕ) (first end start index next until : ℕ) → Rises keys → start < end → index < next → next ≤ length keys + 1 → until ≡ end_of keys (next - 1) end → Walks keys first end start index →
     Past keys first end start index next until
-past keys first end start index next until rises some after bounded is walk =
-    let here = walk.at some in
-    let from = walk.from in
-    let key = end-key keys (next - 1) end in
-    let last = end-last keys (next - 1) end in
-    record {
-      more = grind (arith, rises-le);
-      within = grind arith;
-      at = λ b le lt. (rank-above keys start b index (rank keys b) here (rank-is keys b) le, grind (arith, rank-is));
-      on = record { from = grind (arith, rises-le); upto = grind (arith, rises-le); at = λ left. grind (arith, rises-le, rises.order) };
-    }
+past keys first end start index next until rises some after bounded is walk = grind (arith, end-key, end-last, rises-le, rank-above, rank-is)
 
 -- the walk goes on to the next element
 piece : (keys : List ℕ) (first end start index until : ℕ) → Rises keys → start < end → until ≡ end_of keys index end → Walks keys first end start index → Past keys first end start index (index + 1) until
@@ -93,14 +75,7 @@ module _ {V A X : Type 0} {ask : (ℕ → V) → ℕ → ℕ → A} {join : X �
   -- the elements up to the next have the answer
   asked-on : (start index next until : ℕ) (so_far new : X) → Past keys first end start index next until → ((d : S) → new ≡ join so_far (ask (value d) start (until - start))) →
       Asked (λ d. ask (value d)) join before keys first end start index so_far → Asked (λ d. ask (value d)) join before keys first end until next new
-  asked-on start index next until so_far new p more asked =
-      let from = asked.walk.from in
-      let after = p.more in record {
-        walk = p.on;
-        is = λ d.
-            more d ∙ ap (λ x. join x (ask (value d) start (until - start))) (asked.is d)
-            ∙ sym (law.split before (value d) first (start - first) (until - start) (until - first) start (omega arith) (omega arith));
-      }
+  asked-on start index next until so_far new p more asked = grind arith
 
   pub asked-more : (start index until : ℕ) (so_far new : X) → Rises keys → start < end → until ≡ end_of keys index end →
       ((d : S) → new ≡ join so_far (ask (value d) start (until - start))) →
@@ -143,33 +118,13 @@ first_found (Some x) y = Some x
 module _ (test : ℕ → Bool) where
   first_from-split : (b m n : ℕ) (whole middle : ℕ) → whole ≡ m + n → middle ≡ b + m → first_from test b whole ≡ first_found (first_from test b m) (first_from test middle n)
   unfolding first_from
-  first_from-split b zero n whole middle all at =
-      let same : whole ≡ n = omega arith in
-      let here : middle ≡ b = omega arith in
-      ap (first_from test b) same ∙ ap (λ k. first_from test k n) (sym here)
+  first_from-split b zero n whole middle all at = grind arith
   first_from-split b (suc m) n zero middle all at = absurd (omega arith)
-  first_from-split b (suc m) n (suc whole) middle all at =
-      ap (λ o. if test b then Some b else o) (first_from-split (b + 1) m n whole middle (omega arith) (omega arith))
-      ∙ elim (test b) as (λ v. (if v then Some b else first_found (first_from test (b + 1) m) (first_from test middle n)) ≡ first_found (if v then Some b else first_from test (b + 1) m) (first_from test middle n)) [
-        | true ↦ refl
-        | false ↦ refl
-      ]
+  first_from-split b (suc m) n (suc whole) middle all at = let rest = first_from-split (b + 1) m n whole middle (omega arith) (omega arith) in grind arith
 
 pub first-law : Question first_from first_found
 unfolding first_from
-first-law = record {
-  none = λ x value b. found-none x;
-  same = first_from-same;
-  split = λ x value b m n whole middle all at.
-      ap (first_found x) (first_from-split value b m n whole middle all at) ∙ sym (found-assoc x (first_from value b m) (first_from value middle n));
-} where
-  found-none : (x : Option ℕ) → first_found x None ≡ x
-  found-none None = refl
-  found-none (Some x) = refl
-
-  found-assoc : (x y z : Option ℕ) → first_found (first_found x y) z ≡ first_found x (first_found y z)
-  found-assoc None y z = refl
-  found-assoc (Some x) y z = refl
+first-law = grind (arith, first_from-same, first_from-split)
 
 found-some : (o rest : Option ℕ) → is_some o ≡ true → first_found o rest ≡ o
 found-some o rest some = grind arith
@@ -192,11 +147,7 @@ asked-found value keys first end start index until found rises some is_end more 
 
 pub lines-law : Question counted_from (λ so_far count. count so_far)
 unfolding counted_from
-lines-law = record {
-  none = λ x value b. refl;
-  same = counted-same;
-  split = counted-split;
-}
+lines-law = grind (arith, counted-same, counted-split)
 
 -- numbers that fail add no line
 pub lines-past : (test : ℕ → Bool) (start until : ℕ) (so_far : Counted) → ((b : ℕ) → start ≤ b → b < until → test b ≡ false) → counted_from test start (until - start) so_far ≡ so_far
@@ -208,12 +159,7 @@ lines-past test start until so_far fails =
 
 pub least-law : Question least_from lesser
 unfolding least_from
-least-law = record {
-  none = λ x value b. lesser-none x;
-  same = least_from-same;
-  split = λ x value b m n whole middle all at.
-      ap (lesser x) (least_from-split value b m n whole middle all at) ∙ sym (lesser-assoc x (least_from value b m) (least_from value middle n));
-}
+least-law = grind (arith, lesser-none, least_from-same, least_from-split, lesser-assoc)
 
 -- ---- a run whose states all answer alike
 
@@ -221,12 +167,7 @@ pub run-none : {V A X : Type 0} {ask : (ℕ → V) → ℕ → ℕ → A} {join 
 run-none {ask = ask} {join = join} law x v first end empty = grind arith
 
 pub run-first : (v : Bool) (first end : ℕ) → first < end → v ≡ true → Some first ≡ first_from (λ b. v) first (end - first)
-run-first v first end some is = sym (first_from-some (λ b. v) first (end - first) first (record {
-  from = omega arith;
-  within = omega arith;
-  passes = is;
-  before = λ j low high. absurd (omega arith);
-}))
+run-first v first end some is = sym (first_from-some (λ b. v) first (end - first) first (grind arith))
 
 pub run-first_none : (v : Bool) (first end : ℕ) → v ≡ false → None ≡ first_from (λ b. v) first (end - first)
 run-first_none v first end is = sym (first_from-none (λ b. v) first (end - first) (λ k low high. is))

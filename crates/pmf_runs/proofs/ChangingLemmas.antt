@@ -1,5 +1,5 @@
 -- Where a change alters states, run by run, and what a change of those alone comes to.
-use Rattle.std.proofs.{Common.{◌≡◌, ℕ, suc, ◌+◌, ◌<◌, ◌≤◌, Bool, true, false, List, [], ◌∷◌, zero, set, map, length, get_or, sym, ◌∙◌, ap, subst, arith, inl, inr, ◌&&◌, nat_lt, if◌then◌else◌, Option, Some, Result, OnOk, OnErr, get_or-set_same, get_or-set_other}, lemmas.Bool.{cases_lt}, lemmas.List.{get_or-map, map-set, length-map}}
+use Rattle.std.proofs.{Common.{◌≡◌, ℕ, suc, ◌+◌, ◌<◌, ◌≤◌, Bool, true, false, List, [], ◌∷◌, zero, set, map, length, get_or, sym, ◌∙◌, ap, arith, if◌then◌else◌, Option, Some, Result, OnOk, OnErr, get_or-set_same, get_or-set_other}, lemmas.Bool.{cases_lt}, lemmas.List.{get_or-map, map-set, length-map}}
 use Rattle.pmf_runs.{specs.declared.leaf.Leaf.{Leaf}, specs.declared.level.Level.{Level}, specs.Levels.{level_state}, proofs.LevelLemmas.{level-bound}, specs.Ranks.{rank, at_rank, Rises, SameStates, ChangesWithin, AltersWithin, Sees, IsStop, CoversAll, Splits, is_within}, specs.Leaves.{leaf_state}, proofs.RankLemmas.{rank-here, IsRank, rank-is, rank-unique, rises-le, le-true, le-false, lt-false}, proofs.LeafLemmas.{rank-bound, state-read}}
 
 -- the run of an index goes on to where it stops, and the next one begins there
@@ -10,18 +10,10 @@ pub record Runs (keys : List ℕ) (start end index stop : ℕ) : Type 0 where
   pub next : stop < end → index + 1 ≡ rank keys stop
 
 run-here : (keys : List ℕ) (start index stop b : ℕ) → IsRank keys start index → (index < length keys → stop ≤ get_or keys index 0) → start ≤ b → b < stop → index ≡ rank keys b
-run-here keys start index stop b is beyond from below = sym (rank-unique keys b index (record {
-  bound = is.bound;
-  upto = λ k lt. let le = is.upto k lt in omega arith;
-  beyond = λ within. let le = beyond within in omega arith;
-}))
+run-here keys start index stop b is beyond from below = sym (rank-unique keys b index (grind arith))
 
 run-next : (keys : List ℕ) (start index : ℕ) → Rises keys → IsRank keys start index → index < length keys → index + 1 ≡ rank keys (get_or keys index 0)
-run-next keys start index rises is within = sym (rank-unique keys (get_or keys index 0) (index + 1) (record {
-  bound = omega arith;
-  upto = λ k lt. rises-le keys k index rises (omega arith) within;
-  beyond = λ more. rises.order index (index + 1) (omega arith) more;
-}))
+run-next keys start index rises is within = sym (rank-unique keys (get_or keys index 0) (index + 1) (grind (arith, rises-le, rises.order)))
 
 pub run-is : (keys : List ℕ) (start end index stop : ℕ) → Rises keys → index ≡ rank keys start → start < end → IsStop keys index end stop → Runs keys start end index stop
 run-is keys start end index stop rises at below stops =
@@ -101,30 +93,14 @@ parts-past state test level index next none d b within =
 -- a number that is not the part's lies out of the range
 outside-part : (keys : List ℕ) (first end i b : ℕ) → i ≡ rank keys first → (i < length keys → end ≤ get_or keys i 0) → (rank keys b ≡ i → ⊥) → is_within (Some first) (Some end) b ≡ false
 unfolding is_within
-outside-part keys first end i b at before other = elim (cases_lt b first) [
-  | inl below ↦ ap (λ t. t && nat_lt b end) (le-false first b below)
-  | inr from ↦ elim (cases_lt b end) [
-    | inl within ↦ absurd (other (sym (run-here keys first i end b (subst (IsRank keys first) (sym at) (rank-is keys first)) before from within)))
-    | inr past ↦ ap (λ t. t && nat_lt b end) (le-true first b from) ∙ lt-false b end past
-  ]
-]
+outside-part keys first end i b at before other = grind (arith, cases_lt, le-false, run-here, rank-is, le-true, lt-false)
 
 -- a range of one part is changed there
 pub level-changed : {P S : Type 0} (state : P → S → ℕ → S) (change : S → S) (old new : Level P) (part next : P) (first end i : ℕ) → i ≡ rank old.keys.items first →
     (i < length old.keys.items → end ≤ get_or old.keys.items i 0) → part ≡ get_or old.parts.items i part → ChangesWithin (Some first) (Some end) change (state part) (state next) →
     new.keys.items ≡ old.keys.items → new.parts.items ≡ set old.parts.items i next → ChangesWithin (Some first) (Some end) change (level_state state old) (level_state state new)
 unfolding level_state at_rank
-level-changed state change old new part next first end i at before read changes keys parts = record {
-  states = λ d b.
-      let f : _ → _ = λ p. state p d b in
-      let bound = level-bound old b in
-      let here = level-bound old first in
-      let set_parts = map-set f old.parts.items i next in
-      let len = length-map old.parts.items f in
-      let was : f part ≡ get_or (map f old.parts.items) i d = ap f read ∙ sym (get_or-map f old.parts.items i part d (omega arith)) in
-      let other = outside-part old.keys.items first end i b at before in
-      grind (arith, changes.states d b, get_or-set_same, get_or-set_other, other);
-}
+level-changed state change old new part next first end i at before read changes keys parts = grind (arith, level-bound, map-set, length-map, get_or-map, outside-part, get_or-set_same, get_or-set_other)
 
 pub on-ok : {A E : Type 0} {P Q : Type 0} (r : Result A E) → (P → Q) → OnOk r P → OnOk r Q
 on-ok r more holds = grind arith

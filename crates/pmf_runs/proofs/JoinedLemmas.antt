@@ -18,13 +18,10 @@ outside-range low high k change old new d changes within where_is = grind arith
 
 -- a cut key stands before a bound's rank
 cut-place : (keys : List ℕ) (bound : Option ℕ) (k : ℕ) → Rises keys → IfSome bound (HasKey keys) → k < length keys → bound ≡ Some (get_or keys k 0) → (k + 1 ≡ low_rank keys bound) × (k + 1 ≡ high_rank keys bound)
-cut-place keys None k rises has within is = absurd (none-some _ is)
-cut-place keys (Some p) k rises has within is = let at = key-rank keys p k rises has within (sym (some-is p (get_or keys k 0) is)) in (at, at)
+cut-place keys bound k h1 h2 h3 h4 = grind (arith, none-some, key-rank, some-is)
 
 pub rank-order : (keys : List ℕ) (from end : Option ℕ) → InOrder from end → low_rank keys from ≤ high_rank keys end
-rank-order keys None end order = omega arith
-rank-order keys (Some a) None order = let at_a = rank-is keys a in let bound = at_a.bound in omega arith
-rank-order keys (Some a) (Some b) order = rank-above keys a b (rank keys a) (rank keys b) (rank-is keys a) (rank-is keys b) order
+rank-order keys from end h1 = grind (arith, rank-is, rank-above)
 
 module _ {S : Type 0} where
   pub joined-plain : (leaf : Leaf S) → JoinedBut leaf None None → Joined leaf
@@ -95,13 +92,7 @@ module _ {S : Type 0} where
   -- a key is taken out, and the state after it, which is that before it
   pub beside-taken : (old new : Leaf S) (low key : ℕ) (x y : S) → key < length old.keys.items → x ≡ get_or old.states.items key x → y ≡ get_or old.states.items (key + 1) y → x ≡ y → low ≤ key + 1 →
       new.keys.items ≡ remove old.keys.items key → new.states.items ≡ remove old.states.items (key + 1) → JoinedBeside old low (key + 1) → JoinedBeside new low key
-  beside-taken old new low key x y inside read_x read_y is upto keys states beside = record {
-    differ = λ k d within_new where_is same_new.
-        let counted = leaf-counted old in
-        let is_x = get_or_read old.states.items key x (omega arith) read_x d in
-        let is_y = get_or_read old.states.items (key + 1) y (omega arith) read_y d in
-        grind (arith, beside.differ, length-remove, get_or-remove_below, get_or-remove_above);
-  }
+  beside-taken old new low key x y inside read_x read_y is upto keys states beside = grind (arith, leaf-counted, get_or_read, length-remove, get_or-remove_below, get_or-remove_above)
 
   -- ---- parting a leaf
 

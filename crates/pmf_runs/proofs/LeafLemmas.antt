@@ -1,9 +1,6 @@
 -- The states of a leaf, by its keys and states.
-use Rattle.std.proofs.{Common.{◌≡◌, ℕ, ◌+◌, ◌-◌, ◌/◌, ◌<◌, ◌≤◌, List, [], ◌∷◌, ◌++◌, length, get_or, set, take, drop, refl, sym, ◌∙◌, ap, subst, arith, true, false, ◌&&◌, nat_le, nat_lt, Option, IfSome, insert, remove}, lemmas.List.{get_or_read, set-get_or, take_rest}}
-use Rattle.pmf_runs.{specs.declared.leaf.Leaf.{Leaf}, specs.Ranks.{rank, at_rank, HasKey, SameStates, ChangesWithin, ChangesItems, low_rank, high_rank, IsTail, parting}, specs.Leaves.{leaf_state, leaf_begins, leaf_middle}, proofs.RankLemmas.{IsRank, rank-is, at_rank-insert, at_rank-remove, at_rank-changes, at_rank-take, at_rank-drop, insert-has, insert-keeps, le-true, lt-true, last-rank}}
-
-pub none-within : (low high k : ℕ) → high ≤ low → (nat_le low k && nat_lt k high) ≡ false
-none-within low high k le = grind arith
+use Rattle.std.proofs.{Common.{◌≡◌, ℕ, ◌+◌, ◌-◌, ◌/◌, ◌<◌, ◌≤◌, List, [], ◌∷◌, ◌++◌, length, get_or, set, take, drop, refl, sym, ◌∙◌, ap, subst, arith, true, ◌&&◌, nat_le, nat_lt, Option, IfSome, insert, remove}, lemmas.List.{get_or_read, set-get_or, take_rest}, lemmas.Bool.Decides.{nat_tests}}
+use Rattle.pmf_runs.{specs.declared.leaf.Leaf.{Leaf}, specs.Ranks.{rank, at_rank, HasKey, SameStates, ChangesWithin, ChangesItems, low_rank, high_rank, IsTail, parting, is_within}, specs.Leaves.{leaf_state, leaf_begins, leaf_middle}, proofs.RankLemmas.{IsRank, rank-is, at_rank-insert, at_rank-remove, at_rank-take, at_rank-drop, insert-has, insert-keeps, le-true, lt-true, last-rank, falls-rank, rank-above, rank-key}}
 
 module _ {S : Type 0} where
   pub state-single : (leaf : Leaf S) (d s : S) (b : ℕ) → leaf.keys.items ≡ [] → leaf.states.items ≡ s ∷ [] → leaf_state leaf d b ≡ s
@@ -18,9 +15,7 @@ module _ {S : Type 0} where
 
   pub state-read : (leaf : Leaf S) (s : S) (b i : ℕ) → i ≡ rank leaf.keys.items b → s ≡ get_or leaf.states.items i s → (d : S) → s ≡ leaf_state leaf d b
   unfolding leaf_state at_rank
-  state-read leaf s b i is read d =
-      let bound = rank-bound leaf b in
-      get_or_read leaf.states.items i s (omega arith) read d ∙ ap (λ k. get_or leaf.states.items k d) is
+  state-read leaf s b i is read d = grind (arith, rank-bound, get_or_read)
 
   -- ---- the leaf after a step
 
@@ -78,8 +73,8 @@ module _ {S : Type 0} where
 
   pub changes-items : (old new : Leaf S) (from end : Option ℕ) (change : S → S) → IfSome from (leaf_begins old) → IfSome end (leaf_begins old) → new.keys.items ≡ old.keys.items →
       ChangesItems (low_rank old.keys.items from) (high_rank old.keys.items end) change old.states.items new.states.items → ChangesWithin from end change (leaf_state old) (leaf_state new)
-  unfolding leaf_state leaf_begins
-  changes-items old new from end change has_from has_end keys changes = grind (arith, at_rank-changes, leaf-counted)
+  unfolding leaf_state leaf_begins at_rank is_within
+  changes-items old new from end change has_from has_end keys changes = grind (arith, rank-is, le-true, rank-above, rank-key, nat_tests, falls-rank, leaf-counted)
 
   pub changes-same : (from end : Option ℕ) (change : S → S) (a b c : S → ℕ → S) → ChangesWithin from end change a b → SameStates b c → ChangesWithin from end change a c
   changes-same from end change a b c one two = record { states = λ d p. two.states d p ∙ one.states d p }
@@ -121,9 +116,6 @@ parted-middle keys place last key half is halves at lt = grind arith
 
 pub all-within : (low high k : ℕ) → low ≤ k → k < high → (nat_le low k && nat_lt k high) ≡ true
 all-within low high k le lt = ap (λ t. t && nat_lt k high) (le-true low k le) ∙ lt-true k high lt
-
-pub lt-more : (k i : ℕ) → (k ≡ i → ⊥) → nat_lt k i ≡ nat_lt k (i + 1)
-lt-more k i other = grind arith
 
 pub leaf-tail : {S : Type 0} (leaf : Leaf S) (s : S) (place last : ℕ) → last ≡ length leaf.keys.items → last ≡ rank leaf.keys.items place → s ≡ get_or leaf.states.items last s → IsTail (leaf_state leaf) place s
 leaf-tail leaf s place last is at read = λ d b from. sym (state-read leaf s b last (last-rank leaf.keys.items place b last is at from) read d)

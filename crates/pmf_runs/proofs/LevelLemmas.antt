@@ -1,6 +1,6 @@
 -- The states of a level, by its keys and parts.
-use Rattle.std.proofs.{Common.{◌≡◌, ℕ, zero, suc, ◌+◌, ◌-◌, ◌<◌, ◌≤◌, Bool, true, List, [], ◌∷◌, length, get_or, set, take, drop, map, refl, sym, ◌∙◌, ap, subst, arith, inl, inr, nat_le, nat_lt, ◌&&◌, if◌then◌else◌, Option, None, Some, IfSome, insert, remove, get_or-set_same, get_or-set_other, length-set}, lemmas.Bool.{cases_eq}, lemmas.List.{get_or-map, set-get_or, map-set, length-map, take-map, drop-map}}
-use Rattle.pmf_runs.{specs.declared.level.Level.{Level}, specs.Ranks.{rank, at_rank, HasKey, IsFresh, SameStates, ChangesWithin, Splits, IsInner, reaches, falls_short, is_within, bound_at, IsTail, parting}, specs.Levels.{part_states, level_state, level_begins, level_middle, Rewrites, BeginsAt, GoesOn}, proofs.LeafLemmas.{all-within, lt-more}, proofs.RankLemmas.{IsRank, rank-is, rank-key, bound_at-same, bound_at-other, at_rank-insert, at_rank-remove, at_rank-take, at_rank-drop, last-rank}}
+use Rattle.std.proofs.{Common.{◌≡◌, ℕ, zero, suc, ◌+◌, ◌-◌, ◌<◌, ◌≤◌, Bool, true, List, [], ◌∷◌, length, get_or, set, take, drop, map, refl, sym, ◌∙◌, ap, arith, inl, nat_le, nat_lt, ◌&&◌, if◌then◌else◌, Option, IfSome, insert, remove, get_or-set_same, get_or-set_other, length-set}, lemmas.Bool.{cases_eq}, lemmas.List.{get_or-map, set-get_or, map-set, length-map, take-map, drop-map}}
+use Rattle.pmf_runs.{specs.declared.level.Level.{Level}, specs.Ranks.{rank, at_rank, HasKey, SameStates, ChangesWithin, Splits, IsInner, reaches, falls_short, is_within, bound_at, IsTail, parting}, specs.Levels.{part_states, level_state, level_begins, level_middle, Rewrites, BeginsAt, GoesOn}, proofs.LeafLemmas.{all-within}, proofs.RankLemmas.{rank-is, rank-key, bound_at-same, bound_at-other, at_rank-insert, at_rank-remove, at_rank-take, at_rank-drop, last-rank}}
 
 map-insert : {X Y : Type 0} (f : X → Y) (xs : List X) (i : ℕ) (x : X) → map f (insert xs i x) ≡ insert (map f xs) i (f x)
 map-insert f xs zero x = refl
@@ -21,11 +21,7 @@ module _ {P : Type 0} where
 
     pub level-read : (level : Level P) (part : P) (b i : ℕ) → i ≡ rank level.keys.items b → part ≡ get_or level.parts.items i part → (d : S) → state part d b ≡ level_state state level d b
     unfolding level_state at_rank
-    level-read level part b i is read d =
-        let bound = level-bound level b in
-        ap (λ p. state p d b) read
-        ∙ sym (get_or-map (λ p. state p d b) level.parts.items i part d (omega arith))
-        ∙ ap (λ k. get_or (part_states state level.parts.items d b) k d) is
+    level-read level part b i is read d = grind (arith, level-bound, get_or-map)
 
     pub states-set : (parts : List P) (part new : P) (i : ℕ) (d : S) (b : ℕ) → i < length parts → part ≡ get_or parts i part → state new d b ≡ state part d b →
         part_states state (set parts i new) d b ≡ part_states state parts d b
@@ -49,19 +45,7 @@ module _ {P : Type 0} where
         Splits p (state part) (state low) (state high) → new.keys.items ≡ insert old.keys.items i p → new.parts.items ≡ insert (set old.parts.items i low) (i + 1) high →
         SameStates (level_state state old) (level_state state new)
     unfolding level_state
-    level-split old new part low high p i at read splits keys parts = record {
-      states = λ d b.
-          let f : P → S = λ q. state q d b in
-          let at_p : IsRank old.keys.items p i = subst (IsRank old.keys.items p) (sym at) (rank-is old.keys.items p) in
-          let counted = level-counted old in
-          let bound = at_p.bound in
-          let here : f part ≡ get_or (map f old.parts.items) i d = ap f read ∙ sym (get_or-map f old.parts.items i part d (omega arith)) in
-          ap (λ ks. at_rank ks (map f new.parts.items) d b) keys
-          ∙ ap (λ ps. at_rank (insert old.keys.items i p) (map f ps) d b) parts
-          ∙ ap (λ ss. at_rank (insert old.keys.items i p) ss d b) (map-insert f (set old.parts.items i low) (i + 1) high ∙ ap (λ ss. insert ss (i + 1) (f high)) (map-set f old.parts.items i low))
-          ∙ at_rank-insert old.keys.items (map f old.parts.items) p i (f low) (f high) d b at_p (length-map old.parts.items f ∙ counted)
-          (λ below. splits.below d b below ∙ here) (λ above. splits.above d b above ∙ here);
-    }
+    level-split old new part low high p i at read splits keys parts = grind (arith, rank-is, level-counted, get_or-map, map-insert, map-set, at_rank-insert, length-map)
 
     pub level-low : (old low : Level P) (m : ℕ) → m < length old.keys.items → low.keys.items ≡ take m old.keys.items → low.parts.items ≡ take (m + 1) old.parts.items →
         (d : S) (b : ℕ) → b < get_or old.keys.items m 0 → level_state state low d b ≡ level_state state old d b
@@ -100,26 +84,11 @@ module _ {P : Type 0} where
         let other = get_or-set_other old.parts.items i (rank old.keys.items b) next in
         grind (arith, kept, same, other)
 
-pub same-both : {S : Type 0} (a b c : S → ℕ → S) → SameStates a b → SameStates b c → SameStates a c
-same-both a b c one two = record { states = λ d p. two.states d p ∙ one.states d p }
-
 pub level-middle-is : {P : Type 0} (level : Level P) (m place : ℕ) → m ≡ parting level.keys.items place → get_or level.keys.items m 0 ≡ level_middle level place
 unfolding level_middle
 level-middle-is level m place is = ap (λ k. get_or level.keys.items k 0) is
 
 -- ---- rewriting the parts one after another
-
-begins-fresh : {P : Type 0} (begins : P → ℕ → Type 0) (level : Level P) (p i : ℕ) → i ≡ rank level.keys.items p → IsFresh level.keys.items p → level_begins begins level p → BeginsAt begins level i p
-unfolding level_begins
-begins-fresh begins level p i at fresh (inl has) =
-    let key = rank-key level.keys.items p (rank level.keys.items p) level.ordered has (rank-is level.keys.items p) in
-    let some = key.0 in
-    let is = key.1 in
-    let below = fresh.below (rank level.keys.items p - 1) (omega arith) in absurd (omega arith)
-begins-fresh begins level p i at fresh (inr begun) = record { at = λ d. subst (λ k. begins (get_or level.parts.items k d) p) (sym at) (begun.within d) }
-
-pick : {X : Type 0} (a b c e : Bool) (x y : X) → (if a && c then (if b && e then x else y) else y) ≡ (if (a && b) && (c && e) then x else y)
-pick a b c e x y = grind arith
 
 if-true : {X : Type 0} (t : Bool) (x y : X) → t ≡ true → (if t then x else y) ≡ x
 if-true t x y is = ap (λ u. if u then x else y) is
@@ -128,28 +97,7 @@ module _ {P S : Type 0} (state : P → S → ℕ → S) (change : S → S) (low 
   pub rewrites-more : (old now new : List P) (part next : P) (i : ℕ) → low ≤ i → i < length now → part ≡ get_or now i part →
       ChangesWithin (bound_at low i from) (bound_at last i end) change (state part) (state next) → new ≡ set now i next →
       ((d : P) (k : ℕ) → i ≤ k → get_or now k d ≡ get_or old k d) → Rewrites state change low last from end i old now → Rewrites state change low last from end (i + 1) old new
-  rewrites-more old now new part next i after within read changes is rest so_far = record {
-    len = ap length is ∙ length-set now i next ∙ so_far.len;
-    states = λ d b k inside.
-        let f : P → S = λ q. state q d b in
-        let len = so_far.len in
-        let at : get_or (map f new) k d ≡ get_or (set (map f now) i (f next)) k d = ap (λ ps. get_or (map f ps) k d) is ∙ ap (λ ss. get_or ss k d) (map-set f now i next) in
-        elim (cases_eq k i) [
-          | inl same ↦
-              let here : get_or (map f new) k d ≡ f next =
-              at ∙ ap (λ j. get_or (set (map f now) i (f next)) j d) same ∙ get_or-set_same (map f now) i (f next) d (omega (arith, length-map now f)) in
-              let was : f part ≡ get_or (map f old) k d =
-              ap f (read ∙ rest part i (omega arith)) ∙ sym (get_or-map f old i part d (omega arith)) ∙ ap (λ j. get_or (map f old) j d) (sym same) in
-              let bounds : is_within (bound_at low i from) (bound_at last i end) b ≡ is_within (bound_at low k from) (bound_at last k end) b = ap (λ j. is_within (bound_at low j from) (bound_at last j end) b) (sym same) in
-              here ∙ changes.states d b
-              ∙ ap (λ x. if is_within (bound_at low i from) (bound_at last i end) b then change x else x) was
-              ∙ ap (λ t. if t then change (get_or (map f old) k d) else get_or (map f old) k d) bounds
-              ∙ sym (if-true (nat_le low k && nat_lt k (i + 1)) _ (get_or (map f old) k d) (all-within low (i + 1) k (omega arith) (omega arith)))
-          | inr other ↦
-              at ∙ get_or-set_other (map f now) i k (f next) d other ∙ so_far.states d b k inside
-              ∙ ap (λ t. if nat_le low k && t then (if is_within (bound_at low k from) (bound_at last k end) b then change (get_or (map f old) k d) else get_or (map f old) k d) else get_or (map f old) k d) (lt-more k i other)
-        ];
-  }
+  rewrites-more old now new part next i after within read changes is rest so_far = grind (arith, length-set, map-set, cases_eq, get_or-set_same, length-map, get_or-map, if-true, all-within, get_or-set_other)
 
   pub rest-more : (old now new : List P) (next : P) (i : ℕ) → new ≡ set now i next → ((d : P) (k : ℕ) → i ≤ k → get_or now k d ≡ get_or old k d) → (d : P) (k : ℕ) → i + 1 ≤ k → get_or new k d ≡ get_or old k d
   rest-more old now new next i is rest d k past = ap (λ ps. get_or ps k d) is ∙ get_or-set_other now i k next d (λ same. omega arith) ∙ rest d k (omega arith)
@@ -157,19 +105,12 @@ module _ {P S : Type 0} (state : P → S → ℕ → S) (change : S → S) (low 
 -- a run begins where a bound is handed down
 pub begins-bound : {P : Type 0} (begins : P → ℕ → Type 0) (level : Level P) (part : P) (index i : ℕ) (bound r : Option ℕ) → r ≡ bound_at index i bound → IfSome bound (λ b. BeginsAt begins level index b) →
     part ≡ get_or level.parts.items i part → IfSome r (λ b. begins part b)
-begins-bound begins level part index i None r is has read = elim (cases_eq i index) [
-  | inl same ↦ subst (λ o. IfSome o (λ b. begins part b)) (sym (is ∙ bound_at-same index i None same)) tt
-  | inr other ↦ subst (λ o. IfSome o (λ b. begins part b)) (sym (is ∙ bound_at-other index i None other)) tt
-]
-begins-bound begins level part index i (Some p) r is has read = elim (cases_eq i index) [
-  | inl same ↦ subst (λ o. IfSome o (λ b. begins part b)) (sym (is ∙ bound_at-same index i (Some p) same))
-      (subst (λ q. begins q p) (ap (λ j. get_or level.parts.items j part) (sym same) ∙ sym read) (has.at part))
-  | inr other ↦ subst (λ o. IfSome o (λ b. begins part b)) (sym (is ∙ bound_at-other index i (Some p) other)) tt
-]
+begins-bound begins level part index i bound r h1 h2 h3 = grind (arith, cases_eq, bound_at-same, bound_at-other)
 
 -- what is handed down begins a run in the part that it is handed to
 pub inner-begins : {P : Type 0} (begins : P → ℕ → Type 0) (level : Level P) (bound inner : Option ℕ) (i : ℕ) → IsInner level.keys.items bound inner → IfSome bound (λ b. i ≡ rank level.keys.items b) → IfSome bound (level_begins begins level) → IfSome inner (λ b. BeginsAt begins level i b)
-inner-begins begins level bound inner i is at has = grind (arith, begins-fresh)
+unfolding level_begins
+inner-begins begins level bound inner i is at has = grind (arith, rank-key, rank-is)
 
 -- the bounds that are handed down and the parts that they are handed to say what the bounds say
 pub level-rewritten : {P S : Type 0} (state : P → S → ℕ → S) (change : S → S) (old new : Level P) (low high : ℕ) (from end first last : Option ℕ) →
@@ -177,7 +118,7 @@ pub level-rewritten : {P S : Type 0} (state : P → S → ℕ → S) (change : S
     ((b : ℕ) → falls_short end b ≡ (nat_lt (rank old.keys.items b) (high + 1) && falls_short (bound_at high (rank old.keys.items b) last) b)) →
     new.keys ≡ old.keys → Rewrites state change low high first last (high + 1) old.parts.items new.parts.items → ChangesWithin from end change (level_state state old) (level_state state new)
 unfolding level_state at_rank is_within
-level-rewritten state change old new low high from end first last low_law high_law keys changes = grind (arith, level-bound, pick)
+level-rewritten state change old new low high from end first last low_law high_law keys changes = grind (arith, level-bound)
 
 map-remove : {X Y : Type 0} (f : X → Y) (xs : List X) (i : ℕ) → map f (remove xs i) ≡ remove (map f xs) i
 map-remove f [] zero = refl
@@ -203,6 +144,4 @@ level-joined state old new part key within goes_on keys parts = record {
 -- the last part's tail is the level's
 pub level-tail : {P S : Type 0} (state : P → S → ℕ → S) (level : Level P) (part : P) (place last : ℕ) (tail : Option S) → last ≡ length level.keys.items → last ≡ rank level.keys.items place →
     part ≡ get_or level.parts.items last part → IfSome tail (IsTail (state part) place) → IfSome tail (IsTail (level_state state level) place)
-level-tail state level part place last None is at read holds = tt
-level-tail state level part place last (Some s) is at read holds = λ d b from.
-    sym (level-read state level part b last (last-rank level.keys.items place b last is at from) read d) ∙ holds d b from
+level-tail state level part place last tail h1 h2 h3 h4 = grind (arith, level-read, last-rank)

@@ -12,3 +12,4 @@ pub mod SkipLemmas
 pub mod JoinedLemmas
 pub mod JoinedLevelLemmas
 pub mod RunJoinedLemmas
+pub mod Rules

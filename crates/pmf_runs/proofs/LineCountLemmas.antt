@@ -28,13 +28,9 @@ counted-same s t b (suc n) same =
 
 pub counted-split : (x : Counted) (test : ℕ → Bool) (b m n whole middle : ℕ) → whole ≡ m + n → middle ≡ b + m → counted_from test b whole x ≡ counted_from test middle n (counted_from test b m x)
 unfolding counted_from
-counted-split x test b zero n whole middle all at =
-    let same : whole ≡ n = omega arith in
-    let here : middle ≡ b = omega arith in
-    ap (λ k. counted_from test b k x) same ∙ ap (λ k. counted_from test k n x) (sym here)
+counted-split x test b zero n whole middle all at = grind arith
 counted-split x test b (suc m) n zero middle all at = absurd (omega arith)
-counted-split x test b (suc m) n (suc whole) middle all at =
-    counted-split (if test b then with_line b x else x) test (b + 1) m n whole middle (omega arith) (omega arith)
+counted-split x test b (suc m) n (suc whole) middle all at = counted-split (if test b then with_line b x else x) test (b + 1) m n whole middle (omega arith) (omega arith)
 
 -- ---- bytes that add no line
 
@@ -50,10 +46,7 @@ counted-past : (test : ℕ → Bool) (b n : ℕ) (so_far : Counted) → ((k : �
 unfolding counted_from
 counted-past test b zero so_far past = refl
 counted-past test b (suc n) so_far past =
-    elim (test b) as (λ v. counted_from test (b + 1) n (if v then with_line b so_far else so_far) ≡ so_far) [
-      | true ↦ ap (counted_from test (b + 1) n) (with_line-old b so_far (past b (omega arith) (omega arith))) ∙ counted-past test (b + 1) n so_far (λ k low high. past k (omega arith) (omega arith))
-      | false ↦ counted-past test (b + 1) n so_far (λ k low high. past k (omega arith) (omega arith))
-    ]
+    let rest = counted-past test (b + 1) n so_far (λ k low high. past k (omega arith) (omega arith)) in let old = with_line-old b so_far (past b (omega arith) (omega arith)) in grind arith
 
 -- ---- a run that passes
 

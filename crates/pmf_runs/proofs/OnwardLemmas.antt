@@ -5,11 +5,7 @@ use Rattle.pmf_runs.{specs.declared.leaf.Leaf.{Leaf}, specs.Ranks.{rank, at_rank
 
 -- a key is the first number of the run after it
 rank-at : (keys : List ℕ) (i : ℕ) → Rises keys → 0 < i → i ≤ length keys → rank keys (get_or keys (i - 1) 0) ≡ i
-rank-at keys i rises some within = rank-unique keys (get_or keys (i - 1) 0) i (record {
-  bound = within;
-  upto = λ k below. rises-le keys k (i - 1) rises (omega arith) (omega arith);
-  beyond = λ more. rises.order (i - 1) i (omega arith) more;
-})
+rank-at keys i rises some within = rank-unique keys (get_or keys (i - 1) 0) i (grind (arith, rises-le, rises.order))
 
 -- a number below a key has a rank below that of the key
 rank-under : (keys : List ℕ) (b i : ℕ) → 0 < i → i ≤ length keys → b < get_or keys (i - 1) 0 → rank keys b < i
@@ -26,8 +22,7 @@ module _ {S : Type 0} (test : S → Bool) (leaf : Leaf S) (first index : ℕ) (a
   fails-at i none d b from below = grind (arith, rank-above, first, IsRank, at, rank-is)
 
   pub onward-none : (i : ℕ) → length leaf.states.items ≤ i → NoneUpto i → (d : S) (end : ℕ) → None ≡ first_from (λ b. test (leaf_state leaf d b)) first (end - first)
-  onward-none i all none d end = sym (first_from-none (λ b. test (leaf_state leaf d b)) first (end - first) (λ b from below.
-      let bound = rank-bound leaf b in fails-at i none d b from (omega arith)))
+  onward-none i all none d end = grind (arith, first_from-none, rank-bound, fails-at)
 
   -- a number of a run that passes
   passes-at : (i b : ℕ) → i ≡ rank leaf.keys.items b → ((d : S) → test (get_or leaf.states.items i d) ≡ true) → (d : S) → test (leaf_state leaf d b) ≡ true
@@ -36,12 +31,8 @@ module _ {S : Type 0} (test : S → Bool) (leaf : Leaf S) (first index : ℕ) (a
 
   -- the run of first passes
   pub onward-first : (i : ℕ) → i ≡ index → ((d : S) → test (get_or leaf.states.items i d) ≡ true) → (d : S) (end : ℕ) → first < end → Some first ≡ first_from (λ b. test (leaf_state leaf d b)) first (end - first)
-  onward-first i same passes d end some = sym (first_from-some (λ b. test (leaf_state leaf d b)) first (end - first) first (record {
-    from = omega arith;
-    within = omega arith;
-    passes = passes-at i first (same ∙ at) passes d;
-    before = λ j low high. absurd (omega arith);
-  }))
+  onward-first i same passes d end some = let here = passes-at i first (same ∙ at) passes d in
+      sym (first_from-some (λ b. test (leaf_state leaf d b)) first (end - first) first (grind arith))
 
   -- a later run is the first that passes
   pub onward-later : (i number : ℕ) → index < i → i < length leaf.states.items → NoneUpto i → number ≡ get_or leaf.keys.items (i - 1) number → ((d : S) → test (get_or leaf.states.items i d) ≡ true) →
@@ -55,9 +46,5 @@ module _ {S : Type 0} (test : S → Bool) (leaf : Leaf S) (first index : ℕ) (a
       let order = rises-le keys index (i - 1) leaf.ordered (omega arith) (omega arith) in
       let short = beyond.above (i - 1) (omega arith) in
       let own = rank-at keys i leaf.ordered (omega arith) (omega arith) in
-      sym (first_from-some (λ b. test (leaf_state leaf d b)) first (end - first) number (record {
-        from = omega arith;
-        within = omega arith;
-        passes = passes-at i number (sym own ∙ ap (rank keys) (sym begins)) passes d;
-        before = λ j low high. fails-at i none d j low (rank-under keys j i (omega arith) (omega arith) (omega arith));
-      }))
+      let own_passes = passes-at i number (sym own ∙ ap (rank keys) (sym begins)) passes d in
+      sym (first_from-some (λ b. test (leaf_state leaf d b)) first (end - first) number (grind (arith, fails-at, rank-under)))

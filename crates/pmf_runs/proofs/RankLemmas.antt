@@ -1,6 +1,6 @@
 -- Ranks by index, and what an edit of the keys and the elements does to them.
-use Rattle.std.proofs.{Common.{add-one, ◌≡◌, ℕ, zero, suc, ◌+◌, ◌-◌, ◌<◌, ◌≤◌, Bool, true, false, List, [], ◌∷◌, length, get_or, take, drop, set, refl, sym, ◌∙◌, ap, subst, arith, rules, inl, inr, nat_le, nat_lt, ◌&&◌, if◌then◌else◌, Option, None, Some, IfSome, is_some, insert, remove}, lemmas.Bool.{cases_lt, cases_eq}, lemmas.Bool.Decides.{nat_tests}, lemmas.List.Edits.{length-insert, get_or-insert_below, get_or-insert_at, get_or-insert_above, length-remove, get_or-remove_below, get_or-remove_above}}
-use Rattle.pmf_runs.specs.Ranks.{IsFresh, rank, at_rank, Rises, HasKey, reaches, falls_short, is_within, low_rank, high_rank, ChangesItems, IsInner, bound_at}
+use Rattle.std.proofs.{Common.{add-one, ◌≡◌, ℕ, zero, suc, ◌+◌, ◌-◌, ◌<◌, ◌≤◌, true, false, List, [], ◌∷◌, length, get_or, take, drop, set, refl, sym, ◌∙◌, ap, subst, arith, rules, inl, inr, nat_le, nat_lt, ◌&&◌, if◌then◌else◌, Option, None, IfSome, is_some, insert, remove}, lemmas.Bool.{cases_eq}, lemmas.Bool.Decides.{nat_tests}, lemmas.List.Edits.{length-insert, get_or-insert_below, get_or-insert_at, get_or-insert_above, length-remove, get_or-remove_below, get_or-remove_above}}
+use Rattle.pmf_runs.specs.Ranks.{IsFresh, rank, at_rank, Rises, HasKey, reaches, falls_short, low_rank, high_rank, IsInner, bound_at}
 
 -- the first i keys are at most the number, and the next one is above it
 pub record IsRank (keys : List ℕ) (b i : ℕ) : Type 0 where
@@ -30,21 +30,10 @@ rank-unique (key ∷ keys) b (suc i) is =
     ap (λ t. if t then suc (rank keys b) else 0) (le-true key b (is.upto 0 (omega arith)))
     ∙ ap (λ n. suc n) (rank-unique keys b i (rank-less key keys b i is))
 
--- a key in front of a rank
-rank-more : (key : ℕ) (keys : List ℕ) (b i : ℕ) → key ≤ b → IsRank keys b i → IsRank (key ∷ keys) b (suc i)
-rank-more key keys b i low is = grind arith
-
 pub rank-is : (keys : List ℕ) (b : ℕ) → IsRank keys b (rank keys b)
 unfolding rank
 rank-is [] b = record { bound = omega arith; upto = λ k below. absurd (omega arith); beyond = λ within. absurd (omega arith) }
-rank-is (key ∷ keys) b = elim (cases_lt b key) [
-  | inl below ↦ subst (λ t. IsRank (key ∷ keys) b (if t then suc (rank keys b) else 0)) (sym (le-false key b below)) (record {
-    bound = omega arith;
-    upto = λ k before. absurd (omega arith);
-    beyond = λ within. below;
-  })
-  | inr above ↦ subst (λ t. IsRank (key ∷ keys) b (if t then suc (rank keys b) else 0)) (sym (le-true key b above)) (rank-more key keys b (rank keys b) above (rank-is keys b))
-]
+rank-is (key ∷ keys) b = let rest = rank-is keys b in grind (arith, nat_tests)
 
 pub rank-here : (keys : List ℕ) (b i : ℕ) → i ≡ rank keys b → IsRank keys b i
 rank-here keys b i at = subst (IsRank keys b) (sym at) (rank-is keys b)
@@ -55,11 +44,7 @@ rises-le keys i j rises le within = grind (arith, rises.order)
 -- ---- the search of a rank
 
 pub rank-told : (keys : List ℕ) (b i : ℕ) → Rises keys → i ≤ length keys → (0 < i → get_or keys (i - 1) 0 ≤ b) → (i < length keys → b < get_or keys i 0) → i ≡ rank keys b
-rank-told keys b i rises bound low high = sym (rank-unique keys b i (record {
-  bound = bound;
-  upto = λ k lt. let before = rises-le keys k (i - 1) rises (omega arith) (omega arith) in let last = low (omega arith) in omega arith;
-  beyond = high;
-}))
+rank-told keys b i rises bound low high = sym (rank-unique keys b i (grind (arith, rises-le)))
 
 -- ---- ranks and keys
 
@@ -70,10 +55,6 @@ rank-above keys p b i r at_p at_b le = grind arith
 -- a key is the last of those up to it
 pub rank-key : (keys : List ℕ) (p i : ℕ) → Rises keys → HasKey keys p → IsRank keys p i → (0 < i) × (get_or keys (i - 1) 0 ≡ p)
 rank-key keys p i rises has at_p = grind (arith, rises.order)
-
--- a number below a key has a lower rank
-pub rank-below_key : (keys : List ℕ) (p b i r : ℕ) → Rises keys → HasKey keys p → IsRank keys p i → IsRank keys b r → b < p → r < i
-rank-below_key keys p b i r rises has at_p at_b lt = grind (arith, rank-key)
 
 -- ---- a key is put in at its rank
 
@@ -120,37 +101,14 @@ remove-rises (key ∷ keys) (suc i) rises within = rises-cons key (remove keys i
 
 -- ---- bounds at keys
 
-test-same : (a b c d : ℕ) → (a ≤ b → c ≤ d) → (b < a → d < c) → nat_le a b ≡ nat_le c d
-test-same a b c d up down = grind (arith, nat_tests)
-
-lt-same : (a b c d : ℕ) → (a ≤ b → c ≤ d) → (b < a → d < c) → nat_lt b a ≡ nat_lt d c
-lt-same a b c d up down = grind (arith, nat_tests)
-
--- a number is not below a key exactly where its rank is not below that of the key
-reaches-rank : (keys : List ℕ) (from : Option ℕ) (b r : ℕ) → Rises keys → IfSome from (HasKey keys) → IsRank keys b r → reaches from b ≡ nat_le (low_rank keys from) r
-reaches-rank keys None b r rises has at_b = sym (le-true 0 r (omega arith))
-reaches-rank keys (Some p) b r rises has at_b =
-    let up = rank-above keys p b (rank keys p) r (rank-is keys p) at_b in
-    let down = rank-below_key keys p b (rank keys p) r rises has (rank-is keys p) at_b in
-    test-same p b (rank keys p) r up down
-
 pub lt-true : (a b : ℕ) → a < b → nat_lt a b ≡ true
 lt-true a b lt = search (rules, arith)
 
 pub lt-false : (a b : ℕ) → b ≤ a → nat_lt a b ≡ false
 lt-false a b le = search (rules, arith)
 
-falls-rank : (keys : List ℕ) (end : Option ℕ) (b r : ℕ) → Rises keys → IfSome end (HasKey keys) → IsRank keys b r → falls_short end b ≡ nat_lt r (high_rank keys end)
-falls-rank keys None b r rises has at_b = let bound = at_b.bound in sym (lt-true r (length keys + 1) (omega arith))
-falls-rank keys (Some p) b r rises has at_b =
-    let up = rank-above keys p b (rank keys p) r (rank-is keys p) at_b in
-    let down = rank-below_key keys p b (rank keys p) r rises has (rank-is keys p) at_b in
-    lt-same p b (rank keys p) r up down
-
-pub within-rank : (keys : List ℕ) (from end : Option ℕ) (b r : ℕ) → Rises keys → IfSome from (HasKey keys) → IfSome end (HasKey keys) → IsRank keys b r →
-    is_within from end b ≡ (nat_le (low_rank keys from) r && nat_lt r (high_rank keys end))
-unfolding is_within
-within-rank keys from end b r rises has_from has_end at_b = grind (arith, reaches-rank, falls-rank)
+pub falls-rank : (keys : List ℕ) (end : Option ℕ) (b r : ℕ) → Rises keys → IfSome end (HasKey keys) → IsRank keys b r → falls_short end b ≡ nat_lt r (high_rank keys end)
+falls-rank keys end b r h1 h2 h3 = grind (arith, lt-true, rank-above, rank-is, rank-key, nat_tests)
 
 -- ---- elements at their ranks
 
@@ -187,18 +145,6 @@ at_rank-remove (key ∷ keys) (x ∷ y ∷ items) zero d b rises within len same
 at_rank-remove (key ∷ keys) (x ∷ y ∷ items) (suc i) d b rises within len same =
     rw add-one (at_rank-cons key _ keys x _ (y ∷ items) d b (λ le. rw add-one at (at_rank-remove keys (y ∷ items) i d b (rises-tail key keys rises) (omega arith) (omega arith) (λ from. rw add-one (rw add-one at (same from))))))
 
--- the elements between two bounds are changed
-pub at_rank-changes : {X : Type 0} (keys : List ℕ) (old new : List X) (from end : Option ℕ) (change : X → X) (d : X) (b : ℕ) → Rises keys → length old ≡ length keys + 1 →
-    IfSome from (HasKey keys) → IfSome end (HasKey keys) → ChangesItems (low_rank keys from) (high_rank keys end) change old new →
-    at_rank keys new d b ≡ (if is_within from end b then change (at_rank keys old d b) else at_rank keys old d b)
-unfolding at_rank
-at_rank-changes keys old new from end change d b rises len has_from has_end changes =
-    let r = rank keys b in
-    let at_b = rank-is keys b in
-    let bound = at_b.bound in
-    changes.items r d (omega arith)
-    ∙ ap (λ t. if t then change (get_or old r d) else get_or old r d) (sym (within-rank keys from end b r rises has_from has_end at_b))
-
 -- the keys are parted at one of them, which is left out
 pub at_rank-take : {X : Type 0} (keys : List ℕ) (items : List X) (m : ℕ) (d : X) (b : ℕ) → m < length keys → b < get_or keys m 0 →
     at_rank (take m keys) (take (m + 1) items) d b ≡ at_rank keys items d b
@@ -229,12 +175,10 @@ pub key-missing : (keys : List ℕ) (p i : ℕ) → Rises keys → i ≡ rank ke
 key-missing keys p i rises at missing = let at_p = rank-here keys p i at in grind (arith, rises-le)
 
 pub high_rank-bound : (keys : List ℕ) (end : Option ℕ) → high_rank keys end ≤ length keys + 1
-high_rank-bound keys None = omega arith
-high_rank-bound keys (Some p) = let at_p = rank-is keys p in let bound = at_p.bound in omega arith
+high_rank-bound keys end = grind (arith, rank-is)
 
 pub insert-fresh : (keys : List ℕ) (p i : ℕ) → Rises keys → i ≡ rank keys p → IsFresh keys p → Rises (insert keys i p)
-insert-fresh keys p i rises at fresh =
-    insert-rises keys p i rises (rank-here keys p i at) (λ k below. fresh.below k (omega arith))
+insert-fresh keys p i rises at fresh = grind (arith, insert-rises, rank-here)
 
 -- ---- bounds as they are handed down
 
@@ -250,37 +194,20 @@ pub bound_at-none : (here i : ℕ) → bound_at here i None ≡ None
 unfolding bound_at
 bound_at-none here i = grind (arith, nat_tests)
 
--- what a bound says of a number is what its inner bound says at the number's rank
-reaches-own : (low r p b : ℕ) → (p ≤ b → low ≤ r) → (b ≤ p → r ≤ low) → nat_le p b ≡ (nat_le low r && reaches (bound_at low r (Some p)) b)
-unfolding bound_at
-reaches-own low r p b up down = grind (arith, nat_tests)
-
-falls-own : (high r p b : ℕ) → (p ≤ b → high ≤ r) → (b ≤ p → r ≤ high) → nat_lt b p ≡ (nat_lt r (high + 1) && falls_short (bound_at high r (Some p)) b)
-unfolding bound_at
-falls-own high r p b up down = grind (arith, nat_tests)
-
-reaches-none : (low r b : ℕ) (t : Bool) → t ≡ nat_le low r → t ≡ (nat_le low r && reaches (bound_at low r None) b)
-unfolding bound_at
-reaches-none low r b t is = grind (arith, nat_tests)
-
-falls-none : (high r b : ℕ) (t : Bool) → t ≡ nat_lt r (high + 1) → t ≡ (nat_lt r (high + 1) && falls_short (bound_at high r None) b)
-unfolding bound_at
-falls-none high r b t is = grind (arith, nat_tests)
-
 pub low-law : (keys : List ℕ) (from inner : Option ℕ) (low : ℕ) → Rises keys → low ≡ low_rank keys from → IsInner keys from inner → (b : ℕ) →
     reaches from b ≡ (nat_le low (rank keys b) && reaches (bound_at low (rank keys b) inner) b)
-low-law keys from inner low rises at is b = grind (arith, reaches-none, le-true, reaches-rank, rank-is, rank-here, reaches-own, rank-above)
-
-inner-has : (keys : List ℕ) (bound inner : Option ℕ) → inner ≡ None → IsInner keys bound inner → IfSome bound (HasKey keys)
-inner-has keys bound inner none is = grind arith
+unfolding bound_at
+low-law keys from inner low rises at is b = grind (arith, nat_tests, le-true, rank-above, rank-is, rank-key, rank-here)
 
 pub high-law_none : (keys : List ℕ) (end inner : Option ℕ) (high : ℕ) → Rises keys → high + 1 ≡ high_rank keys end → inner ≡ None → IsInner keys end inner → (b : ℕ) →
     falls_short end b ≡ (nat_lt (rank keys b) (high + 1) && falls_short (bound_at high (rank keys b) inner) b)
-high-law_none keys end inner high rises at none is b = grind (arith, falls-none, falls-rank, inner-has, rank-is)
+unfolding bound_at
+high-law_none keys end inner high rises at none is b = grind (arith, nat_tests, falls-rank, rank-is)
 
 pub high-law_is : (keys : List ℕ) (end inner : Option ℕ) (high : ℕ) → Rises keys → high ≡ high_rank keys end → is_some inner ≡ true → IsInner keys end inner → (b : ℕ) →
     falls_short end b ≡ (nat_lt (rank keys b) (high + 1) && falls_short (bound_at high (rank keys b) inner) b)
-high-law_is keys end inner high rises at some is b = grind (arith, rank-here, rank-is, falls-own, rank-above)
+unfolding bound_at
+high-law_is keys end inner high rises at some is b = grind (arith, rank-here, rank-is, nat_tests, rank-above)
 
 -- an inner bound lies in a part, and a bound that is a key has one before it
 pub inner-within : (keys : List ℕ) (end inner : Option ℕ) → is_some inner ≡ true → IsInner keys end inner → high_rank keys end ≤ length keys
@@ -301,9 +228,4 @@ none-is-any o no_one = grind arith
 -- past the last key each number has the last rank
 pub last-rank : (keys : List ℕ) (place b last : ℕ) → last ≡ length keys → last ≡ rank keys place → place ≤ b → last ≡ rank keys b
 last-rank keys place b last is at from =
-    let at_place = rank-here keys place last at in
-    sym (rank-unique keys b last (record {
-      bound = at_place.bound;
-      upto = λ k lt. let le = at_place.upto k lt in omega arith;
-      beyond = λ within. absurd (omega arith);
-    }))
+    let at_place = rank-here keys place last at in sym (rank-unique keys b last (grind arith))

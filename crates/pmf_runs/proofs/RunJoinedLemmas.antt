@@ -1,5 +1,5 @@
 -- Maps whose neighbouring runs differ, by their roots.
-use Rattle.std.proofs.Common.{◌≡◌, sym, ◌∙◌, subst, None, Some}
+use Rattle.std.proofs.Common.{arith, ◌≡◌, None, Some}
 use Rattle.pmf_runs.{specs.declared.group.Group.{Group}, specs.declared.page.Page.{Page}, specs.declared.level.Level.{Level}, specs.declared.runs.RunMap.{RunMap}, specs.declared.state.State.{Ghosts}, specs.Joined.{Joined, AllJoined, JoinedBut}, specs.Pages.{pages_joined}, specs.Runs.{root_joined, IsJoined}, proofs.JoinedLemmas.{joined-plain, plain-joined}, proofs.JoinedLevelLemmas.{parts-all, all-parts-joined}}
 
 some-same : {X : Type 0} (x y : X) → Some x ≡ Some y → x ≡ y
@@ -19,10 +19,7 @@ module _ {S M : Type 0} {laws : Ghosts S M} where
   plain-groups level all = all-parts-joined (λ group. pages_joined group.level) (λ group. AllJoined (λ page. Joined page.leaf) group.level) level (λ group all. plain-pages group.level all) all
 
   pub joined-root : (runs : RunMap S M laws) (root : Level (Group S M laws)) → runs.root ≡ Some root → root_joined root None None → IsJoined runs
-  joined-root runs root is whole = record {
-    leaves = λ other at.
-        subst (AllJoined (λ group. AllJoined (λ page. Joined page.leaf) group.level)) (some-same root other (sym is ∙ at)) (groups-plain root whole);
-  }
+  joined-root runs root is whole = grind (arith, some-same, groups-plain)
 
   pub root-joined : (runs : RunMap S M laws) (root : Level (Group S M laws)) → runs.root ≡ Some root → IsJoined runs → root_joined root None None
   root-joined runs root is joined = plain-groups root (joined.leaves root is)

@@ -1,10 +1,9 @@
 -- The states of a map of runs, by its root.
-use Rattle.std.proofs.Common.{◌≡◌, ◌≤◌, ℕ, sym, ◌∙◌, ap, if◌then◌else◌, None, Some, is_some, false, Result, Ok, Err, OnErr}
-use Rattle.pmf_runs.{specs.declared.group.Group.{Group}, specs.declared.level.Level.{Level}, specs.declared.runs.RunMap.{RunMap}, specs.declared.state.State.{Ghosts}, specs.Ranks.{SameStates, ChangesWithin, is_within}, specs.Runs.{root_state, state_within, state_at, is_between, KeepsStates, ChangesBetween}, proofs.RankLemmas.{none-is-any}, proofs.LeafLemmas.{none-within}}
+use Rattle.std.proofs.Common.{arith, ◌≡◌, ◌≤◌, ℕ, sym, ◌∙◌, ap, if◌then◌else◌, None, Some, is_some, false, Result, OnErr}
+use Rattle.pmf_runs.{specs.declared.group.Group.{Group}, specs.declared.level.Level.{Level}, specs.declared.runs.RunMap.{RunMap}, specs.declared.state.State.{Ghosts}, specs.Ranks.{SameStates, ChangesWithin, is_within}, specs.Runs.{root_state, state_within, state_at, is_between, KeepsStates, ChangesBetween}, proofs.RankLemmas.{none-is-any}}
 
 pub on-err : {A E : Type 0} {P : Type 0} (r : Result A E) → P → OnErr r P
-on-err (Ok x) holds = tt
-on-err (Err e) holds = holds
+on-err r h1 = grind arith
 
 module _ {S M : Type 0} {laws : Ghosts S M} where
   pub gap-is : (runs : RunMap S M laws) (b : ℕ) → runs.root ≡ None → state_at runs b ≡ runs.gap
@@ -32,9 +31,7 @@ module _ {S M : Type 0} {laws : Ghosts S M} where
   -- a range that ends where it begins, or before
   pub changes-empty : (runs : RunMap S M laws) (first end : ℕ) (change : S → S) → end ≤ first → ChangesBetween first end change runs runs
   unfolding is_between
-  changes-empty runs first end change le = record {
-    states = λ p. sym (ap (λ t. if t then change (state_at runs p) else state_at runs p) (none-within first end p le));
-  }
+  changes-empty runs first end change le = grind arith
 
   pub keeps-made : (old new : RunMap S M laws) (root : Level (Group S M laws)) → is_some old.root ≡ false → new.root ≡ Some root → ((d : S) (b : ℕ) → root_state root d b ≡ old.gap) → KeepsStates old new
   keeps-made old new root none is same = record {

@@ -3,7 +3,7 @@ use Rattle.pmf_runs.proofs.{AskingLemmas.{lines-law, run-none}, LineCountLemmas.
 use Rattle.pmf_runs.proofs.walk.lines_of_run.Goals as goal
 
 pub returns-then-end-first-clause-is : goal.returns-then-end-first-clause-is
-returns-then-end-first-clause-is c = run-none lines-law c.args.so_far c.args.passes c.args.first c.args.end (omega arith)
+returns-then-end-first-clause-is c = grind (arith, run-none, lines-law)
 
 pub returns-then-not-passes-clause-is : goal.returns-then-not-passes-clause-is
 returns-then-not-passes-clause-is c = run-fails c.args.passes c.args.first c.args.end c.args.so_far c.if-not-passes.true

@@ -1,25 +1,6 @@
-use Rattle.std.proofs.Common.{refl, ◌∙◌, ap, subst, arith}
-use Rattle.pmf_runs.{specs.Ranks.{rank, IsStop}, specs.Leaves.{leaf_state}, proofs.LeafLemmas.{rank-bound}, proofs.ChangingLemmas.{run-is, leaf-run, alters-none, alters-more, sees-low, sees-upto}}
+use Rattle.std.proofs.Common.{subst, arith}
+use Rattle.pmf_runs.{specs.Ranks.{IsStop}, specs.Leaves.{leaf_state}, proofs.LeafLemmas.{rank-bound}, proofs.ChangingLemmas.{run-is, leaf-run, alters-more, sees-low, sees-upto}}
 use Rattle.pmf_runs.proofs.leaf.Leaf.altered.Goals as goal
-
-pub loop-start-init : goal.loop-start-init
-loop-start-init g c =
-    let is = c.rank_near-index.ensures ∙ ap (λ ks. rank ks c.args.first) c.deref.ensures.value in
-    let bound = rank-bound c.args.self.now c.args.first in
-    record {
-      index = λ _. is;
-      past = omega (arith, c.args.self.now.states.ok.0, c.args.self.now.counted);
-      first = λ lt. omega arith;
-      after = λ _. omega arith;
-      upto = λ lt. absurd (omega arith);
-      found = alters-none (leaf_state c.args.self.now) (g.C.Change.changed c.args.change.now) c.args.first c.args.end c.args.end refl;
-    }
-
-pub index-requires : goal.index-requires
-index-requires g c =
-    let is = c.loop-start.invariant.index c.loop-start-test.true in
-    let bound = rank-bound c.args.self.now c.loop-start.start in
-    omega (arith, c.args.self.now.states.ok.0)
 
 pub loop-start-smaller : goal.loop-start-smaller
 loop-start-smaller g c =

@@ -3,9 +3,7 @@ use Rattle.pmf_runs.proofs.{LeafLemmas.{leaf-counted, rank-bound}, OnwardLemmas.
 use Rattle.pmf_runs.proofs.leaf.Leaf.first_onward.Goals as goal
 
 pub next_passing-next-requires : goal.next_passing-next-requires
-next_passing-next-requires g c =
-    let bound = rank-bound c.args.self.now c.args.first in
-    let at = c.requires in omega (arith, c.args.self.now.states.ok.0)
+next_passing-next-requires g c = grind (arith, rank-bound)
 
 pub returns-then-next-len : goal.returns-then-next-len
 returns-then-next-len g c = λ d end _ _.

@@ -1,16 +1,6 @@
-use Rattle.std.proofs.Common.{◌∙◌, arith, refl, sym, subst, None}
-use Rattle.pmf_runs.{specs.Ranks.{ChangesWithin, bound_at}, proofs.LevelLemmas.{begins-bound, rewrites-more, rest-more}, proofs.JoinedLevelLemmas.{order-bound, joins-more}}
+use Rattle.std.proofs.Common.{arith, refl, sym, subst, None}
+use Rattle.pmf_runs.{specs.Ranks.{ChangesWithin, bound_at}, proofs.LevelLemmas.{rewrites-more, rest-more}, proofs.JoinedLevelLemmas.{joins-more}}
 use Rattle.pmf_runs.proofs.level.Level.change_parts.Goals as goal
-
-pub rewrite-requires-clause-from : goal.rewrite-requires-clause-from
-rewrite-requires-clause-from g c =
-    begins-bound g.P.Part.begins c.args.self.now c.index_mut.result.now c.args.low c.loop-i.i c.args.from c.bound_at-first.result c.bound_at-first.ensures c.requires.from
-    (c.index_mut.ensures.value ∙ c.loop-i.invariant.rest c.index_mut.result.now c.loop-i.i (omega arith))
-
-pub rewrite-requires-clause-end : goal.rewrite-requires-clause-end
-rewrite-requires-clause-end g c =
-    begins-bound g.P.Part.begins c.args.self.now c.index_mut.result.now c.args.high c.loop-i.i c.args.end c.bound_at-last.result c.bound_at-last.ensures c.requires.end
-    (c.index_mut.ensures.value ∙ c.loop-i.invariant.rest c.index_mut.result.now c.loop-i.i (omega arith))
 
 pub loop-i-preserved : goal.loop-i-preserved
 loop-i-preserved g c =
@@ -36,7 +26,3 @@ loop-i-preserved g c =
       joins = joins-more joined c.args.low c.args.high c.args.from c.args.end c.args.self.now.parts.items c.loop-i.self.parts.items _ c.index_mut.result.now c.rewrite.new.self c.loop-i.i
           c.loop-i.auto.i (omega (arith, c.args.self.now.parts.ok.0)) c.index_mut.ensures.value law refl c.loop-i.invariant.joins;
     }
-
-pub rewrite-requires-clause-order : goal.rewrite-requires-clause-order
-rewrite-requires-clause-order g c =
-    order-bound c.args.low c.args.high c.loop-i.i c.args.from c.args.end c.bound_at-first.result c.bound_at-last.result c.bound_at-first.ensures c.bound_at-last.ensures c.requires.order

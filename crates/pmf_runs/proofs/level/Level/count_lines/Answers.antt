@@ -3,11 +3,7 @@ use Rattle.pmf_runs.{specs.Ranks.{rank}, specs.Walks.{end_of}, specs.Levels.{lev
 use Rattle.pmf_runs.proofs.level.Level.count_lines.Goals as goal
 
 pub loop-start-init : goal.loop-start-init
-loop-start-init g c =
-    record {
-      bound = c.requires;
-      asked = asked-start lines-law (λ d b. g.T.Test.passes c.args.test.now (level_state g.P.Part.state c.args.self.now d b)) c.args.so_far c.args.self.now.keys.items c.args.first c.args.end c.start_of-index.result (c.start_of-index.ensures ∙ ap (λ ks. rank ks c.args.first) c.deref.ensures.value);
-    }
+loop-start-init g c = record { bound = c.requires; asked = asked-start lines-law _ _ _ _ _ _ (c.start_of-index.ensures ∙ ap (λ ks. rank ks c.args.first) c.deref.ensures.value) }
 
 pub loop-start-preserved-then-next-index : goal.loop-start-preserved-then-next-index
 loop-start-preserved-then-next-index g c =

@@ -4,9 +4,7 @@ use Rattle.pmf_runs.{specs.Walks.{end_of}, proofs.LevelLemmas.{level-bound}, pro
 use Rattle.pmf_runs.proofs.level.Level.first_in_part.Goals as goal
 
 pub index-part-requires : goal.index-part-requires
-index-part-requires g c =
-    let bound = level-bound c.args.self.now c.args.start in
-    let at = c.requires.rank in omega (arith, c.args.self.now.parts.ok.0)
+index-part-requires g c = grind (arith, level-bound)
 
 pub returns-then-not-may_pass : goal.returns-then-not-may_pass
 returns-then-not-may_pass g c =

@@ -1,42 +1,6 @@
 use Rattle.std.proofs.Common.{◌≡◌, ◌+◌, ◌-◌, ◌∙◌, ap, arith, sym, subst}
-use Rattle.pmf_runs.{specs.Ranks.{low_rank, high_rank, IsInner}, proofs.RankLemmas.{low-law, high-law_none, high-law_is, none-is-any, inner-within, high-some, high_rank-bound, at-low, at-high}, proofs.LevelLemmas.{inner-begins, level-rewritten}, proofs.JoinedLevelLemmas.{parts-rewritten_some, parts-rewritten_none}}
+use Rattle.pmf_runs.{specs.Ranks.{low_rank, high_rank, IsInner}, proofs.RankLemmas.{low-law, high-law_none, high-law_is, none-is-any}, proofs.LevelLemmas.{level-rewritten}, proofs.JoinedLevelLemmas.{parts-rewritten_some, parts-rewritten_none}}
 use Rattle.pmf_runs.proofs.level.Level.rewrite_all.Goals as goal
-
-pub change_parts-requires-clause-high : goal.change_parts-requires-clause-high
-change_parts-requires-clause-high g c =
-    let keys = c.args.self.now.keys.items in
-    let at : c.high_rank-high.result ≡ high_rank keys c.args.end = c.high_rank-high.ensures ∙ ap (λ ks. high_rank ks c.args.end) c.deref-3.ensures.value in
-    let last = subst (λ ks. IsInner ks c.args.end c.inner_bound-last.result) c.deref-4.ensures.value c.inner_bound-last.ensures in
-    let within = inner-within keys c.args.end c.inner_bound-last.result (sym c.is_some.ensures ∙ c.if-is_some.true) last in
-    omega (arith, c.args.self.now.counted, c.args.self.now.keys.ok.0)
-
-pub change_parts-requires-clause-from : goal.change_parts-requires-clause-from
-change_parts-requires-clause-from g c =
-    let keys = c.args.self.now.keys.items in
-    let at : c.low_rank-low.result ≡ low_rank keys c.args.from = c.low_rank-low.ensures ∙ ap (λ ks. low_rank ks c.args.from) c.deref.ensures.value in
-    let first = subst (λ ks. IsInner ks c.args.from c.inner_bound-first.result) c.deref-2.ensures.value c.inner_bound-first.ensures in
-    inner-begins g.P.Part.begins c.args.self.now c.args.from c.inner_bound-first.result c.low_rank-low.result first (at-low keys c.args.from c.low_rank-low.result at) c.requires.from
-
-pub change_parts-requires-clause-end : goal.change_parts-requires-clause-end
-change_parts-requires-clause-end g c =
-    let keys = c.args.self.now.keys.items in
-    let at : c.high_rank-high.result ≡ high_rank keys c.args.end = c.high_rank-high.ensures ∙ ap (λ ks. high_rank ks c.args.end) c.deref-3.ensures.value in
-    let last = subst (λ ks. IsInner ks c.args.end c.inner_bound-last.result) c.deref-4.ensures.value c.inner_bound-last.ensures in
-    inner-begins g.P.Part.begins c.args.self.now c.args.end c.inner_bound-last.result c.high_rank-high.result last (at-high keys c.args.end c.high_rank-high.result at) c.requires.end
-
-pub change_parts-requires-then-high-gt0-clause-high : goal.change_parts-requires-then-high-gt0-clause-high
-change_parts-requires-then-high-gt0-clause-high g c =
-    let keys = c.args.self.now.keys.items in
-    let at : c.high_rank-high.result ≡ high_rank keys c.args.end = c.high_rank-high.ensures ∙ ap (λ ks. high_rank ks c.args.end) c.deref-3.ensures.value in
-    let bound = high_rank-bound keys c.args.end in
-    omega (arith, c.args.self.now.counted, c.args.self.now.keys.ok.0)
-
-pub change_parts-requires-then-high-gt0-clause-from : goal.change_parts-requires-then-high-gt0-clause-from
-change_parts-requires-then-high-gt0-clause-from g c =
-    let keys = c.args.self.now.keys.items in
-    let at : c.low_rank-low.result ≡ low_rank keys c.args.from = c.low_rank-low.ensures ∙ ap (λ ks. low_rank ks c.args.from) c.deref.ensures.value in
-    let first = subst (λ ks. IsInner ks c.args.from c.inner_bound-first.result) c.deref-2.ensures.value c.inner_bound-first.ensures in
-    inner-begins g.P.Part.begins c.args.self.now c.args.from c.inner_bound-first.result c.low_rank-low.result first (at-low keys c.args.from c.low_rank-low.result at) c.requires.from
 
 pub returns-then-is_some : goal.returns-then-is_some
 returns-then-is_some g c =
@@ -71,12 +35,3 @@ returns-then-high-gt0 g c =
       parts-rewritten_none g.P.Part.joined c.args.self.now c.change_parts-then-high-gt0.new.self c.low_rank-low.result (c.high_rank-high.result - 1) c.args.from c.args.end
           c.inner_bound-first.result c.inner_bound-last.result low before none first last c.requires.order c.change_parts-then-high-gt0.ensures.keys c.change_parts-then-high-gt0.ensures.joins,
     )
-
-pub returns-else-high-gt0 : goal.returns-else-high-gt0
-returns-else-high-gt0 g c =
-    let keys = c.args.self.now.keys.items in
-    let at : c.high_rank-high.result ≡ high_rank keys c.args.end = c.high_rank-high.ensures ∙ ap (λ ks. high_rank ks c.args.end) c.deref-3.ensures.value in
-    let last = subst (λ ks. IsInner ks c.args.end c.inner_bound-last.result) c.deref-4.ensures.value c.inner_bound-last.ensures in
-    let none = none-is-any c.inner_bound-last.result (sym c.is_some.ensures ∙ c.if-is_some.false) in
-    let some = high-some keys c.args.end c.inner_bound-last.result c.args.self.now.ordered none last in
-    absurd (omega arith)

@@ -1,4 +1,4 @@
-use Rattle.std.proofs.Common.{sym, ◌∙◌, refl}
+use Rattle.std.proofs.Common.{arith, sym, ◌∙◌, refl}
 use Rattle.pmf_runs.proofs.{RunLemmas.{keeps-made}, RunJoinedLemmas.{joined-root}}
 use Rattle.pmf_runs.proofs.runs.RunMap.ensure_root.Goals as goal
 
@@ -7,4 +7,4 @@ returns-clause-same g c =
     keeps-made c.args.self.now _ c.in_ok-root.root (sym c.is_some.ensures ∙ c.if-is_some.false) refl c.in_ok-root.ensures.states
 
 pub returns-clause-joined : goal.returns-clause-joined
-returns-clause-joined g c = λ _. joined-root _ c.in_ok-root.root refl c.in_ok-root.ensures.joined
+returns-clause-joined g c = grind (arith, joined-root)

@@ -13,4 +13,4 @@ returns-in-Some g c =
     ∙ root-asked first-law (g.T.Test.passes c.args.test.now) (passing (g.T.Test.passes c.args.test.now) c.args.self.now) c.args.self.now c.in-Some.root c.args.first (c.args.end - c.args.first) (passing-is (g.T.Test.passes c.args.test.now) c.args.self.now) c.in-Some.is
 
 pub returns-then-end-first : goal.returns-then-end-first
-returns-then-end-first g c = first-empty _ c.args.first (c.args.end - c.args.first) (omega arith)
+returns-then-end-first g c = grind (arith, first-empty)

@@ -13,4 +13,4 @@ returns-in-Some g c =
     ∙ root-asked least-law (g.K.Key.key c.args.key.now) (keyed (g.K.Key.key c.args.key.now) c.args.self.now) c.args.self.now c.in-Some.root c.args.first (c.args.end - c.args.first) (keyed-is (g.K.Key.key c.args.key.now) c.args.self.now) c.in-Some.is
 
 pub returns-then-end-first : goal.returns-then-end-first
-returns-then-end-first g c = least-empty _ c.args.first (c.args.end - c.args.first) (omega arith)
+returns-then-end-first g c = grind (arith, least-empty)
