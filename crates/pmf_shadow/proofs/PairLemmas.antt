@@ -1,7 +1,7 @@
 -- The least pair without trying pairs: which bytes of the one span have a partner in the other, said by
 -- three numbers of the other, and which byte is the partner.
-use Rattle.std.{proofs.Common.{◌≡◌, ℕ, ◌+◌, ◌<◌, ◌≤◌, Bool, true, false, if◌then◌else◌, refl, sym, ◌∙◌, ap, arith, inl, inr, Option, Some, None, eq-eqb, ne_eqb}, proofs.lemmas.Bool.{cases_eq, or_cases, or_left, or_right}, specs.Cmp.{both_ways}}
-use Rattle.pmf_event.{proofs.LeastPairLemmas.{HasOne, partner-from_one, one-from_partner}, specs.Span.{Extent}, specs.Line.{line_of_byte}, specs.Order.{has_partner}}
+use Rattle.std.{proofs.Common.{◌≡◌, ℕ, ◌+◌, ◌<◌, ◌≤◌, Bool, true, false, if◌then◌else◌, refl, sym, ◌∙◌, ap, arith, inl, inr, Option, Some, None, is_some, eq-eqb, ne_eqb}, proofs.lemmas.Bool.{cases_eq, or_cases, or_left, or_right}, specs.Cmp.{both_ways}}
+use Rattle.pmf_event.{proofs.RangeLemmas.{first_from-none}, proofs.LeastPairLemmas.{HasOne, partner-from_one, one-from_partner}, specs.Span.{Extent}, specs.Line.{line_of_byte}, specs.Order.{has_partner}}
 use Rattle.pmf_shadow.specs.{declared.byte.Stored.{Stored}, States.{holds_of, is_late, late_for, late_for_any, is_before, stored_by, comes_after, has_one_by, place_of, opening_of}, Pairs.{both_hold, by_epoch, by_place, by_epochs, by_lines, by_line, on_line, off_line, IsLeastValue}}
 
 -- ---- what is kept of two bytes
@@ -61,39 +61,52 @@ opening-is kept x k is = ap opening_of is
 place-is : (kept : ℕ → Option Stored) (x : ℕ) (k : Stored) → kept x ≡ Some k → place_of (kept x) ≡ Some k.last
 place-is kept x k is = ap place_of is
 
--- ---- by epochs
+pub both_hold-right : (test : Stored → Stored → Bool) (u : Option Stored) → both_hold test u None ≡ false
+both_hold-right test u = grind arith
 
-module _ (kept : ℕ → Option Stored) (b : Extent) where
+no-opening : (o : Option Stored) → opening_of o ≡ None → o ≡ None
+no-opening o none = grind arith
+
+-- a byte in time for the store of another
+early-passes : (kept : ℕ → Option Stored) (x y m : ℕ) (k : Stored) → kept x ≡ Some k → opening_of (kept y) ≡ Some m → is_late m k.written_back ≡ true → both_hold by_epoch (kept x) (kept y) ≡ true
+early-passes kept x y m k is opens late =
+    let other = kept-from_opening kept y m (kept y) refl opens in both_hold-is kept by_epoch x y k other.0 is other.1 ∙ ap (λ o. is_late o k.written_back) other.2 ∙ late
+
+-- ---- whichever pairs are asked for
+
+module _ (kept : ℕ → Option Stored) (b : Extent) (pairs : ℕ → ℕ → Bool) where
   -- where b has no checked byte there is no pair
-  pub no_pairs-by_epochs : IsLeastValue (opening_at kept) b.first b.size None → (x : ℕ) → has_partner (by_epochs kept) b x ≡ false
-  unfolding by_epochs
-  no_pairs-by_epochs least x = both_ways _ _
-      (λ some.
-      let one = one-from_partner (by_epochs kept) b x some in
-      let both = both-from_holds kept by_epoch x one.place (kept x) (kept one.place) refl refl one.passes in
-      let bad : None ≡ Some both.second.opens = sym (least.none refl one.place one.from one.within) ∙ opening-is kept one.place both.second both.is_second in cc)
-      (λ bad. let wrong : false ≡ true = bad in cc)
+  no_partner : ((x y : ℕ) → kept y ≡ None → pairs x y ≡ false) → IsLeastValue (opening_at kept) b.first b.size None → (x : ℕ) → has_partner pairs b x ≡ false
+  unfolding has_partner
+  no_partner none least x = ap (λ (o : Option ℕ). is_some o) (first_from-none (pairs x) b.first b.size (λ y low high. none x y (no-opening (kept y) (least.none refl y low high))))
 
-  pub has_partner-by_epochs : (m : ℕ) → IsLeastValue (opening_at kept) b.first b.size (Some m) → (x : ℕ) → has_partner (by_epochs kept) b x ≡ holds_of (late_for m) (kept x)
-  unfolding by_epochs
-  has_partner-by_epochs m least x = both_ways _ _
+  -- the earliest epoch decides, where a pair is one by its epochs, and a byte of that epoch is a partner
+  late_partner : (m : ℕ) → IsLeastValue (opening_at kept) b.first b.size (Some m) → (early : ℕ) → b.first ≤ early → early < b.first + b.size → (x : ℕ) →
+      ((y : ℕ) → pairs x y ≡ true → Both kept by_epoch x y) → ((k : Stored) → kept x ≡ Some k → is_late m k.written_back ≡ true → pairs x early ≡ true) →
+      has_partner pairs b x ≡ holds_of (late_for m) (kept x)
+  late_partner m least early from within x forward back = both_ways _ _
       (λ some.
-      let one = one-from_partner (by_epochs kept) b x some in
-      let both = both-from_holds kept by_epoch x one.place (kept x) (kept one.place) refl refl one.passes in
+      let one = one-from_partner pairs b x some in
+      let both = forward one.place one.passes in
       let low = least.bound m refl one.place both.second.opens one.from one.within (opening-is kept one.place both.second both.is_second) in
       holds_of-is kept (late_for m) x both.first both.is_first ∙ late-monotone m both.second.opens both.first.written_back low both.holds)
       (λ late.
       let own = kept-from_holds kept (late_for m) x (kept x) refl late in
+      partner-from_one pairs b x (record { place = early; from = from; within = within; passes = back own.stored own.is (sym (holds_of-is kept (late_for m) x own.stored own.is) ∙ late) }))
+
+-- ---- by epochs
+
+module _ (kept : ℕ → Option Stored) (b : Extent) where
+  pub no_pairs-by_epochs : IsLeastValue (opening_at kept) b.first b.size None → (x : ℕ) → has_partner (by_epochs kept) b x ≡ false
+  unfolding by_epochs
+  no_pairs-by_epochs least x = no_partner kept b (by_epochs kept) (λ x y none. grind (arith, both_hold-right)) least x
+
+  pub has_partner-by_epochs : (m : ℕ) → IsLeastValue (opening_at kept) b.first b.size (Some m) → (x : ℕ) → has_partner (by_epochs kept) b x ≡ holds_of (late_for m) (kept x)
+  unfolding by_epochs
+  has_partner-by_epochs m least x =
       let has = least.has m refl in
-      let other = kept-from_opening kept has.place m (kept has.place) refl has.is in
-      let is_late_here : is_late other.0.opens own.stored.written_back ≡ true =
-      ap (λ o. is_late o own.stored.written_back) other.2 ∙ sym (holds_of-is kept (late_for m) x own.stored own.is) ∙ late in
-      partner-from_one (by_epochs kept) b x (record {
-        place = has.place;
-        from = has.from;
-        within = has.within;
-        passes = both_hold-is kept by_epoch x has.place own.stored other.0 own.is other.1 ∙ is_late_here;
-      }))
+      late_partner kept b (by_epochs kept) m least has.place has.from has.within x
+      (λ y passes. both-from_holds kept by_epoch x y (kept x) (kept y) refl refl passes) (λ k is late. early-passes kept x has.place m k is has.is late)
 
   pub partner-by_epochs : (x : ℕ) (k : Stored) → kept x ≡ Some k → (y : ℕ) → by_epochs kept x y ≡ holds_of (comes_after k.written_back) (kept y)
   unfolding by_epochs
@@ -118,14 +131,6 @@ module _ (line : ℕ) where
   unfolding off_line
   off_line-off value x other = ap (λ v. if v then None else value x) (ne_eqb (line_of_byte x) line other)
 
-  pub on_line-off : (value : ℕ → Option ℕ) (x : ℕ) → (line_of_byte x ≡ line → ⊥) → on_line line value x ≡ None
-  unfolding on_line
-  on_line-off value x other = ap (λ v. if v then value x else None) (ne_eqb (line_of_byte x) line other)
-
-  pub off_line-on : (value : ℕ → Option ℕ) (x : ℕ) → line_of_byte x ≡ line → off_line line value x ≡ None
-  unfolding off_line
-  off_line-on value x same = ap (λ v. if v then None else value x) (eq-eqb (line_of_byte x) line same)
-
   line-from_on : (value : ℕ → Option ℕ) (x v : ℕ) → on_line line value x ≡ Some v → (line_of_byte x ≡ line) × (value x ≡ Some v)
   unfolding on_line
   line-from_on value x v is = grind arith
@@ -149,20 +154,10 @@ module _ (ties : Bool) (kept : ℕ → Option Stored) where
   both-off : (x y : ℕ) → (line_of_byte x ≡ line_of_byte y → ⊥) → by_lines ties kept x y ≡ true → Both kept by_epoch x y
   both-off x y other is = both-from_holds kept by_epoch x y (kept x) (kept y) refl refl (sym (by_lines-off x y other) ∙ is)
 
-  kept-from_pair : (x y : ℕ) → by_lines ties kept x y ≡ true → (k : Stored) × (kept y ≡ Some k)
-  kept-from_pair x y is = elim (cases_eq (line_of_byte x) (line_of_byte y)) [
-    | inl same ↦ let both = both-on x y same is in (both.second, both.is_second)
-    | inr other ↦ let both = both-off x y other is in (both.second, both.is_second)
-  ]
-
   module _ (b : Extent) where
     pub no_pairs-by_lines : IsLeastValue (opening_at kept) b.first b.size None → (x : ℕ) → has_partner (by_lines ties kept) b x ≡ false
-    no_pairs-by_lines least x = both_ways _ _
-        (λ some.
-        let one = one-from_partner (by_lines ties kept) b x some in
-        let own = kept-from_pair x one.place one.passes in
-        let bad : None ≡ Some own.0.opens = sym (least.none refl one.place one.from one.within) ∙ opening-is kept one.place own.0 own.1 in cc)
-        (λ bad. let wrong : false ≡ true = bad in cc)
+    unfolding by_lines
+    no_pairs-by_lines least x = no_partner kept b (by_lines ties kept) (λ x y none. grind (arith, both_hold-right)) least x
 
     -- a byte that was stored no earlier than another is unordered with it
     module _ (falls : (x y : ℕ) (k m : Stored) → kept x ≡ Some k → kept y ≡ Some m → is_before ties m.last k.last ≡ true → is_late m.opens k.written_back ≡ true)
@@ -170,31 +165,13 @@ module _ (ties : Bool) (kept : ℕ → Option Stored) where
         (early : ℕ) (from : b.first ≤ early) (within : early < b.first + b.size) (opens : opening_of (kept early) ≡ Some m) where
       -- off the line of the earliest epoch, that epoch decides
       off-has_partner : (x : ℕ) → (line_of_byte x ≡ line_of_byte early → ⊥) → has_partner (by_lines ties kept) b x ≡ holds_of (late_for m) (kept x)
-      off-has_partner x other = both_ways _ _
-          (λ some.
-          let one = one-from_partner (by_lines ties kept) b x some in
-          elim (cases_eq (line_of_byte x) (line_of_byte one.place)) [
-            | inl same ↦
-                let both = both-on x one.place same one.passes in
-                let low = least.bound m refl one.place both.second.opens one.from one.within (opening-is kept one.place both.second both.is_second) in
-                let late = falls x one.place both.first both.second both.is_first both.is_second both.holds in
-                holds_of-is kept (late_for m) x both.first both.is_first ∙ late-monotone m both.second.opens both.first.written_back low late
-            | inr apart ↦
-                let both = both-off x one.place apart one.passes in
-                let low = least.bound m refl one.place both.second.opens one.from one.within (opening-is kept one.place both.second both.is_second) in
-                holds_of-is kept (late_for m) x both.first both.is_first ∙ late-monotone m both.second.opens both.first.written_back low both.holds
+      off-has_partner x other = late_partner kept b (by_lines ties kept) m least early from within x
+          (λ y passes. elim (cases_eq (line_of_byte x) (line_of_byte y)) [
+            | inl same ↦ let both = both-on x y same passes in
+                record { first = both.first; second = both.second; is_first = both.is_first; is_second = both.is_second; holds = falls x y both.first both.second both.is_first both.is_second both.holds }
+            | inr apart ↦ both-off x y apart passes
           ])
-          (λ late.
-          let own = kept-from_holds kept (late_for m) x (kept x) refl late in
-          let there = kept-from_opening kept early m (kept early) refl opens in
-          let is_late_here : is_late there.0.opens own.stored.written_back ≡ true =
-          ap (λ o. is_late o own.stored.written_back) there.2 ∙ sym (holds_of-is kept (late_for m) x own.stored own.is) ∙ late in
-          partner-from_one (by_lines ties kept) b x (record {
-            place = early;
-            from = from;
-            within = within;
-            passes = by_lines-off x early other ∙ both_hold-is kept by_epoch x early own.stored there.0 own.is there.1 ∙ is_late_here;
-          }))
+          (λ k is late. by_lines-off x early other ∙ early-passes kept x early m k is opens late)
 
       -- on that line, the earliest store of the line, or the earliest epoch elsewhere
       module _ (first : ℕ) (least_on : IsLeastValue (on_line (line_of_byte early) (place_at kept)) b.first b.size (Some first))
@@ -213,15 +190,8 @@ module _ (ties : Bool) (kept : ℕ → Option Stored) where
         one-elsewhere (Some o) is x k same own late =
             let has = least_off.has o is in
             let there = line-from_off (line_of_byte early) (opening_at kept) has.place o has.is in
-            let other = kept-from_opening kept has.place o (kept has.place) refl there.1 in
-            record {
-              place = has.place;
-              from = has.from;
-              within = has.within;
-              passes = by_lines-off x has.place (λ shared. there.0 (sym shared ∙ same))
-                  ∙ both_hold-is kept by_epoch x has.place k other.0 own other.1
-                  ∙ ap (λ e. is_late e k.written_back) other.2 ∙ late;
-            }
+            let passes = by_lines-off x has.place (λ shared. there.0 (sym shared ∙ same)) ∙ early-passes kept x has.place o k own there.1 late in
+            record { place = has.place; from = has.from; within = has.within; passes = passes }
 
         on-has_partner : (x : ℕ) → line_of_byte x ≡ line_of_byte early → has_partner (by_lines ties kept) b x ≡ holds_of (has_one_by ties first elsewhere) (kept x)
         on-has_partner x same = both_ways _ _
@@ -248,27 +218,15 @@ module _ (ties : Bool) (kept : ℕ → Option Stored) where
                   let has = least_on.has first refl in
                   let there = line-from_on (line_of_byte early) (place_at kept) has.place first has.is in
                   let other = kept-from_place kept has.place first (kept has.place) refl there.1 in
-                  record {
-                    place = has.place;
-                    from = has.from;
-                    within = has.within;
-                    passes = by_lines-on x has.place (same ∙ sym there.0)
-                        ∙ both_hold-is kept (by_place ties) x has.place own.stored other.0 own.is other.1
-                        ∙ ap (λ i. is_before ties i own.stored.last) other.2 ∙ before;
-                  }
+                  let passes = by_lines-on x has.place (same ∙ sym there.0) ∙ both_hold-is kept (by_place ties) x has.place own.stored other.0 own.is other.1 ∙ ap (λ i. is_before ties i own.stored.last) other.2 ∙ before in
+                  record { place = has.place; from = has.from; within = has.within; passes = passes }
               | inr late ↦ one-elsewhere elsewhere refl x own.stored same own.is late
             ]))
 
         pub has_partner-by_lines : (on off : ℕ → Bool) → ((x : ℕ) → on x ≡ holds_of (has_one_by ties first elsewhere) (kept x)) →
             ((x : ℕ) → off x ≡ holds_of (late_for m) (kept x)) → (x : ℕ) → has_partner (by_lines ties kept) b x ≡ by_line (line_of_byte early) on off x
-        has_partner-by_lines on off is_on is_off x = elim (cases_eq (line_of_byte x) (line_of_byte early)) [
-          | inl same ↦ on-has_partner x same ∙ sym (is_on x) ∙ sym (by_line-on (line_of_byte early) on off x same)
-          | inr other ↦ off-has_partner x other ∙ sym (is_off x) ∙ sym (by_line-off (line_of_byte early) on off x other)
-        ]
+        has_partner-by_lines on off is_on is_off x = grind (arith, cases_eq, on-has_partner, by_line-on, off-has_partner, by_line-off)
 
   pub partner-by_lines : (on off : ℕ → Bool) (x : ℕ) (k : Stored) → kept x ≡ Some k → ((y : ℕ) → on y ≡ holds_of (stored_by ties k.last) (kept y)) →
       ((y : ℕ) → off y ≡ holds_of (comes_after k.written_back) (kept y)) → (y : ℕ) → by_lines ties kept x y ≡ by_line (line_of_byte x) on off y
-  partner-by_lines on off x k own is_on is_off y = elim (cases_eq (line_of_byte x) (line_of_byte y)) [
-    | inl same ↦ by_lines-on x y same ∙ second-is (by_place ties) k (kept x) (kept y) own ∙ sym (is_on y) ∙ sym (by_line-on (line_of_byte x) on off y (sym same))
-    | inr other ↦ by_lines-off x y other ∙ second-is by_epoch k (kept x) (kept y) own ∙ sym (is_off y) ∙ sym (by_line-off (line_of_byte x) on off y (λ same. other (sym same)))
-  ]
+  partner-by_lines on off x k own is_on is_off y = grind (arith, cases_eq, by_lines-on, second-is, by_line-on, by_lines-off, by_line-off)

@@ -1,6 +1,6 @@
 -- What is kept answers the questions as the definitions do.
 use Rattle.std.proofs.{Common.{◌≡◌, ℕ, ◌+◌, ◌*◌, ◌<◌, ◌≤◌, Bool, true, false, not, ◌&&◌, ◌==◌, nat_lt, if◌then◌else◌, List, refl, sym, ◌∙◌, ap, arith, inl, inr, Option, Some, None, is_none, le-ltb, lt-ltb, ne_eqb}, lemmas.Bool.{cases_lt}, Math.Bool.{and-false}}
-use Rattle.pmf_event.{specs.declared.event.Event.{Event}, specs.declared.interval.Interval.{Interval}, specs.Span.{Extent}, specs.Line.{line_of_byte}, specs.Places.{count}, specs.Ranges.{first_byte}, specs.Store.{at, stores, is_fence, last_store, epoch_of}, specs.WriteBack.{write_back_epoch, epoch_unless}, specs.Interval.{closing_fence, epoch_after, interval_at, is_open}, specs.Exclusion.{is_excluded, is_included}, specs.Persist.{is_checked, is_exposed}, specs.FlushWarnings.{is_clean, is_pending, lines_where}, specs.LineBytes.{is_undurable, is_unwritten}, proofs.RangeLemmas.{first_from-same}, proofs.WriteBackLemmas.{closing-from_epoch, closing-none, closing-late}, proofs.LineBytesLemmas.{lines_follow_from_their_bytes}}
+use Rattle.pmf_event.{specs.declared.event.Event.{Event}, specs.declared.interval.Interval.{Interval}, specs.Span.{Extent}, specs.Line.{line_of_byte}, specs.Places.{count}, specs.Ranges.{first_byte}, specs.Store.{at, stores, is_fence, last_store, epoch_of}, specs.WriteBack.{write_back_epoch, epoch_unless}, specs.Interval.{closing_fence, epoch_after, interval_at}, specs.Exclusion.{is_excluded, is_included}, specs.Persist.{is_checked, is_exposed}, specs.FlushWarnings.{is_clean, is_pending, lines_where}, specs.LineBytes.{is_undurable, is_unwritten}, proofs.RangeLemmas.{first_from-same}, proofs.WriteBackLemmas.{closing-from_epoch, closing-none, closing-late}, proofs.LineBytesLemmas.{lines_follow_from_their_bytes}}
 use Rattle.pmf_shadow.{specs.declared.byte.ByteState.{ByteState}, specs.declared.byte.Stored.{Stored}, specs.declared.shadow.Shadow.{Shadow}, specs.States.{stored_of, checked_store, holds_of, any_store, is_late, is_from, late_for, lacks_write_back, written_back_from}, specs.Shadow.{stored_at, closing, StandsFor}, specs.Told.{interval_as_told}, specs.Stretches.{line_lacks, line_has_but, lines_by}, proofs.StandsLemmas.{IsByteAt, stands-bytes}, proofs.StretchLemmas.{lines_by-same, clean-by, pending-by}}
 use Rattle.pmf_runs.specs.Runs.{state_at, passing}
 
@@ -26,14 +26,14 @@ late-is_open fences o = grind arith
 
 -- ---- one byte
 
-interval_of : List Event → ℕ → Option ℕ → Option Interval
+pub interval_of : List Event → ℕ → Option ℕ → Option Interval
 interval_of es l c = if l == 0 then None else Some (record { last = l; opens = epoch_of es l; closes = c })
 
-interval_of-some : (es : List Event) (l : ℕ) (c : Option ℕ) → 0 < l → interval_of es l c ≡ Some (record { last = l; opens = epoch_of es l; closes = c })
+pub interval_of-some : (es : List Event) (l : ℕ) (c : Option ℕ) → 0 < l → interval_of es l c ≡ Some (record { last = l; opens = epoch_of es l; closes = c })
 unfolding interval_of
 interval_of-some es l c some = ap (λ v. if v then None else Some (record { last = l; opens = epoch_of es l; closes = c })) (ne_eqb l 0 (λ zero_is. omega arith))
 
-interval_at-is : (es : List Event) (p b : ℕ) → interval_at es p b ≡ interval_of es (last_store es p b) (epoch_after es (closing_fence (stores b) (line_of_byte b) es p))
+pub interval_at-is : (es : List Event) (p b : ℕ) → interval_at es p b ≡ interval_of es (last_store es p b) (epoch_after es (closing_fence (stores b) (line_of_byte b) es p))
 unfolding interval_of
 interval_at-is es p b = refl
 
@@ -53,11 +53,6 @@ never o k none some = let bad : None ≡ Some k = sym none ∙ some in cc
 pub unwritten-from_none : (told : ℕ → ℕ) (es : List Event) (p b : ℕ) → stored_at told es p b ≡ None → last_store es p b ≡ 0
 unwritten-from_none told es p b is = grind arith
 
--- the interval of a written byte
-pub interval-written : (told : ℕ → ℕ) (es : List Event) (p b : ℕ) (k : Stored) → stored_at told es p b ≡ Some k →
-    interval_at es p b ≡ Some (record { last = last_store es p b; opens = k.opens; closes = closing (count (at is_fence es) p) k.written_back })
-interval-written told es p b k is = grind (arith, written-from_stored, interval_at-is, interval_of-some, closes-is)
-
 -- the interval of a byte without a store
 interval-unwritten : (told : ℕ → ℕ) (es : List Event) (p b : ℕ) → stored_at told es p b ≡ None → interval_at es p b ≡ None
 unfolding interval_of
@@ -67,9 +62,7 @@ interval-unwritten told es p b is = grind arith
 checked-by : (told : ℕ → ℕ) (es : List Event) (p b : ℕ) (out : Bool) (o : Option Stored) → is_excluded es p b ≡ out → stored_at told es p b ≡ o →
     is_checked es p b ≡ holds_of any_store (if out then None else o)
 unfolding is_checked
-checked-by told es p b true o out is = ap (λ v. nat_lt 0 (last_store es p b) && not v) out ∙ and-false (nat_lt 0 (last_store es p b))
-checked-by told es p b false None out is = ap (λ v. nat_lt 0 (last_store es p b) && not v) out ∙ ap (λ k. nat_lt 0 k && true) (unwritten-from_none told es p b is)
-checked-by told es p b false (Some k) out is = ap (λ v. nat_lt 0 (last_store es p b) && not v) out ∙ ap (λ v. v && true) (lt-ltb 0 (last_store es p b) (written-from_stored told es p b k is).some)
+checked-by told es p b out o h1 h2 = grind (arith, and-false, unwritten-from_none, lt-ltb, written-from_stored)
 
 pub checked-is : (told : ℕ → ℕ) (es : List Event) (p b : ℕ) (s : ByteState) → IsByteAt told es p b s → is_checked es p b ≡ holds_of any_store (checked_store s)
 checked-is told es p b s is = checked-by told es p b s.excluded (stored_of s) (sym is.excluded) (sym is.stored)
@@ -77,12 +70,7 @@ checked-is told es p b s is = checked-by told es p b s.excluded (stored_of s) (s
 exposed-by : (told : ℕ → ℕ) (es : List Event) (p b : ℕ) (out : Bool) (o : Option Stored) → is_excluded es p b ≡ out → stored_at told es p b ≡ o →
     is_exposed es p b ≡ holds_of (late_for (count (at is_fence es) p)) (if out then None else o)
 unfolding is_exposed
-exposed-by told es p b true o out is = ap (λ v. v && is_open (interval_at es p b)) (checked-by told es p b true o out is)
-exposed-by told es p b false None out is = ap (λ v. v && is_open (interval_at es p b)) (checked-by told es p b false None out is)
-exposed-by told es p b false (Some k) out is =
-    ap (λ v. v && is_open (interval_at es p b)) (checked-by told es p b false (Some k) out is)
-    ∙ ap is_open (interval-written told es p b k is)
-    ∙ sym (late-is_open (count (at is_fence es) p) k.written_back)
+exposed-by told es p b out o h1 h2 = grind (arith, checked-by, written-from_stored, interval_at-is, interval_of-some, closes-is, late-is_open)
 
 exposed-is : (told : ℕ → ℕ) (es : List Event) (p b : ℕ) (s : ByteState) → IsByteAt told es p b s → is_exposed es p b ≡ holds_of (late_for (count (at is_fence es) p)) (checked_store s)
 exposed-is told es p b s is = exposed-by told es p b s.excluded (stored_of s) (sym is.excluded) (sym is.stored)
@@ -126,11 +114,7 @@ late-alone fences o late lacks = grind arith
 module _ (shadow : Shadow) (told : ℕ → ℕ) (es : List Event) (p : ℕ) (stands : StandsFor shadow told es p) where
   pub interval-same-some : (b : ℕ) (k : Stored) → stored_of (state_at shadow.bytes b) ≡ Some k →
       Some (record { last = k.last; opens = k.opens; closes = closing shadow.fences k.written_back }) ≡ interval_as_told told (interval_at es p b)
-  interval-same-some b k stored =
-      let is = sym (stands.stored b) ∙ stored in
-      ap (λ f. Some (record { last = k.last; opens = k.opens; closes = closing f k.written_back })) stands.fences
-      ∙ ap (λ l. Some (record { last = l; opens = k.opens; closes = closing (count (at is_fence es) p) k.written_back })) (written-from_stored told es p b k is).place
-      ∙ sym (ap (interval_as_told told) (interval-written told es p b k is))
+  interval-same-some b k stored = grind (arith, written-from_stored, interval_at-is, interval_of-some, closes-is)
 
   pub interval-same-none : (b : ℕ) → stored_of (state_at shadow.bytes b) ≡ None → None ≡ interval_as_told told (interval_at es p b)
   interval-same-none b none = sym (ap (interval_as_told told) (interval-unwritten told es p b (sym (stands.stored b) ∙ none)))

@@ -1,5 +1,5 @@
 -- What the definitions say at p looks only at the events up to p.
-use Rattle.std.proofs.{Common.{◌≡◌, ℕ, zero, suc, ◌-◌, ◌<◌, ◌≤◌, Bool, ◌&&◌, nat_lt, List, [], ◌∷◌, ◌++◌, length, take, refl, sym, ◌∙◌, ap, arith, inl, inr, Some, slice_get, length-take-le}, lemmas.Bool.{cases_lt}, lemmas.Option.{slice_get_within}}
+use Rattle.std.proofs.{Common.{◌≡◌, ℕ, zero, suc, ◌-◌, ◌<◌, ◌≤◌, Bool, ◌&&◌, nat_lt, List, [], ◌∷◌, ◌++◌, length, take, refl, ◌∙◌, ap, arith, Some, slice_get, length-take-le}, lemmas.Bool.{cases_lt}, lemmas.Option.{slice_get_within}}
 use Rattle.pmf_event.{specs.declared.event.Event.{Event}, specs.Places.{greatest, least, count}, specs.Store.{event_at, passes, at, flushes, is_fence, last, epoch_of}, specs.Interval.{writes_back, first_write_back}, specs.WriteBack.{write_back_epoch}, specs.Exclusion.{is_excluded}, specs.LineBytes.{HasBytes}, proofs.PlacesLemmas.{SameUpTo, least-bound}, proofs.WriteBackLemmas.{last-bound}}
 use Rattle.pmf_shadow.specs.Laws.{SameEvents}
 
@@ -113,12 +113,4 @@ length-taken es p e here = let within = within-list es p e here in length-take-l
 
 -- its first p events with the next one at their end are its first events too
 pub same-retaken : (es : List Event) (p : ℕ) (e : Event) → event_at es (suc p) ≡ Some e → SameEvents (take p es ++ e ∷ []) es (suc p)
-same-retaken es p e here k within = elim (cases_lt p k) [
-  | inl beyond ↦
-      let size = length-taken es p e here in
-      let last : k ≡ suc p = omega arith in
-      ap (event_at (take p es ++ e ∷ [])) (last ∙ ap suc (sym size)) ∙ at_the_end (take p es) e ∙ sym here ∙ ap (event_at es) (sym last)
-  | inr before ↦
-      let size = length-taken es p e here in
-      sym (same-longer (take p es) e k (omega arith)) ∙ sym (same-taken es p k before)
-]
+same-retaken es p e here k within = grind (arith, cases_lt, length-taken, at_the_end, same-longer, same-taken)

@@ -1,7 +1,7 @@
 -- The shadow stands for one more event: what the definitions say of a byte after it, and that the changed
 -- runs say the same.
-use Rattle.std.{proofs.Common.{◌≡◌, ℕ, suc, ◌+◌, ◌-◌, ◌*◌, ◌/◌, ◌<◌, ◌≤◌, Bool, true, false, ◌==◌, if◌then◌else◌, List, [], ◌∷◌, ◌++◌, length, take, refl, sym, ◌∙◌, ap, subst, arith, inl, inr, Option, Some, None, is_none, ne_eqb}, proofs.lemmas.Bool.{cases_eq}, proofs.lemmas.Bool.Decides.{Decides-eqb}}
-use Rattle.pmf_event.{specs.declared.event.Event.{Event}, specs.declared.event.Event.TheVariants.{Store, Flush, Fence, Exclude, Include}, specs.Span.{Extent}, specs.Line.{line_of_byte, meets_line}, specs.Places.{count}, specs.Store.{event_at, at, stores, flushes, is_fence, last_store, epoch_of}, specs.WriteBack.{write_back_epoch}, specs.Exclusion.{excludes, marks, is_excluded}, specs.LineBytes.{HasBytes}, proofs.PlacesLemmas.{count-le, count-zero}, proofs.EventLemmas.{at-is, last-none, last-other, last-here, epoch_of-next, fences-step}, proofs.WriteBackLemmas.{last-bound, write_back-kept, write_back-stored, write_back-flushed}}
+use Rattle.std.proofs.{Common.{◌≡◌, ℕ, suc, ◌+◌, ◌-◌, ◌*◌, ◌/◌, ◌<◌, ◌≤◌, Bool, true, false, ◌==◌, if◌then◌else◌, List, [], ◌∷◌, ◌++◌, length, take, refl, sym, ◌∙◌, ap, subst, arith, Option, Some, None, is_none, ne_eqb}, lemmas.Bool.{cases_eq}, lemmas.Bool.Decides.{Decides-eqb}}
+use Rattle.pmf_event.{specs.declared.event.Event.{Event}, specs.declared.event.Event.TheVariants.{Store, Flush, Fence}, specs.Span.{Extent}, specs.Line.{line_of_byte, meets_line}, specs.Places.{count}, specs.Store.{event_at, at, stores, flushes, is_fence, last_store, epoch_of}, specs.WriteBack.{write_back_epoch}, specs.Exclusion.{excludes, marks, is_excluded}, specs.LineBytes.{HasBytes}, proofs.PlacesLemmas.{count-le, count-zero}, proofs.EventLemmas.{at-is, last-none, last-other, last-here, epoch_of-next, fences-step}, proofs.WriteBackLemmas.{last-bound, write_back-kept, write_back-stored, write_back-flushed}}
 use Rattle.pmf_shadow.{specs.declared.byte.ByteState.{ByteState}, specs.declared.byte.Stored.{Stored}, specs.declared.shadow.Shadow.{Shadow}, specs.States.{stored_of, after_store, after_write_back, after_mark}, specs.EqualStates.{state_of}, specs.Shadow.{stored_at, StandsFor, FollowsAt}, specs.Laws.{SameEvents, SamePlaces, is_unseen, UnseenEventsChangeNothing, OnlyPastEventsCount, StepsFollowWithin}, proofs.SameLemmas.{count_at-same, last-same, last_epoch-same, write_back_epoch-same, excluded-same, sized-same, same-longer, at_the_end, length-taken, same-taken, same-retaken}}
 use Rattle.pmf_runs.specs.{declared.runs.RunMap.{RunMap}, declared.state.State.{Ghosts}, Runs.{state_at, is_between, ChangesBetween}}
 
@@ -49,43 +49,16 @@ module _ (told : ℕ → ℕ) (es : List Event) (p b : ℕ) (e : Event) (here : 
   unfolding is_excluded
   excluded-marked is = ap (at (excludes b) es) (last-here (marks b) es p e here is) ∙ at-is (excludes b) es (suc p) (Some e) here
 
-  stored-kept : stores b e ≡ false → flushes (line_of_byte b) e ≡ false → stored_at told es (suc p) b ≡ stored_at told es p b
-  stored-kept other no_flush = grind (arith, stored_at-is, suc, ap, store_of, last-other, write_back-kept, sym)
-
-  stored-stored : stores b e ≡ true → stored_at told es (suc p) b ≡ Some (record { last = told (suc p); opens = count (at is_fence es) p; written_back = None })
-  stored-stored is = grind (arith, stored_at-is, suc, ap, store_of, last-here, write_back-stored, store_of-some, None, arith, Some, epoch_of-next)
-
   stored-flushed : stores b e ≡ false → flushes (line_of_byte b) e ≡ true → stored_at told es (suc p) b ≡ written_back_in (count (at is_fence es) p) (stored_at told es p b)
   unfolding written_back_in
-  stored-flushed other flush =
-      let l = last_store es p b in
-      let w = write_back_epoch (stores b) (line_of_byte b) es p in
-      let fences = count (at is_fence es) p in
-      stored_at-is told es (suc p) b
-      ∙ ap (λ l. store_of told es l (write_back_epoch (stores b) (line_of_byte b) es (suc p))) (last-other (stores b) es p e here other)
-      ∙ ap (store_of told es l) (write_back-flushed (stores b) (line_of_byte b) es p e here other flush)
-      ∙ elim (cases_eq l 0) [
-        | inl zero_is ↦
-            store_of-none told es l (if is_none w then Some fences else w) zero_is
-            ∙ sym (ap (written_back_in fences) (stored_at-is told es p b ∙ store_of-none told es l w zero_is))
-        | inr some ↦
-            store_of-some told es l (if is_none w then Some fences else w) (omega arith)
-            ∙ sym (ap (written_back_in fences) (stored_at-is told es p b ∙ store_of-some told es l w (omega arith)))
-      ]
+  stored-flushed other flush = grind (arith, stored_at-is, store_of, last-other, write_back-flushed, cases_eq, store_of-none, written_back_in, store_of-some)
 
   byte-kept : stores b e ≡ false → flushes (line_of_byte b) e ≡ false → marks b e ≡ false → (s : ByteState) → IsByteAt told es p b s → IsByteAt told es (suc p) b s
-  byte-kept other no_flush no_mark s is = record {
-    stored = is.stored ∙ sym (stored-kept other no_flush);
-    excluded = is.excluded ∙ sym (excluded-kept no_mark);
-  }
+  byte-kept other no_flush no_mark s is = grind (arith, stored_at-is, suc, ap, store_of, last-other, write_back-kept, sym, excluded-kept)
 
   byte-stored : (place epoch : ℕ) → told (suc p) ≡ place → epoch ≡ count (at is_fence es) p → stores b e ≡ true → marks b e ≡ false →
       (s : ByteState) → IsByteAt told es p b s → IsByteAt told es (suc p) b (after_store place epoch s)
-  byte-stored place epoch here_too now stored no_mark s is = record {
-    stored = ap (λ l. Some (record { last = l; opens = epoch; written_back = None })) (sym here_too)
-        ∙ ap (λ o. Some (record { last = told (suc p); opens = o; written_back = None })) now ∙ sym (stored-stored stored);
-    excluded = is.excluded ∙ sym (excluded-kept no_mark);
-  }
+  byte-stored place epoch here_too now stored no_mark s is = grind (arith, stored_at-is, suc, ap, store_of, last-here, write_back-stored, store_of-some, None, arith, Some, epoch_of-next, excluded-kept)
 
   byte-flushed : (epoch : ℕ) → epoch ≡ count (at is_fence es) p → stores b e ≡ false → flushes (line_of_byte b) e ≡ true → marks b e ≡ false →
       (s : ByteState) → IsByteAt told es p b s → IsByteAt told es (suc p) b (after_write_back epoch s)
@@ -99,10 +72,7 @@ module _ (told : ℕ → ℕ) (es : List Event) (p b : ℕ) (e : Event) (here : 
 
   byte-marked : (out : Bool) → stores b e ≡ false → flushes (line_of_byte b) e ≡ false → marks b e ≡ true → excludes b e ≡ out →
       (s : ByteState) → IsByteAt told es p b s → IsByteAt told es (suc p) b (after_mark out s)
-  byte-marked out other no_flush mark marked s is = record {
-    stored = is.stored ∙ sym (stored-kept other no_flush);
-    excluded = sym (excluded-marked mark ∙ marked);
-  }
+  byte-marked out other no_flush mark marked s is = grind (arith, stored_at-is, suc, ap, store_of, last-other, write_back-kept, sym, excluded-marked)
 
 -- ---- the runs
 
@@ -127,71 +97,13 @@ fences-kept shadow es p e fences here other before = before ∙ sym (fences-step
 -- ---- each store has a size
 
 -- the event is no store of no bytes
-abbrev IsSized : Event → Type 0
+abbrev pub IsSized : Event → Type 0
 IsSized e = (s : Extent) → e ≡ Store s → 0 < s.size
 
 sized-more : (es : List Event) (p : ℕ) (e : Event) → event_at es (suc p) ≡ Some e → IsSized e → HasBytes es p → HasBytes es (suc p)
 sized-more es p e here sized before k s within is = grind arith
 
-sized-none : (es : List Event) → HasBytes es 0
-unfolding event_at
-sized-none es case1 s within is = grind arith
-
 -- ---- one more event
-
--- after a change of the bytes
-stands-changed : (old new : Shadow) (told : ℕ → ℕ) (es : List Event) (p : ℕ) (e : Event) (first end : ℕ) (change : ByteState → ByteState) → event_at es (suc p) ≡ Some e →
-    is_fence e ≡ false → IsSized e → new.fences ≡ old.fences → ChangesBetween first end change old.bytes new.bytes →
-    ((b : ℕ) → is_between first end b ≡ true → (s : ByteState) → IsByteAt told es p b s → IsByteAt told es (suc p) b (change s)) →
-    ((b : ℕ) → is_between first end b ≡ false → (s : ByteState) → IsByteAt told es p b s → IsByteAt told es (suc p) b s) →
-    StandsFor old told es p → StandsFor new told es (suc p)
-stands-changed old new told es p e first end change here no_fence sized fences bytes inside outside stands =
-    let now = changed-stands first end change old.bytes new.bytes (IsByteAt told es p) (IsByteAt told es (suc p)) bytes (stands-bytes old told es p stands) inside outside in record {
-      fences = fences ∙ fences-kept old es p e old.fences here no_fence stands.fences;
-      stored = λ b. (now b).stored;
-      excluded = λ b. (now b).excluded;
-      sized = sized-more es p e here sized stands.sized;
-    }
-
-pub stands-store : (old new : Shadow) (s : Extent) (place : ℕ) (told : ℕ → ℕ) (es : List Event) (p : ℕ) → 0 < s.size → new.fences ≡ old.fences →
-    ChangesBetween s.first (s.first + s.size) (after_store place old.fences) old.bytes new.bytes →
-    event_at es (suc p) ≡ Some (Store s) → told (suc p) ≡ place → StandsFor old told es p → StandsFor new told es (suc p)
-unfolding stores flushes marks is_fence is_between
-stands-store old new s place told es p some fences bytes here at_place stands =
-    stands-changed old new told es p (Store s) s.first (s.first + s.size) (after_store place old.fences) here refl
-    (λ t is. let same : s ≡ t = cc in subst (λ (x : Extent). 0 < x.size) same some) fences bytes
-    (λ b within. byte-stored told es p b (Store s) here place old.fences at_place stands.fences within refl)
-    (λ b without. byte-kept told es p b (Store s) here without refl refl) stands
-
-pub stands-flush : (old new : Shadow) (s : Extent) (told : ℕ → ℕ) (es : List Event) (p : ℕ) → 0 < s.size → new.fences ≡ old.fences →
-    ChangesBetween (s.first / 64 * 64) (((s.first + s.size - 1) / 64 + 1) * 64) (after_write_back old.fences) old.bytes new.bytes →
-    event_at es (suc p) ≡ Some (Flush s) → StandsFor old told es p → StandsFor new told es (suc p)
-unfolding stores flushes marks is_fence
-stands-flush old new s told es p some fences bytes here stands =
-    stands-changed old new told es p (Flush s) (s.first / 64 * 64) (((s.first + s.size - 1) / 64 + 1) * 64) (after_write_back old.fences) here refl
-    (λ t is. let bad : Flush s ≡ Store t = is in cc) fences bytes
-    (λ b within. byte-flushed told es p b (Flush s) here old.fences stands.fences refl (sym (lines-between s some b) ∙ within) refl)
-    (λ b without. byte-kept told es p b (Flush s) here refl (sym (lines-between s some b) ∙ without) refl) stands
-
-pub stands-exclude : (old new : Shadow) (s : Extent) (told : ℕ → ℕ) (es : List Event) (p : ℕ) → new.fences ≡ old.fences →
-    ChangesBetween s.first (s.first + s.size) (after_mark true) old.bytes new.bytes →
-    event_at es (suc p) ≡ Some (Exclude s) → StandsFor old told es p → StandsFor new told es (suc p)
-unfolding stores flushes marks excludes is_fence is_between
-stands-exclude old new s told es p fences bytes here stands =
-    stands-changed old new told es p (Exclude s) s.first (s.first + s.size) (after_mark true) here refl
-    (λ t is. let bad : Exclude s ≡ Store t = is in cc) fences bytes
-    (λ b within. byte-marked told es p b (Exclude s) here true refl refl within within)
-    (λ b without. byte-kept told es p b (Exclude s) here refl refl without) stands
-
-pub stands-include : (old new : Shadow) (s : Extent) (told : ℕ → ℕ) (es : List Event) (p : ℕ) → new.fences ≡ old.fences →
-    ChangesBetween s.first (s.first + s.size) (after_mark false) old.bytes new.bytes →
-    event_at es (suc p) ≡ Some (Include s) → StandsFor old told es p → StandsFor new told es (suc p)
-unfolding stores flushes marks excludes is_fence is_between
-stands-include old new s told es p fences bytes here stands =
-    stands-changed old new told es p (Include s) s.first (s.first + s.size) (after_mark false) here refl
-    (λ t is. let bad : Include s ≡ Store t = is in cc) fences bytes
-    (λ b within. byte-marked told es p b (Include s) here false refl refl within refl)
-    (λ b without. byte-kept told es p b (Include s) here refl refl without) stands
 
 -- after an event that changes no byte
 stands-kept : (old new : Shadow) (told : ℕ → ℕ) (es : List Event) (p : ℕ) (e : Event) → event_at es (suc p) ≡ Some e → ((b : ℕ) → stores b e ≡ false) → IsSized e →
@@ -230,30 +142,12 @@ stands-fences shadow told es p stands = let bound = count-le (at is_fence es) p 
 
 pub stands-empty : (shadow : Shadow) (told : ℕ → ℕ) (es : List Event) → shadow.fences ≡ 0 → ((b : ℕ) → state_at shadow.bytes b ≡ state_of 0 0 0 false false false) → StandsFor shadow told es 0
 unfolding is_excluded at event_at
-stands-empty shadow told es fences bytes = record {
-  fences = fences ∙ sym (count-zero (at is_fence es));
-  stored = λ b. ap stored_of (bytes b)
-      ∙ sym (stored_at-is told es 0 b ∙ store_of-none told es (last_store es 0 b) (write_back_epoch (stores b) (line_of_byte b) es 0) (last-none (stores b) es));
-  excluded = λ b. ap (λ (s : ByteState). s.excluded) (bytes b) ∙ sym (ap (at (excludes b) es) (last-none (marks b) es));
-  sized = sized-none es;
-}
+stands-empty shadow told es fences bytes = grind (arith, count-zero, stored_at-is, store_of-none, last-none)
 
 -- ---- what stands for some events says nothing of others
 
 pub stands-past : OnlyPastEventsCount
-stands-past shadow told tells es fs p same told_same stands = record {
-  fences = stands.fences ∙ count_at-same es fs p same is_fence;
-  stored = λ b.
-      let l = last_store es p b in
-      let w = write_back_epoch (stores b) (line_of_byte b) es p in
-      stands.stored b
-      ∙ ap (λ t. if l == 0 then None else Some (record { last = t; opens = epoch_of es l; written_back = w })) (told_same l (last-bound (stores b) es p))
-      ∙ ap (λ o. if l == 0 then None else Some (record { last = tells l; opens = o; written_back = w })) (last_epoch-same es fs p same (stores b))
-      ∙ ap (λ v. if l == 0 then None else Some (record { last = tells l; opens = epoch_of fs (last_store fs p b); written_back = v })) (write_back_epoch-same es fs p same (stores b) (line_of_byte b))
-      ∙ ap (λ k. if k == 0 then None else Some (record { last = tells k; opens = epoch_of fs (last_store fs p b); written_back = write_back_epoch (stores b) (line_of_byte b) fs p })) (last-same es fs p same (stores b));
-  excluded = λ b. stands.excluded b ∙ excluded-same es fs p same b;
-  sized = sized-same es fs p same stands.sized;
-}
+stands-past shadow told tells es fs p same told_same stands = grind (arith, count_at-same, last-bound, last_epoch-same, write_back_epoch-same, last-same, excluded-same, sized-same)
 
 -- ---- steps at the end of each list, and at their places within each list, of whatever looks only at the past
 
@@ -264,8 +158,7 @@ LooksBack {T} Stands = (it : T) (told tells : ℕ → ℕ) (es fs : List Event) 
 module _ {T : Type 0} (Stands : T → (ℕ → ℕ) → List Event → ℕ → Type 0) (past : LooksBack Stands) (place : ℕ) (old new : T) (e : Event) where
   pub at-end : ((told : ℕ → ℕ) (es : List Event) (p : ℕ) → event_at es (suc p) ≡ Some e → told (suc p) ≡ place → Stands old told es p → Stands new told es (suc p)) →
       (told : ℕ → ℕ) (es : List Event) → told (suc (length es)) ≡ place → Stands old told es (length es) → Stands new told (es ++ e ∷ []) (suc (length es))
-  at-end step told es at_place stands =
-      step told (es ++ e ∷ []) (length es) (at_the_end es e) at_place (past old told told es (es ++ e ∷ []) (length es) (same-longer es e) (λ k within. refl) stands)
+  at-end step told es at_place stands = grind (arith, at_the_end, same-longer)
 
   pub at-within : ((told : ℕ → ℕ) (es : List Event) → told (suc (length es)) ≡ place → Stands old told es (length es) → Stands new told (es ++ e ∷ []) (suc (length es))) →
       (told : ℕ → ℕ) (es : List Event) (p : ℕ) → event_at es (suc p) ≡ Some e → told (suc p) ≡ place → Stands old told es p → Stands new told es (suc p)
@@ -288,9 +181,45 @@ follows-within = at-within StandsFor stands-past
 pub unseen-follows : UnseenEventsChangeNothing
 unseen-follows shadow e unseen place = follows-from place shadow shadow e (λ told es p here at_place stands. stands-unseen shadow told es p e here unseen stands)
 
--- ---- after room was made
+-- ---- changes of a range of bytes, by the ends that were computed
 
--- the ends of a change are the range's
-pub changes-at : {S M : Type 0} {laws : Ghosts S M} (change : S → S) (old new : RunMap S M laws) (f e first end : ℕ) → f ≡ first → e ≡ end →
-    ChangesBetween f e change old new → ChangesBetween first end change old new
-changes-at change old new f e first end at_first at_end changes = grind arith
+follows-changed : (place : ℕ) (old new : Shadow) (e : Event) (f l first end : ℕ) (change : ByteState → ByteState) → f ≡ first → l ≡ end →
+    is_fence e ≡ false → IsSized e → new.fences ≡ old.fences → ChangesBetween f l change old.bytes new.bytes →
+    ((told : ℕ → ℕ) (es : List Event) (p b : ℕ) → event_at es (suc p) ≡ Some e → told (suc p) ≡ place → old.fences ≡ count (at is_fence es) p → is_between first end b ≡ true →
+    (s : ByteState) → IsByteAt told es p b s → IsByteAt told es (suc p) b (change s)) →
+    ((told : ℕ → ℕ) (es : List Event) (p b : ℕ) → event_at es (suc p) ≡ Some e → is_between first end b ≡ false → (s : ByteState) → IsByteAt told es p b s → IsByteAt told es (suc p) b s) →
+    FollowsAt place old new e
+follows-changed place old new e f l first end change at_f at_l no_fence sized fences bytes inside outside = follows-from place old new e (λ told es p here at_place stands.
+    let range : ChangesBetween first end change old.bytes new.bytes = subst (λ k. ChangesBetween k end change old.bytes new.bytes) at_f (subst (λ k. ChangesBetween f k change old.bytes new.bytes) at_l bytes) in
+    let now = changed-stands first end change old.bytes new.bytes (IsByteAt told es p) (IsByteAt told es (suc p)) range (stands-bytes old told es p stands)
+    (λ b. inside told es p b here at_place stands.fences) (λ b. outside told es p b here) in record {
+      fences = fences ∙ fences-kept old es p e old.fences here no_fence stands.fences;
+      stored = λ b. (now b).stored;
+      excluded = λ b. (now b).excluded;
+      sized = sized-more es p e here sized stands.sized;
+    })
+
+pub follows-store : (place : ℕ) (old new : Shadow) (s : Extent) (f l : ℕ) → f ≡ s.first → l ≡ s.first + s.size → 0 < s.size → new.fences ≡ old.fences →
+    ChangesBetween f l (after_store place old.fences) old.bytes new.bytes → FollowsAt place old new (Store s)
+unfolding stores flushes marks is_fence is_between
+follows-store place old new s f l at_f at_l some fences bytes =
+    follows-changed place old new (Store s) f l s.first (s.first + s.size) (after_store place old.fences) at_f at_l refl (λ t is. let same : s ≡ t = cc in subst (λ (x : Extent). 0 < x.size) same some) fences bytes
+    (λ told es p b here at_place now within. byte-stored told es p b (Store s) here place old.fences at_place now within refl)
+    (λ told es p b here without. byte-kept told es p b (Store s) here without refl refl)
+
+pub follows-flush : (place : ℕ) (old new : Shadow) (s : Extent) (f l : ℕ) → f ≡ s.first / 64 * 64 → l ≡ ((s.first + s.size - 1) / 64 + 1) * 64 → 0 < s.size → new.fences ≡ old.fences →
+    ChangesBetween f l (after_write_back old.fences) old.bytes new.bytes → FollowsAt place old new (Flush s)
+unfolding stores flushes marks is_fence
+follows-flush place old new s f l at_f at_l some fences bytes =
+    follows-changed place old new (Flush s) f l _ _ (after_write_back old.fences) at_f at_l refl (λ t is. let bad : Flush s ≡ Store t = is in cc) fences bytes
+    (λ told es p b here at_place now within. byte-flushed told es p b (Flush s) here old.fences now refl (sym (lines-between s some b) ∙ within) refl)
+    (λ told es p b here without. byte-kept told es p b (Flush s) here refl (sym (lines-between s some b) ∙ without) refl)
+
+-- an exclusion or an inclusion
+pub follows-mark : (out : Bool) (place : ℕ) (old new : Shadow) (s : Extent) (e : Event) (f l : ℕ) → f ≡ s.first → l ≡ s.first + s.size → new.fences ≡ old.fences → ChangesBetween f l (after_mark out) old.bytes new.bytes →
+    is_fence e ≡ false → IsSized e → ((b : ℕ) → stores b e ≡ false) → ((n : ℕ) → flushes n e ≡ false) → ((b : ℕ) → marks b e ≡ is_between s.first (s.first + s.size) b) →
+    ((b : ℕ) → is_between s.first (s.first + s.size) b ≡ true → excludes b e ≡ out) → FollowsAt place old new e
+follows-mark out place old new s e f l at_f at_l fences bytes no_fence sized no_store no_flush mark marked =
+    follows-changed place old new e f l s.first (s.first + s.size) (after_mark out) at_f at_l no_fence sized fences bytes
+    (λ told es p b here at_place now within. byte-marked told es p b e here out (no_store b) (no_flush (line_of_byte b)) (mark b ∙ within) (marked b within))
+    (λ told es p b here without. byte-kept told es p b e here (no_store b) (no_flush (line_of_byte b)) (mark b ∙ without))

@@ -1,8 +1,13 @@
 -- Lines by a test on their bytes: the least, how many, and what a stretch of bytes that pass says of them.
-use Rattle.std.{proofs.Common.{◌≡◌, ℕ, zero, suc, ◌+◌, ◌-◌, ◌*◌, ◌/◌, ◌<◌, ◌≤◌, Bool, true, false, not, ◌&&◌, if◌then◌else◌, refl, sym, ◌∙◌, ap, arith, inl, inr, ◌↔◌, Option, Some, None, is_some}, proofs.lemmas.Bool.{cases_lt, cases_eq, and_parts, and_from, and_left, and_right, not_from_true, not_from_false, not-true, true_from_ne_false}, specs.Cmp.{both_ways}}
+use Rattle.std.{proofs.Common.{◌≡◌, ℕ, zero, suc, ◌+◌, ◌-◌, ◌*◌, ◌/◌, ◌<◌, ◌≤◌, Bool, true, false, not, ◌&&◌, if◌then◌else◌, refl, sym, ◌∙◌, ap, arith, ◌↔◌, Option, Some, None, is_some}, proofs.lemmas.Bool.{cases_lt, and_parts, and_from, and_left, and_right, not_from_true, not_from_false, not-true, true_from_ne_false}, specs.Cmp.{both_ways}}
 use Rattle.pmf_event.{specs.declared.lines.Lines.{Lines}, specs.Span.{Extent}, specs.Ranges.{first_from, count_from}, specs.FlushWarnings.{numbered, lines_from, lines_where}, specs.LineBytes.{SomeByteOf, NoByteOf}, proofs.RangeLemmas.{NonePass, some-from, none-from, first-passes, none-passes, first_from-none, first_from-some}}
 use Rattle.pmf_runs.specs.Lines.{line_has}
 use Rattle.pmf_shadow.specs.Stretches.{line_lacks, line_has_but, AllHave, lines_at, lines_by}
+
+-- ---- where a stretch of bytes ends, in lines
+
+pub stretch-bounds : (fails : ℕ → Bool) (first end b : ℕ) → first ≤ end → first_from fails (first * 64) (end * 64 - first * 64) ≡ Some b → (first ≤ (b + 63) / 64) × ((b + 63) / 64 ≤ end)
+stretch-bounds fails first end b ordered found = grind (arith, first-passes)
 
 -- ---- one line
 
@@ -19,10 +24,7 @@ module _ (test : ℕ → Bool) where
 
   line_has-some : (n : ℕ) → line_has test n ≡ true → (b : ℕ) × (n * 64 ≤ b) × (b < n * 64 + 64) × (test b ≡ true)
   unfolding line_has
-  line_has-some n has =
-      let found = some-from (first_from test (n * 64) 64) has in
-      let first = first-passes test (n * 64) 64 found.0 found.1 in
-      (found.0, first.from, first.within, first.passes)
+  line_has-some n has = grind (arith, some-from, first-passes)
 
   line_has-not : (n : ℕ) → line_has test n ≡ false → NonePass test (n * 64) 64
   unfolding line_has
@@ -43,21 +45,12 @@ module _ (test : ℕ → Bool) where
   pub least_with-some : (first end b : ℕ) → first ≤ end → first_from test (first * 64) (end * 64 - first * 64) ≡ Some b → Some (b / 64) ≡ first_from (line_has test) first (end - first)
   least_with-some first end b ordered found =
       let least = first-passes test (first * 64) (end * 64 - first * 64) b found in
-      let low = least.from in
-      let high = least.within in
-      sym (first_from-some (line_has test) first (end - first) (b / 64) (record {
-        from = omega arith;
-        within = omega arith;
-        passes = line_has-from (b / 64) b (omega arith) (omega arith) least.passes;
-        before = λ n from until. line_has-none n (λ k lower upper. least.before k (omega arith) (omega arith));
-      }))
+      sym (first_from-some (line_has test) first (end - first) (b / 64) (grind (arith, line_has-from, line_has-none, least.before)))
 
   -- ---- a stretch of bytes that pass
 
   stretch-has : (first end stop : ℕ) → end * 64 < stop + 64 → ((b : ℕ) → first * 64 ≤ b → b < stop → not (test b) ≡ false) → AllHave test first end
-  stretch-has first end stop covers passes n low high =
-      line_has-from n (n * 64) (omega arith) (omega arith) (true_from_ne_false (test (n * 64)) (λ fails.
-      let bad : true ≡ false = sym (not_from_false (test (n * 64)) fails) ∙ passes (n * 64) (omega arith) (omega arith) in cc))
+  stretch-has first end stop covers passes n low high = grind (arith, line_has-from, true_from_ne_false, not_from_false)
 
   pub stretch-none : (fails : ℕ → Bool) (first end : ℕ) → ((b : ℕ) → fails b ≡ not (test b)) → first ≤ end →
       first_from fails (first * 64) (end * 64 - first * 64) ≡ None → AllHave test first end
@@ -66,13 +59,9 @@ module _ (test : ℕ → Bool) where
       stretch-has first end (end * 64) (omega arith) (λ b low high. sym (is b) ∙ all b low (omega arith))
 
   pub stretch-some : (fails : ℕ → Bool) (first end b : ℕ) → ((b : ℕ) → fails b ≡ not (test b)) → first ≤ end →
-      first_from fails (first * 64) (end * 64 - first * 64) ≡ Some b →
-      (first ≤ (b + 63) / 64) × ((b + 63) / 64 ≤ end) × AllHave test first ((b + 63) / 64)
+      first_from fails (first * 64) (end * 64 - first * 64) ≡ Some b → AllHave test first ((b + 63) / 64)
   stretch-some fails first end b is ordered found =
-      let least = first-passes fails (first * 64) (end * 64 - first * 64) b found in
-      let low = least.from in
-      let high = least.within in
-      (omega arith, omega arith, stretch-has first ((b + 63) / 64) b (omega arith) (λ k from until. sym (is k) ∙ least.before k from until))
+      let least = first-passes fails (first * 64) (end * 64 - first * 64) b found in stretch-has first ((b + 63) / 64) b (omega arith) (λ k from until. sym (is k) ∙ least.before k from until)
 
 -- ---- a search over lines that has passed some by
 
@@ -84,27 +73,17 @@ pub record NoneBefore (test : ℕ → Bool) (first end line : ℕ) : Type 0 wher
 
 module _ (test : ℕ → Bool) (first end : ℕ) where
   pub none_before-end : (line : ℕ) → NoneBefore test first end line → NonePass test line (end - line) → None ≡ first_from test first (end - first)
-  none_before-end line passed none =
-      let from = passed.from in
-      let within = passed.within in
-      sym (first_from-none test first (end - first) (λ n low high. elim (cases_lt n line) [
-        | inl below ↦ passed.fails n low below
-        | inr above ↦ none n above (omega arith)
-      ]))
+  none_before-end line passed none = grind (arith, first_from-none, cases_lt)
 
   pub none_before-found : (line found : ℕ) → NoneBefore test first end line → line ≤ found → found < end → ((n : ℕ) → line ≤ n → n < found → test n ≡ false) →
       test found ≡ true → Some found ≡ first_from test first (end - first)
-  none_before-found line found passed after below between is =
-      let from = passed.from in
-      sym (first_from-some test first (end - first) found (record {
-        from = omega arith;
-        within = omega arith;
-        passes = is;
-        before = λ n low high. elim (cases_lt n line) [
-          | inl earlier ↦ passed.fails n low earlier
-          | inr later ↦ between n later high
-        ];
-      }))
+  none_before-found line found passed after below between is = sym (first_from-some test first (end - first) found (grind (arith, passed.fails)))
+
+  pub none_before-here : (line : ℕ) → NoneBefore test first end line → line < end → test line ≡ true → Some line ≡ first_from test first (end - first)
+  none_before-here line passed below is = none_before-found line line passed (omega arith) below (λ n low high. absurd (omega arith)) is
+
+  pub none_before-all : (line : ℕ) → NoneBefore test first end line → end ≤ line → None ≡ first_from test first (end - first)
+  none_before-all line passed past = none_before-end line passed (λ n low high. absurd (omega arith))
 
   pub none_before-more : (line next : ℕ) → NoneBefore test first end line → line ≤ next → next ≤ end → ((n : ℕ) → line ≤ n → n < next → test n ≡ false) →
       NoneBefore test first end next
@@ -117,7 +96,10 @@ module _ (test : ℕ → Bool) where
   unfolding line_lacks
   lacks-from n lacks = not_from_false (line_has test n) lacks
 
-  lacks-not : (n : ℕ) → line_has test n ≡ true → line_lacks test n ≡ false
+  pub lacks-here : (first end line : ℕ) → NoneBefore (line_lacks test) first end line → line < end → line_has test line ≡ false → Some line ≡ first_from (line_lacks test) first (end - first)
+  lacks-here first end line passed below lacks = none_before-here (line_lacks test) first end line passed below (lacks-from line lacks)
+
+  pub lacks-not : (n : ℕ) → line_has test n ≡ true → line_lacks test n ≡ false
   unfolding line_lacks
   lacks-not n has = not_from_true (line_has test n) has
 
@@ -125,21 +107,11 @@ module _ (test : ℕ → Bool) where
   unfolding line_lacks
   lacks-parts n lacks = not-true (line_has test n) lacks
 
-  -- a stretch after a line that has a byte
-  pub stretch-fails : (line next : ℕ) → line_has test line ≡ true → AllHave test (line + 1) next → (n : ℕ) → line ≤ n → n < next → line_lacks test n ≡ false
-  stretch-fails line next here has n low high = lacks-not n (elim (cases_eq n line) [
-    | inl same ↦ ap (line_has test) same ∙ here
-    | inr other ↦ has n (omega arith) high
-  ])
-
   -- those without and those with are all
   lacks-count : (b n : ℕ) → count_from (line_lacks test) b n + count_from (line_has test) b n ≡ n
   unfolding count_from line_lacks
   lacks-count b zero = refl
-  lacks-count b (suc n) =
-      let rest = lacks-count (b + 1) n in
-      elim (line_has test b) as (λ v. (if not v then suc (count_from (line_lacks test) (b + 1) n) else count_from (line_lacks test) (b + 1) n)
-      + (if v then suc (count_from (line_has test) (b + 1) n) else count_from (line_has test) (b + 1) n) ≡ suc n) [ true ↦ omega arith | false ↦ omega arith ]
+  lacks-count b (suc n) = let rest = lacks-count (b + 1) n in grind arith
 
 -- ---- lines with a byte that passes and without one that passes the other test
 
@@ -184,12 +156,7 @@ module _ (test other : ℕ → Bool) where
 
   but-passed : (line end without upto : ℕ) → Some without ≡ first_from (line_lacks other) line (end - line) →
       ((n : ℕ) → without ≤ n → n < upto → line_has test n ≡ false) → (n : ℕ) → line ≤ n → n < upto → line_has_but test other n ≡ false
-  but-passed line end without upto asked lacks n low high =
-      let least = first-passes (line_lacks other) line (end - line) without (sym asked) in
-      elim (cases_lt n without) [
-        | inl below ↦ but-other n (other-from n (least.before n low below))
-        | inr above ↦ but-without n (lacks n above high)
-      ]
+  but-passed line end without upto asked lacks n low high = grind (arith, first-passes, cases_lt, but-other, other-from, but-without)
 
   pub but-none : (line end without : ℕ) → Some without ≡ first_from (line_lacks other) line (end - line) →
       None ≡ first_from (line_has test) without (end - without) → NonePass (line_has_but test other) line (end - line)
@@ -206,6 +173,28 @@ module _ (test other : ℕ → Bool) where
 
   pub but-never : (line end : ℕ) → None ≡ first_from (line_lacks other) line (end - line) → NonePass (line_has_but test other) line (end - line)
   but-never line end none n low high = but-other n (other-from n (none-passes (line_lacks other) line (end - line) (sym none) n low high))
+
+  -- the search goes on from such a line, or ends
+  pub but-found : (first end line without found : ℕ) → NoneBefore (line_has_but test other) first end line → Some without ≡ first_from (line_lacks other) line (end - line) →
+      Some found ≡ first_from (line_has test) without (end - without) → found ≡ without → Some found ≡ first_from (line_has_but test other) first (end - first)
+  but-found first end line without found passed asked next same =
+      let lower = first-passes (line_lacks other) line (end - line) without (sym asked) in let from = lower.from in
+      let upper = first-passes (line_has test) without (end - without) found (sym next) in let after = upper.from in let within = upper.within in
+      none_before-found (line_has_but test other) first end line found passed (omega arith) (omega arith) (but-upto line end without found asked next) (but-here line end without found asked next same)
+
+  pub but-more : (first end line without found : ℕ) → NoneBefore (line_has_but test other) first end line → Some without ≡ first_from (line_lacks other) line (end - line) →
+      Some found ≡ first_from (line_has test) without (end - without) → NoneBefore (line_has_but test other) first end found
+  but-more first end line without found passed asked next =
+      let lower = first-passes (line_lacks other) line (end - line) without (sym asked) in let from = lower.from in
+      let upper = first-passes (line_has test) without (end - without) found (sym next) in let after = upper.from in let within = upper.within in
+      none_before-more (line_has_but test other) first end line found passed (omega arith) (omega arith) (but-upto line end without found asked next)
+
+  pub but-end : (first end line without : ℕ) → NoneBefore (line_has_but test other) first end line → Some without ≡ first_from (line_lacks other) line (end - line) →
+      None ≡ first_from (line_has test) without (end - without) → None ≡ first_from (line_has_but test other) first (end - first)
+  but-end first end line without passed asked none = none_before-end (line_has_but test other) first end line passed (but-none line end without asked none)
+
+  pub but-never_end : (first end line : ℕ) → NoneBefore (line_has_but test other) first end line → None ≡ first_from (line_lacks other) line (end - line) → None ≡ first_from (line_has_but test other) first (end - first)
+  but-never_end first end line passed none = none_before-end (line_has_but test other) first end line passed (but-never line end none)
 
 -- a line with a byte that passes the one test alone has one that passes the third
 pub has-alone : (test other alone : ℕ → Bool) → ((b : ℕ) → test b ≡ true → other b ≡ false → alone b ≡ true) → (n : ℕ) → line_has alone n ≡ false → line_has_but test other n ≡ false
@@ -306,6 +295,4 @@ clean-by want n clean test same follows = both_ways _ _
 
 pub pending-by : (want rest : ℕ → Bool) (n : ℕ) (pending : Bool) (test other : ℕ → Bool) → ((b : ℕ) → test b ≡ want b) → ((b : ℕ) → other b ≡ rest b) →
     (pending ≡ true) ↔ (SomeByteOf (n * 64) want × NoByteOf (n * 64) rest) → line_has_but test other n ≡ pending
-pending-by want rest n pending test other same alike follows = both_ways _ _
-    (λ but. let parts = but-parts test other n but in follows.1 (has-same want n test same parts.0, lacks-same rest n other alike parts.1))
-    (λ is. let parts = follows.0 is in but-from test other n (same-has want n test same parts.0) (same-lacks rest n other alike parts.1))
+pending-by want rest n pending test other same alike follows = grind (arith, but-parts, has-same, lacks-same, but-from, same-has, same-lacks)

@@ -1,8 +1,8 @@
 -- What is kept of two bytes says whether they are unordered, and whether the pair is certified; and the
 -- walks that the shadow makes find the least pair.
-use Rattle.std.proofs.{Common.{◌≡◌, ℕ, ◌+◌, ◌-◌, ◌<◌, ◌≤◌, Bool, true, false, not, ◌&&◌, ◌==◌, nat_lt, List, refl, sym, ◌∙◌, ap, subst, arith, inl, inr, ◌||◌, Option, Some, None, le-leb, le-ltb, lt-ltb, ne_eqb}, lemmas.Bool.{cases_lt, cases_eq, and_parts, ltb-true}, lemmas.Bool.Decides.{Decides-eqb}, Math.Bool.{and-false, or-true, and-true}}
-use Rattle.pmf_event.{proofs.LeastPairLemmas.{least_pair-by, least_pair-none}, specs.declared.event.Event.{Event}, specs.declared.event.Event.TheVariants.{Store}, specs.declared.profile.Profile.{Profile}, specs.declared.profile.Profile.TheVariants.{One, Two}, specs.Span.{Extent}, specs.Line.{line_of_byte}, specs.Places.{least, count}, specs.Ranges.{first_byte}, specs.Store.{event_at, passes, at, stores, is_fence, last, last_store, epoch_of}, specs.WriteBack.{write_back_epoch}, specs.Interval.{writes_back, first_write_back, interval_at}, specs.Persist.{is_checked}, specs.Order.{is_closed_by, precedes, share_line, is_stored_before, is_ordered, is_unordered, is_certified, with_partner, least_pair}, proofs.PlacesLemmas.{greatest-passes, least-passes, count-mono}, proofs.RangeLemmas.{none-passes, first_from-same}, proofs.WriteBackLemmas.{last-bound, epoch_unless-place}}
-use Rattle.pmf_shadow.{specs.declared.byte.ByteState.{ByteState}, specs.declared.byte.Stored.{Stored}, specs.declared.shadow.Shadow.{Shadow}, specs.States.{stored_of, checked_store, holds_of, any_store, is_late, late_for, is_before, opens_in, stored_by, comes_after, has_one_by, opening_of, place_of}, specs.Pairs.{kept, both_hold, by_epoch, by_place, by_epochs, by_lines, by_line, on_line, off_line, IsLeastValue}, specs.Shadow.{stored_at, closing, StandsFor}, specs.Told.{KeepsOrder}, proofs.PairLemmas.{late-monotone, no_pairs-by_epochs, has_partner-by_epochs, partner-by_epochs, no_pairs-by_lines, has_partner-by_lines, partner-by_lines, by_lines-on, by_lines-off, by_line-on, by_line-off, on_line-on}, proofs.StandsLemmas.{stands-bytes}, proofs.QuestionLemmas.{IsWritten, written-from_stored, interval-written, checked-is}}
+use Rattle.std.proofs.{Common.{◌≡◌, ℕ, ◌+◌, ◌-◌, ◌<◌, ◌≤◌, Bool, true, false, not, ◌&&◌, nat_lt, List, refl, sym, ◌∙◌, ap, subst, arith, inl, inr, ◌||◌, Option, Some, None, le-leb, le-ltb, lt-ltb, ne_eqb}, lemmas.Bool.{cases_lt, cases_eq, and_parts, ltb-true}, lemmas.Bool.Decides.{Decides-eqb}, Math.Bool.{and-false, or-true, and-true}}
+use Rattle.pmf_event.{proofs.LeastPairLemmas.{least_pair-by, least_pair-none}, specs.declared.event.Event.{Event}, specs.declared.event.Event.TheVariants.{Store}, specs.declared.profile.Profile.{Profile}, specs.declared.profile.Profile.TheVariants.{One, Two}, specs.Span.{Extent}, specs.Line.{line_of_byte}, specs.Places.{least, count}, specs.Ranges.{first_byte}, specs.Store.{event_at, passes, at, stores, is_fence, last, last_store, epoch_of}, specs.WriteBack.{write_back_epoch}, specs.Interval.{writes_back, first_write_back, interval_at}, specs.Persist.{is_checked}, specs.Order.{precedes, share_line, is_stored_before, is_ordered, is_unordered, is_certified, with_partner, least_pair}, proofs.PlacesLemmas.{greatest-passes, least-passes, count-mono}, proofs.RangeLemmas.{none-passes, first_from-same}, proofs.WriteBackLemmas.{last-bound, epoch_unless-place}}
+use Rattle.pmf_shadow.{specs.declared.byte.ByteState.{ByteState}, specs.declared.byte.Stored.{Stored}, specs.declared.shadow.Shadow.{Shadow}, specs.States.{stored_of, checked_store, holds_of, any_store, is_late, late_for, is_before, opens_in, stored_by, comes_after, has_one_by, opening_of, place_of}, specs.Pairs.{kept, both_hold, by_epoch, by_place, by_epochs, by_lines, by_line, on_line, off_line, IsLeastValue}, specs.Shadow.{stored_at, closing, StandsFor}, specs.Told.{KeepsOrder}, proofs.PairLemmas.{both_hold-right, late-monotone, no_pairs-by_epochs, has_partner-by_epochs, partner-by_epochs, no_pairs-by_lines, has_partner-by_lines, partner-by_lines, by_lines-on, by_lines-off, by_line-on, by_line-off, on_line-on}, proofs.StandsLemmas.{stands-bytes}, proofs.QuestionLemmas.{IsWritten, written-from_stored, checked-is, interval_at-is, interval_of-some, closes-is}}
 use Rattle.pmf_runs.specs.Runs.{state_at}
 
 -- ---- what is kept of a checked byte
@@ -26,12 +26,7 @@ module _ (shadow : Shadow) (told : ℕ → ℕ) (es : List Event) (p : ℕ) (sta
   stored-kept x k is = sym (stands.stored x) ∙ store-of_checked (state_at shadow.bytes x) k is
 
   pub kept-some : (x : ℕ) (k : Stored) → kept shadow.bytes x ≡ Some k → IsKept told es p x k
-  kept-some x k is =
-      let stored = stored-kept x k is in record {
-        checked = checked-kept x ∙ ap (holds_of any_store) is;
-        written = written-from_stored told es p x k stored;
-        interval = interval-written told es p x k stored;
-      }
+  kept-some x k is = grind (arith, stored-kept, checked-kept, written-from_stored, interval_at-is, interval_of-some, closes-is)
 
   unchecked-none : (x : ℕ) → kept shadow.bytes x ≡ None → is_checked es p x ≡ false
   unchecked-none x is = checked-kept x ∙ ap (holds_of any_store) is
@@ -49,15 +44,7 @@ epoch-bound es i p low = count-mono (at is_fence es) (i - 1) p (omega arith)
 -- a write-back lies in no epoch before that of the store
 own-late : (es : List Event) (p x : ℕ) (o : Option ℕ) → write_back_epoch (stores x) (line_of_byte x) es p ≡ o → is_late (epoch_of es (last_store es p x)) o ≡ true
 unfolding write_back_epoch first_write_back writes_back
-own-late es p x None is = refl
-own-late es p x (Some w) is =
-    let k = last (stores x) es p in
-    let place = least (writes_back es (line_of_byte x) k) p in
-    let own = epoch_unless-place es place w is in
-    let passed = and_parts _ _ (least-passes (writes_back es (line_of_byte x) k) p own.0) in
-    let after = ltb-true k place passed.0 in
-    let rise = epoch-mono es k place (omega arith) in
-    let same = own.1 in le-leb (epoch_of es k) w (omega arith)
+own-late es p x o h1 = grind (arith, epoch_unless-place, and_parts, least-passes, ltb-true, epoch-mono, le-leb)
 
 at_most-from_before : (ties : Bool) (i j : ℕ) → is_before ties i j ≡ true → i ≤ j
 at_most-from_before ties i j is = grind arith
@@ -75,12 +62,7 @@ store-at es p b some = passes-store b (event_at es (last_store es p b)) (greates
 
 module _ (told : ℕ → ℕ) (es : List Event) (p : ℕ) (order : KeepsOrder told es p) (x y : ℕ) (k m : Stored) (own : IsWritten told es p x k) (other : IsWritten told es p y m) where
   told-rises : last_store es p x < last_store es p y → k.last < m.last
-  told-rises before =
-      let one = store-at es p x own.some in
-      let two = store-at es p y other.some in
-      let rise = order (last_store es p x) (last_store es p y) one.0 two.0 before (last-bound (stores y) es p) one.1 two.1 in
-      let at_x = own.place in
-      let at_y = other.place in omega arith
+  told-rises before = grind (arith, store-at, last-bound)
 
   told-same : last_store es p x ≡ last_store es p y → k.last ≡ m.last
   told-same same = own.place ∙ ap told same ∙ sym other.place
@@ -116,9 +98,6 @@ stored-later told es p x y k m own other low =
 
 -- ---- unordered and certified pairs
 
-not-closed : (fences opens : ℕ) (o : Option ℕ) → opens ≤ fences → not (is_closed_by (closing fences o) opens) ≡ is_late opens o
-not-closed fences opens o low = grind arith
-
 module _ (told : ℕ → ℕ) (es : List Event) (p x y : ℕ) (k m : Stored) (own : IsKept told es p x k) (other : IsKept told es p y m) where
   -- the two checked bytes, by their epochs
   apart : Bool
@@ -126,7 +105,7 @@ module _ (told : ℕ → ℕ) (es : List Event) (p x y : ℕ) (k m : Stored) (ow
 
   apart-is : apart ≡ is_late m.opens k.written_back
   unfolding apart
-  apart-is = grind (arith, last-bound, other, epoch-bound, is_fence, not-closed)
+  apart-is = grind (arith, last-bound, other, epoch-bound, is_fence)
 
   both-checked : (v : Bool) → (is_checked es p x && is_checked es p y && v) ≡ v
   both-checked v = ap (λ c. c && is_checked es p y && v) own.checked ∙ ap (λ c. c && v) other.checked
@@ -150,50 +129,17 @@ module _ (told : ℕ → ℕ) (es : List Event) (p x y : ℕ) (k m : Stored) (ow
   unfolding is_unordered is_ordered apart
   unordered-two-off off = grind (arith, both-checked, apart-is)
 
-  unordered-two-on : KeepsOrder told es p → share_line x y ≡ true → is_unordered Two es p x y ≡ not (precedes (interval_at es p x) (interval_at es p y) || nat_lt k.last m.last)
-  unfolding is_unordered is_ordered
-  unordered-two-on order on = grind (arith, both-checked, before-is)
-
-  later-two : KeepsOrder told es p → share_line x y ≡ true → m.last ≤ k.last → is_unordered Two es p x y ≡ true
-  unfolding apart
-  later-two order on low = grind (arith, unordered-two-on, le-ltb, apart-is, falls-by)
-
   pub unordered-two : KeepsOrder told es p → share_line x y ≡ true → is_unordered Two es p x y ≡ is_before true m.last k.last
-  unordered-two order on = elim (cases_lt k.last m.last) [
-    | inl before ↦
-        unordered-two-on order on
-        ∙ ap (λ v. not (precedes (interval_at es p x) (interval_at es p y) || v)) (lt-ltb k.last m.last before)
-        ∙ ap (λ v. not v) (or-true (precedes (interval_at es p x) (interval_at es p y)))
-        ∙ sym (ap (λ v. v || (true && m.last == k.last)) (le-ltb m.last k.last (omega arith)) ∙ ne_eqb m.last k.last (λ same. omega arith))
-    | inr after ↦ later-two order on after ∙ sym (elim (cases_eq m.last k.last) [
-      | inl same ↦ ap (λ v. nat_lt m.last k.last || v) ((Decides-eqb m.last k.last).1 same) ∙ or-true (nat_lt m.last k.last)
-      | inr apart ↦ ap (λ v. v || (true && m.last == k.last)) (lt-ltb m.last k.last (omega arith))
-    ])
-  ]
-
-  certified-off : (profile : Profile) → share_line x y ≡ false → is_unordered profile es p x y ≡ is_late m.opens k.written_back → is_certified profile es p x y ≡ is_late m.opens k.written_back
-  unfolding is_certified
-  certified-off profile off is = grind arith
-
-  certified-on : (profile : Profile) → KeepsOrder told es p → share_line x y ≡ true → (m.last < k.last → is_unordered profile es p x y ≡ true) → is_certified profile es p x y ≡ is_before false m.last k.last
-  unfolding is_certified
-  certified-on profile order on later =
-      ap (λ s. is_unordered profile es p x y && (not s || is_stored_before es p y x)) on
-      ∙ ap (λ v. is_unordered profile es p x y && v) (after-is order)
-      ∙ elim (cases_lt m.last k.last) [
-        | inl before ↦ ap (λ v. is_unordered profile es p x y && v) (lt-ltb m.last k.last before) ∙ and-true (is_unordered profile es p x y) ∙ later before
-            ∙ sym (ap (λ v. v || (false && m.last == k.last)) (lt-ltb m.last k.last before))
-        | inr after ↦ ap (λ v. is_unordered profile es p x y && v) (le-ltb m.last k.last after) ∙ and-false (is_unordered profile es p x y)
-            ∙ sym (ap (λ v. v || (false && m.last == k.last)) (le-ltb m.last k.last after))
-      ]
+  unfolding is_unordered is_ordered apart
+  unordered-two order on = grind (arith, cases_lt, both-checked, before-is, lt-ltb, or-true, le-ltb, ne_eqb, apart-is, falls-by, cases_eq, apart)
 
   pub certified-apart : (profile : Profile) → share_line x y ≡ false → is_certified profile es p x y ≡ is_late m.opens k.written_back
-  certified-apart One off = certified-off One off unordered-one
-  certified-apart Two off = certified-off Two off (unordered-two-off off)
+  unfolding is_certified
+  certified-apart profile h1 = grind (arith, unordered-one, unordered-two-off)
 
   pub certified-together : (profile : Profile) → KeepsOrder told es p → share_line x y ≡ true → is_certified profile es p x y ≡ is_before false m.last k.last
-  certified-together One order on = certified-on One order on (λ before. unordered-one ∙ falls-by order (omega arith))
-  certified-together Two order on = certified-on Two order on (λ before. later-two order on (omega arith))
+  unfolding is_certified apart is_unordered is_ordered
+  certified-together profile h1 h2 = grind (arith, after-is, cases_lt, lt-ltb, and-true, le-ltb, and-false, unordered-one, falls-by, both-checked, before-is, apart-is)
 
 unordered-unchecked : (profile : Profile) (es : List Event) (p x y : ℕ) → (is_checked es p x && is_checked es p y) ≡ false → is_unordered profile es p x y ≡ false
 unfolding is_unordered
@@ -202,9 +148,6 @@ unordered-unchecked profile es p x y none = grind arith
 certified-unchecked : (profile : Profile) (es : List Event) (p x y : ℕ) → (is_checked es p x && is_checked es p y) ≡ false → is_certified profile es p x y ≡ false
 unfolding is_certified
 certified-unchecked profile es p x y none = ap (λ v. v && (not (share_line x y) || is_stored_before es p y x)) (unordered-unchecked profile es p x y none)
-
-both_hold-right : (test : Stored → Stored → Bool) (u : Option Stored) → both_hold test u None ≡ false
-both_hold-right test u = grind arith
 
 module _ (shadow : Shadow) (told : ℕ → ℕ) (es : List Event) (p : ℕ) (stands : StandsFor shadow told es p) where
   neither-left : (x y : ℕ) → kept shadow.bytes x ≡ None → (is_checked es p x && is_checked es p y) ≡ false

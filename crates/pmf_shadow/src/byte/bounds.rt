@@ -43,6 +43,7 @@ impl State for ByteState {
         }
     }
 
+    #[tactic(auto, using(crate::proofs::Rules::joined))]
     fn joined(one: Bounds, other: Bounds) -> Bounds {
         one.joined(other)
     }

@@ -1,12 +1,11 @@
-use Rattle.std.proofs.Common.{◌+◌, true, refl}
-use Rattle.pmf_shadow.{specs.States.{after_mark}, proofs.StandsLemmas.{stands-exclude, follows-from, changes-at}}
+use Rattle.std.proofs.Common.{refl, true}
+use Rattle.pmf_event.specs.{declared.event.Event.TheVariants.{Exclude}, Store.{stores, flushes, is_fence}, Exclusion.{marks, excludes}}
+use Rattle.pmf_runs.specs.Runs.{is_between}
+use Rattle.pmf_shadow.proofs.StandsLemmas.{follows-mark}
 use Rattle.pmf_shadow.proofs.shadow.Shadow.exclude.Goals as goal
 
 pub returns-clause-follows : goal.returns-clause-follows
+unfolding stores flushes is_fence marks excludes is_between
 returns-clause-follows c = λ place.
-    let s = c.args.span in
-    follows-from place c.args.self.now _ _ (λ told es p here at_place stands.
-    stands-exclude c.args.self.now _ s told es p refl
-    (changes-at (after_mark true) c.args.self.now.bytes c.change.new.self
-    c.first.result c.end.result s.first (s.first + s.size) c.first.ensures.value c.end.ensures.value c.in_ok-change.ensures.ok)
-    here stands)
+    follows-mark true place c.args.self.now _ c.args.span (Exclude c.args.span) c.first.result c.end.result c.first.ensures.value c.end.ensures.value refl c.in_ok-change.ensures.ok
+    refl (λ t is. cc) (λ b. refl) (λ n. refl) (λ b. refl) (λ b within. within)

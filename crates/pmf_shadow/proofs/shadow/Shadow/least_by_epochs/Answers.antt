@@ -1,15 +1,8 @@
-use Rattle.std.proofs.Common.{◌≡◌, refl, sym, ◌∙◌, ap, Some, None}
-use Rattle.pmf_event.{specs.Order.{paired, with_partner}, proofs.RangeLemmas.{first-passes}}
+use Rattle.std.proofs.Common.{◌≡◌, refl, sym, ◌∙◌, ap, Some}
+use Rattle.pmf_event.specs.Order.{paired, with_partner}
 use Rattle.pmf_runs.specs.Runs.{passing, keyed}
-use Rattle.pmf_shadow.{specs.States.{kept_opening, checked_store, late_for}, specs.Pairs.{kept, by_epochs}, proofs.PieceLemmas.{least-of_span}, proofs.UnorderedLemmas.{epochs-none, epochs-found, epochs-partner, never-lost}}
+use Rattle.pmf_shadow.{specs.States.{kept_opening, checked_store}, specs.Pairs.{kept, by_epochs}, proofs.PieceLemmas.{least-of_span}, proofs.UnorderedLemmas.{epochs-found, epochs-partner}}
 use Rattle.pmf_shadow.proofs.shadow.Shadow.least_by_epochs.Goals as goal
-
-pub returns-in_err-epoch : goal.returns-in_err-epoch
-unfolding keyed kept
-returns-in_err-epoch c =
-    let b = c.args.b.now in
-    let least = least-of_span (keyed kept_opening c.args.self.now.bytes) b c.first.result c.end.result None c.first.ensures.value c.end.ensures.value (sym c.in_err-epoch.was ∙ c.least_key.ensures) in
-    c.from_residual.ensures ∙ sym (epochs-none (kept c.args.self.now.bytes) c.args.a.now b least)
 
 pub returns-in_err-byte : goal.returns-in_err-byte
 unfolding keyed kept passing
@@ -19,12 +12,6 @@ returns-in_err-byte c =
     let least = least-of_span (keyed kept_opening c.args.self.now.bytes) b c.first.result c.end.result (Some m) c.first.ensures.value c.end.ensures.value (sym c.in_ok-epoch.was ∙ c.least_key.ensures) in
     c.from_residual-in_err-byte.ensures
     ∙ sym (epochs-found (kept c.args.self.now.bytes) c.args.a.now b m least _ (λ x. refl) ∙ ap (with_partner (by_epochs (kept c.args.self.now.bytes)) b) (sym c.first_in.ensures ∙ c.in_err-byte.was))
-
-pub returns-in_err-stored : goal.returns-in_err-stored
-unfolding passing
-returns-in_err-stored c =
-    let found = first-passes _ c.args.a.now.first c.args.a.now.size c.in_ok-byte.byte (sym c.first_in.ensures ∙ c.in_ok-byte.was) in
-    absurd (never-lost (late_for c.in_ok-epoch.epoch) _ found.passes (sym (c.checked.ensures ∙ ap checked_store c.at.ensures) ∙ c.in_err-stored.was))
 
 pub returns : goal.returns
 unfolding keyed kept passing

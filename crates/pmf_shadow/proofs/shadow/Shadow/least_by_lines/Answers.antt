@@ -1,16 +1,8 @@
-use Rattle.std.proofs.Common.{◌≡◌, refl, sym, ◌∙◌, ap, subst, arith, Some, None}
-use Rattle.pmf_event.{specs.Order.{paired, with_partner}, proofs.LineLemmas.{line-bounds}, proofs.RangeLemmas.{first-passes}}
+use Rattle.std.proofs.Common.{◌≡◌, refl, sym, ◌∙◌, ap, subst, Some}
+use Rattle.pmf_event.{specs.Order.{paired, with_partner}, proofs.RangeLemmas.{first-passes}}
 use Rattle.pmf_runs.specs.Runs.{passing, keyed}
-use Rattle.pmf_shadow.{specs.States.{kept_opening, kept_place, checked_store, late_for, has_one_by}, specs.Pairs.{kept, by_lines, on_line, IsLeastValue}, proofs.PieceLemmas.{least-of_span}, proofs.UnorderedLemmas.{lines-none, lines-found-at, lines-partner-at, early-found, place-found, found-kept, opens-from}}
+use Rattle.pmf_shadow.{specs.States.{kept_opening, kept_place, checked_store, late_for, has_one_by}, specs.Pairs.{kept, by_lines, on_line, IsLeastValue}, proofs.PieceLemmas.{least-of_span}, proofs.UnorderedLemmas.{lines-found-at, lines-partner-at, early-found, place-found, found-kept, opens-from}}
 use Rattle.pmf_shadow.proofs.shadow.Shadow.least_by_lines.Goals as goal
-
-pub returns-in_err-epoch : goal.returns-in_err-epoch
-unfolding keyed kept passing
-returns-in_err-epoch c =
-    let b = c.args.b.now in
-    let bytes = c.args.self.now.bytes in
-    let least = least-of_span (keyed kept_opening bytes) b c.first.result c.end.result None c.first.ensures.value c.end.ensures.value (sym c.in_err-epoch.was ∙ c.least_key.ensures) in
-    λ told es p stands order. c.from_residual.ensures ∙ sym (lines-none c.args.ties (kept bytes) c.args.a.now b least)
 
 pub returns-in_err-early : goal.returns-in_err-early
 unfolding keyed kept passing
@@ -20,12 +12,6 @@ returns-in_err-early c =
     let m = c.in_ok-epoch.epoch in
     let least = least-of_span (keyed kept_opening bytes) b c.first.result c.end.result (Some m) c.first.ensures.value c.end.ensures.value (sym c.in_ok-epoch.was ∙ c.least_key.ensures) in
     λ told es p stands order. absurd (early-found (kept bytes) b m least _ (λ x. refl) (sym c.first_in.ensures ∙ c.in_err-early.was))
-
-pub least_place_on-requires-clause-room : goal.least_place_on-requires-clause-room
-least_place_on-requires-clause-room c =
-    let here = first-passes _ c.args.b.now.first c.args.b.now.size c.in_ok-early.early (sym c.first_in.ensures ∙ c.in_ok-early.was) in
-    let bounds = line-bounds c.in_ok-early.early in
-    let low = bounds.0 in let within = here.within in let ends = c.first.ensures.valid.ends in let is = c.line_of-line.ensures in omega arith
 
 pub returns-in_err-first : goal.returns-in_err-first
 unfolding keyed kept passing
@@ -39,18 +25,6 @@ returns-in_err-first c =
     let opens = opens-from m (kept bytes early) here.passes in
     let none = subst (IsLeastValue (on_line c.line_of-line.result (keyed kept_place bytes)) b.first b.size) c.in_err-first.was c.least_place_on.ensures in
     λ told es p stands order. absurd (place-found (kept bytes) b m early c.line_of-line.result here.from here.within opens c.line_of-line.ensures none)
-
-pub least_opening_off-elsewhere-requires-clause-room : goal.least_opening_off-elsewhere-requires-clause-room
-least_opening_off-elsewhere-requires-clause-room c =
-    let here = first-passes _ c.args.b.now.first c.args.b.now.size c.in_ok-early.early (sym c.first_in.ensures ∙ c.in_ok-early.was) in
-    let bounds = line-bounds c.in_ok-early.early in
-    let low = bounds.0 in let within = here.within in let ends = c.first.ensures.valid.ends in let is = c.line_of-line.ensures in omega arith
-
-pub first_by_line-requires-clause-room : goal.first_by_line-requires-clause-room
-first_by_line-requires-clause-room c =
-    let here = first-passes _ c.args.b.now.first c.args.b.now.size c.in_ok-early.early (sym c.first_in.ensures ∙ c.in_ok-early.was) in
-    let bounds = line-bounds c.in_ok-early.early in
-    let low = bounds.0 in let within = here.within in let ends = c.first.ensures.valid.ends in let is = c.line_of-line.ensures in omega arith
 
 pub returns-in_err-byte : goal.returns-in_err-byte
 unfolding keyed kept passing
@@ -76,12 +50,6 @@ returns-in_err-stored c =
     let byte = first-passes _ c.args.a.now.first c.args.a.now.size c.in_ok-byte.byte (sym c.first_by_line.ensures.value ∙ c.in_ok-byte.was) in
     λ told es p stands order. absurd (found-kept c.line_of-line.result (has_one_by c.args.ties c.in_ok-first.first c.least_opening_off-elsewhere.result) (late_for c.in_ok-epoch.epoch) (kept bytes) _ _ (λ x. refl) (λ x. refl)
     c.in_ok-byte.byte byte.passes (sym (c.checked.ensures ∙ ap checked_store c.at.ensures) ∙ c.in_err-stored.was))
-
-pub first_by_line-after-requires-clause-room : goal.first_by_line-after-requires-clause-room
-first_by_line-after-requires-clause-room c =
-    let byte = first-passes _ c.args.a.now.first c.args.a.now.size c.in_ok-byte.byte (sym c.first_by_line.ensures.value ∙ c.in_ok-byte.was) in
-    let bounds = line-bounds c.in_ok-byte.byte in
-    let low = bounds.0 in let within = byte.within in let ends = c.first_by_line.ensures.valid.ends in let is = c.line_of.ensures in omega arith
 
 pub returns : goal.returns
 unfolding keyed kept passing
