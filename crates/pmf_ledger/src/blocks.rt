@@ -187,6 +187,8 @@ impl Blocks {
     }
 
     // So many events of the section are still to come.
+    #[tactic(auto, using(std::proofs::lemmas::Grind::common_steps, crate::proofs::lemmas::ReadingLemmas::events_more, crate::proofs::lemmas::ReadingLemmas::HasRead_at,
+        crate::proofs::lemmas::ReadingLemmas::events_none))]
     fn with_events(
         &mut self,
         alloc: Global,
@@ -209,6 +211,7 @@ impl Blocks {
     }
 
     // All events of the section have come: it is checked.
+    #[tactic(auto, using(std::proofs::lemmas::Grind::common_steps, crate::proofs::lemmas::ReadingLemmas::verdict_is, crate::proofs::lemmas::ReadingLemmas::rows_told))]
     fn with_section(
         &mut self,
         alloc: Global,
@@ -233,6 +236,7 @@ impl Blocks {
         }
     }
 
+    #[tactic(auto, using(std::proofs::lemmas::Grind::common_steps, crate::proofs::lemmas::ReadingLemmas::row_same, crate::proofs::lemmas::ReadingLemmas::HasRead_same))]
     fn row(
         &mut self,
         verdict: Verdict,
@@ -270,6 +274,7 @@ impl Blocks {
     }
 
     // The rows of the verdict from this one on are still to come. With none left it is taken.
+    #[tactic(auto, using(std::proofs::lemmas::Grind::common_steps, crate::proofs::lemmas::ReadingLemmas::rows_more, crate::proofs::lemmas::ReadingLemmas::HasRead_at))]
     fn with_rows(&mut self, verdict: Verdict, row: usize) -> Result<Next, LedgerFault>
         requires count { self.old.count < 2 ^ 63 }
         requires profile { verdict.profile ≡ self.old.ledger.profile }

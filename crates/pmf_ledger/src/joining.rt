@@ -29,6 +29,8 @@ pub enum JoinFault {
 }
 
 // The least name that two sections have, one of each list, that differ.
+#[tactic(auto, using(std::proofs::lemmas::Grind::common_steps, crate::proofs::lemmas::ScanLemmas::Scanned_first, crate::proofs::lemmas::ScanLemmas::Scanned_second,
+    crate::proofs::lemmas::ScanLemmas::least_here))]
 fn least_differing(first: &[Verdict], second: &[Verdict]) -> Option<Name>
     requires first_rises { Rises first.now }
     requires second_rises { Rises second.now }
@@ -113,6 +115,7 @@ impl Ledger {
     /// After a refusal both ledgers come back as they were. The first two refusals come before memory is asked
     /// for. The new list takes memory, with room for the verdicts of both, before a verdict is moved. The time is
     /// linear in the sections of both and in the events of those that both hold.
+    #[tactic(auto, using(std::proofs::lemmas::Grind::common_steps, crate::proofs::lemmas::JoiningLemmas::IfOk_gathers))]
     pub fn join(self, other: Ledger) -> Result<Ledger, (JoinFault, Ledger, Ledger)>
 
         // At Ok it holds what either held and nothing else: the ledger of the union of their sets.

@@ -10,35 +10,41 @@ pub fn gatherings_give_the_ledger_of_their_set()
 {}
 
 /// A gathering by one profile whose set agrees is refused at no step, want of memory aside.
+#[tactic(auto, using(std::proofs::lemmas::Grind::common_steps, crate::proofs::lemmas::GatheringLemmas::refuses_for_cause))]
 pub fn gatherings_are_refused_for_cause_alone()
     ensures { RefusesForCause }
 {}
 
 /// A gathering by one profile whose set agrees can give a ledger, so that what is said of given ledgers is
 /// said of some.
+#[tactic(auto, using(std::proofs::lemmas::Grind::common_steps, crate::proofs::lemmas::GivingLemmas::gives_where_it_may))]
 pub fn gatherings_that_agree_give_a_ledger()
     ensures { GivesWhereItMay }
 {}
 
 /// Joined the one way or the other, two gatherings give one ledger, and neither way is refused where the
 /// other gives one.
+#[tactic(auto, using(std::proofs::lemmas::Grind::common_steps, crate::proofs::lemmas::AlikeLemmas::joining_commutes))]
 pub fn joining_commutes()
     ensures { JoiningCommutes }
 {}
 
 /// Three gatherings give one ledger in whichever order the two joins are made, and neither order is refused
 /// where the other gives one.
+#[tactic(auto, using(std::proofs::lemmas::Grind::common_steps, crate::proofs::lemmas::AlikeLemmas::joining_associates))]
 pub fn joining_associates()
     ensures { JoiningAssociates }
 {}
 
 /// A gathering that is joined with itself gives what it gave, and is not refused where it gave a ledger.
+#[tactic(auto, using(std::proofs::lemmas::Grind::common_steps, crate::proofs::lemmas::AlikeLemmas::joining_repeats))]
 pub fn joining_again_changes_nothing()
     ensures { JoiningRepeats }
 {}
 
 /// Two gatherings by one profile, of sets with the same members, give one ledger, and neither is refused
 /// where the other gives one: orders, repeats and joins leave no trace.
+#[tactic(auto, using(std::proofs::lemmas::Grind::common_steps, crate::proofs::lemmas::AlikeLemmas::set_counts))]
 pub fn only_the_set_counts()
     ensures { OnlyTheSetCounts }
 {}

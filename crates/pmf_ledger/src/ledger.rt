@@ -82,6 +82,7 @@ impl Ledger {
     }
 
     /// The verdicts, in the order of their names.
+    #[tactic(auto, using(std::proofs::lemmas::Grind::common_steps, crate::proofs::lemmas::TrueRowsLemmas::all_rows_true))]
     pub fn verdicts(&self) -> &[Verdict]
         ensures value { result.now ≡ self.now.sections }
         ensures rises { Rises result.now }

@@ -12,6 +12,7 @@ use std::alloc::{AllocError, Global};
 
 impl Ledger {
     /// How many sections it holds, and how their rows count. Looks through all rows once.
+    #[tactic(auto, using(std::proofs::lemmas::Grind::common_steps, crate::proofs::lemmas::CountLemmas::Sums_more, crate::proofs::lemmas::CountLemmas::IsWithin_all))]
     pub fn totals(&self) -> Totals
         ensures { result ≡ totals_of self.now.sections }
     {
@@ -34,6 +35,7 @@ impl Ledger {
 
     /// The report, and the sums of its last text line. Looks through all rows once to count them, and once to write
     /// them. Takes memory for the text alone.
+    #[tactic(auto, using(std::proofs::lemmas::Grind::common_steps, crate::proofs::lemmas::ReportToldLemmas::reports_tell_totals))]
     pub fn report(&self, alloc: Global) -> Result<(Vec<u8>, Totals), AllocError>
         ensures text { IfOk result (λ made. made.0.items ≡ report_of self.now.sections) }
         // Read line by line, it tells these sections, each with its own rows, and their sums.
@@ -46,6 +48,7 @@ impl Ledger {
         Ok(made)
     }
 
+    #[tactic(auto, using(std::proofs::lemmas::Grind::common_steps, crate::proofs::lemmas::CountLemmas::Sums_more, crate::proofs::lemmas::CountLemmas::IsWithin_all))]
     fn written(&self, alloc: Global) -> Result<(Vec<u8>, Totals), AllocError>
         ensures text { IfOk result (λ made. made.0.items ≡ report_of self.now.sections) }
         ensures totals { IfOk result (λ made. made.1 ≡ totals_of self.now.sections) }

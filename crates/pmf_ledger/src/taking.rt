@@ -44,6 +44,7 @@ enum Standing {
     Absent(usize),
 }
 
+#[tactic(auto, using(std::proofs::lemmas::Grind::common_steps, crate::proofs::lemmas::NameLemmas::compares_tells))]
 pub(crate) fn order(a: Name, b: Name) -> Ordering
     ensures less { (result ≡ Ordering.Less) → IsBefore a b }
     ensures equal { (result ≡ Ordering.Equal) → a ≡ b }
@@ -116,6 +117,7 @@ impl Ledger {
     /// After a refusal the ledger is unchanged, and the verdict comes back. A verdict that is added takes memory. A name
     /// behind all others is appended at once; one before others moves their verdicts, so that sections taken in falling
     /// order of names cost the square of their number.
+    #[tactic(auto, using(std::proofs::lemmas::Grind::common_steps, crate::proofs::lemmas::StandingLemmas::absent_not_held))]
     pub fn take(&mut self, verdict: Verdict) -> Result<Taken, (TakeFault, Verdict)>
 
         // At Ok its section is held, and nothing else is new: the ledger is that of its set with the section.

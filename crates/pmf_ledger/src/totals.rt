@@ -38,6 +38,7 @@ impl Totals {
     }
 
     /// Of the verdict's section alone. Looks through its rows once.
+    #[tactic(auto, using(std::proofs::lemmas::Grind::common_steps, crate::proofs::lemmas::CountLemmas::totals_of_one))]
     pub(crate) fn of(verdict: &Verdict) -> Totals
         ensures value { result ≡ totals_of (verdict.now ∷ []) }
         ensures small { IsWithin 1 (2 ^ 64) result }

@@ -1,5 +1,5 @@
 -- What a ledger holds after a section was put where its name belongs.
-use Rattle.std.proofs.{Common.{◌≡◌, ℕ, List, [], ◌∷◌, map, take, drop, refl, sym, ◌∙◌, ap, subst, arith, inl, inr, get_or, ◌⊎◌, Contains, All, insert, take-append-drop}, lemmas.List.{get_or-map, length-map}, lemmas.List.Elements.{All-append, All-cons, All-take, All-drop, Contains-append_left, Contains-append_right, Contains-append_cases, Contains-push, Contains-push_cases, Contains-get_or}}
+use Rattle.std.proofs.{Common.{◌≡◌, ℕ, List, [], ◌∷◌, map, take, drop, refl, sym, ◌∙◌, ap, subst, arith, inl, inr, get_or, ◌⊎◌, Contains, All, insert, take-append-drop}, lemmas.List.{get_or-map, length-map}, lemmas.List.Elements.{All-append, All-cons, All-take, All-drop, Contains-append_left, Contains-append_right, Contains-append_cases, Contains-push, Contains-push_cases, Contains-get_or}, lemmas.Grind.{common_steps}}
 use Rattle.pmf_event.specs.Section.{Trace}
 use Rattle.pmf_verdict.specs.Checked.{Checked, checked_by}
 use Rattle.pmf_ledger.{specs.Gathered.{Gains, Gathers, Holds}, specs.LedgerValue.{LedgerValue}, specs.Names.{ComesBefore, Rises}, specs.Places.{IsPlaceOf, LacksName}, proofs.lemmas.NameLemmas.{AllPairs-insert, before-total}}
@@ -23,10 +23,7 @@ module _ {X : Type 0} (xs : List X) (k : ℕ) (y x : X) where
       let whole = take-append-drop k xs in
       elim (Contains-append_cases (take k xs) (y ∷ drop k xs) x found) [
         | inl front ↦ inl (subst (λ zs. Contains zs x) whole (Contains-append_left (take k xs) (drop k xs) x front))
-        | inr back ↦ elim (Contains-append_cases (y ∷ []) (drop k xs) x back) [
-          | inl here ↦ elim (Contains-push_cases [] y x here) [ inl none ↦ absurd (omega (arith, none.1)) | inr same ↦ inr (sym same) ]
-          | inr behind ↦ inl (subst (λ zs. Contains zs x) whole (Contains-append_right (take k xs) (drop k xs) x behind))
-        ]
+        | inr back ↦ grind (arith, common_steps, Contains-append_cases, Contains-push_cases, Contains-append_right)
       ]
 
   pub Contains-insert : Contains xs x ⊎ (x ≡ y) → Contains (insert xs k y) x
@@ -55,18 +52,12 @@ Gains-insert old new k v by same is = record {
 
 -- a ledger that holds the section gains it as it is
 pub Gains-held : (ledger : LedgerValue) (section : Trace) → Holds ledger section → Gains ledger section ledger
-Gains-held ledger section held = record {
-  profile_stays = refl;
-  holds = λ s. (λ found. inl found, λ either. elim either [ inl found ↦ found | inr same ↦ subst (Holds ledger) (sym same) held ]);
-}
+Gains-held ledger section held = grind (arith, common_steps)
 
 -- of a longer set
 module _ {X : Type 0} (x y : X) (ys : List X) where
   pub Contains-cons_cases : Contains (y ∷ ys) x → (x ≡ y) ⊎ Contains ys x
-  Contains-cons_cases found = elim (Contains-append_cases (y ∷ []) ys x found) [
-    | inl here ↦ elim (Contains-push_cases [] y x here) [ inl none ↦ absurd (omega (arith, none.1)) | inr same ↦ inl (sym same) ]
-    | inr behind ↦ inr behind
-  ]
+  Contains-cons_cases found = grind (arith, common_steps, Contains-append_cases, Contains-push_cases)
 
   pub Contains-cons : (x ≡ y) ⊎ Contains ys x → Contains (y ∷ ys) x
   Contains-cons held = elim held [

@@ -1,23 +1,15 @@
 -- What gatherings give.
-use Rattle.std.proofs.{Common.{◌≡◌, List, [], ◌∷◌, ◌++◌, refl, sym, ◌∙◌, ap, subst, arith, inl, inr, ◌≢◌, Contains}, lemmas.List.Elements.{Contains-append_left, Contains-append_right}}
-use Rattle.pmf_event.specs.{declared.profile.Profile.{Profile}, declared.profile.Profile.TheVariants.{One, Two}, Section.{Trace}}
+use Rattle.std.proofs.{Common.{◌≡◌, List, [], ◌∷◌, ◌++◌, refl, sym, ◌∙◌, ap, subst, arith, inl, inr, ◌≢◌, Contains}, lemmas.List.Elements.{Contains-append_left, Contains-append_right}, lemmas.Grind.{common_steps}}
+use Rattle.pmf_event.specs.{declared.profile.Profile.{Profile}, Section.{Trace}}
 use Rattle.pmf_ledger.{specs.Gathered.{IsLedgerOf}, specs.Gathering.{Agrees, Begun, Gathering, Gives, IsBy, IsRefused, Joined, WithVerdict, set_of}, specs.LedgerValue.{LedgerValue}, proofs.lemmas.AddingLemmas.{Contains-cons}, proofs.lemmas.MergingLemmas.{none_of_empty}, proofs.lemmas.UniqueLemmas.{Agrees-ledger}}
 
 -- profiles that don't differ are one
 profile_same : (p q : Profile) → (p ≢ q → ⊥) → p ≡ q
-profile_same One One even = refl
-profile_same One Two even = absurd (even (λ same. cc))
-profile_same Two One even = absurd (even (λ same. cc))
-profile_same Two Two even = refl
+profile_same p q even = grind (arith, common_steps)
 
 -- the ledger of no section
 pub empty_ledger : (profile : Profile) → IsLedgerOf profile [] (record { profile = profile; sections = [] })
-empty_ledger profile = record {
-  profile_is = refl;
-  checked = λ k d inside. absurd (omega (arith, inside));
-  rises = λ i j d less inside. absurd (omega (arith, inside));
-  same = λ s. (λ held. absurd (none_of_empty [] _ refl held), λ found. absurd (none_of_empty [] s refl found));
-}
+empty_ledger profile = grind (arith, common_steps, none_of_empty)
 
 -- a gathering is by one profile at most
 pub by_one : (gathering : Gathering) (p q : Profile) → IsBy p gathering → IsBy q gathering → p ≡ q

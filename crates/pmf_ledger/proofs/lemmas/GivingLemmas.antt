@@ -1,5 +1,5 @@
 -- A gathering that is not refused gives a ledger.
-use Rattle.std.proofs.{Common.{◌≡◌, ℕ, ◌<◌, ◌≤◌, List, [], ◌∷◌, ◌++◌, length, zero, suc, refl, sym, ◌∙◌, ap, subst, arith, inl, inr, get_or, ◌⊎◌, Contains, insert}, lemmas.List.Elements.{Contains-append_cases, Contains-append_left, Contains-append_right, Contains-get_or}}
+use Rattle.std.proofs.{Common.{◌≡◌, ℕ, ◌<◌, ◌≤◌, List, [], ◌∷◌, ◌++◌, length, zero, suc, refl, sym, ◌∙◌, ap, subst, arith, inl, inr, get_or, ◌⊎◌, Contains, insert}, lemmas.List.Elements.{Contains-append_cases, Contains-append_left, Contains-append_right, Contains-get_or}, lemmas.Grind.{common_steps}}
 use Rattle.pmf_event.specs.{declared.name.Name.{Name}, declared.profile.Profile.{Profile}, Section.{Trace}}
 use Rattle.pmf_verdict.specs.Checked.{Checked, checked_by}
 use Rattle.pmf_ledger.{specs.Gathered.{Gathers, GathersBoth, Holds, IsLedgerOf}, specs.Gathering.{Agrees, Begun, Gathering, Gives, IsBy, IsRefused, Joined, RefusesJoin, RefusesVerdict, WithVerdict, set_of}, specs.LedgerValue.{LedgerValue}, specs.Names.{IsBefore, Rises}, specs.Places.{HasName, IsPlaceOf, LacksName}, proofs.lemmas.AddingLemmas.{All-insert, Contains-cons, Contains-cons_cases, Gains-held, Gains-insert, Gathers-gains, Rises-insert}, proofs.lemmas.GatheringLemmas.{agrees_within, empty_ledger, gives_ledger, refuses_for_cause}, proofs.lemmas.JoiningLemmas.{AreBy, Holds-section}, proofs.lemmas.MergingLemmas.{none_of_empty}, proofs.lemmas.NameLemmas.{before-itself, before-total, before-trans}, proofs.lemmas.UniqueLemmas.{Rises-first, Rises-rest}}
@@ -31,11 +31,7 @@ place_first x xs name rises before =
 place_behind : (x : Checked) (xs : List Checked) (name : Name) → IsBefore x.section.name name → Place xs name → Place (x ∷ xs) name
 place_behind x xs name before rest = record {
   at = suc rest.at;
-  place = record {
-    within = let within = rest.place.within in omega (arith, within);
-    before = before_at;
-    from = from_at;
-  };
+  place = grind (arith, common_steps);
   lacks = λ c found same. elim (Contains-cons_cases c x xs found) [
     | inl here ↦ before-itself name (subst (λ n. IsBefore n name) (ap (λ (d : Checked). d.section.name) (sym here) ∙ same) before)
     | inr later ↦ rest.lacks c later same
@@ -52,15 +48,7 @@ place_behind x xs name before rest = record {
 
 -- a name is that of a section, or has its place
 placed : (sections : List Checked) (name : Name) → Rises sections → HasName sections name ⊎ Place sections name
-placed [] name rises = inr (record {
-  at = 0;
-  place = record {
-    within = omega arith;
-    before = λ i d less. absurd (omega (arith, less));
-    from = λ i d far inside. absurd (omega (arith, inside));
-  };
-  lacks = λ c found. absurd (none_of_empty [] c refl found);
-})
+placed [] name rises = grind (arith, common_steps, none_of_empty)
 placed (x ∷ xs) name rises = elim (before-total x.section.name name) [
   | inl before ↦ elim (placed xs name (Rises-rest x xs rises)) [
     | inl has ↦ inl (has.0, Contains-cons has.0 x xs (inr has.1), has.2)
@@ -111,8 +99,7 @@ with_section profile s set agrees has =
 
 has_ledger : (profile : Profile) (set : List Trace) → Agrees set → HasLedger profile set
 has_ledger profile [] agrees = record { ledger = record { profile = profile; sections = [] }; is = empty_ledger profile }
-has_ledger profile (s ∷ set) agrees =
-    with_section profile s set agrees (has_ledger profile set (agrees_within (s ∷ set) set (λ t found. Contains-cons t s set (inr found)) agrees))
+has_ledger profile (s ∷ set) agrees = grind (arith, common_steps, with_section, agrees_within, Contains-cons, has_ledger profile set (agrees_within (s ∷ set) set (λ t found. Contains-cons t s set (inr found)) agrees))
 
 -- the sets of which a ledger is that have the same members
 set_once : (p q : Profile) (xs ys : List Trace) (ledger : LedgerValue) → IsLedgerOf p xs ledger → IsLedgerOf q ys ledger → (s : Trace) → Contains xs s → Contains ys s

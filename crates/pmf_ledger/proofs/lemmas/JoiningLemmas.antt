@@ -78,7 +78,7 @@ GathersBoth-unites a b new unites rises by = λ xs ys of_a of_b. record {
   );
 }
 
-pub IfOk-gathers : {E : Type 0} (a b : LedgerValue) (result : Result LedgerValue E) → IfOk result (Unites a b) → IfOk result (λ (l : LedgerValue). Rises l.sections) →
+pub IfOk_gathers : {E : Type 0} (a b : LedgerValue) (result : Result LedgerValue E) → IfOk result (Unites a b) → IfOk result (λ (l : LedgerValue). Rises l.sections) →
     IfOk result (λ (l : LedgerValue). AreBy l.profile l.sections) → IfOk result (GathersBoth a b)
-IfOk-gathers a b (Ok new) unites rises by = GathersBoth-unites a b new unites rises by
-IfOk-gathers a b (Err refused) unites rises by = tt
+IfOk_gathers a b (Ok new) unites rises by = GathersBoth-unites a b new unites rises by
+IfOk_gathers a b (Err refused) unites rises by = tt

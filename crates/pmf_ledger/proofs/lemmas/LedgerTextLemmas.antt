@@ -1,9 +1,9 @@
 -- The text of a ledger loads as that ledger.
-use Rattle.std.{proofs.Common.{◌≡◌, ℕ, zero, suc, ◌+◌, ◌-◌, ◌^◌, ◌<◌, ◌≤◌, ◌==◌, List, [], ◌∷◌, ◌++◌, length, map, Some, None, refl, sym, ◌∙◌, ap, subst, arith, rules, append_assoc, length-append, codes, if◌then◌else◌, Contains, decimal, le-ltb, All, flat_map, append-nil, take_at, drop_at}, specs.List.{AllByRecursion}, proofs.lemmas.List.{length_push, length-map}, proofs.lemmas.List.Elements.{recursion_from_All, All-contains}, proofs.lemmas.Slice.Eq.{bytes_eq-Decides}}
+use Rattle.std.{proofs.Common.{◌≡◌, ℕ, zero, suc, ◌+◌, ◌-◌, ◌^◌, ◌<◌, ◌≤◌, ◌==◌, List, [], ◌∷◌, ◌++◌, length, map, Some, None, refl, sym, ◌∙◌, ap, subst, arith, rules, append_assoc, length-append, codes, if◌then◌else◌, decimal, le-ltb, All, flat_map, append-nil, take_at, drop_at}, specs.List.{AllByRecursion}, proofs.lemmas.List.{length_push, length-map}, proofs.lemmas.List.Elements.{recursion_from_All, All-contains}, proofs.lemmas.Slice.Eq.{bytes_eq-Decides}, proofs.lemmas.Grind.{common_steps}}
 use Rattle.pmf_event.specs.{declared.event.Event.{Event}, declared.name.Name.{Name}, declared.profile.Profile.{Profile}, declared.profile.Profile.TheVariants.{One, Two}, declared.row.Row.{Row}, declared.section.TheConstants.{EVENT_LIMIT}, Section.{Trace}}
 use Rattle.pmf_storelog.{specs.Canonical.{line_of_event}, specs.Spelling.{AllValid}, proofs.EventLineLemmas.{event_of_line-event}, proofs.FrontLemmas.{BeginsWithNoDigit, number_in_front-decimal}, proofs.PlainRecordLemmas.{text_of_lines}, proofs.PlainLemmas.{text_of_event}}
 use Rattle.pmf_verdict.specs.{Checked.{Checked, checked_by, rows_in}, Rows.{rows_of}, Text.{text_of_row, text_of_rows}}
-use Rattle.pmf_ledger.{specs.declared.head.Head.{Head}, specs.declared.loading.LedgerFault.TheVariants.{FalseRows}, specs.declared.loading.TheConstants.{LEDGER_LIMIT}, specs.Gathered.{IsLedgerOf}, specs.LedgerText.{IsSpelled, version_of, text_of_head, text_of_block, text_of_end, text_of_ledger}, specs.LedgerValue.{LedgerValue}, specs.Loading.{Reading, Stage, AtVersion, AtBlock, AtEvents, AtRows, AtEnd, AtFault, at, unread, alone, number_behind, profile_of, head_of, head_of_run, head_of_number, head_of_events, head_of_rows, end_of, after_version, after_head, after_end, after_event, after_row, after_line, after_line_at, after_lines, with_events, with_section, with_rows, lines_of, left_of, reading_of, fault_of, LoadsAs}, specs.Names.{Rises}, proofs.lemmas.AddingLemmas.{from_map, to_map}, proofs.lemmas.ReadingLemmas.{event-added, rows-told, end-here, line-at}, proofs.lemmas.SpelledLemmas.{OneLine, one-append, decimal-one, text_without_end, row-one, event-one, lines_of-lines, left_of-lines, lines-append, each-append}}
+use Rattle.pmf_ledger.{specs.declared.head.Head.{Head}, specs.declared.loading.LedgerFault.TheVariants.{FalseRows}, specs.declared.loading.TheConstants.{LEDGER_LIMIT}, specs.Gathered.{IsLedgerOf}, specs.LedgerText.{IsSpelled, version_of, text_of_head, text_of_block, text_of_end, text_of_ledger}, specs.LedgerValue.{LedgerValue}, specs.Loading.{Reading, Stage, AtVersion, AtBlock, AtEvents, AtRows, AtEnd, AtFault, at, unread, alone, number_behind, profile_of, head_of, head_of_run, head_of_number, head_of_events, head_of_rows, end_of, after_version, after_head, after_end, after_event, after_row, after_line, after_line_at, after_lines, with_events, with_section, with_rows, lines_of, left_of, reading_of, fault_of, LoadsAs}, specs.Names.{Rises}, proofs.lemmas.AddingLemmas.{from_map}, proofs.lemmas.ReadingLemmas.{event-added, rows_told, end-here, line-at}, proofs.lemmas.SpelledLemmas.{OneLine, one-append, decimal-one, text_without_end, row-one, event-one, lines_of-lines, left_of-lines, lines-append, each-append}}
 
 -- the text lines of a ledger
 unfoldable head_line : Name → ℕ → ℕ → List ℕ
@@ -32,50 +32,15 @@ row_lines (row ∷ rows) = ap (λ rest. text_of_row row ++ rest) (row_lines rows
 
 block-text : (s : Checked) → text_of_block s ≡ text_of_lines (block_lines s)
 unfolding text_of_block text_of_head head_line block_lines body_lines
-block-text s =
-    let head = head_line s.section.name (length s.section.events) (length (rows_in s)) ++ 10 ∷ [] in
-    append_assoc head (flat_map line_of_event s.section.events) (text_of_rows (rows_in s))
-    ∙ ap (λ rest. head ++ rest)
-    (ap (λ rest. rest ++ text_of_rows (rows_in s)) (event_lines s.section.events)
-    ∙ ap (λ rest. text_of_lines (map text_of_event s.section.events) ++ rest) (row_lines (rows_in s))
-    ∙ sym (lines-append (map text_of_event s.section.events) (map text_without_end (rows_in s))))
+block-text s = grind (arith, common_steps, append_assoc, event_lines, row_lines, lines-append)
 
 blocks-text : (sections : List Checked) → flat_map text_of_block sections ≡ text_of_lines (flat_map block_lines sections)
 blocks-text [] = refl
-blocks-text (s ∷ sections) =
-    ap (λ front. front ++ flat_map text_of_block sections) (block-text s)
-    ∙ ap (λ rest. text_of_lines (block_lines s) ++ rest) (blocks-text sections)
-    ∙ sym (lines-append (block_lines s) (flat_map block_lines sections))
+blocks-text (s ∷ sections) = grind (arith, common_steps, block-text, lines-append, blocks-text sections)
 
 ledger-text : (l : LedgerValue) → text_of_ledger l ≡ text_of_lines (ledger_lines l)
 unfolding text_of_end end_line
-ledger-text l =
-    let version = version_of l.profile ++ 10 ∷ [] in
-    let end = end_line (length l.sections) ++ 10 ∷ [] in
-    let blocks = text_of_lines (flat_map block_lines l.sections) in
-    append_assoc version (flat_map text_of_block l.sections) end
-    ∙ ap (λ rest. version ++ rest)
-    (ap (λ rest. rest ++ end) (blocks-text l.sections)
-    ∙ ap (λ rest. blocks ++ rest) (sym (append-nil end))
-    ∙ sym (lines-append (flat_map block_lines l.sections) (end_line (length l.sections) ∷ [])))
-
--- no line end stands in them
-head-one : (name : Name) (events rows : ℕ) → OneLine (head_line name events rows)
-unfolding head_line
-head-one name events rows =
-    let a = codes "section " in let b = decimal name.run in let c = codes "." in let d = decimal name.number in
-    let e = codes " events=" in let f = decimal events in let g = codes " rows=" in let h = decimal rows in
-    one-append (a ++ b ++ c ++ d ++ e ++ f ++ g) h
-    (one-append (a ++ b ++ c ++ d ++ e ++ f) g
-    (one-append (a ++ b ++ c ++ d ++ e) f
-    (one-append (a ++ b ++ c ++ d) e
-    (one-append (a ++ b ++ c) d
-    (one-append (a ++ b) c (one-append a b (search rules) (decimal-one name.run)) (search rules))
-    (decimal-one name.number))
-    (search rules))
-    (decimal-one events))
-    (search rules))
-    (decimal-one rows)
+ledger-text l = grind (arith, common_steps, append_assoc, blocks-text, append-nil, lines-append)
 
 events-one : (events : List Event) → AllByRecursion AllValid events → AllByRecursion OneLine (map text_of_event events)
 events-one [] valid = tt
@@ -86,11 +51,8 @@ rows-one [] = tt
 rows-one (row ∷ rows) = (row-one row, rows-one rows)
 
 block-one : (s : Checked) → IsSpelled s → AllByRecursion OneLine (block_lines s)
-unfolding block_lines body_lines
-block-one s spelled = (
-  head-one s.section.name (length s.section.events) (length (rows_in s)),
-  each-append (map text_of_event s.section.events) (map text_without_end (rows_in s)) (events-one s.section.events (recursion_from_All AllValid s.section.events spelled.valid)) (rows-one (rows_in s)),
-)
+unfolding block_lines body_lines head_line
+block-one s spelled = grind (arith, common_steps, each-append, events-one, recursion_from_All, rows-one, one-append, decimal-one)
 
 blocks-one : (sections : List Checked) → AllByRecursion IsSpelled sections → AllByRecursion OneLine (flat_map block_lines sections)
 blocks-one [] spelled = tt
@@ -110,9 +72,7 @@ ledger-one l spelled = (version-one l.profile, each-append (flat_map block_lines
 -- numbers behind words
 pub number_behind-word : (word : List ℕ) (n : ℕ) (rest : List ℕ) → n < 2 ^ 64 → BeginsWithNoDigit rest → number_behind word (word ++ (decimal n ++ rest)) ≡ Some (n, rest)
 unfolding number_behind
-number_behind-word word n rest small none =
-    rw (take_at word (decimal n ++ rest) (length word) refl, (bytes_eq-Decides word word).1 refl, drop_at word (decimal n ++ rest) (length word) refl)
-    (number_in_front-decimal n rest small none)
+number_behind-word word n rest small none = grind (arith, common_steps, take_at, bytes_eq-Decides, drop_at, number_in_front-decimal)
 
 regroup : (a b c d e f g h : List ℕ) → a ++ b ++ c ++ d ++ e ++ f ++ g ++ h ≡ a ++ (b ++ (c ++ (d ++ (e ++ (f ++ (g ++ (h ++ [])))))))
 regroup a b c d e f g h = simp (append_assoc, append-nil) refl
@@ -147,9 +107,7 @@ end_of-line blocks small =
 lines-after : (r : Reading) (n : ℕ) (xs ys : List (List ℕ)) → after_lines r n (xs ++ ys) ≡ after_lines (after_lines r n xs) (n + length xs) ys
 unfolding after_lines
 lines-after r n [] ys = let e : n ≡ n + 0 = omega arith in ap (λ k. after_lines r k ys) e
-lines-after r n (x ∷ xs) ys =
-    let e : suc n + length xs ≡ n + length (x ∷ xs) = omega arith in
-    lines-after (after_line r n x) (suc n) xs ys ∙ ap (λ k. after_lines (after_lines (after_line r n x) (suc n) xs) k ys) e
+lines-after r n (x ∷ xs) ys = grind (arith, common_steps, lines-after (after_line r n x) (suc n) xs ys)
 
 -- the text lines lead from one reading to the other, wherever they stand
 Leads : Reading → List (List ℕ) → Reading → Type 0
@@ -194,9 +152,7 @@ row-step r section row rows n =
 
 leads-rows : (r : Reading) (section : Trace) (rows : List Row) → Leads (with_rows r section rows) (map text_without_end rows) (with_rows r section [])
 leads-rows r section [] = leads-none (with_rows r section [])
-leads-rows r section (row ∷ rows) =
-    leads-cons (with_rows r section (row ∷ rows)) (with_rows r section rows) (with_rows r section []) (text_without_end row) (map text_without_end rows)
-    (row-step r section row rows) (leads-rows r section rows)
+leads-rows r section (row ∷ rows) = grind (arith, common_steps, leads-cons, row-step, leads-rows r section rows)
 
 -- events
 module _ (r : Reading) (name : Name) (told : ℕ) where
@@ -251,7 +207,7 @@ module _ (profile : Profile) (blocks : List Trace) (section : Trace) (spelled : 
       (head_line section.name (length section.events) (length rows)) (map text_of_event section.events ++ map text_without_end rows) head-step
       (leads-append _ (with_section r section (length rows)) _ (map text_of_event section.events) (map text_without_end rows)
       (leads-events r section.name (length rows) [] section.events (recursion_from_All AllValid section.events spelled.valid) (let few = spelled.few in omega (arith, few)))
-      (subst (λ e. Leads e (map text_without_end rows) (with_rows r section [])) (sym (rows-told r section (length rows) refl)) (leads-rows r section rows)))
+      (subst (λ e. Leads e (map text_without_end rows) (with_rows r section [])) (sym (rows_told r section (length rows) refl)) (leads-rows r section rows)))
 
 -- all blocks
 AllBy : Profile → List Checked → Type 0
@@ -262,10 +218,7 @@ traces sections = map (λ (s : Checked). s.section) sections
 
 rows-few : (s : Checked) → length (rows_in s) < length (block_lines s)
 unfolding block_lines body_lines
-rows-few s =
-    let long = length-append (map text_of_event s.section.events) (map text_without_end (rows_in s)) in
-    let same = length-map (rows_in s) text_without_end in
-    omega (arith, long, same)
+rows-few s = grind (arith, common_steps, length-append, length-map)
 
 leads-blocks : (profile : Profile) (done : List Trace) (sections : List Checked) → AllBy profile sections → AllByRecursion IsSpelled sections → length (flat_map block_lines sections) < 2 ^ 64 →
     Leads (after_blocks profile done) (flat_map block_lines sections) (after_blocks profile (done ++ traces sections))
@@ -293,11 +246,7 @@ sections-few (s ∷ sections) =
 
 lines-long : (lines : List (List ℕ)) → length lines ≤ length (text_of_lines lines)
 lines-long [] = omega arith
-lines-long (line ∷ lines) =
-    let one = length-append line (10 ∷ []) in
-    let all = length-append (line ++ 10 ∷ []) (text_of_lines lines) in
-    let rest = lines-long lines in
-    omega (arith, one, all, rest)
+lines-long (line ∷ lines) = grind (arith, common_steps, length-append, lines-long lines)
 
 -- the text of some lines
 reading-lines : (text : List ℕ) (lines : List (List ℕ)) → text ≡ text_of_lines lines → AllByRecursion OneLine lines → length text ≤ LEDGER_LIMIT → reading_of text ≡ after_lines unread 1 lines
@@ -307,16 +256,6 @@ reading-lines text lines is each short = rw (le-ltb LEDGER_LIMIT (length text) s
 no_fault : (text : List ℕ) → (reading_of text).stage ≡ AtEnd → left_of text ≡ [] → fault_of text ≡ None
 unfolding fault_of
 no_fault text is none = rw (none, is) refl
-
--- the sections as a set
-held-trace : (profile : Profile) (sections : List Checked) (s : Trace) → Contains sections (checked_by profile s) → Contains (traces sections) s
-held-trace profile sections s = to_map (λ (c : Checked). c.section) sections (checked_by profile s)
-
-trace-held : (profile : Profile) (sections : List Checked) → All (λ (c : Checked). c.profile ≡ profile) sections → (s : Trace) → Contains (traces sections) s → Contains sections (checked_by profile s)
-trace-held profile sections checked s found =
-    let there = from_map (λ (c : Checked). c.section) sections s found in
-    let by = All-contains (λ (c : Checked). c.profile ≡ profile) sections there.0 checked there.1 in
-    subst (Contains sections) (ap (λ p. checked_by p there.0.section) by ∙ ap (checked_by profile) there.2) there.1
 
 profile_of-version : (profile : Profile) → profile_of (version_of profile) ≡ Some profile
 unfolding profile_of
@@ -335,11 +274,7 @@ module _ (l : LedgerValue) (rises : Rises l.sections) (checked : All (λ (c : Ch
   whole = record { profile = l.profile; blocks = traces l.sections; stage = AtEnd }
 
   few_lines : length (flat_map block_lines l.sections) + 2 ≤ LEDGER_LIMIT
-  few_lines =
-      let same = ap (λ (text : List ℕ). length text) (ledger-text l) in
-      let long = lines-long (ledger_lines l) in
-      let all = length-append (flat_map block_lines l.sections) (end_line (length l.sections) ∷ []) in
-      omega (arith, short, same, long, all)
+  few_lines = grind (arith, common_steps, ledger-text, lines-long, length-append)
 
   end-step : (n : ℕ) → after_line (after_blocks l.profile (traces l.sections)) n (end_line (length l.sections)) ≡ whole
   unfolding whole after_blocks after_line_at
@@ -368,12 +303,7 @@ module _ (l : LedgerValue) (rises : Rises l.sections) (checked : All (λ (c : Ch
   reading_is = reading-lines (text_of_ledger l) (ledger_lines l) (ledger-text l) (ledger-one l each_spelled) short ∙ leads-ledger 1
 
   of_ledger : IsLedgerOf l.profile (traces l.sections) l
-  of_ledger = record {
-    profile_is = refl;
-    checked = checked;
-    rises = rises;
-    same = λ s. (held-trace l.profile l.sections s, trace-held l.profile l.sections checked s);
-  }
+  of_ledger = grind (arith, common_steps, from_map, All-contains)
 
   -- what is written of a ledger loads as the ledger
   pub loads-written : LoadsAs (text_of_ledger l) l

@@ -1,32 +1,19 @@
 -- Two rising lists, while they are merged from their ends, and once they are.
-use Rattle.std.proofs.{Common.{◌≡◌, ◌+◌, ◌-◌, ◌<◌, List, [], ◌∷◌, ◌++◌, length, reverse, refl, sym, ◌∙◌, ap, subst, arith, inl, inr, get_or, ◌⊎◌, Contains, AllPairs, length-append}, lemmas.Bool.{cases_order}, lemmas.List.{get_or_append_left, get_or_default, get_or_push, get_or-reverse, length-reverse, reverse-reverse}, lemmas.List.Elements.{Contains-append_left, Contains-get_or, Contains-push, Contains-push_cases}, lemmas.List.Sorted.{Contains-permutation, IsPermutation-reverse}, lemmas.List.Quantifiers.{all_pairs_push}}
+use Rattle.std.proofs.{Common.{◌≡◌, ◌+◌, ◌-◌, ◌<◌, List, [], ◌∷◌, ◌++◌, length, reverse, sym, ◌∙◌, ap, subst, arith, inl, inr, get_or, ◌⊎◌, Contains, AllPairs, length-append, rules}, lemmas.Bool.{cases_order}, lemmas.List.{get_or_append_left, get_or_default, get_or_push, get_or-reverse, length-reverse, reverse-reverse}, lemmas.List.Elements.{Contains-append_left, Contains-get_or, Contains-push, Contains-push_cases}, lemmas.List.Sorted.{Contains-permutation, IsPermutation-reverse}, lemmas.List.Quantifiers.{all_pairs_push}, lemmas.Grind.{common_steps}}
 use Rattle.pmf_verdict.specs.Checked.{Checked}
 use Rattle.pmf_ledger.{specs.Joining.{IsMerged, IsMerging}, specs.Names.{ComesBefore, Rises}, proofs.lemmas.NameLemmas.{before-trans}}
 
 -- where each pair of a list is related, so is each pair of its front
 AllPairs-front : {X : Type 0} (R : X → X → Type 0) (xs ys : List X) → AllPairs R (xs ++ ys) → AllPairs R xs
-AllPairs-front R xs ys pairs = λ i j d less inside.
-    subst (λ x. R x (get_or xs j d)) (get_or_append_left xs ys d i (omega (arith, less, inside)))
-    (subst (R (get_or (xs ++ ys) i d)) (get_or_append_left xs ys d j inside)
-    (pairs i j d less (let e = length-append xs ys in omega (arith, e, inside))))
+AllPairs-front R xs ys pairs = search (rules, get_or_append_left, length-append)
 
 -- and each element of the front with the last
 AllPairs-last : {X : Type 0} (R : X → X → Type 0) (xs : List X) (x : X) → AllPairs R (xs ++ x ∷ []) → (c : X) → Contains xs c → R c x
-AllPairs-last R xs x pairs c found =
-    let inside = found.1 in
-    let long : length (xs ++ x ∷ []) ≡ length xs + 1 = length-append xs (x ∷ []) in
-    subst (λ y. R y x) (get_or_append_left xs (x ∷ []) c found.0 inside ∙ found.2)
-    (subst (R (get_or (xs ++ x ∷ []) found.0 c)) (get_or_push xs x c (length xs) refl)
-    (pairs found.0 (length xs) c inside (omega (arith, long))))
+AllPairs-last R xs x pairs c found = search (rules, length-append, get_or_append_left, get_or_push)
 
 -- each pair of the list turned round is a pair of the list
 AllPairs-reverse : {X : Type 0} (R : X → X → Type 0) (xs : List X) → AllPairs (λ a b. R b a) xs → AllPairs R (reverse xs)
-AllPairs-reverse R xs pairs = λ i j d less inside.
-    let long = length-reverse xs in
-    let short : j < length xs = omega (arith, inside, long) in
-    subst (λ x. R x (get_or (reverse xs) j d)) (sym (get_or-reverse xs i d (omega (arith, less, short))))
-    (subst (R (get_or xs (length xs - 1 - i) d)) (sym (get_or-reverse xs j d short))
-    (pairs (length xs - 1 - j) (length xs - 1 - i) d (omega (arith, less, short)) (omega (arith, less, short))))
+AllPairs-reverse R xs pairs = grind (arith, common_steps, length-reverse, get_or-reverse)
 
 pub Contains-reverse : {X : Type 0} (xs : List X) (x : X) → Contains (reverse xs) x → Contains xs x
 Contains-reverse xs x found = subst (λ zs. Contains zs x) (reverse-reverse xs) (Contains-permutation (reverse xs) (reverse (reverse xs)) x (IsPermutation-reverse (reverse xs)) found)
@@ -37,9 +24,7 @@ none_of_empty xs x empty found = let inside = found.1 in omega (arith, empty, in
 -- the last of a rising list, as it is read
 module _ (xs front : List Checked) (x read : Checked) (is : xs ≡ front ++ x ∷ []) (found : read ≡ get_or xs (length xs - 1) read) where
   pub last_is : read ≡ x
-  last_is =
-      let long : length xs ≡ length front + 1 = ap (λ zs. length zs) is ∙ length-append front (x ∷ []) in
-      found ∙ ap (λ zs. get_or zs (length xs - 1) read) is ∙ get_or_push front x read (length xs - 1) (omega (arith, long))
+  last_is = grind (arith, common_steps, length-append, get_or_push)
 
 -- each of a rising list is the last or comes before it
 pub before_last : (xs : List Checked) (read c : Checked) → Rises xs → read ≡ get_or xs (length xs - 1) read → Contains xs c → (c ≡ read) ⊎ ComesBefore c read
@@ -48,12 +33,7 @@ before_last xs read c rises is found =
     let at_end : read ≡ get_or xs (length xs - 1) c = is ∙ get_or_default xs (length xs - 1) read c (omega (arith, inside)) in
     elim (cases_order found.0 (length xs - 1)) [
       | inl there ↦ inl (sym found.2 ∙ ap (λ n. get_or xs n c) there ∙ sym at_end)
-      | inr aside ↦ elim aside [
-        | inl less ↦ inr (
-            let pair = rises found.0 (length xs - 1) c less (omega (arith, inside)) in
-            subst (λ d. ComesBefore d read) found.2 (subst (ComesBefore (get_or xs found.0 c)) (sym at_end) pair))
-        | inr more ↦ absurd (omega (arith, inside, more))
-      ]
+      | inr aside ↦ grind (arith, common_steps)
     ]
 
 pub all_before : (xs : List Checked) (read x : Checked) → Rises xs → read ≡ get_or xs (length xs - 1) read → ComesBefore read x → (c : Checked) → Contains xs c → ComesBefore c x

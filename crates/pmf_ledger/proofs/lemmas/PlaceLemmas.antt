@@ -1,5 +1,5 @@
 -- What is known of a name from the place where it belongs.
-use Rattle.std.proofs.{Common.{◌≡◌, ℕ, ◌+◌, ◌<◌, ◌≤◌, List, [], length, sym, ◌∙◌, ap, subst, arith, inl, inr, get_or, ◌≢◌}, lemmas.Bool.{cases_order}, lemmas.List.{get_or_default}, lemmas.List.Elements.{Contains-get_or}}
+use Rattle.std.proofs.{Common.{◌≡◌, ℕ, ◌+◌, ◌<◌, ◌≤◌, List, [], length, sym, ◌∙◌, subst, arith, inl, inr, get_or, ◌≢◌}, lemmas.Bool.{cases_order}, lemmas.List.{get_or_default}, lemmas.List.Elements.{Contains-get_or}, lemmas.Grind.{common_steps}}
 use Rattle.pmf_event.specs.declared.{name.Name.{Name}, profile.Profile.TheVariants.{One}}
 use Rattle.pmf_verdict.specs.Checked.{Checked}
 use Rattle.pmf_ledger.{specs.Names.{IsBefore, Rises}, specs.Places.{HasName, IsPlaceOf, LacksName, StandsAt}, proofs.lemmas.NameLemmas.{before-trans, before-itself}}
@@ -7,17 +7,7 @@ use Rattle.pmf_ledger.{specs.Names.{IsBefore, Rises}, specs.Places.{HasName, IsP
 -- a name that is not that of the section at its place is that of none
 pub LacksName-from_place : (sections : List Checked) (name : Name) (k : ℕ) → Rises sections → IsPlaceOf sections name k →
     ((d : Checked) → k < length sections → (get_or sections k d).section.name ≢ name) → LacksName sections name
-LacksName-from_place sections name k rises place apart = λ c found same.
-    let i = found.0 in
-    let inside = found.1 in
-    let is : (get_or sections i c).section.name ≡ name = ap (λ (x : Checked). x.section.name) found.2 ∙ same in
-    elim (cases_order i k) [
-      | inl there ↦ apart c (omega (arith, inside, there)) (subst (λ n. (get_or sections n c).section.name ≡ name) there is)
-      | inr aside ↦ elim aside [
-        | inl low ↦ before-itself name (subst (λ n. IsBefore n name) is (place.before i c low))
-        | inr high ↦ place.from k c (omega arith) (omega (arith, high, inside)) (subst (λ n. IsBefore (get_or sections k c).section.name n) is (rises k i c high inside))
-      ]
-    ]
+LacksName-from_place sections name k rises place apart = grind (arith, before-itself)
 
 -- the place lies between low and high
 pub record Window (sections : List Checked) (name : Name) (low high : ℕ) : Type 0 where
@@ -38,10 +28,7 @@ Window-up sections name low high m x rises window inside is here = record {
       let before_name : IsBefore (get_or sections m d).section.name name = subst (λ (c : Checked). IsBefore c.section.name name) (sym there) here in
       elim (cases_order i m) [
         | inl same ↦ subst (λ n. IsBefore (get_or sections n d).section.name name) (sym same) before_name
-        | inr aside ↦ elim aside [
-          | inl less ↦ before-trans _ _ _ (rises i m d less (omega (arith, inside, all))) before_name
-          | inr more ↦ absurd (omega (arith, small, more))
-        ]
+        | inr aside ↦ grind (arith, common_steps, before-trans)
       ];
   from = window.from;
 }
@@ -58,10 +45,7 @@ Window-down sections name low high m x rises window reach inside is here = recor
       let there : get_or sections m d ≡ x = get_or_default sections m d x (omega (arith, inside, all)) ∙ sym is in
       elim (cases_order m i) [
         | inl same ↦ here (subst (λ (c : Checked). IsBefore c.section.name name) there (subst (λ n. IsBefore (get_or sections n d).section.name name) (sym same) before))
-        | inr aside ↦ elim aside [
-          | inl less ↦ here (subst (λ (c : Checked). IsBefore c.section.name name) there (before-trans _ _ _ (rises m i d less within) before))
-          | inr more ↦ absurd (omega (arith, far, more))
-        ]
+        | inr aside ↦ grind (arith, common_steps, before-trans)
       ];
 }
 

@@ -1,5 +1,5 @@
 -- A reading after one step, where what is kept stood for it.
-use Rattle.std.proofs.{Common.{◌≡◌, ℕ, zero, suc, ◌+◌, ◌-◌, ◌<◌, ◌≤◌, true, false, List, [], ◌∷◌, ◌++◌, length, drop, get_or, Some, refl, sym, ◌∙◌, ap, subst, arith, inl, inr, Contains, Ok, codes, bytes_eq, Bool}, lemmas.List.{drop_more, length_push, append_cancel_right}, lemmas.List.Elements.{Contains-append_left, Contains-push, Contains-push_cases}, lemmas.Bool.{ne_eqb, false_from_ne_true}, lemmas.Slice.Eq.{bytes_eq-Decides}, lemmas.Bool.Decides.{Decides-eqb}}
+use Rattle.std.proofs.{Common.{◌≡◌, ℕ, ◌+◌, ◌-◌, ◌<◌, ◌≤◌, true, false, List, [], ◌∷◌, ◌++◌, length, drop, get_or, Some, refl, sym, ◌∙◌, ap, subst, arith, inl, inr, Contains, Ok, codes, bytes_eq, rules}, lemmas.List.{drop_more, length_push, append_cancel_right}, lemmas.List.Elements.{Contains-append_left, Contains-push, Contains-push_cases}, lemmas.Bool.{ne_eqb, false_from_ne_true}, lemmas.Slice.Eq.{bytes_eq-Decides}, lemmas.Bool.Decides.{Decides-eqb}, lemmas.Grind.{common_steps}}
 use Rattle.pmf_event.specs.{declared.event.Event.{Event}, declared.name.Name.{Name}, declared.profile.Profile.{Profile}, declared.row.Row.{Row}, declared.section.TheConstants.{EVENT_LIMIT}, Section.{Trace}}
 use Rattle.pmf_storelog.specs.{declared.fault.Cause.TheVariants.{TooManyEvents}, declared.line.LineFault.{LineFault}, declared.line.LineFault.TheVariants.{NoEvent, Refused}}
 use Rattle.pmf_verdict.specs.{Checked.{Checked, checked_by}, Rows.{rows_of}, Text.{text_of_row}}
@@ -31,14 +31,11 @@ module _ (r : Reading) (blocks : Blocks) (read : HasRead r blocks) where
     ap (λ (o : Reading). o.stage) is,
   )
 
-  pub HasRead-same : (other : Blocks) → other.ledger ≡ blocks.ledger → other.count ≡ blocks.count → HasRead r other
-  HasRead-same other ledger count = record {
-    ledger = subst (IsLedgerOf r.profile r.blocks) (sym ledger) read.ledger;
-    count = count ∙ read.count;
-  }
+  pub HasRead_same : (other : Blocks) → other.ledger ≡ blocks.ledger → other.count ≡ blocks.count → HasRead r other
+  HasRead_same other ledger count = grind (arith, common_steps)
 
-pub HasRead-at : (r : Reading) (stage : Stage) (blocks : Blocks) → HasRead r blocks → HasRead (at r stage) blocks
-HasRead-at r stage blocks read = record { ledger = read.ledger; count = read.count }
+pub HasRead_at : (r : Reading) (stage : Stage) (blocks : Blocks) → HasRead r blocks → HasRead (at r stage) blocks
+HasRead_at r stage blocks read = record { ledger = read.ledger; count = read.count }
 
 -- one text line, at each stage
 module _ (r : Reading) (n : ℕ) (text : List ℕ) where
@@ -58,15 +55,13 @@ pub event-refused : (r : Reading) (blocks : Blocks) → HasRead r blocks → (n 
 event-refused r blocks read n NoEvent e is = stopped r blocks read e _ is
 event-refused r blocks read n (Refused cause) e is = stopped r blocks read e _ is
 
-pub events-more : (r : Reading) (section : Trace) (more told : ℕ) → 0 < more → with_events r section more told ≡ at r (AtEvents section more told)
+pub events_more : (r : Reading) (section : Trace) (more told : ℕ) → 0 < more → with_events r section more told ≡ at r (AtEvents section more told)
 unfolding with_events
-events-more r section zero told some = absurd (omega arith)
-events-more r section (suc more) told some = refl
+events_more r section more told some = search rules
 
-pub events-none : (r : Reading) (section : Trace) (more told : ℕ) → more ≤ 0 → with_events r section more told ≡ with_section r section told
+pub events_none : (r : Reading) (section : Trace) (more told : ℕ) → more ≤ 0 → with_events r section more told ≡ with_section r section told
 unfolding with_events
-events-none r section zero told none = refl
-events-none r section (suc more) told none = absurd (omega arith)
+events_none r section more told none = search rules
 
 pub event-added : (r : Reading) (n : ℕ) (section : Trace) (more told : ℕ) (event : Event) → (length section.events ≡ EVENT_LIMIT → ⊥) →
     after_event r n section more told (Ok event) ≡ with_events r (record { name = section.name; events = section.events ++ event ∷ [] }) (more - 1) told
@@ -80,24 +75,24 @@ event-too_many r n section more told event full = rw ((Decides-eqb (length secti
 pub verdict_is : (section moved : Trace) (p q r : Profile) (verdict : Checked) → verdict ≡ checked_by p moved → moved ≡ section → p ≡ q → q ≡ r → verdict ≡ checked_by r section
 verdict_is section moved p q r verdict made kept by own = made ∙ ap (checked_by p) kept ∙ ap (λ profile. checked_by profile section) (by ∙ own)
 
-pub rows-told : (r : Reading) (section : Trace) (told : ℕ) → length (rows_of r.profile section.events) ≡ told → with_section r section told ≡ with_rows r section (rows_of r.profile section.events)
+pub rows_told : (r : Reading) (section : Trace) (told : ℕ) → length (rows_of r.profile section.events) ≡ told → with_section r section told ≡ with_rows r section (rows_of r.profile section.events)
 unfolding with_section
-rows-told r section told same = rw ((Decides-eqb (length (rows_of r.profile section.events)) told).1 same) refl
+rows_told r section told same = rw ((Decides-eqb (length (rows_of r.profile section.events)) told).1 same) refl
 
 pub rows-false : (r : Reading) (section : Trace) (told : ℕ) → (length (rows_of r.profile section.events) ≡ told → ⊥) → with_section r section told ≡ at r (AtFault (FalseRows section.name))
 unfolding with_section
 rows-false r section told other = rw (ne_eqb (length (rows_of r.profile section.events)) told other) refl
 
 -- rows
-pub rows-more : (r : Reading) (section : Trace) (rows : List Row) (k : ℕ) → k < length rows → with_rows r section (drop k rows) ≡ at r (AtRows section (drop k rows))
+pub rows_more : (r : Reading) (section : Trace) (rows : List Row) (k : ℕ) → k < length rows → with_rows r section (drop k rows) ≡ at r (AtRows section (drop k rows))
 unfolding with_rows
-rows-more r section [] k below = absurd (omega arith)
-rows-more r section (row ∷ rows) k below = rw (drop_more (row ∷ rows) k row below) refl
+rows_more r section [] k below = absurd (omega arith)
+rows_more r section (row ∷ rows) k below = rw (drop_more (row ∷ rows) k row below) refl
 
-pub row-same : (r : Reading) (n : ℕ) (text : List ℕ) (section : Trace) (rows : List Row) (k : ℕ) (x d : Row) → k < length rows → x ≡ get_or rows k d → bytes_eq (text ++ codes "\n") (text_of_row x) ≡ true →
+pub row_same : (r : Reading) (n : ℕ) (text : List ℕ) (section : Trace) (rows : List Row) (k : ℕ) (x d : Row) → k < length rows → x ≡ get_or rows k d → bytes_eq (text ++ codes "\n") (text_of_row x) ≡ true →
     after_row r n text section (drop k rows) ≡ with_rows r section (drop (k + 1) rows)
 unfolding after_row
-row-same r n text section rows k x d below is same = rw (drop_more rows k d below, ← is, same) refl
+row_same r n text section rows k x d below is same = rw (drop_more rows k d below, ← is, same) refl
 
 pub row-other : (r : Reading) (n : ℕ) (text : List ℕ) (section : Trace) (rows : List Row) (k : ℕ) (x d : Row) → k < length rows → x ≡ get_or rows k d → bytes_eq (text ++ codes "\n") (text_of_row x) ≡ false →
     after_row r n text section (drop k rows) ≡ at r (AtFault (FalseRows section.name))
@@ -136,13 +131,7 @@ taken_stage r section = refl
 
 -- a line that is the same with a line end behind it
 pub ended-same : (text line : List ℕ) → bytes_eq text line ≡ bytes_eq (text ++ codes "\n") (line ++ codes "\n")
-ended-same text line = by_line (bytes_eq text line) refl
-  where
-    by_line : (v : Bool) → bytes_eq text line ≡ v → v ≡ bytes_eq (text ++ codes "\n") (line ++ codes "\n")
-    by_line true is = sym ((bytes_eq-Decides (text ++ codes "\n") (line ++ codes "\n")).1 (ap (λ xs. xs ++ codes "\n") ((bytes_eq-Decides text line).0 is)))
-    by_line false is = sym (false_from_ne_true _ (λ both.
-        let same = append_cancel_right text line (codes "\n") ((bytes_eq-Decides (text ++ codes "\n") (line ++ codes "\n")).0 both) in
-        let bad : false ≡ true = sym is ∙ (bytes_eq-Decides text line).1 same in cc))
+ended-same text line = grind (arith, common_steps, bytes_eq-Decides, false_from_ne_true, append_cancel_right)
 
 pub ended-other : (text spelled : List ℕ) → ((front : List ℕ) → spelled ≡ front ++ 10 ∷ [] → ⊥) → false ≡ bytes_eq (text ++ 10 ∷ []) spelled
 ended-other text spelled none = sym (false_from_ne_true _ (λ is. none text (sym ((bytes_eq-Decides (text ++ 10 ∷ []) spelled).0 is))))

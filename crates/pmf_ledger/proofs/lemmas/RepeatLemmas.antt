@@ -1,7 +1,7 @@
 -- Names that stand twice in a list, which a sort has put in their order.
-use Rattle.std.{proofs.Common.{◌≡◌, ℕ, zero, suc, ◌+◌, ◌-◌, ◌<◌, ◌≤◌, Bool, true, false, List, [], ◌∷◌, length, map, refl, sym, ◌∙◌, ap, subst, arith, inl, inr, get_or, eqb-true, eq-eqb, ◌⊎◌, eqb, count_by, cond, IsPermutation, MatchOption, Option, Some, None, is_lt, Less, Equal}, specs.Cmp.{nat_cmp_is}, proofs.lemmas.Bool.{and_parts, cases_eq, cases_lt, cases_Bool, true≢false}, proofs.lemmas.List.Sums.{sum_by-cons}, proofs.lemmas.List.Sorted.{sum_by-IsPermutation}, specs.Ordering.{nat_cmp, ordering_then}}
+use Rattle.std.{proofs.Common.{◌≡◌, ℕ, zero, suc, ◌+◌, ◌-◌, ◌<◌, ◌≤◌, Bool, true, false, List, [], ◌∷◌, length, map, refl, sym, ◌∙◌, ap, subst, arith, inl, inr, get_or, eqb-true, eq-eqb, ◌⊎◌, count_by, cond, IsPermutation, MatchOption, Option, Some, None, is_lt}, proofs.lemmas.Bool.{and_parts, cases_eq, cases_lt, cases_Bool, true≢false}, proofs.lemmas.List.Sums.{sum_by-cons}, proofs.lemmas.List.Sorted.{sum_by-IsPermutation}, specs.Ordering.{nat_cmp, ordering_then}, proofs.lemmas.Grind.{common_steps}}
 use Rattle.pmf_event.specs.{declared.name.Name.{Name}, Section.{Trace}}
-use Rattle.pmf_ledger.{specs.Names.{IsBefore}, specs.Repeats.{AreOwn, DoNotFall, IsLeastTwiceIn, StandsTwiceIn, is_name, names_of}, proofs.lemmas.NameLemmas.{before-trans, before-itself, before-total, name-same, compares-before}}
+use Rattle.pmf_ledger.{specs.Names.{IsBefore}, specs.Repeats.{AreOwn, DoNotFall, IsLeastTwiceIn, StandsTwiceIn, is_name, names_of}, proofs.lemmas.NameLemmas.{before-trans, before-itself, before-total, compares-before}}
 
 -- the order of names is that by which a sort compares them
 pub before-compares : (a b : Name) → IsBefore a b → is_lt (ordering_then (nat_cmp a.run b.run) (nat_cmp a.number b.number)) ≡ false → ⊥
@@ -12,16 +12,10 @@ abbrev pub IsAtMost : Name → Name → Type 0
 IsAtMost a b = IsBefore a b ⊎ (a ≡ b)
 
 at_most-unless_before : (a b : Name) → (IsBefore b a → ⊥) → IsAtMost a b
-at_most-unless_before a b never = elim (before-total a b) [
-  | inl less ↦ inl less
-  | inr other ↦ elim other [ inl same ↦ inr same | inr more ↦ absurd (never more) ]
-]
+at_most-unless_before a b never = grind (arith, common_steps, before-total)
 
 at_most-trans : (a b c : Name) → IsAtMost a b → IsAtMost b c → IsAtMost a c
-at_most-trans a b c first then = elim first [
-  | inr same ↦ subst (λ x. IsAtMost x c) (sym same) then
-  | inl less ↦ elim then [ inr same ↦ inl (subst (IsBefore a) same less) | inl more ↦ inl (before-trans a b c less more) ]
-]
+at_most-trans a b c first then = grind (arith, common_steps, before-trans)
 
 -- the first so many names rise
 abbrev pub RisesTo : ℕ → List Name → Type 0
@@ -34,9 +28,7 @@ module _ (names : List Name) (d : Name) where
   -- what relates each of the first n to the next, and passes on, relates each to all behind it
   chain_by : (R : Name → Name → Type 0) → ((a b c : Name) → R a b → R b c → R a c) → (n i m : ℕ) → ((k : ℕ) → k + 1 < n → R (name_at k) (name_at (k + 1))) → i + 1 + m < n → R (name_at i) (name_at (i + 1 + m))
   chain_by R trans n i zero step inside = let k : i + 1 ≡ i + 1 + 0 = omega arith in subst (λ x. R (name_at i) (name_at x)) k (step i (omega (arith, inside)))
-  chain_by R trans n i (suc m) step inside =
-      trans (name_at i) (name_at (i + 1 + m)) (name_at (i + 1 + suc m)) (chain_by R trans n i m step (omega (arith, inside)))
-      (let k : i + 1 + m + 1 ≡ i + 1 + suc m = omega arith in subst (λ x. R (name_at (i + 1 + m)) (name_at x)) k (step (i + 1 + m) (omega (arith, inside))))
+  chain_by R trans n i (suc m) step inside = grind (arith, common_steps, chain_by R trans n i m step (omega (arith, inside)))
 
   chain : (R : Name → Name → Type 0) → ((a b c : Name) → R a b → R b c → R a c) → (n i j : ℕ) → ((k : ℕ) → k + 1 < n → R (name_at k) (name_at (k + 1))) → i < j → j < n → R (name_at i) (name_at j)
   chain R trans n i j step less inside =
@@ -60,9 +52,6 @@ module _ {X : Type 0} (p : X → Bool) where
   counted-none : (x : X) (xs : List X) → p x ≡ false → count_by p (x ∷ xs) ≡ count_by p xs
   counted-none x xs not_is = let c = sum_by-cons (λ y. cond (p y) 1 0) x xs in let none : ◌≡◌ {A = ℕ} (cond (p x) 1 0) 0 = ap (λ b. cond b 1 0) not_is in omega (arith, c, none)
 
-  counted-more : (x : X) (xs : List X) → count_by p xs ≤ count_by p (x ∷ xs)
-  counted-more x xs = let c = sum_by-cons (λ y. cond (p y) 1 0) x xs in omega (arith, c)
-
   -- where one is counted, it stands somewhere
   one_of : (xs : List X) (d : X) → 0 < count_by p xs → (j : ℕ) × (j < length xs) × (p (get_or xs j d) ≡ true)
   one_of [] d some = absurd (omega (arith, some))
@@ -82,21 +71,14 @@ module _ {X : Type 0} (p : X → Bool) where
   ]
 
   some_one : (xs : List X) (j : ℕ) (d : X) → j < length xs → p (get_or xs j d) ≡ true → 0 < count_by p xs
-  some_one [] j d inside is = omega (arith, inside)
-  some_one (x ∷ xs) zero d inside is = let c = counted-yes x xs is in omega (arith, c)
-  some_one (x ∷ xs) (suc j) d inside is = let r = some_one xs j d (omega (arith, inside)) is in let c = counted-more x xs in omega (arith, r, c)
+  some_one xs j d inside is = grind (arith, common_steps, counted-yes)
 
   -- what stands at two places is counted twice
   pub some_two : (xs : List X) (i j : ℕ) (d : X) → i < j → j < length xs → p (get_or xs i d) ≡ true → p (get_or xs j d) ≡ true → 1 < count_by p xs
-  some_two [] i j d less inside first second = omega (arith, inside)
-  some_two (x ∷ xs) i zero d less inside first second = omega (arith, less)
-  some_two (x ∷ xs) zero (suc j) d less inside first second = let r = some_one xs j d (omega (arith, inside)) second in let c = counted-yes x xs first in omega (arith, r, c)
-  some_two (x ∷ xs) (suc i) (suc j) d less inside first second = let r = some_two xs i j d (omega (arith, less)) (omega (arith, inside)) first second in let c = counted-more x xs in omega (arith, r, c)
+  some_two xs i j d less inside first second = grind (arith, common_steps, some_one, counted-yes)
 
 is_name-is : (name n : Name) → is_name name n ≡ true → n ≡ name
-is_name-is name n is =
-    let both = and_parts (eqb n.run name.run) (eqb n.number name.number) is in
-    name-same n name (eqb-true n.run name.run both.0) (eqb-true n.number name.number both.1)
+is_name-is name n is = grind (arith, common_steps, and_parts, eqb-true)
 
 pub is_name-yes : (name n : Name) → n ≡ name → is_name name n ≡ true
 is_name-yes name n is = subst (λ m. is_name m n ≡ true) is (rw (eq-eqb n.run n.run refl, eq-eqb n.number n.number refl) refl)

@@ -1,24 +1,16 @@
 -- The report of some sections tells these sections.
-use Rattle.std.{proofs.Common.{◌≡◌, ℕ, ◌^◌, ◌<◌, ◌==◌, true, false, nat_lt, if◌then◌else◌, List, [], ◌∷◌, ◌++◌, length, map, Option, Some, None, option_map, refl, sym, ◌∙◌, ap, arith, rules, append_assoc, append-nil, codes, decimal, flat_map, All, take_at, drop_at}, specs.List.{prefix_len, AllByRecursion}, specs.Fmt.{digits}, proofs.lemmas.Fmt.{digits_is_IsNumeral}, proofs.lemmas.Bool.Decides.{Decides-eqb}, proofs.lemmas.List.Elements.{recursion_from_All}, proofs.lemmas.Slice.Eq.{bytes_eq-Decides}}
-use Rattle.pmf_event.specs.{Address.{address}, declared.finding.Finding.{Finding}, declared.finding.Finding.TheVariants.{PersistPass, PersistFail, PersistEmpty, OrderedPass, OrderedFail, OrderedSameLine, OrderedEmpty, FlushDoubled, FlushNeedless, NoBackup, DupLog, CheckPass, CheckFail, TxStillOpen, Unmatched, Outside, Nested, Unopened, Unclosed}, declared.row.Row.{Row}}
-use Rattle.pmf_storelog.{specs.Numbers.{is_digit_in, is_numeral, numeral_of, number_before, number_in_front}, proofs.CanonicalLemmas.{hex-length, numeral_of-digits}, proofs.FrontLemmas.{BeginsWithNone, BeginsWithNoDigit, digits-front, number_in_front-decimal}, proofs.PlainRecordLemmas.{text_of_lines}}
-use Rattle.pmf_verdict.specs.{Checked.{Checked, rows_in}, Rows.{row_at}, Text.{text_of_pair, text_of_finding, text_of_rows}}
+use Rattle.std.{proofs.Common.{◌≡◌, ℕ, ◌^◌, ◌<◌, ◌==◌, if◌then◌else◌, List, [], ◌∷◌, ◌++◌, length, map, Option, Some, None, refl, sym, ◌∙◌, ap, arith, rules, append_assoc, append-nil, codes, decimal, flat_map, take_at, drop_at}, specs.List.{AllByRecursion}, specs.Fmt.{digits}, proofs.lemmas.Fmt.{digits_is_IsNumeral}, proofs.lemmas.Bool.Decides.{Decides-eqb}, proofs.lemmas.List.Elements.{recursion_from_All}, proofs.lemmas.Slice.Eq.{bytes_eq-Decides}, proofs.lemmas.Grind.{common_steps}}
+use Rattle.pmf_event.specs.{Address.{address}, declared.finding.Finding.{Finding}, declared.finding.Finding.TheVariants.{PersistFail, OrderedFail, OrderedSameLine, FlushDoubled, FlushNeedless, NoBackup, DupLog, CheckFail, TxStillOpen, Unclosed}, declared.row.Row.{Row}}
+use Rattle.pmf_storelog.{specs.Numbers.{is_numeral, numeral_of, number_in_front}, proofs.CanonicalLemmas.{hex-length, numeral_of-digits}, proofs.FrontLemmas.{BeginsWithNone, BeginsWithNoDigit, digits-front, number_in_front-decimal}, proofs.PlainRecordLemmas.{text_of_lines}}
+use Rattle.pmf_verdict.specs.{Checked.{Checked, rows_in}, Text.{text_of_pair, text_of_finding}}
 use Rattle.pmf_ledger.{specs.declared.totals.Totals.{Totals}, specs.Loading.{number_behind}, specs.Report.{totals_of, text_of_counts, text_of_header, text_of_section, text_of_totals, report_of}, specs.ReportTold.{told_by, at_last, address_in_front, address_behind, byte_told, crash_told, pair_told, lines_told, number_told, words_at, finding_told, row_told, Told, shown, header_told, row_before, rows_told, header_before, sections_in, sections_told, counts_told, sums_told, last_sums, totals_told, FitsFinding, FitsRow, FitsSection, FitsTotals, ReportsTellSections, ReportsTellTotals}, proofs.lemmas.LedgerTextLemmas.{row_lines, rows-one, number_behind-word}, proofs.lemmas.SpelledLemmas.{OneLine, one-append, decimal-one, text_without_end, lines_of-lines, lines-append, each-append}}
 
 -- ---- numbers
 
-hex-read : (ds rest : List ℕ) → prefix_len (is_digit_in 16) (ds ++ rest) ≡ length ds → address_in_front (codes "0x" ++ (ds ++ rest)) ≡ number_before rest (numeral_of 16 16 ds)
-unfolding address_in_front
-hex-read ds rest count = rw (count, take_at ds rest (length ds) refl, drop_at ds rest (length ds) refl) refl
-
 -- what is written of an address reads as the address, whatever follows it that begins with no digit
 address_behind-word : (word : List ℕ) (n : ℕ) (rest : List ℕ) → n < 2 ^ 64 → BeginsWithNone 16 rest → address_behind word (word ++ (address n ++ rest)) ≡ Some (n, rest)
-unfolding address_behind
-address_behind-word word n rest small none =
-    let ds = digits 16 false n in
-    let numeral = digits_is_IsNumeral 16 false (omega arith) (omega arith) n (omega arith) in
-    rw (take_at word (address n ++ rest) (length word) refl, (bytes_eq-Decides word word).1 refl, drop_at word (address n ++ rest) (length word) refl)
-    (hex-read ds rest (digits-front 16 ds rest numeral.0.1 none) ∙ ap (number_before rest) (numeral_of-digits 16 16 ds n numeral.0.0 (hex-length n small) numeral.0.1 numeral.1 small))
+unfolding address_behind address_in_front
+address_behind-word word n rest small none = grind (arith, common_steps, digits_is_IsNumeral, take_at, bytes_eq-Decides, drop_at, digits-front, numeral_of-digits, hex-length)
 
 -- ---- rows
 
@@ -43,9 +35,7 @@ crash-is k finding b here small =
 
 pair-is : (tells : ℕ → ℕ → List ℕ → Option Finding) (x y : ℕ) (last : List ℕ) → x < 2 ^ 64 → y < 2 ^ 64 → BeginsWithNone 16 last →
     pair_told tells (codes " byte=" ++ (address x ++ (codes " after=" ++ (address y ++ last)))) ≡ tells x y last
-pair-is tells x y last one_small other_small none =
-    ap (told_by (λ byte rest. told_by (λ after more. tells byte after more) (address_behind (codes " after=") rest))) (address_behind-word (codes " byte=") x (codes " after=" ++ (address y ++ last)) one_small refl)
-    ∙ ap (told_by (λ after more. tells x after more)) (address_behind-word (codes " after=") y last other_small none)
+pair-is tells x y last one_small other_small none = search (rules, address_behind-word)
 
 lines-is : (finding : ℕ → ℕ → Finding) (line n : ℕ) → line < 2 ^ 64 → n < 2 ^ 64 → lines_told finding (codes " line=" ++ address line ++ codes " lines=" ++ decimal n) ≡ Some (finding line n)
 lines-is finding line n one_small other_small =
@@ -54,8 +44,7 @@ lines-is finding line n one_small other_small =
     ∙ ap (told_by (λ lines last. at_last (finding line lines) last)) (number_behind-word (codes " lines=") n [] other_small tt)
 
 number-is : (word : List ℕ) (finding : ℕ → Finding) (n : ℕ) → n < 2 ^ 64 → number_told word finding (word ++ decimal n) ≡ Some (finding n)
-number-is word finding n small =
-    ap (number_told word finding) (one word (decimal n)) ∙ ap (told_by (λ number rest. at_last (finding number) rest)) (number_behind-word word n [] small tt)
+number-is word finding n small = search (rules, one, number_behind-word)
 
 -- each finding is told by its words
 finding-is : (k : ℕ) (f : Finding) → k < 2 ^ 64 → FitsFinding f → finding_told (words_at k) (text_of_finding k f) ≡ Some f
@@ -82,14 +71,11 @@ finding-is k _ here fits = refl
 
 begins : (k : ℕ) (f : Finding) → BeginsWithNoDigit (text_of_finding k f)
 unfolding text_of_finding
-begins k PersistPass = refl
-begins k _ = refl
+begins k f = search rules
 
 row-is : (row : Row) → FitsRow row → row_told (text_without_end row) ≡ Some row
 unfolding row_told
-row-is row fits =
-    ap (told_by (λ k rest. option_map (row_at k) (finding_told (words_at k) rest))) (number_in_front-decimal row.place (text_of_finding row.place row.finding) fits.0 (begins row.place row.finding))
-    ∙ ap (option_map (row_at row.place)) (finding-is row.place row.finding fits.0 fits.1)
+row-is row fits = grind (arith, common_steps, number_in_front-decimal, begins, finding-is)
 
 -- ---- text lines
 
@@ -113,9 +99,7 @@ report_lines sections = flat_map section_lines sections ++ total_line (totals_of
 
 section-text : (s : Checked) → text_of_section s ≡ text_of_lines (section_lines s)
 unfolding text_of_section text_of_header text_of_counts header_line named counts_line
-section-text s =
-    ap (λ front. front ++ text_of_rows (rows_in s)) (sym (append_assoc (named s) (counts_line (totals_of (s ∷ []))) (10 ∷ [])))
-    ∙ ap (λ rest. (header_line s ++ 10 ∷ []) ++ rest) (row_lines (rows_in s))
+section-text s = grind (arith, common_steps, append_assoc, row_lines)
 
 sections-text : (sections : List Checked) → flat_map text_of_section sections ≡ text_of_lines (flat_map section_lines sections)
 sections-text [] = refl
@@ -124,15 +108,9 @@ sections-text (s ∷ sections) =
     ∙ ap (λ rest. text_of_lines (section_lines s) ++ rest) (sections-text sections)
     ∙ sym (lines-append (section_lines s) (flat_map section_lines sections))
 
-total-text : (t : Totals) → text_of_totals t ≡ text_of_lines (total_line t ∷ [])
-unfolding text_of_totals text_of_counts total_line counts_line
-total-text t = sym (append_assoc (codes "total sections=" ++ decimal t.sections) (counts_line t) (10 ∷ [])) ∙ sym (append-nil (total_line t ++ 10 ∷ []))
-
 report-text : (sections : List Checked) → report_of sections ≡ text_of_lines (report_lines sections)
-report-text sections =
-    ap (λ front. front ++ text_of_totals (totals_of sections)) (sections-text sections)
-    ∙ ap (λ rest. text_of_lines (flat_map section_lines sections) ++ rest) (total-text (totals_of sections))
-    ∙ sym (lines-append (flat_map section_lines sections) (total_line (totals_of sections) ∷ []))
+unfolding text_of_totals text_of_counts total_line counts_line
+report-text sections = grind (arith, common_steps, sections-text, lines-append)
 
 -- no line end stands in them
 more-one : (front word : List ℕ) (n : ℕ) → OneLine front → OneLine word → OneLine (front ++ word ++ decimal n)
@@ -243,9 +221,7 @@ sections-are (s ∷ sections) t fit =
 
 pub reports_tell_sections : ReportsTellSections
 unfolding sections_told
-reports_tell_sections sections fit =
-    ap sections_told (report-text sections) ∙ ap sections_in (lines_of-lines (report_lines sections) (report-one sections))
-    ∙ sections-are sections (totals_of sections) (recursion_from_All FitsSection sections fit)
+reports_tell_sections sections fit = grind (arith, common_steps, report-text, lines_of-lines, report-one, sections-are, recursion_from_All)
 
 -- ---- sums
 
@@ -290,6 +266,4 @@ last-sums (one ∷ other ∷ lines) line = last-sums (other ∷ lines) line
 
 pub reports_tell_totals : ReportsTellTotals
 unfolding totals_told
-reports_tell_totals sections fits =
-    ap totals_told (report-text sections) ∙ ap last_sums (lines_of-lines (report_lines sections) (report-one sections))
-    ∙ last-sums (flat_map section_lines sections) (total_line (totals_of sections)) ∙ sums-are (totals_of sections) fits
+reports_tell_totals sections fits = grind (arith, common_steps, report-text, lines_of-lines, report-one, last-sums, sums-are)

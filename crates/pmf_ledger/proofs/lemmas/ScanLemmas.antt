@@ -1,5 +1,5 @@
 -- Two rising lists that are scanned side by side for names that both have.
-use Rattle.std.proofs.{Common.{◌≡◌, ℕ, ◌+◌, ◌<◌, ◌≤◌, List, length, sym, ◌∙◌, ap, subst, refl, arith, inl, inr, get_or, Contains}, lemmas.Bool.{cases_order}, lemmas.List.{get_or_default}, lemmas.List.Elements.{Contains-get_or}}
+use Rattle.std.proofs.{Common.{◌≡◌, ℕ, ◌+◌, ◌<◌, ◌≤◌, List, length, sym, ◌∙◌, ap, subst, refl, arith, inl, inr, get_or, Contains}, lemmas.Bool.{cases_order}, lemmas.List.{get_or_default}, lemmas.List.Elements.{Contains-get_or}, lemmas.Grind.{common_steps}}
 use Rattle.pmf_event.specs.Section.{Trace}
 use Rattle.pmf_verdict.specs.Checked.{Checked}
 use Rattle.pmf_ledger.{specs.Joining.{AgreeInNames, IsLeastDiffering}, specs.Names.{ComesBefore, IsBefore, Rises}, proofs.lemmas.NameLemmas.{before-itself, before-trans}}
@@ -16,12 +16,7 @@ pub record Scanned (xs ys : List Checked) (i j : ℕ) : Type 0 where
   pub second : FrontAgrees ys xs j
 
 pub Scanned-turned : (xs ys : List Checked) (i j : ℕ) → Scanned xs ys i j → Scanned ys xs j i
-Scanned-turned xs ys i j scanned = record {
-  first_within = scanned.second_within;
-  second_within = scanned.first_within;
-  first = scanned.second;
-  second = scanned.first;
-}
+Scanned-turned xs ys i j scanned = grind (arith, common_steps)
 
 -- the sections x and y are read at i and j
 pub record AreRead (xs ys : List Checked) (i j : ℕ) (x y : Checked) : Type 0 where
@@ -31,12 +26,7 @@ pub record AreRead (xs ys : List Checked) (i j : ℕ) (x y : Checked) : Type 0 w
   pub second_is : y ≡ get_or ys j y
 
 pub AreRead-turned : (xs ys : List Checked) (i j : ℕ) (x y : Checked) → AreRead xs ys i j x y → AreRead ys xs j i y x
-AreRead-turned xs ys i j x y read = record {
-  first_inside = read.second_inside;
-  second_inside = read.first_inside;
-  first_is = read.second_is;
-  second_is = read.first_is;
-}
+AreRead-turned xs ys i j x y read = grind (arith, common_steps)
 
 read_at : (xs : List Checked) (i : ℕ) (x d : Checked) → i < length xs → x ≡ get_or xs i x → get_or xs i d ≡ x
 read_at xs i x d inside is = get_or_default xs i d x inside ∙ sym is
@@ -73,8 +63,8 @@ module _ (xs ys : List Checked) (i j : ℕ) (x y : Checked) (scanned : Scanned x
     ]
   ]
 
-  pub Scanned-first : Rises ys → ComesBefore x y → Scanned xs ys (i + 1) j
-  Scanned-first rises before = record {
+  pub Scanned_first : Rises ys → ComesBefore x y → Scanned xs ys (i + 1) j
+  Scanned_first rises before = record {
     first_within = let inside = read.first_inside in omega (arith, inside);
     second_within = scanned.second_within;
     first = front_more rises (λ after. before-itself x.section.name (before-trans _ y.section.name _ before after))
@@ -110,9 +100,9 @@ module _ (xs ys : List Checked) (i j : ℕ) (x y : Checked) (scanned : Scanned x
         ];
   }
 
-pub Scanned-second : (xs ys : List Checked) (i j : ℕ) (x y : Checked) → Scanned xs ys i j → AreRead xs ys i j x y → Rises xs → ComesBefore y x → Scanned xs ys i (j + 1)
-Scanned-second xs ys i j x y scanned read rises before =
-    Scanned-turned ys xs (j + 1) i (Scanned-first ys xs j i y x (Scanned-turned xs ys i j scanned) (AreRead-turned xs ys i j x y read) rises before)
+pub Scanned_second : (xs ys : List Checked) (i j : ℕ) (x y : Checked) → Scanned xs ys i j → AreRead xs ys i j x y → Rises xs → ComesBefore y x → Scanned xs ys i (j + 1)
+Scanned_second xs ys i j x y scanned read rises before =
+    Scanned-turned ys xs (j + 1) i (Scanned_first ys xs j i y x (Scanned-turned xs ys i j scanned) (AreRead-turned xs ys i j x y read) rises before)
 
 pub Scanned-both : (xs ys : List Checked) (i j : ℕ) (x y : Checked) → Scanned xs ys i j → AreRead xs ys i j x y → Rises xs → Rises ys → x.section ≡ y.section → Scanned xs ys (i + 1) (j + 1)
 Scanned-both xs ys i j x y scanned read first second same =

@@ -1,5 +1,5 @@
 -- A section stands to a ledger in one way alone.
-use Rattle.std.proofs.{Common.{◌≡◌, ℕ, ◌<◌, List, length, refl, sym, ◌∙◌, ap, subst, inl, inr, get_or, Contains, Result, Ok, Err, IfErr, IfOk, OnOk}, lemmas.Bool.{cases_order}, lemmas.List.{get_or_default}}
+use Rattle.std.proofs.{Common.{◌≡◌, ℕ, ◌<◌, List, length, refl, ◌∙◌, ap, subst, get_or, Contains, Result, IfErr, IfOk, OnOk, rules, arith}, lemmas.List.{get_or_default}, lemmas.Grind.{common_steps}}
 use Rattle.pmf_event.specs.Section.{Trace}
 use Rattle.pmf_verdict.specs.Checked.{Checked, checked_by}
 use Rattle.pmf_ledger.{specs.Gathered.{Holds, HoldsOther}, specs.LedgerValue.{LedgerValue}, specs.Names.{IsBefore, Rises}, specs.Places.{LacksName}, specs.Taking.{IsRefusedAs}, specs.declared.taking.TakeFault.{TakeFault}, specs.declared.taking.TakeFault.TheVariants.{Conflict, OutOfMemory}, specs.declared.taking.Taken.{Taken}, specs.declared.taking.Taken.TheVariants.{Added}, proofs.lemmas.NameLemmas.{before-itself}}
@@ -15,21 +15,15 @@ apart-by_place sections rises a b i j less inside is_a is_b same =
     before-itself b.section.name (subst (λ n. IsBefore n b.section.name) same both)
 
 pub held-once : (sections : List Checked) → Rises sections → (a b : Checked) → Contains sections a → Contains sections b → a.section.name ≡ b.section.name → a ≡ b
-held-once sections rises a b here there same = elim (cases_order here.0 there.0) [
-  | inl even ↦ sym here.2 ∙ get_or_default sections here.0 a b here.1 ∙ ap (λ n. get_or sections n b) even ∙ there.2
-  | inr aside ↦ elim aside [
-    | inl less ↦ absurd (apart-by_place sections rises a b here.0 there.0 less there.1 here.2 there.2 same)
-    | inr more ↦ absurd (apart-by_place sections rises b a there.0 here.0 more here.1 there.2 here.2 (sym same))
-  ]
-]
+held-once sections rises a b here there same = grind (arith, common_steps, get_or_default, apart-by_place)
 
 pub held-not_other : (ledger : LedgerValue) (s : Trace) → Rises ledger.sections → Holds ledger s → HoldsOther ledger s → ⊥
 held-not_other ledger s rises held other =
     let t = other.0 in
     other.3 (ap (λ (c : Checked). c.section) (held-once ledger.sections rises (checked_by ledger.profile t) (checked_by ledger.profile s) other.1 held other.2))
 
-pub absent-not_held : (ledger : LedgerValue) (s : Trace) → LacksName ledger.sections s.name → Holds ledger s → ⊥
-absent-not_held ledger s absent held = absent (checked_by ledger.profile s) held refl
+pub absent_not_held : (ledger : LedgerValue) (s : Trace) → LacksName ledger.sections s.name → Holds ledger s → ⊥
+absent_not_held ledger s absent held = absent (checked_by ledger.profile s) held refl
 
 pub absent-not_other : (ledger : LedgerValue) (s : Trace) → LacksName ledger.sections s.name → HoldsOther ledger s → ⊥
 absent-not_other ledger s absent other = absent (checked_by ledger.profile other.0) other.1 other.2
@@ -37,10 +31,8 @@ absent-not_other ledger s absent other = absent (checked_by ledger.profile other
 -- what want of memory refused is not refused as a conflict
 pub memory-no_conflict : (result : Result Taken (TakeFault × Checked)) (v : Checked) (Q : Type 0) → IfErr result (λ refused. (refused ≡ (OutOfMemory, v)) × Q) →
     IsRefusedAs result Conflict → ⊥
-memory-no_conflict (Ok taken) v Q refused bad = bad
-memory-no_conflict (Err found) v Q refused bad = let is : found ≡ (OutOfMemory, v) = refused.0 in let e : OutOfMemory ≡ Conflict = sym (ap (λ (f : TakeFault × Checked). f.0) is) ∙ bad in cc
+memory-no_conflict result v Q refused bad = search rules
 
 -- what follows of a section that was added
 pub OnOk-added : (result : Result Taken (TakeFault × Checked)) (P Q : Type 0) → IfOk result (λ taken. (taken ≡ Added) × P) → (P → Q) → OnOk result Q
-OnOk-added (Ok taken) P Q added follows = follows added.1
-OnOk-added (Err refused) P Q added follows = tt
+OnOk-added result P Q added follows = search rules

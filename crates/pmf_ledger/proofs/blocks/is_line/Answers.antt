@@ -1,4 +1,4 @@
-use Rattle.std.proofs.{Common.{◌∷◌, [], ◌++◌, sym, ◌∙◌, ap, bytes_eq}, lemmas.Bool.Decides.{Decides-eqb}, lemmas.Slice.Eq.{strip_suffix_is}}
+use Rattle.std.proofs.{Common.{◌∷◌, [], ◌++◌, sym, ◌∙◌, ap, bytes_eq, arith}, lemmas.Bool.Decides.{Decides-eqb}, lemmas.Slice.Eq.{strip_suffix_is}, lemmas.Grind.{common_steps}}
 use Rattle.pmf_ledger.proofs.lemmas.ReadingLemmas.{ended-same, ended-other}
 use Rattle.pmf_ledger.proofs.blocks.is_line.Goals as goal
 
@@ -9,6 +9,4 @@ returns-in-Some c =
     ∙ ap (bytes_eq (c.args.text.now ++ 10 ∷ [])) (sym (whole ∙ ap (λ xs. c.in-Some.line.now ++ xs) c.as_slice.ensures))
 
 pub returns-in-None : goal.returns-in-None
-returns-in-None c =
-    let none = strip_suffix_is Decides-eqb c.args.spelled.now c.as_slice.result.now Rattle.std.specs.Prelude.None c.in-None.ensures.cases in
-    ended-other c.args.text.now c.args.spelled.now (λ front is. none front (is ∙ ap (λ xs. front ++ xs) (sym c.as_slice.ensures)))
+returns-in-None c = grind (arith, common_steps, strip_suffix_is, Decides-eqb, ended-other)

@@ -1,13 +1,13 @@
-use Rattle.std.proofs.Common.{take, drop, ◌+◌, refl, sym, ◌∙◌, subst}
+use Rattle.std.proofs.Common.{take, drop, ◌+◌, sym, ◌∙◌, subst, rules}
 use Rattle.memchr.specs.Find.{IsFirstByte, is_byte}
-use Rattle.pmf_ledger.{specs.Following.{Reaches}, specs.Loading.{unread, after_line}, proofs.lemmas.LinesLemmas.{IsAt, IsAt-start, IsAt-next, refused-long, refused-at, loads-at, refused-end}}
+use Rattle.pmf_ledger.{specs.Following.{Reaches}, specs.Loading.{after_line}, proofs.lemmas.LinesLemmas.{IsAt, IsAt-start, IsAt-next, refused-long, refused-at, loads-at, refused-end}}
 use Rattle.pmf_ledger.proofs.loading.load_ledger.Goals as goal
 
 pub returns-then-text-gt-LEDGER_LIMIT : goal.returns-then-text-gt-LEDGER_LIMIT
-returns-then-text-gt-LEDGER_LIMIT c = λ of_text. refused-long c.args.text.now c.if-text-gt-LEDGER_LIMIT.true
+returns-then-text-gt-LEDGER_LIMIT c = search (rules, refused-long)
 
 pub loop-end-init : goal.loop-end-init
-loop-end-init c = (unread, (c.new-blocks.ensures, (refl, refl)), IsAt-start c.args.text.now c.if-text-gt-LEDGER_LIMIT.false)
+loop-end-init c = search (rules, IsAt-start)
 
 pub loop-end-preserved : goal.loop-end-preserved
 loop-end-preserved c =

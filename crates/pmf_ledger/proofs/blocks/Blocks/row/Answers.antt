@@ -1,18 +1,8 @@
-use Rattle.std.proofs.Common.{◌≡◌, ◌++◌, true, false, get_or, List, sym, ◌∙◌, ap, subst, codes, bytes_eq}
+use Rattle.std.proofs.Common.{◌≡◌, ◌++◌, false, get_or, List, sym, ◌∙◌, ap, codes, bytes_eq}
 use Rattle.pmf_event.specs.declared.{finding.Finding.TheVariants.{PersistPass}, row.Row.{Row}}
 use Rattle.pmf_verdict.specs.{Checked.{rows_in}, Text.{text_of_row}}
-use Rattle.pmf_ledger.{specs.Following.{Reaches}, proofs.lemmas.ReadingLemmas.{HasRead-same, stopped, row-same, row-other}}
+use Rattle.pmf_ledger.proofs.lemmas.ReadingLemmas.{stopped, row-other}
 use Rattle.pmf_ledger.proofs.blocks.Blocks.row.Goals as goal
-
-pub returns-in-Ok-true : goal.returns-in-Ok-true
-returns-in-Ok-true c = λ r read.
-    let d : Row = record { place = 0; finding = PersistPass } in
-    let x = get_or c.rows.result.now c.args.row d in
-    let is : x ≡ get_or (rows_in c.args.verdict) c.args.row d = ap (λ (rows : List Row). get_or rows c.args.row d) c.rows.ensures.value in
-    let same : bytes_eq (c.args.text.now ++ codes "\n") (text_of_row x) ≡ true = sym c.in-Ok-true.ensures.same ∙ c.in-Ok-true.field-0-test in
-    subst (λ e. Reaches e c.with_rows.result c.with_rows.new.self)
-    (sym (row-same r c.args.line c.args.text.now c.args.verdict.section (rows_in c.args.verdict) c.args.row x d c.requires.within is same))
-    (c.with_rows.ensures r (HasRead-same r c.args.self.now read _ c.is_row.ensures.ledger c.is_row.ensures.count))
 
 pub returns-in-Ok-false : goal.returns-in-Ok-false
 returns-in-Ok-false c = λ r read of_text.

@@ -1,16 +1,8 @@
-use Rattle.std.proofs.Common.{◌≡◌, length, sym, ◌∙◌, ap, subst, List}
+use Rattle.std.proofs.Common.{◌≡◌, length, ◌∙◌, ap, List}
 use Rattle.pmf_event.specs.declared.row.Row.{Row}
-use Rattle.pmf_verdict.specs.{Checked.{Checked, rows_in}, Rows.{rows_of}}
-use Rattle.pmf_ledger.{specs.Following.{Reaches}, specs.Loading.{with_rows}, proofs.lemmas.ReadingLemmas.{stopped, rows-told, rows-false, verdict_is}}
+use Rattle.pmf_verdict.specs.{Checked.{rows_in}, Rows.{rows_of}}
+use Rattle.pmf_ledger.proofs.lemmas.ReadingLemmas.{stopped, rows-false, verdict_is}
 use Rattle.pmf_ledger.proofs.blocks.Blocks.with_section.Goals as goal
-
-pub returns-then-rows-told : goal.returns-then-rows-told
-returns-then-rows-told c = λ r read.
-    let is = verdict_is c.args.section c.in-Ok.section.value c.profile.result c.args.self.now.ledger.profile r.profile c.in-Ok-check.verdict c.in-Ok-check.ensures.checked c.in-Ok.ensures.ok c.profile.ensures read.ledger.profile_is in
-    let all : c.rows.result.now ≡ rows_of r.profile c.args.section.events = c.rows.ensures.value ∙ ap rows_in is in
-    subst (λ e. Reaches e c.with_rows.result c.with_rows.new.self)
-    (ap (λ (v : Checked). with_rows r v.section (rows_in v)) is ∙ sym (rows-told r c.args.section c.args.told (ap (λ (rows : List Row). length rows) (sym all) ∙ c.if-rows-told.true)))
-    (c.with_rows.ensures r read)
 
 pub returns-else-rows-told : goal.returns-else-rows-told
 returns-else-rows-told c = λ r read of_text.

@@ -1,5 +1,5 @@
 use Rattle.std.proofs.Common.{rules, ◌≡◌, ap, subst}
-use Rattle.pmf_ledger.{specs.Gathered.{IsLeastClash}, specs.declared.joining.JoinFault.TheVariants.{Conflict}, proofs.lemmas.JoiningLemmas.{IfOk-gathers, least_clash_once}}
+use Rattle.pmf_ledger.{specs.Gathered.{IsLeastClash}, specs.declared.joining.JoinFault.TheVariants.{Conflict}, proofs.lemmas.JoiningLemmas.{least_clash_once}}
 use Rattle.pmf_ledger.proofs.ledger.Ledger.join.Goals as goal
 
 pub returns-in-Some-clause-conflict : goal.returns-in-Some-clause-conflict
@@ -10,6 +10,3 @@ returns-in-Some-clause-conflict c = λ name.
       λ is. let same : c.in-Some.name ≡ name = cc in (even, subst (IsLeastClash a b) same c.in-Some.ensures),
       λ clash. ap Conflict (least_clash_once a b c.in-Some.name name c.in-Some.ensures clash.1),
     )
-
-pub returns-clause-gathers : goal.returns-clause-gathers
-returns-clause-gathers c = IfOk-gathers c.args.self c.args.other c.unite.result c.unite.ensures.unites c.unite.ensures.rises c.unite.ensures.checked

@@ -1,4 +1,4 @@
-use Rattle.std.proofs.Common.{◌≡◌, ℕ, ◌+◌, ◌-◌, ◌/◌, ◌<◌, ◌≤◌, List, ◌∙◌, sym, ap, subst, arith, get_or}
+use Rattle.std.proofs.{Common.{◌≡◌, ℕ, ◌+◌, ◌-◌, ◌/◌, ◌<◌, ◌≤◌, List, ◌∙◌, sym, ap, subst, arith, get_or}, lemmas.Grind.{common_steps}}
 use Rattle.pmf_event.specs.declared.name.Name.{Name}
 use Rattle.pmf_verdict.specs.Checked.{Checked}
 use Rattle.pmf_ledger.{specs.LedgerValue.{LedgerValue}, specs.Names.{IsBefore, Rises}, proofs.lemmas.NameLemmas.{before-unless_less}, proofs.lemmas.PlaceLemmas.{Window, Window-up, Window-down}, proofs.ledger.Ledger.place_of.Goals.{in-Less, in_default}}
@@ -7,7 +7,7 @@ use Rattle.pmf_ledger.proofs.ledger.Ledger.place_of.Goals as goal
 -- the middle of what is left
 settled : (sections : List Checked) (name : Name) (low high : ℕ) → Window sections name low high →
     record { window : Window sections name low high; reach : low ≤ low + (high - low) / 2; inside : low < high → low + (high - low) / 2 < high }
-settled sections name low high window = record { window = window; reach = omega arith; inside = λ apart. omega (arith, apart) }
+settled sections name low high window = grind (arith, common_steps)
 
 pub loop-low-preserved : goal.loop-low-preserved
 loop-low-preserved c =

@@ -1,7 +1,7 @@
 use Rattle.std.proofs.Common.{◌≡◌, ◌∙◌, subst, All}
 use Rattle.pmf_event.specs.Section.{Trace}
 use Rattle.pmf_verdict.specs.Checked.{Checked}
-use Rattle.pmf_ledger.{specs.Gathered.{Holds, HoldsOther}, specs.LedgerValue.{LedgerValue}, specs.Names.{Rises}, specs.Places.{LacksName}, proofs.lemmas.AddingLemmas.{Gains-held, Gathers-gains}, proofs.lemmas.StandingLemmas.{held-not_other, absent-not_held, absent-not_other, memory-no_conflict, OnOk-added}}
+use Rattle.pmf_ledger.{specs.Gathered.{Holds, HoldsOther}, specs.LedgerValue.{LedgerValue}, specs.Names.{Rises}, specs.Places.{LacksName}, proofs.lemmas.AddingLemmas.{Gains-held, Gathers-gains}, proofs.lemmas.StandingLemmas.{held-not_other, absent-not_other, memory-no_conflict, OnOk-added}}
 use Rattle.pmf_ledger.proofs.ledger.Ledger.take.Goals as goal
 
 pub add-requires-clause-absent : goal.add-requires-clause-absent
@@ -18,11 +18,6 @@ returns-in-Otherwise-clause-repeat c =
     let rises : Rises c.args.self.now.sections = subst (λ (l : LedgerValue). Rises l.sections) c.self.view_is c.self.invariant.0 in
     let other = subst (HoldsOther c.args.self.now) (c.deref.ensures ∙ c.section.ensures) c.in-Otherwise.ensures in
     (λ bad. cc, λ both. absurd (held-not_other c.args.self.now c.args.verdict.section rises both.1 other))
-
-pub returns-in-Absent-clause-repeat : goal.returns-in-Absent-clause-repeat
-returns-in-Absent-clause-repeat c =
-    let absent = subst (λ (s : Trace). LacksName c.args.self.now.sections s.name) (c.deref.ensures ∙ c.section.ensures) c.in-Absent.ensures.1 in
-    (λ bad. let added = (rw bad at c.add.ensures.added).0 in cc, λ both. absurd (absent-not_held c.args.self.now c.args.verdict.section absent both.1))
 
 pub returns-in-Absent-clause-conflict : goal.returns-in-Absent-clause-conflict
 returns-in-Absent-clause-conflict c =

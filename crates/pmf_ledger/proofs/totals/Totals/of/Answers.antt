@@ -1,9 +1,9 @@
-use Rattle.std.proofs.Common.{◌≡◌, take, sym, ◌∙◌, arith, take_all}
-use Rattle.pmf_ledger.proofs.{lemmas.CountLemmas.{Counted-none, Counted-pass, Counted-fail, Counted-warn, Counted-empty, totals_of-one}, totals.Totals.of.Goals.{in-Pass, in-Fail, in-Warn, in-Empty}}
+use Rattle.std.proofs.Common.{sym, ◌∙◌, rules}
+use Rattle.pmf_ledger.proofs.{lemmas.CountLemmas.{Counted-none, Counted-pass, Counted-fail, Counted-warn, Counted-empty}, totals.Totals.of.Goals.{in-Pass, in-Fail, in-Warn, in-Empty}}
 use Rattle.pmf_ledger.proofs.totals.Totals.of.Goals as goal
 
 pub loop-row-init : goal.loop-row-init
-loop-row-init c = Counted-none c.rows-row-items.result.now
+loop-row-init c = search (rules, Counted-none)
 
 pub loop-row-preserved : goal.loop-row-preserved
 loop-row-preserved c =
@@ -15,11 +15,3 @@ loop-row-preserved c =
       | in-Warn w ↦ rw (w.pass-is, w.fail-is, w.warn-is, w.empty-is) (Counted-warn rows c.loop-row.row-index _ c.loop-row-test.true _ _ _ _ so_far (sym c.outcome_of_row.ensures ∙ w.in-Warn.is))
       | in-Empty w ↦ rw (w.pass-is, w.fail-is, w.warn-is, w.empty-is) (Counted-empty rows c.loop-row.row-index _ c.loop-row-test.true _ _ _ _ so_far (sym c.outcome_of_row.ensures ∙ w.in-Empty.is))
     ]
-
-pub returns-clause-value : goal.returns-clause-value
-returns-clause-value c =
-    let rows = c.rows-row-items.result.now in
-    let so_far = c.loop-row.invariant in
-    let all : take c.loop-row.row-index rows ≡ rows = take_all c.loop-row.row-index rows (omega (arith, c.loop-row-test.false)) in
-    let whole = all ∙ c.rows-row-items.ensures.value in
-    rw (so_far.pass_is, so_far.fail_is, so_far.warn_is, so_far.empty_is, whole) (totals_of-one c.args.verdict.now)
