@@ -176,6 +176,8 @@ impl Floor {
     }
 
     /// Hands the section out to the worker, which is idle.
+    #[tactic(auto, using(std::proofs::lemmas::Grind::common_steps, crate::proofs::lemmas::FloorLemmas::becomes, crate::proofs::lemmas::FloorLemmas::alike,
+        crate::proofs::lemmas::FloorLemmas::entry_is, crate::proofs::lemmas::FloorLemmas::doing_set))]
     pub(crate) fn hand_out(&mut self, worker: u32, section: u32)
         requires idle { slice_get self.old.farm.workers worker ≡ Some Doing.Idle }
         requires there { section < length self.old.farm.board }
@@ -203,6 +205,7 @@ impl Floor {
     }
 
     /// Gives the worker, which has the task of the section, the section's verdict.
+    #[tactic(auto, using(std::proofs::lemmas::Grind::common_steps, crate::proofs::lemmas::FloorLemmas::becomes, crate::proofs::lemmas::FloorLemmas::alike, crate::proofs::lemmas::FloorLemmas::doing_set))]
     pub(crate) fn give(&mut self, worker: u32, section: u32, verdict: Verdict)
         requires has { slice_get self.old.farm.workers worker ≡ Some (Doing.HasTask section) }
         requires of { verdict ≡ verdict_at self.old.profile self.old.sections section }
@@ -240,6 +243,9 @@ impl Floor {
     }
 
     /// Marks the section, whose verdict the worker sent.
+    #[tactic(auto, using(std::proofs::lemmas::Grind::common_steps, crate::proofs::lemmas::FloorLemmas::worker_within, crate::proofs::lemmas::FloorLemmas::IsFloor_marked,
+        crate::proofs::lemmas::FloorLemmas::section_within, crate::proofs::lemmas::FloorLemmas::becomes, crate::proofs::lemmas::FloorLemmas::alike,
+        crate::proofs::lemmas::FloorLemmas::entry_is, crate::proofs::lemmas::FloorLemmas::doing_set))]
     pub(crate) fn mark(&mut self, worker: u32, section: u32)
         requires sent { slice_get self.old.farm.workers worker ≡ Some (Doing.HasSent section) }
         ensures { Becomes self.old (record {
@@ -253,6 +259,7 @@ impl Floor {
     }
 
     /// The worker goes, with what it has in its hand.
+    #[tactic(auto, using(std::proofs::lemmas::Grind::common_steps, crate::proofs::lemmas::FloorLemmas::becomes, crate::proofs::lemmas::FloorLemmas::alike, crate::proofs::lemmas::FloorLemmas::doing_set))]
     pub(crate) fn lose(&mut self, worker: u32)
         requires there { worker < length self.old.farm.workers }
         ensures { Becomes self.old (with_worker self.old.farm worker Doing.Gone) self.new }

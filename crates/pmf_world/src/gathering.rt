@@ -100,6 +100,7 @@ impl World {
     }
 
     // A ledger is joined with a copy of another, or with itself.
+    #[tactic(auto, using(std::proofs::lemmas::Grind::common_steps, crate::proofs::lemmas::WorldLedgerLemmas::join_steps))]
     pub(crate) fn join(&mut self, into: u32, from: u32) -> Result<WorldAnswer, WorldFault>
         ensures steps { IfOk result (λ told.
             Steps self.old (WorldStep.Join into from) told self.new) }

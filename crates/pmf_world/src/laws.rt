@@ -3,6 +3,7 @@
 ghost use Rattle.pmf_world.specs.Laws.{DoneWasSent, LedgersAreOfTheGathered, SetsAreOfTheGathered, TasksDiffer};
 
 /// After every list of steps, what is kept of a ledger is just what was gathered there.
+#[tactic(auto, using(std::proofs::lemmas::Grind::common_steps, crate::proofs::lemmas::GatheredLemmas::sets_of_gathered))]
 pub fn sets_are_of_the_gathered()
     ensures { SetsAreOfTheGathered }
 {}
@@ -13,11 +14,13 @@ pub fn ledgers_are_of_the_gathered()
 {}
 
 /// No two tasks that a world hands out are the same.
+#[tactic(auto, using(std::proofs::lemmas::Grind::common_steps, crate::proofs::lemmas::TaskLemmas::all_differ))]
 pub fn tasks_differ()
     ensures { TasksDiffer }
 {}
 
 /// Of each section that is done a message was sent.
+#[tactic(auto, using(std::proofs::lemmas::Grind::common_steps, crate::proofs::lemmas::SentLemmas::done_is_sent))]
 pub fn done_was_sent()
     ensures { DoneWasSent }
 {}

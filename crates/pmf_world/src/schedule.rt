@@ -30,6 +30,7 @@ impl<T: Drop> From<AllocFailed<T>> for ScheduleFault {
 }
 
 /// The steps that the text lines of a schedule tell, in their order. Takes memory for the steps alone.
+#[tactic(auto, using(std::proofs::lemmas::Grind::common_steps, crate::proofs::lemmas::ScheduleLemmas::IsAt_start))]
 pub(crate) fn read_schedule(alloc: Global, text: &[u8]) -> Result<Vec<WorldStep>, ScheduleFault>
     requires { length text.now ≤ SCHEDULE_LIMIT }
     ensures { MatchResult result (λ steps. schedule_of text.now ≡ Ok steps.items)
@@ -115,6 +116,9 @@ fn step_of_two(word: &[u8], first: Option<u32>, second: Option<u32>) -> Option<W
 }
 
 // The number below 2^32 that 1 to 10 decimal digits spell.
+#[tactic(auto, using(std::proofs::lemmas::Grind::common_steps, crate::proofs::lemmas::NumberWordLemmas::number_of_long, crate::proofs::lemmas::NumberWordLemmas::number_of_none,
+    crate::proofs::lemmas::NumberWordLemmas::number_of_some, std::proofs::lemmas::Bool::Decides::nat_tests, crate::proofs::lemmas::NumberWordLemmas::narrowed_cast,
+    crate::proofs::lemmas::NumberWordLemmas::number_of_rest))]
 fn read_number(word: &[u8]) -> Option<u32>
     ensures { result ≡ number_of word.now }
 {

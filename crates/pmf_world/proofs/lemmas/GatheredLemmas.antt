@@ -1,21 +1,15 @@
 -- What is kept of a ledger, and what was gathered there.
-use Rattle.std.proofs.{Common.{◌≡◌, ℕ, zero, suc, List, [], ◌∷◌, ◌++◌, map, get_or, set, replicate, Some, None, refl, sym, ◌∙◌, ap, subst, inl, inr, ◌⊎◌, ◌↔◌, slice_get, Contains, Option, Ok, Err, IsOk, get_or-set_same}, lemmas.List.Elements.{Contains-append_left, Contains-append_right, Contains-append_cases}, lemmas.Option.{same_Some, slice_get_within, get_or_from_slice_get}}
+use Rattle.std.proofs.{Common.{◌≡◌, ℕ, List, [], ◌∷◌, ◌++◌, map, get_or, set, replicate, Some, None, refl, sym, ◌∙◌, ap, subst, inl, inr, ◌⊎◌, ◌↔◌, slice_get, Contains, Option, IsOk, get_or-set_same, arith}, lemmas.List.Elements.{Contains-append_left, Contains-append_right, Contains-append_cases}, lemmas.Option.{same_Some, slice_get_within, get_or_from_slice_get}, lemmas.Grind.{common_steps}}
 use Rattle.pmf_ledger.{proofs.lemmas.AddingLemmas.{Contains-cons, Contains-cons_cases, from_map, to_map}, proofs.lemmas.MergingLemmas.{none_of_empty}, specs.Repeats.{section_at}}
 use Rattle.pmf_world.specs.{declared.step.WorldStep.{WorldStep}, Turns.{Turned}, Steps.{WorldState, after, arrive_found, join_found, opening_of, set_at, stepped, turned, with_set, world_of}, Laws.{Brings, IsGathered, LedgersAreOfTheGathered, SetsAreOfTheGathered}}
 use Rattle.pmf_world.specs.declared.step.WorldStep.TheVariants as step
 
 -- after a set a place is the one that was set and has the new element, or it has what it had
 pub get_or-set_cases : {X : Type 0} (xs : List X) (i j : ℕ) (y d : X) → ((j ≡ i) × (get_or (set xs i y) j d ≡ y)) ⊎ (get_or (set xs i y) j d ≡ get_or xs j d)
-get_or-set_cases [] i j y d = inr refl
-get_or-set_cases (x ∷ xs) zero zero y d = inl (refl, refl)
-get_or-set_cases (x ∷ xs) zero (suc j) y d = inr refl
-get_or-set_cases (x ∷ xs) (suc i) zero y d = inr refl
-get_or-set_cases (x ∷ xs) (suc i) (suc j) y d = elim (get_or-set_cases xs i j y d) [ inl here ↦ inl (ap suc here.0, here.1) | inr other ↦ inr other ]
+get_or-set_cases xs i j y d = grind (arith, common_steps)
 
 pub get_or-replicate_default : {X : Type 0} (n k : ℕ) (d : X) → get_or (replicate n d) k d ≡ d
-get_or-replicate_default zero k d = refl
-get_or-replicate_default (suc n) zero d = refl
-get_or-replicate_default (suc n) (suc k) d = get_or-replicate_default n k d
+get_or-replicate_default n k d = grind (arith, common_steps)
 
 -- a step that brings nothing
 kept : {Has Was None : Type 0} → Has ↔ Was → (None → ⊥) → Has ↔ (Was ⊎ None)
@@ -23,10 +17,7 @@ kept same none = (λ has. inl (same.0 has), λ either. elim either [ inl was ↦
 
 -- a step that was not refused, and what it brings
 brought : {Has Was More Fine : Type 0} → Has ↔ (Was ⊎ More) → Fine → Has ↔ (Was ⊎ (Fine × More))
-brought gains fine = (
-  λ has. elim (gains.0 has) [ inl was ↦ inl was | inr more ↦ inr (fine, more) ],
-  λ either. gains.1 (elim either [ inl was ↦ inl was | inr now ↦ inr now.1 ]),
-)
+brought gains fine = grind (arith, common_steps)
 
 -- what a step brings to the sets, where section s was in them just where it was gathered
 module _ (w : WorldState) (s : ℕ) (WasGatheredAt : ℕ → Type 0) (is : (j : ℕ) → Contains (set_at w j) s ↔ WasGatheredAt j) where
@@ -53,8 +44,7 @@ module _ (w : WorldState) (s : ℕ) (WasGatheredAt : ℕ → Type 0) (is : (j : 
       ]
 
   turn_gathers : (t : Turned) (k : ℕ) → Contains (set_at (world_of w (turned w t)) k) s ↔ (WasGatheredAt k ⊎ (IsOk (turned w t) × ⊥))
-  turn_gathers (Ok (told, farm)) k = kept (is k) (λ now. now.1)
-  turn_gathers (Err refused) k = kept (is k) (λ now. now.1)
+  turn_gathers t k = grind (arith, common_steps, kept)
 
   arrive_gathers : (message i k : ℕ) (found : Option ℕ) (set_found : Option (List ℕ)) → slice_get w.farm.messages message ≡ found → slice_get w.sets i ≡ set_found →
       let r = arrive_found w i found set_found in Contains (set_at (world_of w r) k) s ↔ (WasGatheredAt k ⊎ (IsOk r × Brings w WasGatheredAt (step.Arrive message i) k s))

@@ -1,7 +1,7 @@
 -- Of each section that is done, and of each whose verdict a worker has just sent, a message was sent.
-use Rattle.std.proofs.{Common.{◌≡◌, ℕ, true, List, [], ◌∷◌, ◌++◌, set, Some, None, refl, sym, ◌∙◌, ap, subst, inl, inr, slice_get, Contains, Option, Ok, All}, lemmas.List.Elements.{All-replicate, All-set, All-weaker, Contains-append_left, Contains-push}, lemmas.Option.{slice_get_within, get_or_from_slice_get}}
-use Rattle.pmf_board.specs.{declared.entry.Entry.{Entry}, Machine.{untouched, entry_at, handed_out, finished}}
-use Rattle.pmf_world.{specs.declared.doing.Doing.{Doing}, specs.declared.step.WorldStep.{WorldStep}, specs.Turns.{FarmState, check_where, lose_where, mark_where, send_where, take_found, taken_by}, specs.Steps.{WorldState, after, arrive_found, join_found, opening_of, stepped, turned, world_of}, specs.Laws.{DoneWasSent}, proofs.lemmas.GatheredLemmas.{get_or-set_cases, get_or-replicate_default}, proofs.lemmas.TaskLemmas.{take_cases}}
+use Rattle.std.proofs.{Common.{◌≡◌, ℕ, true, List, [], ◌∷◌, ◌++◌, set, Some, None, refl, ap, slice_get, Contains, Option, All, rules, arith}, lemmas.List.Elements.{All-replicate, All-set, All-weaker, Contains-append_left, Contains-push}, lemmas.Option.{slice_get_within, get_or_from_slice_get}, lemmas.Grind.{common_steps}}
+use Rattle.pmf_board.specs.{declared.entry.Entry.{Entry}, Machine.{untouched, entry_at}}
+use Rattle.pmf_world.{specs.declared.doing.Doing.{Doing}, specs.declared.step.WorldStep.{WorldStep}, specs.Turns.{FarmState, check_where, lose_where, mark_where, send_where, take_found}, specs.Steps.{WorldState, after, arrive_found, join_found, opening_of, stepped, turned, world_of}, specs.Laws.{DoneWasSent}, proofs.lemmas.GatheredLemmas.{get_or-set_cases, get_or-replicate_default}}
 use Rattle.pmf_world.specs.declared.doing.Doing.TheVariants as doing
 use Rattle.pmf_world.specs.declared.step.WorldStep.TheVariants as step
 
@@ -17,32 +17,18 @@ record IsSent (f : FarmState) : Type 0 where
 
 -- one message more
 told_still : (messages : List ℕ) (s : ℕ) (d : Doing) → HasToldTruly messages d → HasToldTruly (messages ++ s ∷ []) d
-told_still messages s (doing.HasSent x) told = Contains-append_left messages (s ∷ []) x told
-told_still messages s _ told = tt
+told_still messages s d told = grind (arith, common_steps, Contains-append_left)
 
 -- after a set to an entry that is done only where a message of its section was sent
 done_still : (f : FarmState) (s : ℕ) (e : Entry) → IsSent f → (e.done ≡ true → Contains f.messages s) → (x : ℕ) → (entry_at (set f.board s e) x).done ≡ true → Contains f.messages x
-done_still f s e is sent x done = elim (get_or-set_cases f.board s x e untouched) [
-  | inl here ↦ subst (Contains f.messages) (sym here.0) (sent (ap (λ (g : Entry). g.done) (sym here.1) ∙ done))
-  | inr other ↦ is.of_done x (ap (λ (g : Entry). g.done) (sym other) ∙ done)
-]
+done_still f s e is sent x done = grind (arith, common_steps, get_or-set_cases)
 
 module _ (w : WorldState) (worker : ℕ) (is : IsSent w.farm) where
-  told_set : (d : Doing) → HasToldTruly w.farm.messages d → All (HasToldTruly w.farm.messages) (set w.farm.workers worker d)
-  told_set d told = All-set (HasToldTruly w.farm.messages) w.farm.workers worker d told is.of_workers
-
   IsSent-take : (limit s : ℕ) (found : Option Doing) (section : Option Entry) → slice_get w.farm.board s ≡ section → IsSent (world_of w (turned w (take_found limit w.farm worker s found section))).farm
-  IsSent-take limit s None section at = is
-  IsSent-take limit s (Some d) None at = is
-  IsSent-take limit s (Some doing.Idle) (Some e) at =
-      take_cases (λ taking. IsSent (world_of w (turned w (Ok (taken_by w.farm worker s taking)))).farm) limit w.farm.board s e at is
-      (record { of_done = done_still w.farm s (handed_out (entry_at w.farm.board s)) is (is.of_done s); of_workers = told_set (doing.HasTask s) tt })
-  IsSent-take limit s (Some _) (Some e) at = is
+  IsSent-take limit s found section at = search (rules, done_still)
 
   IsSent-check : (found : Option Doing) → IsSent (world_of w (turned w (check_where w.farm worker found))).farm
-  IsSent-check None = is
-  IsSent-check (Some (doing.HasTask s)) = record { of_done = is.of_done; of_workers = told_set (doing.HasVerdict s) tt }
-  IsSent-check (Some _) = is
+  IsSent-check found = search rules
 
   IsSent-send : (found : Option Doing) → IsSent (world_of w (turned w (send_where w.farm worker found))).farm
   IsSent-send None = is
@@ -56,30 +42,16 @@ module _ (w : WorldState) (worker : ℕ) (is : IsSent w.farm) where
   IsSent-send (Some _) = is
 
   IsSent-mark : (found : Option Doing) → slice_get w.farm.workers worker ≡ found → IsSent (world_of w (turned w (mark_where w.farm worker found))).farm
-  IsSent-mark None at = is
-  IsSent-mark (Some (doing.HasSent s)) at =
-      let told = is.of_workers worker (doing.HasSent s) (slice_get_within w.farm.workers worker _ at) in
-      let sent : Contains w.farm.messages s = subst (HasToldTruly w.farm.messages) (get_or_from_slice_get w.farm.workers worker _ (doing.HasSent s) at) told in
-      record {
-        of_done = done_still w.farm s (finished (entry_at w.farm.board s)) is (λ done. sent);
-        of_workers = told_set doing.Idle tt;
-      }
-  IsSent-mark (Some _) at = is
+  IsSent-mark found at = search (rules, slice_get_within, get_or_from_slice_get, done_still)
 
   IsSent-lose : (found : Option Doing) → IsSent (world_of w (turned w (lose_where w.farm worker found))).farm
-  IsSent-lose None = is
-  IsSent-lose (Some doing.Gone) = is
-  IsSent-lose (Some _) = record { of_done = is.of_done; of_workers = told_set doing.Gone tt }
+  IsSent-lose found = search rules
 
 IsSent-arrive : (w : WorldState) (k : ℕ) (found : Option ℕ) (set_found : Option (List ℕ)) → IsSent w.farm → IsSent (world_of w (arrive_found w k found set_found)).farm
-IsSent-arrive w k None set_found is = is
-IsSent-arrive w k (Some s) None is = is
-IsSent-arrive w k (Some s) (Some gathered) is = is
+IsSent-arrive w k found set_found is = grind (arith, common_steps)
 
 IsSent-join : (w : WorldState) (k : ℕ) (own other : Option (List ℕ)) → IsSent w.farm → IsSent (world_of w (join_found w k own other)).farm
-IsSent-join w k None other is = is
-IsSent-join w k (Some own) None is = is
-IsSent-join w k (Some own) (Some other) is = is
+IsSent-join w k own other is = grind (arith, common_steps)
 
 step_sent : (w : WorldState) (newest : WorldStep) → IsSent w.farm → IsSent (world_of w (stepped w newest)).farm
 step_sent w (step.Fresh worker section) is = IsSent-take w worker is 1 section _ _ refl

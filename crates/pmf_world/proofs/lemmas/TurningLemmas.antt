@@ -1,9 +1,9 @@
 -- A turn of a worker, on the floor of a world, as a step of the world.
-use Rattle.std.proofs.{Common.{◌≡◌, ℕ, List, [], refl, sym, subst, Ok, Err, rules, IfOk, Result, replicate, All}, lemmas.List.Elements.{All-replicate}}
+use Rattle.std.proofs.{Common.{◌≡◌, ℕ, List, [], refl, sym, subst, Ok, Err, IfOk, Result, replicate, All, arith}, lemmas.List.Elements.{All-replicate}, lemmas.Grind.{common_steps}}
 use Rattle.pmf_event.specs.{declared.profile.Profile.{Profile}, Section.{Trace}}
 use Rattle.pmf_verdict.specs.Checked.{checked_by}
 use Rattle.pmf_ledger.{specs.LedgerValue.{LedgerValue}, specs.Repeats.{HaveOwnNames}, proofs.lemmas.MergingLemmas.{none_of_empty}}
-use Rattle.pmf_world.{specs.declared.step.WorldAnswer.{WorldAnswer}, specs.declared.step.WorldFault.{WorldFault}, specs.declared.step.WorldStep.{WorldStep}, specs.Turns.{FarmState, Turned}, specs.Floors.{FloorValue, IsTurned, IsTurnedIfRoom}, specs.Steps.{WorldState, stepped, turned}, specs.Worlds.{IsOfWorld, Steps, WorldValue}, proofs.lemmas.WorldStandsLemmas.{steps-turned}}
+use Rattle.pmf_world.specs.{declared.step.WorldAnswer.{WorldAnswer}, declared.step.WorldFault.{WorldFault}, declared.step.WorldStep.{WorldStep}, Turns.{FarmState, Turned}, Floors.{FloorValue, IsTurned, IsTurnedIfRoom}, Steps.{WorldState, stepped, turned}, Worlds.{IsOfWorld, Steps, WorldValue}}
 use Rattle.pmf_world.specs.declared.step.WorldFault.TheVariants as fault
 
 -- a floor and ledgers, as a world
@@ -30,14 +30,10 @@ module _ (old : WorldValue) (newest : WorldStep) (turn : FarmState → Turned) (
     (by : (state : WorldState) → stepped state newest ≡ turned state (turn state.farm)) where
   -- a turn that was done is the step
   pub turn-steps : (r : Result WorldAnswer WorldFault) → IsTurned floor (turn floor.farm) r new → IfOk r (λ told. Steps old newest told (world_on new ledgers))
-  turn-steps (Ok told) is =
-      subst (λ o. Steps o newest told (world_on new ledgers)) is_old
-      (steps-turned (world_on floor ledgers) (world_on new ledgers) newest told turn is.0 by is.1 is.2.profile_stays is.2.sections_stay is.2.farm_is refl)
-  turn-steps (Err refused) is = search rules
+  turn-steps r is = grind (arith, common_steps)
 
   pub turn-steps_if_room : (r : Result WorldAnswer WorldFault) → IsTurnedIfRoom floor (turn floor.farm) r new → IfOk r (λ told. Steps old newest told (world_on new ledgers))
-  turn-steps_if_room (Ok told) is = turn-steps (Ok told) is
-  turn-steps_if_room (Err refused) is = search rules
+  turn-steps_if_room r is = grind (arith, common_steps, turn-steps)
 
 -- empty ledgers are of any sections
 pub empties-ours : (profile : Profile) (sections : List Trace) (count : ℕ) → All (IsOfWorld profile sections) (replicate count (record { profile = profile; sections = [] }))

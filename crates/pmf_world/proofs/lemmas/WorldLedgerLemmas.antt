@@ -1,5 +1,5 @@
 -- What one ledger of a world takes or is joined with, and the world after it.
-use Rattle.std.{proofs.Common.{rules, ◌≡◌, ℕ, zero, suc, ◌+◌, ◌<◌, ◌≤◌, true, List, [], ◌∷◌, ◌++◌, length, set, get_or, slice_get, refl, sym, ◌∙◌, ap, subst, Some, Ok, inl, inr, arith, if◌then◌else◌, eqb, eqb-true, ◌↔◌, Contains, IfOk, OnOk, OnErr, Result, Err, All, eq-eqb}, specs.List.{list_any}, proofs.lemmas.Bool.{cases_Bool, cases_order}, proofs.lemmas.List.{get_or-map, get_or_default, length-map, map-append, set-get_or}, proofs.lemmas.List.Elements.{All-append, All-cons, All-get_or, Contains-append_cases, Contains-append_left, Contains-get_or}, proofs.lemmas.List.Folds.{Any-from_list_any, list_any_at}, proofs.lemmas.Option.{slice_get-get_or}}
+use Rattle.std.{proofs.Common.{rules, ◌≡◌, ℕ, zero, suc, ◌+◌, ◌<◌, true, List, [], ◌∷◌, ◌++◌, length, set, get_or, slice_get, refl, sym, ◌∙◌, ap, subst, Some, Ok, inl, inr, arith, if◌then◌else◌, eqb, eqb-true, ◌↔◌, Contains, IfOk, OnOk, OnErr, Result, Err, All, eq-eqb}, specs.List.{list_any}, proofs.lemmas.List.{get_or-map, get_or_default, length-map, map-append, set-get_or}, proofs.lemmas.List.Elements.{All-append, All-cons, All-get_or, Contains-append_cases, Contains-append_left}, proofs.lemmas.List.Folds.{Any-from_list_any, list_any_at}, proofs.lemmas.Option.{slice_get-get_or}, proofs.lemmas.Grind.{common_steps}}
 use Rattle.pmf_event.specs.{declared.name.Name.{Name}, declared.profile.Profile.{Profile}, Section.{Trace}}
 use Rattle.pmf_ledger.{specs.declared.taking.Taken.{Taken}, specs.Gathered.{ClashesAt, Gains, Gathers, GathersBoth, Holds, HoldsOther, IsLedgerOf, Unites}, specs.LedgerValue.{LedgerValue}, specs.Repeats.{HaveOwnNames, is_name, names_of, no_section, section_at}, proofs.lemmas.AddingLemmas.{from_map, to_map}, proofs.lemmas.RepeatLemmas.{is_name-yes, some_two}}
 use Rattle.pmf_verdict.specs.Checked.{Checked}
@@ -19,10 +19,7 @@ apart ss own i j less inside same =
 
 -- where they have one name it is one place
 same_place : (ss : List Trace) → HaveOwnNames ss → (i j : ℕ) → i < length ss → j < length ss → (section_at ss i).name ≡ (section_at ss j).name → i ≡ j
-same_place ss own i j of_i of_j same = elim (cases_order i j) [
-  | inl even ↦ even
-  | inr other ↦ absurd (elim other [ inl less ↦ apart ss own i j less of_j same | inr more ↦ apart ss own j i more of_i (sym same) ])
-]
+same_place ss own i j of_i of_j same = grind (arith, common_steps, apart)
 
 -- of sections with names of their own two with one name are one
 pub same_section : (ss : List Trace) → HaveOwnNames ss → (s t : Trace) → Contains ss s → Contains ss t → s.name ≡ t.name → s ≡ t
@@ -54,23 +51,13 @@ is_ours-joined profile ss a b m of_a of_b unites = (
   λ t held. elim ((unites.holds t).0 held) [ inl first ↦ of_a.1 t first | inr second ↦ of_b.1 t second ],
 )
 
--- a section of a number that there is is one of the sections
-has_section : (ss : List Trace) (s : ℕ) → s < length ss → Contains ss (section_at ss s)
-has_section ss s here = Contains-get_or ss s no_section here
-
 -- a set of numbers has a number where their sections have its section
 has_number : (ss : List Trace) (set : List ℕ) (s : ℕ) → HaveOwnNames ss → All (λ n. n < length ss) set → s < length ss → Contains (sections_at ss set) (section_at ss s) → Contains set s
-has_number ss set s own within here found =
-    let there = from_map (section_at ss) set (section_at ss s) found in
-    let less = subst (λ n. n < length ss) there.1.2 (All-get_or (λ n. n < length ss) set there.1.0 there.0 there.1.1 within) in
-    subst (Contains set) (same_place ss own there.0 s less here (ap (λ (r : Trace). r.name) there.2)) there.1
+has_number ss set s own within here found = grind (arith, common_steps, from_map, All-get_or, same_place)
 
 -- and the test of a number finds it where it is
 finds : (set : List ℕ) (s : ℕ) → Contains set s ↔ (list_any (eqb s) set ≡ true)
-finds set s = (
-  λ found. list_any_at (eqb s) set found.0 s found.1 (ap (eqb s) found.2 ∙ eq-eqb s s refl),
-  λ is. let any = Any-from_list_any (eqb s) set is in subst (Contains set) (sym (eqb-true s any.1 any.4)) (any.0, any.2, any.3),
-)
+finds set s = grind (arith, common_steps, list_any_at, eq-eqb, Any-from_list_any, eqb-true)
 
 -- the ledger of a set is that of the set with itself
 twice_over : (profile : Profile) (xs : List Trace) (l : LedgerValue) → IsLedgerOf profile xs l → IsLedgerOf profile (xs ++ xs) l
@@ -104,11 +91,7 @@ module _ (old : WorldValue) (state : WorldState) (stands : StandsFor old state) 
         )
 
     answers : (t : Taken) → (t ≡ taken.Repeat) ↔ Holds (ledger_at old k) (section_at old.sections s) → (if list_any (eqb s) (set_at state k) then answer.Repeat else answer.Added) ≡ answer_of t
-    answers taken.Repeat told = ap (λ b. if b then answer.Repeat else answer.Added) (holds_it.0 (told.0 refl))
-    answers taken.Added told = elim (cases_Bool (list_any (eqb s) (set_at state k))) [
-      | inl found ↦ absurd (let no = told.1 (holds_it.1 found) in cc)
-      | inr not_found ↦ ap (λ b. if b then answer.Repeat else answer.Added) not_found
-    ]
+    answers t told = grind (arith, common_steps, holds_it)
 
 -- a message of the section arrives
 pub arrive-steps : (old new : WorldValue) (m k : ℕ) (v : Checked) (t : Taken) → HaveOwnNames old.sections → IsSent old.profile old.sections old.farm.messages m v → k < length old.ledgers → TakesAt old k v.section t new →
@@ -136,8 +119,8 @@ arrive-steps old new m k v t own sent there takes =
     })
 
 -- a ledger is joined with another
-pub join-steps : (old new : WorldValue) (k from : ℕ) → k < length old.ledgers → from < length old.ledgers → JoinsAt old k from new → Steps old (step.Join k from) answer.Joined new
-join-steps old new k from there other joins =
+pub join_steps : (old new : WorldValue) (k from : ℕ) → k < length old.ledgers → from < length old.ledgers → JoinsAt old k from new → Steps old (step.Join k from) answer.Joined new
+join_steps old new k from there other joins =
     subst (Steps old (step.Join k from) answer.Joined) (sym joins.new_is) (record {
       profile_stays = refl;
       sections_stay = refl;

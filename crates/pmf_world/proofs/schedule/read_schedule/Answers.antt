@@ -1,10 +1,7 @@
 -- The text lines are those of the definition, read one by one.
-use Rattle.std.{proofs.Common.{◌≡◌, ◌<◌, length, sym, ap, subst, ◌∙◌, arith, rules, tests}, specs.List.{slice_split}, proofs.lemmas.Bool.Decides.{nat_tests}, proofs.lemmas.List.{length_push}, proofs.lemmas.Iterator.Splits.{YieldsList-from_slice_split}}
-use Rattle.pmf_world.{specs.Schedule.{is_line_end}, proofs.lemmas.ScheduleLineLemmas.{turned, ended}, proofs.lemmas.ScheduleLemmas.{IsAt, IsAt-start, at_empty, at_step, at_bad, at_end, told}, proofs.schedule.read_schedule.Goals.{then-not-is_empty+in-Some-read_step+in_ok-push-in-Some-read_step, else-not-is_empty}}
+use Rattle.std.{proofs.Common.{◌<◌, length, sym, ◌∙◌, arith, rules, tests}, specs.List.{slice_split}, proofs.lemmas.Bool.Decides.{nat_tests}, proofs.lemmas.List.{length_push}, proofs.lemmas.Iterator.Splits.{YieldsList-from_slice_split}, proofs.lemmas.Grind.{common_steps}}
+use Rattle.pmf_world.{specs.Schedule.{is_line_end}, proofs.lemmas.ScheduleLineLemmas.{turned, ended}, proofs.lemmas.ScheduleLemmas.{at_empty, at_step, at_bad, at_end, told}, proofs.schedule.read_schedule.Goals.{then-not-is_empty+in-Some-read_step+in_ok-push-in-Some-read_step, else-not-is_empty}}
 use Rattle.pmf_world.proofs.schedule.read_schedule.Goals as goal
-
-pub loop-line-init : goal.loop-line-init
-loop-line-init c = subst (IsAt (slice_split is_line_end c.args.text.now) 0 1) (sym c.new-steps.ensures.items) (IsAt-start (slice_split is_line_end c.args.text.now))
 
 pub returns-in-None-read_step : goal.returns-in-None-read_step
 returns-in-None-read_step c =
@@ -22,19 +19,8 @@ loop-line-preserved c =
     turned c.into_iter-line-iterator.result _ c.loop-line.yielded _ c.loop-line.yielded_by _ _ c.in-Some.line c.in-Some.is c.next.ensures.steps
     (YieldsList-from_slice_split {s = c.into_iter-line-iterator.result} _ is_line_end c.args.text.now (cc) (cc) (cc) (λ x r q k. search (rules, tests))) in
     elim c.if-not-is_empty.branch [
-      | then-not-is_empty+in-Some-read_step+in_ok-push-in-Some-read_step w ↦
-          let some : 0 < length c.in-Some.line.now = grind (arith, nat_tests) in
-          let grown = ap (λ steps. steps.items) w.steps-is ∙ w.in_ok-push-in-Some-read_step.ensures.items in
-          let step =
-          at_step (slice_split is_line_end c.args.text.now) (length c.loop-line.yielded) c.loop-line.number c.loop-line.steps.items c.loop-line.invariant
-          c.in-Some.line.now turn.0 turn.1 some w.in-Some-read_step.step (sym w.in-Some-read_step.ensures) in
-          rw (length_push c.loop-line.yielded c.in-Some.line, grown) step
-      | else-not-is_empty w ↦
-          let none : length c.in-Some.line.now ≡ 0 = search (rules, nat_tests) in
-          let step =
-          at_empty (slice_split is_line_end c.args.text.now) (length c.loop-line.yielded) c.loop-line.number c.loop-line.steps.items c.loop-line.invariant
-          c.in-Some.line.now turn.0 turn.1 none in
-          rw (length_push c.loop-line.yielded c.in-Some.line, w.steps-is) step
+      | then-not-is_empty+in-Some-read_step+in_ok-push-in-Some-read_step w ↦ grind (arith, common_steps, then-not-is_empty+in-Some-read_step+in_ok-push-in-Some-read_step, nat_tests, at_step, length_push)
+      | else-not-is_empty w ↦ grind (arith, common_steps, nat_tests, length_push, else-not-is_empty, at_empty)
     ]
 
 pub returns : goal.returns

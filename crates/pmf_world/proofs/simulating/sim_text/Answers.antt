@@ -1,18 +1,12 @@
-use Rattle.std.proofs.Common.{◌≡◌, ◌<◌, ◌++◌, length, take, sym, subst, rules, string_bytes}
-use Rattle.pmf_world.{specs.Lines.{text_of_ledgers}, specs.Playing.{PlaysAll}, proofs.lemmas.SimulatingLemmas.{few_steps, refuses-numbers, simulated}}
+use Rattle.std.proofs.{Common.{◌≡◌, ◌++◌, take, subst, rules, string_bytes, arith}, lemmas.Grind.{common_steps}}
+use Rattle.pmf_world.{specs.Lines.{text_of_ledgers}, specs.Playing.{PlaysAll}, proofs.lemmas.SimulatingLemmas.{few_steps, refuses_numbers, simulated}}
 use Rattle.pmf_world.proofs.simulating.sim_text.Goals as goal
 
 pub returns-in-Err-new : goal.returns-in-Err-new
-returns-in-Err-new c = (
-  c.in-Ok.steps.items,
-  c.in-Ok-read_log.read,
-  c.in-Ok.ensures,
-  c.in-Ok-read_log.ensures,
-  refuses-numbers c.args.log.now c.in-Ok-read_log.read _ c.args.workers c.args.ledgers c.in-Err-new.fault c.in-Ok-read_log.ensures c.sections.ensures c.in-Err-new.ensures.refused,
-)
+returns-in-Err-new c = grind (arith, common_steps, refuses_numbers)
 
 pub play_all-requires : goal.play_all-requires
-play_all-requires c = subst (λ ss. length ss < 4294967296) (sym c.deref.ensures.value) (few_steps c.args.schedule.now c.in-Ok.steps.items c.in-Ok.ensures)
+play_all-requires c = grind (arith, common_steps, few_steps)
 
 pub returns : goal.returns
 returns c =

@@ -1,5 +1,5 @@
-use Rattle.std.proofs.{Common.{rules, ◌≡◌, ◌<◌, ◌++◌, [], ◌∷◌, map, set, ap, refl, subst, sym, ◌∙◌}, lemmas.List.{map-append}, lemmas.Option.{none-some, same_Some}}
-use Rattle.pmf_world.{specs.Floors.{IsFloor}, proofs.lemmas.FloorLemmas.{IsFloor-posted, alike, becomes, doing-set, few-messages, has-verdict, worker-within}}
+use Rattle.std.proofs.{Common.{rules, ◌≡◌, ◌++◌, [], ◌∷◌, map, set, ap, subst, sym, ◌∙◌, arith}, lemmas.List.{map-append}, lemmas.Option.{none-some, same_Some}, lemmas.Grind.{common_steps}}
+use Rattle.pmf_world.{specs.Floors.{IsFloor}, proofs.lemmas.FloorLemmas.{IsFloor-posted, alike, becomes, doing_set, few-messages, has-verdict, worker_within}}
 use Rattle.pmf_world.specs.declared.doing.Doing.TheVariants as doing
 use Rattle.pmf_world.proofs.floor.Floor.post.Goals as goal
 
@@ -9,7 +9,7 @@ overflow_cast-number c =
     search (rules, few)
 
 pub index_mut-requires : goal.index_mut-requires
-index_mut-requires c = subst (λ n. c.args.worker < n) (sym c.self.inside.workers.ok.0) (worker-within c.self.inside.workers.items c.args.worker (doing.HasVerdict c.args.section) (search rules))
+index_mut-requires c = grind (arith, common_steps, worker_within)
 
 pub unreachable-requires : goal.unreachable-requires
 unreachable-requires c =
@@ -26,8 +26,4 @@ invariant_of-self-in-Some c =
     (IsFloor-posted _ _ c.self.inside.board.items c.self.inside.workers.items c.self.inside.messages.items c.args.worker c.args.section c.in-Some.verdict (search rules) (same_Some _ _ held) c.self.invariant))
 
 pub returns-clause-sent : goal.returns-clause-sent
-returns-clause-sent c =
-    let items : c.push_reserved.new.self.items ≡ c.self.inside.messages.items ++ record { section = c.args.section; verdict = c.in-Some.verdict } ∷ [] = search rules in
-    becomes c.args.self.now _ (λ f. record { board = f.board; workers = set f.workers c.args.worker (doing.HasSent c.args.section); messages = f.messages ++ c.args.section ∷ [] }) _ c.self.view_is
-    (alike _ _ _ _ refl (doing-set c.self.inside.workers.items c.args.worker c.replace.new.dest ∙ ap (λ w. set (map (λ v. v.doing) c.self.inside.workers.items) c.args.worker w.doing) c.replace.ensures.after)
-    (ap (map (λ m. m.section)) items ∙ map-append (λ m. m.section) c.self.inside.messages.items _))
+returns-clause-sent c = grind (arith, common_steps, becomes, alike, doing_set, map-append)

@@ -1,12 +1,6 @@
 use Rattle.std.proofs.Common.{rules, ◌≡◌, ◌<◌, length, subst}
-use Rattle.pmf_world.{specs.declared.step.WorldAnswer.TheVariants.{Joined}, specs.declared.step.WorldStep.TheVariants.{Join}, specs.Worlds.{Steps}, proofs.lemmas.WorldLedgerLemmas.{join-itself, join-steps}}
+use Rattle.pmf_world.{specs.declared.step.WorldAnswer.TheVariants.{Joined}, specs.declared.step.WorldStep.TheVariants.{Join}, specs.Worlds.{Steps}, proofs.lemmas.WorldLedgerLemmas.{join-itself}}
 use Rattle.pmf_world.proofs.world.World.join.Goals as goal
-
-pub returns-in_ok-join_at-clause-steps : goal.returns-in_ok-join_at-clause-steps
-returns-in_ok-join_at-clause-steps c =
-    let into : c.args.into < length c.args.self.now.ledgers = search rules in
-    let from : c.args.from < length c.args.self.now.ledgers = search rules in
-    join-steps c.args.self.now c.join_at.new.self c.args.into c.args.from into from c.in_ok-join_at.ensures.joins
 
 pub returns-else-into-from-clause-steps : goal.returns-else-into-from-clause-steps
 returns-else-into-from-clause-steps c =

@@ -1,4 +1,4 @@
-use Rattle.std.proofs.{Common.{rules, ◌≡◌, ◌<◌, length, set, ap, subst, sym, ◌∙◌, All}, lemmas.List.{set-get_or}, lemmas.List.Elements.{All-set}}
+use Rattle.std.proofs.{Common.{rules, ◌≡◌, ◌<◌, length, subst, sym, ◌∙◌, All, arith}, lemmas.List.{set-get_or}, lemmas.List.Elements.{All-set}, lemmas.Grind.{common_steps}}
 use Rattle.pmf_world.{specs.Worlds.{IsOfWorld}, proofs.lemmas.WorldLedgerLemmas.{clash_nowhere, is_ours-joined, joins-at, ledger-is, ledger-ours, set-again}}
 use Rattle.pmf_world.proofs.world.World.join_at.Goals as goal
 
@@ -44,8 +44,4 @@ returns-in-Ok-clause-joins c =
     (copied ∙ ledger-is c.self.inside.floor.profile c.self.inside.ledgers.items c.args.from c.index.result.now (search rules) from) c.in-Ok.ensures.gathers (set-again c.self.inside.ledgers.items c.args.into c.replace-own.new.dest c.in-Ok.joined)
 
 pub returns-in-Err-clause-unchanged : goal.returns-in-Err-clause-unchanged
-returns-in-Err-clause-unchanged c =
-    let into : c.args.into < length c.self.inside.ledgers.items = search rules in
-    let back = c.in-Err.ensures.returned ∙ c.replace-own.ensures.value in
-    let same = set-again c.self.inside.ledgers.items c.args.into c.replace-own.new.dest c.in-Err.own ∙ ap (set c.self.inside.ledgers.items c.args.into) (back ∙ c.index_mut.ensures.value) ∙ set-get_or c.self.inside.ledgers.items c.args.into c.index_mut.result.now in
-    ap (λ ls. record { profile = c.self.inside.floor.profile; sections = c.self.inside.floor.sections; farm = c.self.inside.floor.farm; ledgers = ls }) same ∙ c.self.view_is
+returns-in-Err-clause-unchanged c = grind (arith, common_steps, set-again, set-get_or)
