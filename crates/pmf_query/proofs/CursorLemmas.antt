@@ -1,5 +1,5 @@
 -- The records before and after an offset at which they begin anew.
-use Rattle.std.{proofs.Common.{◌≡◌, ℕ, ◌+◌, ◌-◌, ◌<◌, ◌≤◌, Bool, true, false, ◌==◌, List, [], ◌∷◌, ◌++◌, Option, Some, None, MatchOption, length, take, drop, get_or, All, refl, sym, ap, subst, ◌∙◌, arith, append_assoc, append-nil, take_all, take_at, get_or-take, length-take-le, length-drop, take-append-drop}, specs.List.{prefix_len, suffix_len}, proofs.lemmas.Bool.Decides.{Decides-eqb}, proofs.lemmas.List.{take_rest, take-take, drop-append-le, drop-drop}, proofs.lemmas.List.Elements.{All-from_get_or}, proofs.lemmas.List.Sums.{prefix_len_is, prefix_len_passes, prefix_len-le-length}, proofs.lemmas.List.Splits.{slice_split_none}, proofs.Math.Seq.{take-add, drop-length}}
+use Rattle.std.{proofs.Common.{◌≡◌, ℕ, ◌+◌, ◌-◌, ◌<◌, ◌≤◌, true, List, [], ◌∷◌, ◌++◌, Option, Some, None, MatchOption, length, take, drop, All, refl, sym, ap, subst, ◌∙◌, arith, append_assoc, append-nil, take_at, length-take-le, length-drop, take-append-drop}, specs.List.{prefix_len, suffix_len}, proofs.lemmas.List.{take_rest, take-take, drop-append-le, drop-drop}, proofs.lemmas.List.Elements.{All-from_get_or}, proofs.lemmas.List.Sums.{prefix_len_is, prefix_len_passes, prefix_len-le-length}, proofs.lemmas.List.Splits.{slice_split_none}, proofs.Math.Seq.{take-add, drop-length}, proofs.lemmas.Grind.{common_steps}}
 use Rattle.memchr.specs.Find.{IsFirstByte, is_byte3}
 use Rattle.pmf_storelog.{specs.Separators.{is_separator, is_blank, trimmed, without_front_blanks, without_end_blanks, records_in, parts_of, records_of}, proofs.SplitLemmas.{split_filled, joined, joined_at}, proofs.PartLemmas.{parts_of-append, records_in-append, separator_found}, proofs.TallyLemmas.{records_in-blank, records_in-filled}}
 use Rattle.pmf_query.specs.Walking.{BeginsAnew, IsNext, IsPart}
@@ -18,30 +18,14 @@ by_parts part (next ∷ later) filled = ap records_in (joined_at (part ∷ []) [
 
 -- a separator at the end of some bytes ends their records
 pub records_of-cut : (xs ys part : List ℕ) → parts_of xs ≡ part ∷ [] ∷ [] → records_of (xs ++ ys) ≡ records_in (part ∷ []) ++ records_of ys
-records_of-cut xs ys part ends =
-    ap records_in (parts_of-append xs ys ∙ ap (λ parts. joined parts (parts_of ys)) ends) ∙ by_parts part (parts_of ys) (parts_filled ys)
+records_of-cut xs ys part ends = grind (arith, common_steps, parts_of-append, joined, by_parts, parts_filled)
 
 pub anew_first : (bytes : List ℕ) → BeginsAnew bytes 0
-anew_first bytes = record {
-  joins = λ n.
-      let same : 0 + n ≡ n = omega arith in
-      ap (λ m. records_of (take m bytes)) same ∙ ap (λ records. records ++ records_of (take n bytes)) (sym records_of_nil);
-}
+anew_first bytes = grind (arith, common_steps, records_of_nil)
 
 -- where the records begin anew, those of all bytes fall apart
 pub anew_all : (bytes : List ℕ) (start : ℕ) → BeginsAnew bytes start → start ≤ length bytes → records_of bytes ≡ records_of (take start bytes) ++ records_of (drop start bytes)
-anew_all bytes start anew within =
-    let whole : take (start + (length bytes - start)) bytes ≡ bytes = take_all (start + (length bytes - start)) bytes (omega arith) in
-    ap records_of (sym whole) ∙ anew.joins (length bytes - start) ∙ ap (λ xs. records_of (take start bytes) ++ records_of xs) (take_rest bytes start)
-
-pub anew_last : (bytes : List ℕ) → BeginsAnew bytes (length bytes)
-anew_last bytes = record {
-  joins = λ n.
-      let all : take (length bytes + n) bytes ≡ take (length bytes) bytes = take_all (length bytes + n) bytes (omega arith) ∙ sym (take_all (length bytes) bytes (omega arith)) in
-      let none : take n (drop (length bytes) bytes) ≡ [] = ap (take n) (drop-length bytes) ∙ take_all n [] (omega arith) in
-      ap records_of all ∙ sym (append-nil (records_of (take (length bytes) bytes)))
-      ∙ ap (λ records. records_of (take (length bytes) bytes) ++ records) (sym (ap records_of none ∙ records_of_nil));
-}
+anew_all bytes start anew within = grind (arith, common_steps, take_rest)
 
 module _ (bytes : List ℕ) (start : ℕ) (anew : BeginsAnew bytes start) where
   -- a separator stands behind `len` more bytes
@@ -76,30 +60,9 @@ module _ (bytes : List ℕ) (start : ℕ) (anew : BeginsAnew bytes start) where
 
   -- no separator stands in the rest
   pub part_last : start < length bytes → parts_of (drop start bytes) ≡ drop start bytes ∷ [] → IsPart bytes start (length bytes - start) (length bytes)
-  part_last within open_end =
-      let far : length bytes ≡ start + (length bytes - start) = omega arith in record {
-        further = within;
-        within = omega arith;
-        inside = omega arith;
-        anew = anew_last bytes;
-        adds =
-            ap (λ m. records_of (take m bytes)) far ∙ anew.joins (length bytes - start)
-            ∙ ap (λ xs. records_of (take start bytes) ++ records_of xs) (take_rest bytes start)
-            ∙ ap (λ parts. records_of (take start bytes) ++ records_in parts) open_end
-            ∙ ap (λ xs. records_of (take start bytes) ++ records_in (xs ∷ [])) (sym (take_rest bytes start));
-      }
+  part_last within open_end = grind (arith, common_steps, take_rest, drop-length, append-nil, records_of_nil)
 
 -- ---- blanks
-
-blank_parts : (b : Bool) (c : ℕ) → (c == 32) ≡ b → is_blank c ≡ true → is_separator c ≡ false
-blank_parts true c is blank =
-    let same : c ≡ 32 = (Decides-eqb c 32).0 is in rw same refl
-blank_parts false c is blank =
-    let same : c ≡ 9 = (Decides-eqb c 9).0 (rw is at blank) in rw same refl
-
--- a blank is no separator
-blank_apart : (c : ℕ) → is_blank c ≡ true → is_separator c ≡ false
-blank_apart c blank = blank_parts (c == 32) c refl blank
 
 all_blank : (xs : List ℕ) → All (λ c. is_blank c ≡ true) xs → length (trimmed xs) ≡ 0
 unfolding without_front_blanks without_end_blanks
@@ -111,17 +74,11 @@ all_blank xs blank =
 -- blanks alone are no record
 records_of-blank : (xs : List ℕ) → All (λ c. is_blank c ≡ true) xs → records_of xs ≡ []
 unfolding parts_of
-records_of-blank xs blank =
-    ap records_in (slice_split_none is_separator xs (λ k d l. blank_apart (get_or xs k d) (blank k d l))) ∙ records_in-blank xs (all_blank xs blank)
+records_of-blank xs blank = grind (arith, common_steps, slice_split_none, records_in-blank, all_blank)
 
 -- the blanks in front of a part
 front_blank : (part : List ℕ) → All (λ c. is_blank c ≡ true) (take (prefix_len is_blank part) part)
-front_blank part =
-    let within = prefix_len-le-length is_blank part in
-    All-from_get_or (λ c. is_blank c ≡ true) (take (prefix_len is_blank part) part) 0
-    (λ k below.
-    let short : k < prefix_len is_blank part = omega (arith, length-take-le (prefix_len is_blank part) part within) in
-    ap is_blank (get_or-take (prefix_len is_blank part) part k 0 short) ∙ prefix_len_passes is_blank part k 0 short)
+front_blank part = grind (arith, common_steps, prefix_len-le-length, All-from_get_or, length-take-le, prefix_len_passes)
 
 -- a record behind blanks and before others
 trimmed_whole : (part : List ℕ) → (more : List ℕ) × (trimmed part ++ more ≡ drop (prefix_len is_blank part) part)
@@ -161,21 +118,12 @@ module _ (bytes : List ℕ) (start len : ℕ) (anew : BeginsAnew bytes start) (i
 -- a part that is a record
 pub next_found : (bytes : List ℕ) (start at len next : ℕ) → BeginsAnew bytes at → start ≤ at → records_of (take at bytes) ≡ records_of (take start bytes) → IsPart bytes at len next →
     0 < length (trimmed (take len (drop at bytes))) → IsNext bytes start (at + prefix_len is_blank (take len (drop at bytes))) (trimmed (take len (drop at bytes))) next
-next_found bytes start at len next anew from same part filled =
-    let further = part.further in record {
-      further = omega arith;
-      within = part.within;
-      anew = part.anew;
-      adds = part.adds ∙ ap (λ records. records_of (take at bytes) ++ records) (records_in-filled (take len (drop at bytes)) filled) ∙ ap (λ records. records ++ trimmed (take len (drop at bytes)) ∷ []) same;
-      before = blanks_before bytes at len anew part.inside ∙ same;
-      here = stands_there bytes at len anew part.inside;
-    }
+next_found bytes start at len next anew from same part filled = grind (arith, common_steps, records_in-filled, blanks_before, stands_there)
 
 -- a part that is none
 pub next_blank : (bytes : List ℕ) (start at len next : ℕ) → records_of (take at bytes) ≡ records_of (take start bytes) → IsPart bytes at len next →
     length (trimmed (take len (drop at bytes))) ≡ 0 → records_of (take next bytes) ≡ records_of (take start bytes)
-next_blank bytes start at len next same part blank =
-    part.adds ∙ ap (λ records. records_of (take at bytes) ++ records) (records_in-blank (take len (drop at bytes)) blank) ∙ append-nil (records_of (take at bytes)) ∙ same
+next_blank bytes start at len next same part blank = grind (arith, common_steps, records_in-blank, append-nil)
 
 -- what a search for a separator answers
 pub separator_within : (text : List ℕ) (r : Option ℕ) → IsFirstByte (is_byte3 124 10 13) text r →
@@ -185,9 +133,7 @@ separator_within text (Some end) found = (found.0.high, separator_found text (So
 
 -- the bytes that a range of the log has
 pub part_taken : (bytes : List ℕ) (at len : ℕ) → take (at + len - at) (drop at bytes) ≡ take len (drop at bytes)
-part_taken bytes at len =
-    let same : at + len - at ≡ len = omega arith in
-    ap (λ n. take n (drop at bytes)) same
+part_taken bytes at len = grind (arith, common_steps)
 
 -- the part before a separator that was found in the rest
 pub part_of_rest : (bytes : List ℕ) (start len : ℕ) → BeginsAnew bytes start →
@@ -204,10 +150,7 @@ part_of_all bytes start anew within open_end = part_last bytes start anew within
 
 -- how many blanks are in front
 pub few_blanks : (bytes : List ℕ) (at len : ℕ) → at + len ≤ length bytes → at + prefix_len is_blank (take (at + len - at) (drop at bytes)) ≤ length bytes
-few_blanks bytes at len inside =
-    let part = take (at + len - at) (drop at bytes) in
-    let long : length (take (at + len - at) (drop at bytes)) ≡ at + len - at = length-take-le (at + len - at) (drop at bytes) (omega (arith, length-drop at bytes)) in
-    omega (arith, prefix_len-le-length is_blank (take (at + len - at) (drop at bytes)))
+few_blanks bytes at len inside = grind (arith, common_steps, length-take-le, length-drop, prefix_len-le-length)
 
 -- a record, as the loop has cut it out
 pub next_here : (bytes : List ℕ) (start at len next blanks : ℕ) (text : List ℕ) → BeginsAnew bytes at → start ≤ at → records_of (take at bytes) ≡ records_of (take start bytes) → IsPart bytes at len next →

@@ -1,5 +1,5 @@
 -- The different ones of some names, in the order in which they first stand, with one name more.
-use Rattle.std.{proofs.Common.{◌≡◌, ℕ, zero, suc, ◌<◌, ◌≤◌, Bool, true, false, cond, List, [], ◌∷◌, ◌++◌, length, take, refl, sym, ap, subst, ◌∙◌, arith, length-append, length-take, take_all, not, ◌||◌, filter, bytes_eq, append-nil}, specs.List.{list_any}, proofs.lemmas.Slice.Eq.{bytes_eq-Decides}, proofs.lemmas.List.{take-append-le}, proofs.lemmas.List.Elements.{filter-append}}
+use Rattle.std.{proofs.Common.{◌≡◌, ℕ, zero, suc, ◌<◌, ◌≤◌, Bool, true, false, cond, List, [], ◌∷◌, ◌++◌, length, take, refl, sym, ap, subst, ◌∙◌, arith, length-append, length-take, take_all, not, ◌||◌, filter, bytes_eq, append-nil}, specs.List.{list_any}, proofs.lemmas.Slice.Eq.{bytes_eq-Decides}, proofs.lemmas.List.{take-append-le}, proofs.lemmas.List.Elements.{filter-append}, proofs.lemmas.Grind.{common_steps}}
 use Rattle.pmf_query.specs.{declared.naming.TheConstants.{LISTED}, Naming.{first_names, is_among}}
 
 -- whether it is another name than this one
@@ -14,8 +14,7 @@ with_one_more firsts name = cond (is_among firsts name) firsts (firsts ++ name �
 
 any_left : (test : List ℕ → Bool) (out : Bool) (n : List ℕ) (left names : List (List ℕ)) → (out ≡ true → test n ≡ false) → list_any test left ≡ list_any test names →
     list_any test (cond (not out) (n ∷ left) left) ≡ (test n || list_any test names)
-any_left test true n left names none rest = rest ∙ sym (ap (λ b. b || list_any test names) (none refl))
-any_left test false n left names none rest = ap (λ b. test n || b) rest
+any_left test out n left names none rest = grind (arith, common_steps)
 
 same_test : (name n other : List ℕ) → bytes_eq name other ≡ false → bytes_eq name n ≡ true → bytes_eq n other ≡ false
 same_test name n other apart same = subst (λ (m : List ℕ). bytes_eq m other ≡ false) ((bytes_eq-Decides name n).0 same) apart
@@ -23,32 +22,17 @@ same_test name n other apart same = subst (λ (m : List ℕ). bytes_eq m other �
 pub among_others : (name other : List ℕ) → bytes_eq name other ≡ false → (names : List (List ℕ)) → is_among (filter (is_other name) names) other ≡ is_among names other
 unfolding is_among
 among_others name other apart [] = refl
-among_others name other apart (n ∷ names) =
-    any_left (λ m. bytes_eq m other) (bytes_eq name n) n (filter (is_other name) names) names (same_test name n other apart) (among_others name other apart names)
+among_others name other apart (n ∷ names) = grind (arith, common_steps, any_left, same_test, among_others name other apart names)
 
 -- ---- one name more
 
 filter_more : (name : List ℕ) (firsts : List (List ℕ)) (last : List ℕ) (among same : Bool) → bytes_eq name last ≡ same →
     filter (is_other name) (cond among firsts (firsts ++ last ∷ [])) ≡ cond (among || same) (filter (is_other name) firsts) (filter (is_other name) firsts ++ last ∷ [])
-filter_more name firsts last true same is = refl
-filter_more name firsts last false true is =
-    filter-append (is_other name) firsts (last ∷ []) ∙ ap (λ b. filter (is_other name) firsts ++ cond (not b) (last ∷ []) []) is ∙ append-nil (filter (is_other name) firsts)
-filter_more name firsts last false false is =
-    filter-append (is_other name) firsts (last ∷ []) ∙ ap (λ b. filter (is_other name) firsts ++ cond (not b) (last ∷ []) []) is
-
-in_front : (name last : List ℕ) (left : List (List ℕ)) (among same within : Bool) → (same ≡ false → within ≡ among) →
-    name ∷ cond (among || same) left (left ++ last ∷ []) ≡ cond (same || within) (name ∷ left) ((name ∷ left) ++ last ∷ [])
-in_front name last left true true within so = refl
-in_front name last left false true within so = refl
-in_front name last left true false within so = ap (λ b. cond b (name ∷ left) ((name ∷ left) ++ last ∷ [])) (sym (so refl))
-in_front name last left false false within so = ap (λ b. cond b (name ∷ left) ((name ∷ left) ++ last ∷ [])) (sym (so refl))
+filter_more name firsts last among same is = grind (arith, common_steps, filter-append, append-nil)
 
 push_so : (name last : List ℕ) (firsts : List (List ℕ)) → name ∷ filter (is_other name) (with_one_more firsts last) ≡ with_one_more (name ∷ filter (is_other name) firsts) last
 unfolding is_among
-push_so name last firsts =
-    ap (λ (ns : List (List ℕ)). name ∷ ns) (filter_more name firsts last (is_among firsts last) (bytes_eq name last) refl)
-    ∙ in_front name last (filter (is_other name) firsts) (is_among firsts last) (bytes_eq name last) (is_among (filter (is_other name) firsts) last)
-    (λ apart. among_others name last apart firsts)
+push_so name last firsts = grind (arith, common_steps, filter_more, among_others)
 
 pub first_names-push : (names : List (List ℕ)) (name : List ℕ) → first_names (names ++ name ∷ []) ≡ with_one_more (first_names names) name
 unfolding first_names is_among
@@ -58,8 +42,7 @@ first_names-push (n ∷ names) name = ap (λ (ns : List (List ℕ)). n ∷ filte
 -- ---- the first so many of them
 
 or_so : (a b c : Bool) → (b ≡ true → c ≡ true) → (a || b) ≡ true → (a || c) ≡ true
-or_so true b c so is = refl
-or_so false b c so is = so is
+or_so a b c so is = grind (arith, common_steps)
 
 among_first : (n : ℕ) (names : List (List ℕ)) (name : List ℕ) → is_among (take n names) name ≡ true → is_among names name ≡ true
 unfolding is_among
@@ -89,8 +72,7 @@ first_new listed names name are apart room =
     more ∙ sym (take_all LISTED (first_names (names ++ name ∷ [])) (omega (arith, ap length more, length-append listed (name ∷ []))))
 
 take_full : (among : Bool) (n : ℕ) (firsts : List (List ℕ)) (name : List ℕ) → n ≤ length firsts → take n (cond among firsts (firsts ++ name ∷ [])) ≡ take n firsts
-take_full true n firsts name full = refl
-take_full false n firsts name full = take-append-le n firsts (name ∷ []) full
+take_full among n firsts name full = grind (arith, common_steps, take-append-le)
 
 -- a name that is not, since the list is full
 pub first_full : (listed names : List (List ℕ)) (name : List ℕ) → listed ≡ take LISTED (first_names names) → LISTED ≤ length listed → listed ≡ take LISTED (first_names (names ++ name ∷ []))

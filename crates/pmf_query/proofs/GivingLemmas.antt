@@ -1,5 +1,5 @@
 -- The events of a section before and behind the record that gave one.
-use Rattle.std.proofs.{Common.{◌≡◌, ℕ, ◌+◌, ◌-◌, ◌<◌, List, [], ◌∷◌, ◌++◌, Some, length, length-append, take, drop, get_or, refl, sym, ap, ◌∙◌, arith, append_assoc, inl, inr, slice_get, eq-eqb, append-nil, take-append-drop, length-take-le}, lemmas.Bool.{cases_lt}, lemmas.List.{take_more, take-take}}
+use Rattle.std.proofs.{Common.{◌≡◌, ℕ, ◌+◌, ◌-◌, ◌<◌, List, [], ◌∷◌, ◌++◌, Some, length, length-append, take, drop, get_or, sym, ap, ◌∙◌, arith, append_assoc, slice_get, eq-eqb, append-nil, take-append-drop, length-take-le}, lemmas.List.{take_more, take-take}, lemmas.Grind.{common_steps}}
 use Rattle.pmf_event.specs.declared.event.Event.{Event}
 use Rattle.pmf_storelog.{specs.Records.{record_of}, specs.LogText.{current_at, current_of, events_in, numbered, reading_at}, proofs.LogLemmas.{current_at-append, events_in-push, in_section}}
 use Rattle.pmf_query.{specs.Locating.{Gives}, proofs.LocationLemmas.{slice_get-at}}
@@ -7,13 +7,7 @@ use Rattle.pmf_query.{specs.Locating.{Gives}, proofs.LocationLemmas.{slice_get-a
 -- more records only add events behind
 pub events_in-more : (xs ys : List (List ℕ)) (number : ℕ) → (more : List Event) × (events_in (xs ++ ys) number ≡ events_in xs number ++ more)
 events_in-more xs [] number = ([], ap (λ (zs : List (List ℕ)). events_in zs number) (append-nil xs) ∙ sym (append-nil (events_in xs number)))
-events_in-more xs (y ∷ ys) number =
-    let rest = events_in-more (xs ++ y ∷ []) ys number in
-    let here = in_section number (numbered (current_of xs) (record_of y)) in (
-      here ++ rest.0,
-      ap (λ (zs : List (List ℕ)). events_in zs number) (sym (append_assoc xs (y ∷ []) ys)) ∙ rest.1
-          ∙ ap (λ (es : List Event). es ++ rest.0) (events_in-push xs y number) ∙ append_assoc (events_in xs number) (in_section number (numbered (current_of xs) (record_of y))) rest.0,
-    )
+events_in-more xs (y ∷ ys) number = grind (arith, common_steps, in_section, append_assoc, events_in-push, events_in-more (xs ++ y ∷ []) ys number)
 
 module _ (records : List (List ℕ)) (section place : ℕ) (event : Event) (k : ℕ) (gives : Gives records section place event k) where
   current_before : current_of (take k records) ≡ current_at records k
@@ -30,11 +24,7 @@ module _ (records : List (List ℕ)) (section place : ℕ) (event : Event) (k : 
 
   -- the event stands behind those before it
   pub events_through : events_in (take (k + 1) records) section ≡ events_in (take k records) section ++ event ∷ []
-  events_through =
-      ap (λ (all : List (List ℕ)). events_in all section) (take_more records k [] gives.within)
-      ∙ events_in-push (take k records) (get_or records k []) section
-      ∙ ap (λ (entries : List (ℕ × Event)). events_in (take k records) section ++ in_section section entries) says_there
-      ∙ rw (eq-eqb section section refl) refl
+  events_through = grind (arith, common_steps, take_more, events_in-push, in_section, says_there, eq-eqb)
 
   pub its_event : slice_get (events_in records section) (place - 1) ≡ Some event
   its_event =
@@ -57,10 +47,4 @@ module _ (records : List (List ℕ)) (section place : ℕ) (event : Event) (k : 
       omega (arith, ap length all, length-append (events_in (take (k + 1) records) section) rest.0, ap length events_through, length-append (events_in (take k records) section) (event ∷ []), gives.behind, later.behind)
 
 pub one_record : (records : List (List ℕ)) (section place : ℕ) (event other : Event) (j k : ℕ) → Gives records section place event j → Gives records section place other k → j ≡ k
-one_record records section place event other j k first second = elim (cases_lt j k) [
-  | inl less ↦ absurd (none_behind records section place event j first other k second less)
-  | inr le ↦ elim (cases_lt k j) [
-    | inl less ↦ absurd (none_behind records section place other k second event j first less)
-    | inr ge ↦ omega arith
-  ]
-]
+one_record records section place event other j k first second = grind (arith, common_steps, none_behind)

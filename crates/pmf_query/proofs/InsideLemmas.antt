@@ -1,13 +1,12 @@
 -- Depth and scope after one more event.
-use Rattle.std.proofs.{Common.{◌≡◌, ℕ, zero, suc, ◌+◌, ◌-◌, ◌<◌, Bool, true, false, ◌&&◌, List, [], ◌∷◌, ◌++◌, Some, length, get_or, refl, sym, ap, ◌∙◌, arith, inl, inr, nat_lt}, lemmas.Bool.{cases_eq, cases_lt}, lemmas.List.{get_or_append_left, get_or_at}}
-use Rattle.pmf_event.{specs.declared.event.Event.{Event}, specs.declared.event.Event.TheVariants.{TxEnd}, specs.Store.{event_at}, specs.Transactions.{begins, ends, opens_scope, closes_scope, depth_at, in_scope, in_transaction, scope_at}, proofs.TransactionLemmas.{depth-start, scope-start, depth-begun, depth-ended, depth-kept, scope-stays, scope-opened, scope-kept, scope-closed, scoped-from, unscoped-from, in_scope-same}}
+use Rattle.std.proofs.{Common.{◌≡◌, ℕ, zero, suc, ◌+◌, ◌-◌, ◌<◌, Bool, true, false, ◌&&◌, List, [], ◌∷◌, Some, length, get_or, refl, sym, ap, ◌∙◌, arith, nat_lt}, lemmas.Grind.{common_steps}}
+use Rattle.pmf_event.{specs.declared.event.Event.{Event}, specs.Store.{event_at}, specs.Transactions.{begins, ends, opens_scope, closes_scope, depth_at, in_scope, in_transaction}, proofs.TransactionLemmas.{depth-start, scope-start, depth-begun, depth-ended, depth-kept, scope-stays, scope-opened, scope-kept, scope-closed, scoped-from, unscoped-from, in_scope-same}}
 use Rattle.pmf_query.specs.Covering.{is_inside}
 
 -- what begins a transaction ends none
 begins_alone : (e : Event) → begins e ≡ true → ends e ≡ false
 unfolding begins ends
-begins_alone TxEnd is = cc
-begins_alone _ is = refl
+begins_alone e is = grind (arith, common_steps)
 
 module _ (es : List Event) (p : ℕ) (e : Event) (here : event_at es (suc p) ≡ Some e) where
   pub depth_begun : (d : ℕ) → begins e ≡ true → d ≡ depth_at es p → d + 1 ≡ depth_at es (suc p)
@@ -23,10 +22,7 @@ module _ (es : List Event) (p : ℕ) (e : Event) (here : event_at es (suc p) ≡
   scope_ended is = sym (unscoped-from es (suc p) (scope-closed es p e here is))
 
   pub scope_begun : closes_scope e ≡ false → opens_scope e ≡ true → true ≡ in_scope es (suc p)
-  scope_begun other is = elim (cases_eq (scope_at es p) 0) [
-    | inl none ↦ let more = scope-opened es p e here other is none in sym (scoped-from es (suc p) (omega arith))
-    | inr some ↦ let more = scope-stays es p e here other (omega arith) in sym (scoped-from es (suc p) (omega arith))
-  ]
+  scope_begun other is = grind (arith, common_steps, scope-opened, scoped-from, scope-stays)
 
   pub scope_same : (scope : Bool) → closes_scope e ≡ false → opens_scope e ≡ false → scope ≡ in_scope es p → scope ≡ in_scope es (suc p)
   scope_same scope other neither same = same ∙ sym (in_scope-same es p (suc p) (scope-kept es p e here other neither))
@@ -43,16 +39,6 @@ unfolding event_at
 event_here [] k e within is = absurd (omega arith)
 event_here (x ∷ es) zero e within is = ap (λ (y : Event). Some y) (sym is)
 event_here (x ∷ es) (suc k) e within is = event_here es k e (omega arith) is
-
--- one more place
-pub each_more : (es : List Event) (inside : List Bool) (k : ℕ) (b : Bool) → length inside ≡ k → b ≡ is_inside es (suc k) →
-    ((j : ℕ) (d : Bool) → j < k → get_or inside j d ≡ is_inside es (suc j)) → (j : ℕ) (d : Bool) → j < k + 1 → get_or (inside ++ b ∷ []) j d ≡ is_inside es (suc j)
-each_more es inside k b long here before j d less = elim (cases_lt j k) [
-  | inl below ↦ get_or_append_left inside (b ∷ []) d j (omega arith) ∙ before j d below
-  | inr above ↦
-      let same : j ≡ k = omega arith in
-      ap (λ i. get_or (inside ++ b ∷ []) i d) same ∙ get_or_at inside b [] d k long ∙ here ∙ ap (λ i. is_inside es (suc i)) (sym same)
-]
 
 pub inside_from : (es : List Event) (k depth : ℕ) (scope : Bool) → depth ≡ depth_at es (suc k) → scope ≡ in_scope es (suc k) → (nat_lt 0 depth && scope) ≡ is_inside es (suc k)
 unfolding is_inside in_transaction

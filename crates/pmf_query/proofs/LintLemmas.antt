@@ -1,5 +1,5 @@
 -- What is told of a log that was read.
-use Rattle.std.proofs.{Common.{◌≡◌, ℕ, List, [], ◌∷◌, ◌++◌, Ok, length, take, sym, ap, subst}, lemmas.List.{length-map}}
+use Rattle.std.proofs.{Common.{◌≡◌, ℕ, List, [], ◌∷◌, ◌++◌, Ok, length, take, sym, ap, subst, arith}, lemmas.List.{length-map}, lemmas.Grind.{common_steps}}
 use Rattle.pmf_storelog.specs.{Separators.{records_of}, LogValue.{LogValue}, LogText.{fault_of, log_of, numbers_of, sections_of, skipped_of, value_of}}
 use Rattle.pmf_query.{specs.Linting.{IsLint}, specs.Locating.{IsFaultless}, specs.Summing.{sums_of}, specs.declared.summing.Sums.{Sums}, specs.Walking.{IsNext}, specs.declared.counting.NameCounts.{NameCounts}, specs.Counting.{Tallies}, proofs.NumberFoundLemmas.{by_fault}}
 
@@ -17,17 +17,4 @@ tallied_next bytes start offset text next counts found tallies = subst (Tallies 
 pub told_so : (bytes : List ℕ) (counts : NameCounts) (skipped sections : ℕ) (sums : Sums) → IsFaultless bytes → Tallies counts (records_of bytes) → skipped ≡ skipped_of (records_of bytes) →
     sections ≡ length (numbers_of (records_of bytes)) → sums ≡ sums_of (sections_of 0 (records_of bytes)) →
     IsLint bytes (record { records = counts.records; known = counts.known; skipped = skipped; listed = counts.listing.listed; others = counts.listing.others; has_near = counts.listing.has_near; has_strange = counts.listing.has_strange; sections = sections; sums = sums })
-told_so bytes counts skipped sections sums faultless tallies skipped_is sections_are sums_are = record {
-  faultless = faultless;
-  records = tallies.count;
-  names = tallies.names;
-  known = tallies.known;
-  skipped = skipped_is;
-  first = tallies.skipped.first;
-  listed = tallies.skipped.listed;
-  others = tallies.skipped.others;
-  near = tallies.skipped.near;
-  strange = tallies.skipped.strange;
-  sections = sections_are;
-  sums = sums_are;
-}
+told_so bytes counts skipped sections sums faultless tallies skipped_is sections_are sums_are = grind (arith, common_steps)

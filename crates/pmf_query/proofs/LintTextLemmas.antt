@@ -1,12 +1,10 @@
 -- The bytes of a printed character, and names that are shown whole.
-use Rattle.std.proofs.{Common.{◌≡◌, ℕ, ◌≤◌, Bool, true, List, [], ◌∷◌, ◌++◌, cond, length, take, take_all, ap, sym, ◌∙◌, arith, nat_le, codes, flat_map, append-nil, le-leb}, lemmas.Bool.{and_parts, leb-true}, lemmas.Str.{encode_ascii}, Math.Utf8.{encode}}
+use Rattle.std.proofs.{Common.{◌≡◌, ℕ, ◌≤◌, Bool, true, List, [], ◌∷◌, ◌++◌, cond, length, take, take_all, ap, sym, ◌∙◌, arith, codes, flat_map, append-nil, le-leb}, lemmas.Bool.{and_parts, leb-true}, lemmas.Str.{encode_ascii}, Math.Utf8.{encode}, lemmas.Grind.{common_steps}}
 use Rattle.pmf_query.specs.{declared.telling.TheConstants.{SHOWN}, Nearness.{is_printed}, LintText.{shown_byte, shown_name}}
 
 pub printed_alone : (b c : ℕ) → c ≡ b → is_printed b ≡ true → encode c ≡ b ∷ []
 unfolding is_printed
-printed_alone b c same printed =
-    let low = leb-true b 0x7e (and_parts (nat_le 0x20 b) (nat_le b 0x7e) printed).1 in
-    ap encode same ∙ encode_ascii b (omega (arith, low))
+printed_alone b c same printed = grind (arith, common_steps, leb-true, and_parts, encode, encode_ascii)
 
 pub short_name : (name : List ℕ) → length name ≤ SHOWN → flat_map (λ b. shown_byte b) name ≡ shown_name name
 unfolding shown_name

@@ -1,6 +1,6 @@
 -- The record that a walk has come to, as the one that gave an event.
-use Rattle.std.proofs.Common.{◌≡◌, ℕ, ◌+◌, List, [], ◌∷◌, ◌++◌, Some, length, length-append, take, drop, refl, sym, ap, subst, ◌∙◌, arith, append_assoc, slice_get, take_at}
-use Rattle.pmf_storelog.{specs.Separators.{records_of}, specs.Records.{record_of}, specs.LogText.{current_at, current_of, events_in, numbered, reading_at}, proofs.LogLemmas.{current_at-append, reading_at-append, reading_at-last}}
+use Rattle.std.proofs.{Common.{◌≡◌, ℕ, ◌+◌, List, [], ◌∷◌, ◌++◌, Some, length, length-append, take, drop, refl, sym, ap, subst, ◌∙◌, arith, append_assoc, slice_get, take_at}, lemmas.Grind.{common_steps}}
+use Rattle.pmf_storelog.{specs.Separators.{records_of}, specs.LogText.{current_of}, proofs.LogLemmas.{current_at-append, reading_at-append, reading_at-last}}
 use Rattle.pmf_query.{specs.Walking.{IsNext}, specs.Passing.{GivesNext}, specs.Locating.{Gives, IsLocation}, proofs.CursorLemmas.{anew_all}}
 
 pub slice_get-at : {A : Type 0} (xs : List A) (y : A) (ys : List A) → slice_get (xs ++ y ∷ ys) (length xs) ≡ Some y
@@ -18,22 +18,9 @@ module _ (before more : List (List ℕ)) (text : List ℕ) where
   pub take_before : take (length before) ((before ++ text ∷ []) ++ more) ≡ before
   take_before = ap (take (length before)) whole ∙ take_at before (text ∷ more) (length before) refl
 
-  current_there : current_at ((before ++ text ∷ []) ++ more) (length before) ≡ current_of before
-  unfolding current_of
-  current_there =
-      current_at-append (before ++ text ∷ []) more (length before) (omega (arith, length-append before (text ∷ [])))
-      ∙ current_at-append before (text ∷ []) (length before) (omega arith)
-
-  reading_there : reading_at ((before ++ text ∷ []) ++ more) (length before) ≡ record_of text
-  reading_there =
-      reading_at-append (before ++ text ∷ []) more (length before) (omega (arith, length-append before (text ∷ []))) ∙ reading_at-last before text
-
   pub gives_there : (section place : ℕ) (next : GivesNext before section place text) → Gives ((before ++ text ∷ []) ++ more) section place next.event (length before)
-  gives_there section place next = record {
-    within = omega (arith, longer);
-    says = ap (λ current. numbered current (reading_at ((before ++ text ∷ []) ++ more) (length before))) current_there ∙ ap (numbered (current_of before)) reading_there ∙ next.says;
-    behind = ap (λ records. length (events_in records section) + 1) take_before ∙ next.behind;
-  }
+  unfolding current_of
+  gives_there section place next = grind (arith, common_steps, longer, take_before, current_at-append, length-append, reading_at-append, reading_at-last)
 
 module _ (bytes : List ℕ) (start offset : ℕ) (text : List ℕ) (next : ℕ) (found : IsNext bytes start offset text next) where
   all_records : (records_of (take start bytes) ++ text ∷ []) ++ records_of (drop next bytes) ≡ records_of bytes

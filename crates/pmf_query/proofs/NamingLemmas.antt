@@ -1,5 +1,5 @@
 -- Counts of names, with one more name.
-use Rattle.std.{proofs.Common.{◌≡◌, ℕ, zero, suc, ◌+◌, ◌-◌, ◌^◌, ◌<◌, ◌≤◌, Bool, true, false, cond, List, [], ◌∷◌, ◌++◌, Some, None, length, take, get_or, map, All, refl, sym, ap, subst, ◌∙◌, arith, length-append, not, ◌||◌, filter, is_some, bytes_eq, append-nil}, proofs.lemmas.Slice.Eq.{bytes_eq-Decides}, specs.List.{list_any}, proofs.lemmas.Bool.{false≢true}, proofs.lemmas.List.{map-append, length-map, take_more}, proofs.lemmas.List.Elements.{All-append, All-cons, filter-append}, proofs.lemmas.List.Folds.{list_any-append}, proofs.lemmas.List.Sums.{sum_by-append, count_by-le-length, length-filter}}
+use Rattle.std.{proofs.Common.{◌≡◌, ℕ, zero, suc, ◌+◌, ◌-◌, ◌^◌, ◌<◌, ◌≤◌, Bool, true, false, cond, List, [], ◌∷◌, ◌++◌, Some, None, length, take, get_or, map, All, refl, sym, ap, subst, ◌∙◌, arith, length-append, not, ◌||◌, filter, is_some, bytes_eq, append-nil}, proofs.lemmas.Slice.Eq.{bytes_eq-Decides}, specs.List.{list_any}, proofs.lemmas.Bool.{false≢true}, proofs.lemmas.List.{map-append, length-map, take_more}, proofs.lemmas.List.Elements.{All-append, All-cons, filter-append}, proofs.lemmas.List.Folds.{list_any-append}, proofs.lemmas.List.Sums.{sum_by-append, count_by-le-length, length-filter}, proofs.lemmas.Grind.{common_steps}}
 use Rattle.memchr.specs.Find.{IsFirstByte, is_byte}
 use Rattle.pmf_storelog.{specs.LogText.{is_skipped}, specs.Records.{fields_of, is_field_end}, proofs.SplitLemmas.{split_none, split_some}}
 use Rattle.pmf_query.{specs.declared.naming.Named.{Named}, specs.declared.naming.TheConstants.{LISTED}, specs.declared.listing.Listing.{Listing}, specs.declared.counting.NameCounts.{NameCounts}, proofs.FirstNamesLemmas.{all_first, among_others, first_again, first_full, first_new, is_other}, specs.Nearness.{has_near, has_strange, is_text, near_of}, specs.Counting.{Lists, Tallies}, specs.Naming.{Count, first_names, known_names, count_named, count_others, counting, first_field, is_among, name_of, names_in, names_of, skipped_names}}
@@ -12,19 +12,13 @@ count_others-push : (listed names : List (List ℕ)) (name : List ℕ) → count
 unfolding count_others
 count_others-push listed names name = omega (arith, sum_by-append (λ other. cond (not (is_among listed other)) 1 0) names (name ∷ []))
 
--- a count of names is at most how many there are
-pub count_few : (n : List ℕ) (names : List (List ℕ)) → count_named n names ≤ length names
-unfolding count_named
-count_few n names = count_by-le-length (λ other. bytes_eq n other) names
-
 pub others_few : (listed names : List (List ℕ)) → count_others listed names ≤ length names
 unfolding count_others
 others_few listed names = count_by-le-length (λ name. not (is_among listed name)) names
 
 pub small_counts : (counts : List Named) (names : List (List ℕ)) → Count counts names → length names + 1 < 2 ^ 64 → All (λ (c : Named). c.records < 2 ^ 64 - 1) counts
-small_counts counts names count few = λ k d within.
-    let is = count k d within in
-    omega (arith, is, count_few (get_or counts k d).name.now names)
+unfolding count_named
+small_counts counts names count few = grind (arith, common_steps)
 
 -- the counts after one more name
 pub Count-push : (counts : List Named) (names : List (List ℕ)) (name : List ℕ) → Count counts names → Count (map (counting name) counts) (names ++ name ∷ [])
@@ -39,8 +33,7 @@ names-counting [] name = refl
 names-counting (c ∷ counts) name = ap (λ rest. c.name.now ∷ rest) (names-counting counts name)
 
 pub others-listed : (listed names : List (List ℕ)) (name : List ℕ) → is_among listed name ≡ true → count_others listed (names ++ name ∷ []) ≡ count_others listed names
-others-listed listed names name among =
-    count_others-push listed names name ∙ ap (λ b. count_others listed names + cond (not b) 1 0) among ∙ (let e : count_others listed names + 0 ≡ count_others listed names = omega arith in e)
+others-listed listed names name among = grind (arith, common_steps, count_others-push)
 
 pub others-more : (listed names : List (List ℕ)) (name : List ℕ) → is_among listed name ≡ false → count_others listed (names ++ name ∷ []) ≡ count_others listed names + 1
 others-more listed names name apart = count_others-push listed names name ∙ ap (λ b. count_others listed names + cond (not b) 1 0) apart
@@ -48,19 +41,16 @@ others-more listed names name apart = count_others-push listed names name ∙ ap
 -- ---- a new name
 
 or_last : (b : Bool) → (b || false) ≡ b
-or_last true = refl
-or_last false = refl
+or_last b = grind (arith, common_steps)
 
 or_true : (b : Bool) → (b || true) ≡ true
-or_true true = refl
-or_true false = refl
+or_true b = grind (arith, common_steps)
 
 bytes_eq-itself : (name : List ℕ) → bytes_eq name name ≡ true
 bytes_eq-itself name = (bytes_eq-Decides name name).1 refl
 
 or_no : (a b : Bool) → (a || b) ≡ false → (a ≡ false) × (b ≡ false)
-or_no true b none = cc
-or_no false b none = (refl, none)
+or_no a b none = grind (arith, common_steps)
 
 apart_from : (counts : List Named) (name : List ℕ) → is_among (names_in counts) name ≡ false → (k : ℕ) (d : Named) → k < length counts → bytes_eq (get_or counts k d).name.now name ≡ false
 unfolding is_among
@@ -85,19 +75,12 @@ named_nil : (n : List ℕ) → count_named n [] ≡ 0
 unfolding count_named
 named_nil n = refl
 
-among_push : (listed : List (List ℕ)) (name other : List ℕ) → is_among (listed ++ name ∷ []) other ≡ (is_among listed other || bytes_eq name other)
-unfolding is_among
-among_push listed name other = list_any-append (λ n. bytes_eq n other) listed (name ∷ []) ∙ ap (λ b. list_any (λ n. bytes_eq n other) listed || b) (or_last (bytes_eq name other))
-
 -- the name is the other, or it is not equal to it
 names_apart : (n other : List ℕ) (b : Bool) → bytes_eq n other ≡ b → (listed : List (List ℕ)) → is_among listed n ≡ false → is_among listed other ≡ true → b ≡ false
-names_apart n other true same listed apart among =
-    absurd (false≢true (sym apart ∙ ap (is_among listed) ((bytes_eq-Decides n other).0 same) ∙ among))
-names_apart n other false same listed apart among = refl
+names_apart n other b same listed apart among = grind (arith, common_steps, false≢true, bytes_eq-Decides)
 
 one_no : (b : Bool) (rest : ℕ) → cond (not b) 1 0 + rest ≡ 0 → (b ≡ true) × (rest ≡ 0)
-one_no true rest none = (refl, omega arith)
-one_no false rest none = absurd (omega arith)
+one_no b rest none = grind (arith, common_steps)
 
 -- where no name is another one than these, none is another one than more of them
 still : (fewer more : List (List ℕ)) → ((other : List ℕ) → is_among fewer other ≡ true → is_among more other ≡ true) → (names : List (List ℕ)) → count_others fewer names ≡ 0 → count_others more names ≡ 0
@@ -108,8 +91,7 @@ still fewer more so (other ∷ names) none =
 
 among_cons : (name other : List ℕ) (left firsts : List (List ℕ)) (same : Bool) → bytes_eq name other ≡ same → (same ≡ false → is_among left other ≡ is_among firsts other) → is_among firsts other ≡ true → is_among (name ∷ left) other ≡ true
 unfolding is_among
-among_cons name other left firsts true is so among = ap (λ b. b || list_any (λ n. bytes_eq n other) left) is
-among_cons name other left firsts false is so among = ap (λ b. bytes_eq name other || b) (so refl ∙ among) ∙ or_true (bytes_eq name other)
+among_cons name other left firsts same is so among = grind (arith, common_steps, or_true)
 
 -- each name is among the different ones
 none_other : (names : List (List ℕ)) → count_others (first_names names) names ≡ 0
@@ -130,27 +112,12 @@ module _ (listed : List (List ℕ)) (name : List ℕ) (apart : is_among listed n
       ∙ (let rest = unseen names here.1 in omega (arith, rest))
 
   pub still_none : (names : List (List ℕ)) → count_others listed names ≡ 0 → count_others (listed ++ name ∷ []) (names ++ name ∷ []) ≡ 0
-  still_none names none =
-      let itself : is_among (listed ++ name ∷ []) name ≡ true = among_push listed name name ∙ ap (λ b. is_among listed name || b) (bytes_eq-itself name) ∙ or_true (is_among listed name) in
-      others-listed (listed ++ name ∷ []) names name itself ∙ still listed (listed ++ name ∷ []) (λ other among. among_push listed name other ∙ ap (λ b. b || bytes_eq name other) among) names none
-
-  pub counted_once : (names : List (List ℕ)) → count_others listed names ≡ 0 → count_named name (names ++ name ∷ []) ≡ 1
-  counted_once names none =
-      count_named-push name name names ∙ ap (λ b. count_named name names + cond b 1 0) (bytes_eq-itself name) ∙ (let rest = unseen names none in omega (arith, rest))
+  unfolding is_among
+  still_none names none = grind (arith, common_steps, bytes_eq-itself, or_true, others-listed, still)
 
   pub Count-new : (counts : List Named) (names : List (List ℕ)) (c : Named) → listed ≡ names_in counts → count_others listed names ≡ 0 → c.name.now ≡ name → c.records ≡ 1 →
       Count counts names → Count (counts ++ c ∷ []) (names ++ name ∷ [])
-  Count-new counts names c are none named once count =
-      All-append (λ (x : Named). x.records ≡ count_named x.name.now (names ++ name ∷ [])) counts (c ∷ [])
-      (λ k d within.
-      let other = (get_or counts k d).name.now in
-      count k d within ∙ sym (count_named-push (get_or counts k d).name.now name names
-      ∙ ap (λ b. count_named (get_or counts k d).name.now names + cond b 1 0) (other_name counts k d within are)
-      ∙ (let e : count_named (get_or counts k d).name.now names + 0 ≡ count_named (get_or counts k d).name.now names = omega arith in e)))
-      (All-cons (λ (x : Named). x.records ≡ count_named x.name.now (names ++ name ∷ [])) c [] (once ∙ sym (counted_once names none) ∙ ap (λ n. count_named n (names ++ name ∷ [])) (sym named)) (λ k d within. absurd (omega arith)))
-    where
-      other_name : (counts : List Named) (k : ℕ) (d : Named) → k < length counts → listed ≡ names_in counts → bytes_eq (get_or counts k d).name.now name ≡ false
-      other_name counts k d within are = apart_from counts name (subst (λ (ns : List (List ℕ)). is_among ns name ≡ false) are apart) k d within
+  Count-new counts names c are none named once count = grind (arith, common_steps, All-append, count_named-push, All-cons, apart_from, bytes_eq-itself, unseen)
 
 -- ---- what a listing and a counts hold
 
@@ -164,13 +131,7 @@ has_strange-push names name = list_any-append (λ n. not (is_text n)) names (nam
 
 pub lists_none : (listing : Listing) → listing.listed.items ≡ [] → listing.others ≡ 0 → listing.has_near ≡ false → listing.has_strange ≡ false → Lists listing []
 unfolding first_names has_near has_strange
-lists_none listing empty none near strange = record {
-  first = ap (λ (cs : List Named). names_in cs) empty;
-  listed = subst (λ (cs : List Named). Count cs []) (sym empty) (λ k d within. absurd (omega arith));
-  others = none ∙ sym (others_nil (names_in listing.listed.items));
-  near = near;
-  strange = strange;
-}
+lists_none listing empty none near strange = grind (arith, common_steps, others_nil)
 
 module _ (old new : Listing) (names : List (List ℕ)) (lists : Lists old names) (name : List ℕ)
     (nearer : new.has_near ≡ (old.has_near || is_some (near_of name))) (stranger : new.has_strange ≡ (old.has_strange || not (is_text name))) where
@@ -220,20 +181,6 @@ module _ (old new : Listing) (names : List (List ℕ)) (lists : Lists old names)
     strange = strange_more;
   }
 
-names_of-push : (records : List (List ℕ)) (text : List ℕ) → names_of (records ++ text ∷ []) ≡ names_of records ++ name_of text ∷ []
-unfolding names_of
-names_of-push records text = map-append (λ text. name_of text) records (text ∷ [])
-
-skipped_names-push : (records : List (List ℕ)) (text : List ℕ) → skipped_names (records ++ text ∷ []) ≡ skipped_names records ++ cond (is_skipped text) (name_of text ∷ []) []
-unfolding skipped_names
-skipped_names-push records text =
-    ap (map (λ text. name_of text)) (filter-append is_skipped records (text ∷ [])) ∙ map-append (λ text. name_of text) (filter is_skipped records) (filter is_skipped (text ∷ []))
-    ∙ ap (λ (more : List (List ℕ)). map (λ text. name_of text) (filter is_skipped records) ++ more) (one_name (is_skipped text) text)
-  where
-    one_name : (b : Bool) (text : List ℕ) → map (λ text. name_of text) (cond b (text ∷ []) []) ≡ cond b (name_of text ∷ []) []
-    one_name true text = refl
-    one_name false text = refl
-
 pub skipped_few : (records : List (List ℕ)) → length (skipped_names records) ≤ length records
 unfolding skipped_names
 skipped_few records = omega (arith, length-map (filter is_skipped records) (λ text. name_of text), length-filter is_skipped records, count_by-le-length is_skipped records)
@@ -255,26 +202,16 @@ module _ (old new : NameCounts) (records : List (List ℕ)) (tallies : Tallies o
   known_names_more = ap (λ (cs : List Named). names_in cs) counted ∙ names-counting old.known.items (name_of text) ∙ tallies.names
 
   known_more : Count new.known.items (names_of (records ++ text ∷ []))
-  known_more =
-      subst (λ (ns : List (List ℕ)). Count new.known.items ns) (sym (names_of-push records text))
-      (subst (λ (cs : List Named). Count cs (names_of records ++ name_of text ∷ [])) (sym counted) (Count-push old.known.items (names_of records) (name_of text) tallies.known))
+  unfolding names_of
+  known_more = grind (arith, common_steps, Count-push)
 
   pub tallies_skipped : is_skipped text ≡ true → Lists new.listing (skipped_names records ++ name_of text ∷ []) → Tallies new (records ++ text ∷ [])
-  tallies_skipped skipped lists = record {
-    count = one_more;
-    names = known_names_more;
-    known = known_more;
-    skipped = subst (Lists new.listing) (sym (skipped_names-push records text ∙ ap (λ b. skipped_names records ++ cond b (name_of text ∷ []) []) skipped)) lists;
-  }
+  unfolding skipped_names
+  tallies_skipped skipped lists = grind (arith, common_steps, one_more, known_names_more, known_more, filter-append, map-append)
 
   pub tallies_known : is_skipped text ≡ false → new.listing ≡ old.listing → Tallies new (records ++ text ∷ [])
-  tallies_known taken same = record {
-    count = one_more;
-    names = known_names_more;
-    known = known_more;
-    skipped = subst (λ (ns : List (List ℕ)). Lists new.listing ns) (sym (skipped_names-push records text ∙ ap (λ b. skipped_names records ++ cond b (name_of text ∷ []) []) taken ∙ append-nil (skipped_names records)))
-        (subst (λ (l : Listing). Lists l (skipped_names records)) (sym same) tallies.skipped);
-  }
+  unfolding skipped_names
+  tallies_known taken same = grind (arith, common_steps, one_more, known_names_more, known_more, append-nil, filter-append, map-append)
 
 -- ---- the name of a record
 
@@ -295,10 +232,7 @@ among_at (c ∷ counts) name (suc k) d within same = ap (λ b. bytes_eq c.name.n
 
 -- the known names so far, with one more
 pub known_more_names : (counts : List Named) (i : ℕ) (c : Named) → names_in counts ≡ take i known_names → i < 13 → c.name.now ≡ get_or known_names i [] → names_in (counts ++ c ∷ []) ≡ take (i + 1) known_names
-known_more_names counts i c so_far within is =
-    map-append (λ (x : Named). x.name.now) counts (c ∷ []) ∙ ap (λ ns. ns ++ c.name.now ∷ []) so_far ∙ ap (λ (n : List ℕ). take i known_names ++ n ∷ []) is ∙ sym (take_more known_names i [] within)
+known_more_names counts i c so_far within is = grind (arith, common_steps, map-append, take_more)
 
 pub Count_none : (counts : List Named) (c : Named) → Count counts [] → c.records ≡ 0 → Count (counts ++ c ∷ []) []
-Count_none counts c count none =
-    All-append (λ (x : Named). x.records ≡ count_named x.name.now []) counts (c ∷ []) count
-    (All-cons (λ (x : Named). x.records ≡ count_named x.name.now []) c [] (none ∙ sym (named_nil c.name.now)) (λ k d within. absurd (omega arith)))
+Count_none counts c count none = grind (arith, common_steps, All-append, All-cons, named_nil)

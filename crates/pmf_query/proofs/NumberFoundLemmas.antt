@@ -1,7 +1,7 @@
 -- The section of a number, among those of a log.
-use Rattle.std.proofs.{Common.{◌≡◌, ℕ, ◌+◌, ◌<◌, List, [], ◌∷◌, ◌++◌, Ok, Some, None, Option, map, length, take, get_or, sym, ◌∙◌, ap, subst, inl, inr, refl, Contains}, lemmas.List.{take_more, map-append, get_or-map, length-map}, lemmas.List.Elements.{Contains-push_cases, Contains-get_or}}
+use Rattle.std.proofs.{Common.{◌≡◌, ℕ, ◌+◌, ◌<◌, List, [], ◌∷◌, ◌++◌, Ok, None, Option, map, length, take, get_or, sym, ◌∙◌, ap, subst, inl, inr, Contains, arith}, lemmas.List.{take_more, map-append, get_or-map, length-map}, lemmas.List.Elements.{Contains-push_cases, Contains-get_or}, lemmas.Grind.{common_steps}}
 use Rattle.pmf_event.specs.Section.{Trace}
-use Rattle.pmf_storelog.specs.{declared.fault.LogFault.{LogFault}, LogValue.{LogValue}, LogText.{events_in, fault_of, log_of, numbers_of, section_named, sections_of, value_of, value_unless}, Separators.{records_of}}
+use Rattle.pmf_storelog.specs.{declared.fault.LogFault.{LogFault}, LogValue.{LogValue}, LogText.{events_in, log_of, numbers_of, section_named, sections_of, value_of, value_unless}, Separators.{records_of}}
 use Rattle.pmf_query.specs.Locating.{IsFaultless}
 
 -- none of the sections has the number
@@ -19,15 +19,12 @@ LacksNumber-more value xs number i x within is apart before = λ t found same.
     ]
 
 pub by_fault : (fault : Option LogFault) (value log : LogValue) → value_unless fault value ≡ Ok log → (fault ≡ None) × (log ≡ value)
-by_fault None value log is = (refl, cc)
-by_fault (Some fault) value log is = cc
+by_fault fault value log is = grind (arith, common_steps)
 
 -- a log that was read has no fault, and its sections are those of its records
 pub read_so : (run : ℕ) (bytes : List ℕ) (log : LogValue) → log_of run bytes ≡ Ok log → IsFaultless bytes × (log.sections ≡ sections_of run (records_of bytes))
 unfolding log_of value_of
-read_so run bytes log is =
-    let both = by_fault (fault_of bytes) (value_of run bytes) log is in
-    (both.0, ap (λ (l : LogValue). l.sections) both.1)
+read_so run bytes log is = grind (arith, common_steps, by_fault)
 
 contains_from_map : (f : ℕ → Trace) (numbers : List ℕ) (t : Trace) → Contains (map f numbers) t → (number : ℕ) × Contains numbers number × (f number ≡ t)
 contains_from_map f numbers t found =

@@ -1,5 +1,5 @@
 -- The bytes of a log that are neither separators nor blanks all stand in its records, so that a record begins at one offset.
-use Rattle.std.{proofs.Common.{◌≡◌, ℕ, zero, suc, ◌+◌, ◌-◌, ◌<◌, Bool, true, false, cond, List, [], ◌∷◌, ◌++◌, Some, length, take, drop, get_or, map, reverse, All, refl, sym, ap, subst, ◌∙◌, arith, inl, inr, not, ◌||◌, slice_get, filter, lt-ltb, get_or-drop, get_or-take, length-take-le, length-drop, take-append-drop}, specs.List.{prefix_len, suffix_len, slice_split, onto_first, AllByRecursion}, proofs.lemmas.Bool.{cases_lt}, proofs.lemmas.List.{get_or-reverse}, proofs.lemmas.List.Elements.{All-from_get_or}, proofs.lemmas.List.Sums.{prefix_len_passes, prefix_len-le-length, suffix_len-le-length}, proofs.Math.Seq.{take-add}}
+use Rattle.std.{proofs.Common.{◌≡◌, ℕ, zero, suc, ◌+◌, ◌-◌, ◌<◌, Bool, true, false, cond, List, [], ◌∷◌, ◌++◌, Some, length, take, drop, get_or, map, reverse, All, refl, sym, ap, subst, ◌∙◌, arith, inl, inr, not, ◌||◌, slice_get, filter, lt-ltb, get_or-drop, get_or-take, length-take-le, length-drop, take-append-drop}, specs.List.{prefix_len, suffix_len, slice_split, onto_first, AllByRecursion}, proofs.lemmas.Bool.{cases_lt}, proofs.lemmas.List.{get_or-reverse}, proofs.lemmas.List.Elements.{All-from_get_or}, proofs.lemmas.List.Sums.{prefix_len_passes, prefix_len-le-length, suffix_len-le-length}, proofs.Math.Seq.{take-add}, proofs.lemmas.Grind.{common_steps}}
 use Rattle.pmf_storelog.specs.Separators.{is_separator, is_blank, is_filled, trimmed, without_front_blanks, without_end_blanks, records_in, parts_of, records_of}
 use Rattle.pmf_query.specs.Locating.{StandsAt}
 
@@ -24,13 +24,8 @@ solids-append (c ∷ xs) ys = let rest = solids-append xs ys in omega (arith, re
 solids-take-drop : (xs : List ℕ) (n : ℕ) → solids (take n xs) + solids (drop n xs) ≡ solids xs
 solids-take-drop xs n = sym (solids-append (take n xs) (drop n xs)) ∙ ap (λ (ys : List ℕ). solids ys) (take-append-drop n xs)
 
-separator_no : (c : ℕ) → is_separator c ≡ true → is_solid c ≡ false
-unfolding is_solid
-separator_no c is = rw is refl
-
 either : (a : Bool) → not (a || true) ≡ false
-either true = refl
-either false = refl
+either a = grind (arith, common_steps)
 
 blank_no : (c : ℕ) → is_blank c ≡ true → is_solid c ≡ false
 unfolding is_solid
@@ -41,9 +36,8 @@ unfolding is_solid
 solid_yes c apart close = rw (apart, close) refl
 
 one_split : (b : Bool) (c : ℕ) (parts : List (List ℕ)) → is_separator c ≡ b → solids_in (cond b ([] ∷ parts) (onto_first c parts)) ≡ cond (is_solid c) 1 0 + solids_in parts
-one_split true c parts is = ap (λ b. cond b 1 0 + solids_in parts) (sym (separator_no c is))
-one_split false c [] is = omega arith
-one_split false c (part ∷ parts) is = omega arith
+unfolding is_solid
+one_split b c parts is = grind (arith, common_steps)
 
 solids_split : (xs : List ℕ) → solids_in (slice_split is_separator xs) ≡ solids xs
 solids_split [] = refl
@@ -86,8 +80,7 @@ solids_trimmed : (part : List ℕ) → solids (trimmed part) ≡ solids part
 solids_trimmed part = solids_end (without_front_blanks part) ∙ solids_front part
 
 keeps : (text : List ℕ) (texts : List (List ℕ)) → solids_in (cond (is_filled text) (text ∷ texts) texts) ≡ solids text + solids_in texts
-keeps [] texts = omega arith
-keeps (c ∷ text) texts = rw (lt-ltb 0 (length (c ∷ text)) (omega arith)) refl
+keeps text texts = grind (arith, common_steps, lt-ltb)
 
 solids_filled : (parts : List (List ℕ)) → solids_in (filter is_filled (map (λ part. trimmed part) parts)) ≡ solids_in parts
 solids_filled [] = refl

@@ -50,6 +50,7 @@ struct Part {
     next: usize,
 }
 
+#[tactic(auto, using(std::proofs::lemmas::Grind::common_steps, crate::proofs::CursorLemmas::part_of_all))]
 fn part_from(log: &[u8], start: usize) -> Part
     requires within { start < length log.now }
     requires anew { BeginsAnew log.now start }

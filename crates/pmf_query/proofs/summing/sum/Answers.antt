@@ -1,9 +1,6 @@
 use Rattle.std.proofs.Common.{◌∙◌, ◌+◌, ◌*◌, ◌^◌, sym, ap, subst}
-use Rattle.pmf_query.{specs.Summing.{IsWithin, both}, proofs.TallySumLemmas.{none_within, sums_more, within_both}}
+use Rattle.pmf_query.{specs.Summing.{IsWithin, both}, proofs.TallySumLemmas.{sums_more, within_both}}
 use Rattle.pmf_query.proofs.summing.sum.Goals as goal
-
-pub loop-section-init : goal.loop-section-init
-loop-section-init c = record { are = c.none-sums.ensures; small = subst (IsWithin 0) (sym c.none-sums.ensures) none_within }
 
 pub loop-section-preserved : goal.loop-section-preserved
 loop-section-preserved c = record {
