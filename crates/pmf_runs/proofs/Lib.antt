@@ -12,4 +12,4 @@ pub mod SkipLemmas
 pub mod JoinedLemmas
 pub mod JoinedLevelLemmas
 pub mod RunJoinedLemmas
-pub mod Rules
+pub mod RunRules

@@ -166,7 +166,7 @@ impl<S: State> Part<S> for Group<S> {
         self.change_whole(from, end, change);
     }
 
-    #[tactic(auto, using(crate::proofs::Rules::skipped))]
+    #[tactic(auto, using(crate::proofs::RunRules::skipped))]
     fn first_where<T: Test<S>>(&self, first: u64, end: u64, test: &T) -> Option<u64> {
         if !test.may_pass(self.summary) {
             return None;
@@ -174,7 +174,7 @@ impl<S: State> Part<S> for Group<S> {
         self.level.find_first(first, end, test)
     }
 
-    #[tactic(auto, using(crate::proofs::Rules::skipped))]
+    #[tactic(auto, using(crate::proofs::RunRules::skipped))]
     fn count_lines<T: Test<S>>(&self, first: u64, end: u64, test: &T, so_far: Counted) -> Counted {
         if !test.may_pass(self.summary) {
             return so_far;
@@ -182,7 +182,7 @@ impl<S: State> Part<S> for Group<S> {
         self.level.count_lines(first, end, test, so_far)
     }
 
-    #[tactic(auto, using(crate::proofs::Rules::skipped))]
+    #[tactic(auto, using(crate::proofs::RunRules::skipped))]
     fn least_key<K: Key<S>>(
         &self,
         first: u64,

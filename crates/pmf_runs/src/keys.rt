@@ -112,7 +112,7 @@ pub(crate) fn high_rank(keys: &[u64], end: Option<u64>, hint: usize) -> usize
 }
 
 /// Whether the place is one of the keys.
-#[tactic(auto, using(crate::proofs::Rules::key))]
+#[tactic(auto, using(crate::proofs::RunRules::key))]
 pub(crate) fn is_key(keys: &[u64], index: usize, place: u64) -> bool
     requires rises { Rises keys.now }
     requires rank { index ≡ rank keys.now place }
@@ -124,7 +124,7 @@ pub(crate) fn is_key(keys: &[u64], index: usize, place: u64) -> bool
 
 /// Which key a list is parted at before more is put in at this place: the last one, where the place lies from
 /// there on, so that rising places leave full lists behind; and else the middle one.
-#[tactic(auto, using(crate::proofs::Rules::parted))]
+#[tactic(auto, using(crate::proofs::RunRules::parted))]
 pub(crate) fn parting(keys: &[u64], place: u64) -> usize
     requires { 0 < length keys.now }
     ensures is { result ≡ parting keys.now place }
@@ -165,7 +165,7 @@ pub(crate) fn inner_bound(keys: &[u64], index: usize, bound: Option<u64>) -> Opt
 }
 
 /// A bound at one part, and none elsewhere.
-#[tactic(auto, using(crate::proofs::Rules::handed))]
+#[tactic(auto, using(crate::proofs::RunRules::handed))]
 pub(crate) fn bound_at(here: usize, index: usize, bound: Option<u64>) -> Option<u64>
     ensures { result ≡ bound_at here index bound }
 {

@@ -30,7 +30,7 @@ impl<S: State> Leaf<S> {
     ghost use Rattle.pmf_runs.specs.{Leaves.{leaf_state, leaf_begins, leaf_full, leaf_middle}, Joined.{JoinedBut, JoinedBeside, InOrder, ChangesRange, ChangesCut, Halves}};
 
     /// The leaf in which each number has this state.
-    #[tactic(auto, using(crate::proofs::Rules::leaf_new))]
+    #[tactic(auto, using(crate::proofs::RunRules::leaf_new))]
     pub(crate) fn new(alloc: Global, state: S) -> Result<Leaf<S>, AllocError>
         ensures states { IfOk result (λ leaf. (d : S) (b : ℕ) → leaf_state leaf d b ≡ state) }
         ensures joined { IfOk result (λ leaf. JoinedBut leaf None None) }
@@ -45,7 +45,7 @@ impl<S: State> Leaf<S> {
     }
 
     /// The state of a number.
-    #[tactic(auto, using(crate::proofs::Rules::leaf_read))]
+    #[tactic(auto, using(crate::proofs::RunRules::leaf_read))]
     pub(crate) fn state_of(&self, place: u64) -> S
         ensures { (d : S) → result ≡ leaf_state self.now d place }
     {
@@ -53,7 +53,7 @@ impl<S: State> Leaf<S> {
     }
 
     /// Makes a run begin at this number, which changes no state.
-    #[tactic(auto, using(crate::proofs::Rules::leaf_begun))]
+    #[tactic(auto, using(crate::proofs::RunRules::leaf_begun))]
     pub(crate) fn begin(&mut self, place: u64) -> Result<(), AllocError>
         ensures begins { OnOk result (leaf_begins self.new place) }
         ensures kept { (b : ℕ) → leaf_begins self.old b → leaf_begins self.new b }
@@ -69,7 +69,7 @@ impl<S: State> Leaf<S> {
 
     /// Puts in a key at its rank. The same state holds on its two sides.
     #[inline(never)]
-    #[tactic(auto, using(crate::proofs::Rules::leaf_key))]
+    #[tactic(auto, using(crate::proofs::RunRules::leaf_key))]
     fn put_key(&mut self, index: usize, place: u64) -> Result<(), AllocError>
         requires rank { index ≡ rank self.old.keys.items place }
         requires fresh { IsFresh self.old.keys.items place }
@@ -89,7 +89,7 @@ impl<S: State> Leaf<S> {
     }
 
     /// Where the change alters states of the numbers from `first` up to `end`.
-    #[tactic(auto, using(crate::proofs::Rules::leaf_altered))]
+    #[tactic(auto, using(crate::proofs::RunRules::leaf_altered))]
     pub(crate) fn altered<C: Change<S>>(
         &self,
         first: u64,
@@ -219,7 +219,7 @@ impl<S: State> Leaf<S> {
 
     /// Takes out a key with equal states on its two sides. Apart, so that the search for one is small.
     #[inline(never)]
-    #[tactic(auto, using(crate::proofs::Rules::leaf_taken))]
+    #[tactic(auto, using(crate::proofs::RunRules::leaf_taken))]
     fn take_out(&mut self, key: usize)
         requires within { key < vec_len self.old.keys }
         requires equal { (d : S) → get_or self.old.states.items key d ≡ get_or self.old.states.items (key + 1) d }
@@ -251,7 +251,7 @@ impl<S: State> Leaf<S> {
     }
 
     /// The key that it is split at before more is put in at this place.
-    #[tactic(auto, using(crate::proofs::Rules::leaf_middle))]
+    #[tactic(auto, using(crate::proofs::RunRules::leaf_middle))]
     pub(crate) fn middle_key(&self, place: u64) -> u64
         requires { leaf_full self.now ≡ true }
         ensures { result ≡ leaf_middle self.now place }
@@ -260,7 +260,7 @@ impl<S: State> Leaf<S> {
     }
 
     /// Hands out what lies from that key on. After an `Err` nothing is changed.
-    #[tactic(auto, using(crate::proofs::Rules::leaf_halves))]
+    #[tactic(auto, using(crate::proofs::RunRules::leaf_halves))]
     pub(crate) fn halve(&mut self, place: u64) -> Result<Leaf<S>, AllocError>
         requires { leaf_full self.old ≡ true }
         ensures ok { IfOk result (Halves leaf_state JoinedBut (leaf_middle self.old place) self.old self.new) }

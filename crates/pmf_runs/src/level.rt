@@ -30,7 +30,7 @@ impl<P> Level<P> {
     ghost use Rattle.pmf_runs.specs.{Levels.{level_state, level_begins, level_full, level_middle, BeginsAt, GoesOn, IsFullAt, Rewrites}, Joined.{PartsJoined, JoinsParts, InOrder, ChangesRange, ChangesCut, Halves}};
 
     /// The level of one part.
-    #[tactic(auto, using(crate::proofs::Rules::level_new))]
+    #[tactic(auto, using(crate::proofs::RunRules::level_new))]
     pub(crate) fn new<S: State>(alloc: Global, part: P) -> Result<Level<P>, AllocError>
     where
         P: Part<S>,
@@ -47,7 +47,7 @@ impl<P> Level<P> {
     }
 
     /// The state that the part of the number gives it.
-    #[tactic(auto, using(crate::proofs::Rules::level_read))]
+    #[tactic(auto, using(crate::proofs::RunRules::level_read))]
     pub(crate) fn state_of<S: State>(&self, place: u64) -> S
     where
         P: Part<S>,
@@ -57,7 +57,7 @@ impl<P> Level<P> {
     }
 
     /// Makes a run begin at the number, in the part that it is handed to.
-    #[tactic(auto, using(crate::proofs::Rules::level_begun))]
+    #[tactic(auto, using(crate::proofs::RunRules::level_begun))]
     pub(crate) fn begin<S: State>(&mut self, place: u64) -> Result<(), AllocError>
     where
         P: Part<S>,
@@ -76,7 +76,7 @@ impl<P> Level<P> {
     }
 
     /// Splits what is full on the way to the number.
-    #[tactic(auto, using(crate::proofs::Rules::level_space))]
+    #[tactic(auto, using(crate::proofs::RunRules::level_space))]
     pub(crate) fn space_for<S: State>(&mut self, place: u64) -> Result<(), AllocError>
     where
         P: Part<S>,
@@ -111,7 +111,7 @@ impl<P> Level<P> {
     }
 
     /// Splits a full part at its middle.
-    #[tactic(auto, using(crate::proofs::Rules::level_splits))]
+    #[tactic(auto, using(crate::proofs::RunRules::level_splits))]
     fn split_at<S: State>(
         &mut self,
         index: usize,
@@ -140,7 +140,7 @@ impl<P> Level<P> {
     }
 
     /// The state of all numbers from this one on, where it is one.
-    #[tactic(auto, using(crate::proofs::Rules::level_tail))]
+    #[tactic(auto, using(crate::proofs::RunRules::level_tail))]
     pub(crate) fn tail<S: State>(&self, place: u64) -> Option<S>
     where
         P: Part<S>,
@@ -162,7 +162,7 @@ impl<P> Level<P> {
     }
 
     /// The key that it is split at before more is put in at this place.
-    #[tactic(auto, using(crate::proofs::Rules::level_middle))]
+    #[tactic(auto, using(crate::proofs::RunRules::level_middle))]
     pub(crate) fn middle_key(&self, place: u64) -> u64
         requires { level_full self.now ≡ true }
         ensures { result ≡ level_middle self.now place }
@@ -171,7 +171,7 @@ impl<P> Level<P> {
     }
 
     /// Hands out what lies from that key on. After an `Err` nothing is changed.
-    #[tactic(auto, using(crate::proofs::Rules::level_halves))]
+    #[tactic(auto, using(crate::proofs::RunRules::level_halves))]
     pub(crate) fn halve<S: State>(&mut self, place: u64) -> Result<Level<P>, AllocError>
     where
         P: Part<S>,
@@ -245,7 +245,7 @@ impl<P> Level<P> {
     }
 
     /// Takes out a part that the one before it stands for as well.
-    #[tactic(auto, using(crate::proofs::Rules::level_joins))]
+    #[tactic(auto, using(crate::proofs::RunRules::level_joins))]
     fn join_at<S: State>(&mut self, key: usize)
     where
         P: Part<S>,
@@ -260,7 +260,7 @@ impl<P> Level<P> {
     }
 
     /// Changes the states between two bounds at which runs begin, part by part. It takes no memory.
-    #[tactic(auto, using(crate::proofs::Rules::level_rewritten))]
+    #[tactic(auto, using(crate::proofs::RunRules::level_rewritten))]
     fn rewrite_all<S: State, C: Change<S>>(
         &mut self,
         from: Option<u64>,
@@ -286,7 +286,7 @@ impl<P> Level<P> {
     }
 
     /// Changes the parts from `low` to `high`, the first from its bound on and the last up to its bound.
-    #[tactic(auto, using(crate::proofs::Rules::parts_rewritten))]
+    #[tactic(auto, using(crate::proofs::RunRules::parts_rewritten))]
     fn change_parts<S: State, C: Change<S>>(
         &mut self,
         low: usize,
@@ -312,7 +312,7 @@ impl<P> Level<P> {
     }
 
     /// Changes the states of the numbers from `first` up to `end`. After an `Err` no state is changed.
-    #[tactic(auto, using(crate::proofs::Rules::in_level))]
+    #[tactic(auto, using(crate::proofs::RunRules::in_level))]
     pub(crate) fn change_range<S: State, C: Change<S>>(
         &mut self,
         first: u64,
@@ -335,7 +335,7 @@ impl<P> Level<P> {
     /// The same where the part of the first number is full.
     #[cold]
     #[inline(never)]
-    #[tactic(auto, using(crate::proofs::Rules::in_level))]
+    #[tactic(auto, using(crate::proofs::RunRules::in_level))]
     fn change_full<S: State, C: Change<S>>(
         &mut self,
         index: usize,
@@ -356,7 +356,7 @@ impl<P> Level<P> {
     }
 
     /// The same where the part of the first number has room.
-    #[tactic(auto, using(crate::proofs::Rules::level_changes))]
+    #[tactic(auto, using(crate::proofs::RunRules::level_changes))]
     fn change_at<S: State, C: Change<S>>(
         &mut self,
         index: usize,

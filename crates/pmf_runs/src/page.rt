@@ -31,7 +31,7 @@ impl<S: State> Page<S> {
     }
 
     /// Changes the states of a range that lies in the page.
-    #[tactic(auto, using(crate::proofs::Rules::page_changes))]
+    #[tactic(auto, using(crate::proofs::RunRules::page_changes))]
     fn change_range<C: Change<S>>(
         &mut self,
         first: u64,
@@ -166,7 +166,7 @@ impl<S: State> Part<S> for Page<S> {
         self.change_whole(from, end, change);
     }
 
-    #[tactic(auto, using(crate::proofs::Rules::skipped))]
+    #[tactic(auto, using(crate::proofs::RunRules::skipped))]
     fn first_where<T: Test<S>>(&self, first: u64, end: u64, test: &T) -> Option<u64> {
         if !test.may_pass(self.summary) {
             return None;
@@ -174,7 +174,7 @@ impl<S: State> Part<S> for Page<S> {
         self.leaf.find_first(first, end, test)
     }
 
-    #[tactic(auto, using(crate::proofs::Rules::skipped))]
+    #[tactic(auto, using(crate::proofs::RunRules::skipped))]
     fn count_lines<T: Test<S>>(&self, first: u64, end: u64, test: &T, so_far: Counted) -> Counted {
         if !test.may_pass(self.summary) {
             return so_far;
@@ -182,7 +182,7 @@ impl<S: State> Part<S> for Page<S> {
         self.leaf.count_lines(first, end, test, so_far)
     }
 
-    #[tactic(auto, using(crate::proofs::Rules::skipped))]
+    #[tactic(auto, using(crate::proofs::RunRules::skipped))]
     fn least_key<K: Key<S>>(
         &self,
         first: u64,

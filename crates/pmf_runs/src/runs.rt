@@ -28,7 +28,7 @@ impl<S: State> RunMap<S> {
     ghost use Rattle.pmf_runs.specs.Runs.{root_state, root_joined, state_at, IsJoined, KeepsStates, ChangesBetween};
 
     /// The map in which each number has the state `gap`. It takes no memory.
-    #[tactic(auto, using(crate::proofs::Rules::no_root))]
+    #[tactic(auto, using(crate::proofs::RunRules::no_root))]
     pub fn new(alloc: Global, gap: S) -> RunMap<S>
         ensures states { (b : ℕ) → state_at result b ≡ gap }
         ensures joined { IsJoined result }
@@ -53,7 +53,7 @@ impl<S: State> RunMap<S> {
     /// Changes the states of the numbers from `first` up to `end`, which is not one of them. Where
     /// neighbouring runs differ, they do so after it. An empty range takes no memory. After an `Err`,
     /// which is want of memory, each number has the state that it had.
-    #[tactic(auto, using(crate::proofs::Rules::none_changed))]
+    #[tactic(auto, using(crate::proofs::RunRules::none_changed))]
     pub fn change<C: Change<S>>(
         &mut self,
         first: u64,

@@ -16,7 +16,7 @@ pub(crate) struct Counted {
 
 /// The element at which a walk begins, which is the first of all where no key is reached yet: a walk that
 /// goes on in a next part comes there without a search.
-#[tactic(auto, using(crate::proofs::Rules::start))]
+#[tactic(auto, using(crate::proofs::RunRules::start))]
 pub(crate) fn start_of(keys: &[u64], first: u64, hint: usize) -> usize
     requires { Rises keys.now }
     ensures { result ≡ rank keys.now first }

@@ -8,4 +8,4 @@ pub mod StandingLemmas
 pub mod PairLemmas
 pub mod PieceLemmas
 pub mod UnorderedLemmas
-pub mod Rules
+pub mod ShadowRules

@@ -25,7 +25,7 @@ impl Shadow {
 
     // The least pair whose second byte comes after the first: the first byte that was not written
     // back before the earliest epoch of `b`, and the first byte of `b` that comes after it.
-    #[tactic(auto, using(crate::proofs::Rules::least_by_epochs), unfolding(pmf_runs::specs::Runs::keyed, crate::specs::Pairs::kept, pmf_runs::specs::Runs::passing))]
+    #[tactic(auto, using(crate::proofs::ShadowRules::least_by_epochs), unfolding(pmf_runs::specs::Runs::keyed, crate::specs::Pairs::kept, pmf_runs::specs::Runs::passing))]
     fn least_by_epochs(&self, a: &Span, b: &Span) -> Option<(u64, u64)>
         ensures { result ≡ least_pair (by_epochs (kept self.now.bytes)) a.now b.now }
     {
@@ -40,7 +40,7 @@ impl Shadow {
 
     // The least pair by the order of stores on one line, and by epochs elsewhere. The earliest epoch
     // of `b` lies on one line; every byte off that line meets it there.
-    #[tactic(auto, using(crate::proofs::Rules::least_by_lines), unfolding(pmf_runs::specs::Runs::keyed, crate::specs::Pairs::kept, pmf_runs::specs::Runs::passing))]
+    #[tactic(auto, using(crate::proofs::ShadowRules::least_by_lines), unfolding(pmf_runs::specs::Runs::keyed, crate::specs::Pairs::kept, pmf_runs::specs::Runs::passing))]
     fn least_by_lines(&self, a: &Span, b: &Span, ties: bool) -> Option<(u64, u64)>
         ensures { ForEachList self.now (λ told es p. KeepsOrder told es p → result ≡ least_pair (by_lines ties (kept self.now.bytes)) a.now b.now) }
     {
@@ -68,7 +68,7 @@ impl Shadow {
     }
 
     // The first byte of the span that passes: on the line the one test, off it the other.
-    #[tactic(auto, using(crate::proofs::Rules::first_by_line))]
+    #[tactic(auto, using(crate::proofs::ShadowRules::first_by_line))]
     fn first_by_line<T: Test<ByteState>, U: Test<ByteState>>(
         &self,
         span: &Span,
@@ -97,7 +97,7 @@ impl Shadow {
     }
 
     // The least place of a last store among the checked bytes of the span on the line.
-    #[tactic(auto, using(crate::proofs::Rules::least_place_on))]
+    #[tactic(auto, using(crate::proofs::ShadowRules::least_place_on))]
     fn least_place_on(&self, span: &Span, line: u64) -> Option<u32>
         requires line { line % LINE_SIZE ≡ 0 }
         requires room { line < ADDRESS_LIMIT }
@@ -109,7 +109,7 @@ impl Shadow {
     }
 
     // The least epoch of a last store among the checked bytes of the span off the line.
-    #[tactic(auto, using(crate::proofs::Rules::least_opening_off))]
+    #[tactic(auto, using(crate::proofs::ShadowRules::least_opening_off))]
     fn least_opening_off(&self, span: &Span, line: u64) -> Option<u32>
         requires line { line % LINE_SIZE ≡ 0 }
         requires room { line < ADDRESS_LIMIT }

@@ -124,7 +124,7 @@ impl Shadow {
 
     /// The persist interval of the byte, with the place that was told of its last store, or `None` where no
     /// store has covered it.
-    #[tactic(auto, using(crate::proofs::Rules::interval_at))]
+    #[tactic(auto, using(crate::proofs::ShadowRules::interval_at))]
     pub fn interval_at(&self, byte: u64) -> Option<Interval>
         ensures { ForEachList self.now (λ told es p. result ≡ interval_as_told told (interval_at es p byte)) }
     {
@@ -176,7 +176,7 @@ impl Shadow {
 
     /// What a write-back of the span's lines would find: both of these at once, so that lines are counted
     /// once.
-    #[tactic(auto, using(crate::proofs::Rules::flush_lines))]
+    #[tactic(auto, using(crate::proofs::ShadowRules::flush_lines))]
     pub fn flush_lines(&self, span: Span) -> FlushLines
         ensures pending { ForEachList self.now (λ told es p. result.pending ≡ lines_where (is_pending es p) span) }
         ensures clean { ForEachList self.now (λ told es p. result.clean ≡ lines_where (is_clean es p) span) }

@@ -15,7 +15,7 @@ impl Shadow {
     /// other test, and those without a byte that passes: the least, and how many. What passes the other
     /// test passes the one, and what passes the one alone passes the third. Most often the span meets one
     /// line, and a byte of it passes the other test.
-    #[tactic(auto, using(crate::proofs::Rules::lines_apart), unfolding(pmf_runs::specs::Runs::passing))]
+    #[tactic(auto, using(crate::proofs::ShadowRules::lines_apart), unfolding(pmf_runs::specs::Runs::passing))]
     pub(crate) fn lines_apart<
         T: Test<ByteState> + Copy,
         U: Test<ByteState> + Copy,
@@ -39,7 +39,7 @@ impl Shadow {
     }
 
     // The lines without a byte that passes, where so many have one.
-    #[tactic(auto, using(crate::proofs::Rules::lines_without))]
+    #[tactic(auto, using(crate::proofs::ShadowRules::lines_without))]
     fn lines_without<T: Test<ByteState> + Copy>(
         &self,
         first: u64,
@@ -62,7 +62,7 @@ impl Shadow {
 
     // The lines with a byte that passes and without one that passes the other test, where so many have one
     // that passes.
-    #[tactic(auto, using(crate::proofs::Rules::lines_with_but), unfolding(pmf_runs::specs::Runs::passing))]
+    #[tactic(auto, using(crate::proofs::ShadowRules::lines_with_but), unfolding(pmf_runs::specs::Runs::passing))]
     fn lines_with_but<T: Test<ByteState> + Copy, U: Test<ByteState> + Copy, V: Test<ByteState>>(
         &self,
         first: u64,
@@ -102,7 +102,7 @@ impl Shadow {
 
     // The same as `least_line_but`. It begins at the first byte that passes the third test, and most often
     // there is none.
-    #[tactic(auto, using(crate::proofs::Rules::least_line_alone), unfolding(pmf_runs::specs::Runs::passing))]
+    #[tactic(auto, using(crate::proofs::ShadowRules::least_line_alone), unfolding(pmf_runs::specs::Runs::passing))]
     fn least_line_alone<T: Test<ByteState> + Copy, U: Test<ByteState> + Copy, V: Test<ByteState>>(
         &self,
         first: u64,
@@ -123,7 +123,7 @@ impl Shadow {
     }
 
     // The least of the lines that has a byte that passes, and none that passes the other test.
-    #[tactic(auto, using(crate::proofs::Rules::least_line_but))]
+    #[tactic(auto, using(crate::proofs::ShadowRules::least_line_but))]
     fn least_line_but<T: Test<ByteState> + Copy, U: Test<ByteState> + Copy>(
         &self,
         first: u64,
@@ -152,7 +152,7 @@ impl Shadow {
     }
 
     // The least of the lines that has no byte that passes.
-    #[tactic(auto, using(crate::proofs::Rules::least_line_without))]
+    #[tactic(auto, using(crate::proofs::ShadowRules::least_line_without))]
     fn least_line_without<T: Test<ByteState> + Copy>(
         &self,
         first: u64,
@@ -175,7 +175,7 @@ impl Shadow {
     }
 
     // The least of the lines that has a byte that passes.
-    #[tactic(auto, using(crate::proofs::Rules::least_line_with))]
+    #[tactic(auto, using(crate::proofs::ShadowRules::least_line_with))]
     fn least_line_with<T: Test<ByteState>>(&self, first: u64, end: u64, test: &T) -> Option<u64>
         requires ordered { first ≤ end }
         requires room { end * LINE_SIZE ≤ ADDRESS_LIMIT }
@@ -192,7 +192,7 @@ impl Shadow {
     }
 
     // Whether a byte of the line passes.
-    #[tactic(auto, using(crate::proofs::Rules::has_on))]
+    #[tactic(auto, using(crate::proofs::ShadowRules::has_on))]
     fn has_on<T: Test<ByteState>>(&self, line: u64, test: &T) -> bool
         requires { (line + 1) * LINE_SIZE ≤ ADDRESS_LIMIT }
         ensures { result ≡ line_has (passing (T.passes test.now) self.now.bytes) line }
@@ -204,7 +204,7 @@ impl Shadow {
     }
 
     // Where the bytes that pass end, from the first of the lines on: the line after those they meet.
-    #[tactic(auto, using(crate::proofs::Rules::stretch_end), unfolding(pmf_runs::specs::Runs::passing))]
+    #[tactic(auto, using(crate::proofs::ShadowRules::stretch_end), unfolding(pmf_runs::specs::Runs::passing))]
     fn stretch_end<T: Test<ByteState> + Copy>(&self, first: u64, end: u64, test: &T) -> u64
         requires ordered { first ≤ end }
         requires room { end * LINE_SIZE ≤ ADDRESS_LIMIT }

@@ -43,7 +43,7 @@ impl State for ByteState {
         }
     }
 
-    #[tactic(auto, using(crate::proofs::Rules::joined))]
+    #[tactic(auto, using(crate::proofs::ShadowRules::joined))]
     fn joined(one: Bounds, other: Bounds) -> Bounds {
         one.joined(other)
     }
