@@ -8,3 +8,4 @@ pub mod KeptLemmas
 pub mod LookBackLemmas
 pub mod TextLemmas
 pub mod FitLemmas
+pub mod StayingLemmas

@@ -14,7 +14,7 @@ closed-from_exposed : (es : List Event) (p b : ℕ) → is_exposed es p b ≡ fa
 unfolding is_exposed
 closed-from_exposed es p b shut checked = ap (λ v. v && is_open (interval_at es p b)) (sym checked) ∙ shut
 
-pass-closed : (es : List Event) (p : ℕ) (s : Extent) → persist_finding es p s ≡ PersistPass →
+pub pass-closed : (es : List Event) (p : ℕ) (s : Extent) → persist_finding es p s ≡ PersistPass →
     (b : ℕ) → covers_byte s b ≡ true → is_checked es p b ≡ true → is_open (interval_at es p b) ≡ false
 unfolding persist_finding
 pass-closed es p s passed b covered checked =

@@ -19,3 +19,4 @@ pub mod Text
 pub mod Outcome
 pub mod Kept
 pub mod LookBack
+pub mod Staying

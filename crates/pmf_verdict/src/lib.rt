@@ -21,7 +21,7 @@ mod verdict;
 
 pub use checking::{CheckFault, check};
 pub use explaining::{certificate_of, explain};
-pub use laws::{later_events_change_no_row, rows_look_back};
+pub use laws::{later_events_change_no_row, pass_stays, rows_look_back};
 pub use outcome::{Outcome, outcome_of};
 pub use text::{push_row, write_rows, write_rows_at};
 pub use verdict::Verdict;
