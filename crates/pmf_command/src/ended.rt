@@ -1,8 +1,8 @@
 //! How the process ends: as what was asked for was answered.
 
-ghost use Rattle.std.specs.{Prelude.{◌≡◌, ◌⊎◌, ◌↔◌, ◌+◌, map, Result}, Io.KnownBytes.{Appends}, Process.{exit_status}};
+ghost use Rattle.std.specs.{Prelude.{◌≡◌, ◌⊎◌, ◌↔◌, ◌+◌, map, OnOk, Result}, Io.KnownBytes.{Appends}, Process.{exit_status}};
 ghost use Rattle.clap.specs.Words.{kind_of};
-ghost use Rattle.pmf_stream.specs.{Simulated.{IsSimRefusalOf, IsSimulationOf}, Answering.{Answers, TellsFaults, failed_reads, failed_writes}, Asked.{IsAnswerOf, IsRefusalOf}, Checking.{IsCheckFaultOf, IsReportOf}, Failures.{CanCountOneMore}, Joining.{IsJoinedText, IsRefusalOfTexts}, declared.checking.CheckLogFault.{CheckLogFault}, declared.checking.Done.{Done}, declared.cutting.Pieces.{Pieces}, declared.fault.StreamFault.{StreamFault}, declared.joining.Joined.{Joined}, declared.joining.JoinTextFault.{JoinTextFault}};
+ghost use Rattle.pmf_stream.specs.{Simulated.{IsSimRefusalOf, IsSimulationOf}, Answering.{Answers, TellsFaults, failed_reads, failed_writes}, Asked.{IsAnswerOf, IsRefusalOf}, Checking.{IsCheckFaultOf, IsReportOf}, Failures.{CanCountOneMore}, Files.{IsCutOf}, Joining.{IsJoinedText, IsRefusalOfTexts}, declared.checking.CheckLogFault.{CheckLogFault}, declared.checking.Done.{Done}, declared.cutting.Pieces.{Pieces}, declared.fault.StreamFault.{StreamFault}, declared.joining.Joined.{Joined}, declared.joining.JoinTextFault.{JoinTextFault}};
 ghost use Rattle.pmf_cut.specs.declared.fault.CutFault.{CutFault};
 ghost use Rattle.pmf_world.specs.declared.simulating.SimFault.{SimFault};
 ghost use Rattle.pmf_command.specs.{Statuses.{IsAnswerTo, exit_code_of, status_of, status_of_asked, status_of_check_fault, status_of_cut_fault, status_of_done, status_of_fault, status_of_joined, status_of_pieces, status_of_sim_fault, status_of_text_fault}, declared.status.Status.{Status}};
@@ -158,6 +158,7 @@ pub(crate) fn cut_to<R: Eprint, S: Source, W: Outlet>(
     requires write { CanCountOneMore (W.failed_calls sink.old) }
     ensures { (answer : Result Pieces (StreamFault CutFault))
         × (result ≡ status_of status_of_pieces status_of_cut_fault answer)
+        × OnOk answer (IsCutOf lengths.step (S.left source.old) (S.left source.new) (W.held_in sink.old) (W.held_in sink.new))
         × (S.failed_calls source.new ≡ S.failed_calls source.old + failed_reads answer)
         × (W.failed_calls sink.new ≡ W.failed_calls sink.old + failed_writes answer) }
 {

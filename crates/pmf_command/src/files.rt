@@ -1,10 +1,11 @@
 //! The files that a log is cut into.
 
-ghost use Rattle.std.specs.Prelude.{◌≡◌, None};
+ghost use Rattle.std.specs.Prelude.{◌≡◌, ◌+◌, None};
+ghost use Rattle.pmf_stream.specs.Failures.{CanCountOneMore, failed_files};
 
 use crate::diagnostics::fail_file;
 use crate::status::Status;
-use pmf_stream::{Device, Failed, NoFile, Outlet, Sink};
+use pmf_stream::{Device, Failed, NoFile, Outlet, Sink, write_whole};
 use std::alloc::Global;
 use std::fs::{Files, OpenOptions};
 use std::io;
@@ -63,7 +64,7 @@ impl<'a, R: Files + Eprint> NumberedFiles<'a, R> {
                     "the file is there already",
                     Status::DeviceFault,
                 );
-                Err(NoFile::Failed)
+                Err(NoFile::Failed { written: 0 })
             }
             Err(_) => {
                 fail_file(
@@ -72,7 +73,31 @@ impl<'a, R: Files + Eprint> NumberedFiles<'a, R> {
                     "the file is not opened",
                     Status::DeviceFault,
                 );
-                Err(NoFile::Failed)
+                Err(NoFile::Failed { written: 0 })
+            }
+        }
+    }
+
+    // From now on this file is written to, at its end.
+    fn turn_to(&mut self, file: usize) -> Result<(), NoFile>
+        requires { CanCountOneMore self.old.failures }
+        ensures { self.new.failures ≡ self.old.failures + failed_files result }
+    {
+        if self.file.is_some() && self.current == file {
+            return Ok(());
+        }
+        self.file = None;
+        match self.open(file) {
+            Ok(opened) => {
+                self.file = Some(opened);
+                self.current = file;
+                self.count = self.count.max(file.saturating_add(1));
+                Ok(())
+            }
+            Err(NoFile::OutOfMemory) => Err(NoFile::OutOfMemory),
+            Err(refusal) => {
+                self.failures += 1;
+                Err(refusal)
             }
         }
     }
@@ -102,23 +127,10 @@ impl<R: Files + Eprint> Sink for NumberedFiles<'_, R> {
 }
 
 impl<R: Files + Eprint> Outlet for NumberedFiles<'_, R> {
-    fn turn_to(&mut self, file: usize) -> Result<(), NoFile> {
-        if self.file.is_some() && self.current == file {
-            return Ok(());
-        }
-        self.file = None;
-        match self.open(file) {
-            Ok(opened) => {
-                self.file = Some(opened);
-                self.current = file;
-                self.count = self.count.max(file.saturating_add(1));
-                Ok(())
-            }
-            Err(NoFile::Failed) => {
-                self.failures += 1;
-                Err(NoFile::Failed)
-            }
-            Err(refusal) => Err(refusal),
-        }
+    ghost held_in = { λ s file. None };
+
+    fn write_to(&mut self, file: usize, text: &[u8]) -> Result<(), NoFile> {
+        self.turn_to(file)?;
+        write_whole(self, text)
     }
 }

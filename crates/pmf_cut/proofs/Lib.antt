@@ -6,3 +6,5 @@ pub mod PartLemmas
 pub mod ComparingLemmas
 pub mod WholeLemmas
 pub mod LostLemmas
+pub mod CuttingLemmas
+pub mod OutputLemmas

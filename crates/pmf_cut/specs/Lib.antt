@@ -6,3 +6,6 @@ pub mod Parts
 pub mod Comparing
 pub mod Lost
 pub mod Laws
+pub mod Written
+pub mod Outputs
+pub mod Cutting

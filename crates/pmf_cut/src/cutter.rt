@@ -1,14 +1,18 @@
 //! The text of a log with its sections cut.
 
-ghost use Rattle.std.specs.Prelude.{◌<◌, ◌≤◌, length};
+ghost use Rattle.std.specs.{Prelude.{◌≡◌, ◌+◌, ◌<◌, ◌≤◌, ◌++◌, ◌∷◌, [], ℕ, List, Some, None, length, take, drop, slice_get, OnOk, IfOk, IfSome, MatchOption}, Ordering.{nat_cmp}, BTreeMap.{get}};
+ghost use Rattle.pmf_event.specs.declared.event.Event.{Event};
+ghost use Rattle.pmf_storelog.specs.{Separators.{parts_of}, declared.record.Saying.TheVariants.{Enters, Happens}};
+ghost use Rattle.pmf_cut.specs.{declared.section.Cutting.{Cutting}, Cutting.{BeginsFile, BeginsPart, CutsAny, CutsNothing, CutsPart, CutsParts, CutsRecord, Drains, Finds, FindsCurrent, HasCutAll, HasRead, Keeps, KeepsWith, Names, TakesAt}};
 
 use crate::fault::CutFault;
+use crate::notes::Notes;
 use crate::output::{Outputs, Text};
-use crate::part::{Part, PartFault};
-use crate::section::Cutting;
+use crate::part::PartFault;
+use crate::section::{Cutting, NextPart};
 use memchr::{memchr3, memrchr3};
 use pmf_event::{EVENT_LIMIT, Event};
-use pmf_storelog::{Cause, LogFault, SECTION_LIMIT, Saying, push_event, read_record, trim};
+use pmf_storelog::{Cause, LogFault, SECTION_LIMIT, Saying, read_record, trim};
 use std::alloc::{AllocError, Global};
 use std::collections::BTreeMap;
 
@@ -36,20 +40,27 @@ pub struct Cutter {
     current: Option<usize>,
     records: u64,
     cuts: u64,
-    told: u64,
     /// The bytes behind the last separator that was read.
     waiting: Vec<u8>,
     /// What is to be written.
     outputs: Outputs,
     /// What is to be said.
-    notes: Vec<String>,
+    notes: Notes,
 }
 
 impl Cutter {
     /// A cutter before the log's first byte. A part has at most so many events, of those that a section may have; a file is to have at
     /// most so many bytes, where there may be several.
-    pub fn new(alloc: Global, events: u32, step: u64, bytes: Option<u64>) -> Cutter {
-        Cutter {
+    pub fn new(
+        alloc: Global,
+        events: u32,
+        step: u64,
+        bytes: Option<u64>,
+    ) -> Result<Cutter, AllocError>
+        ensures { IfOk result (HasRead step [] (λ _. [])) }
+    {
+        let outputs = Outputs::new(alloc, bytes)?;
+        Ok(Cutter {
             alloc,
             limit: events.min(EVENT_LIMIT as u32),
             step,
@@ -60,27 +71,30 @@ impl Cutter {
             current: None,
             records: 0,
             cuts: 0,
-            told: 0,
             waiting: Vec::new(alloc),
-            outputs: Outputs::new(alloc, bytes),
-            notes: Vec::new(alloc),
-        }
+            outputs,
+            notes: Notes::new(alloc),
+        })
     }
 
     /// Reads a piece of the log. After an `Err` the cutter is of no use.
-    pub fn take(&mut self, piece: &[u8]) -> Result<(), CutFault> {
+    pub fn take(&mut self, piece: &[u8]) -> Result<(), CutFault>
+        ensures { OnOk result ((step : ℕ) (log : List ℕ) (handed : ℕ → List ℕ) → HasRead step log handed self.old → HasRead step (log ++ piece.now) handed self.new) }
+    {
         let end = ended(piece);
         if end > 0 {
-            self.waiting.extend_from_slice(&piece[..end])?;
-            self.copy_waiting()?;
+            self.copy_ended(&piece[..end])?;
         }
         self.waiting.extend_from_slice(&piece[end..])?;
         Ok(())
     }
 
     /// Reads the end of the log, which may end its last record.
-    pub fn finish(&mut self) -> Result<(), CutFault> {
-        self.copy_waiting()?;
+    pub fn finish(&mut self) -> Result<(), CutFault>
+        ensures { OnOk result ((step : ℕ) (log : List ℕ) (handed : ℕ → List ℕ) → HasRead step log handed self.old → HasCutAll step log handed self.new) }
+    {
+        let rest = std::mem::replace(&mut self.waiting, Vec::new(self.alloc));
+        self.take_part(&rest, &rest)?;
         for file in 0..self.outputs.count() {
             self.tell_size(file)?;
         }
@@ -88,14 +102,18 @@ impl Cutter {
     }
 
     /// What is to be written of what was read since the last call, for each file once: it is handed out once.
-    pub fn drain(&mut self) -> Result<Vec<Text>, CutFault> {
+    pub fn drain(&mut self) -> Result<Vec<Text>, CutFault>
+        ensures { IfOk result (λ texts. Drains self.old texts.items self.new) }
+    {
         let texts = self.outputs.drain()?;
         Ok(texts)
     }
 
     /// The lines that are to be said of what was read since the last call: they are handed out once.
-    pub fn notes(&mut self) -> Vec<String> {
-        std::mem::replace(&mut self.notes, Vec::new(self.alloc))
+    pub fn notes(&mut self) -> Vec<String>
+        ensures { (step : ℕ) (log : List ℕ) (handed : ℕ → List ℕ) → HasRead step log handed self.old → HasRead step log handed self.new }
+    {
+        self.notes.take()
     }
 
     /// How many files have bytes.
@@ -115,91 +133,138 @@ impl Cutter {
 
     /// How many things were said.
     pub fn told(&self) -> u64 {
-        self.told
+        self.notes.told()
     }
 
-    // Copies the bytes that wait, and puts in front of each record what has to stand there.
-    fn copy_waiting(&mut self) -> Result<(), CutFault> {
-        let mut text = std::mem::replace(&mut self.waiting, Vec::new(self.alloc));
-        self.copy(&text)?;
-        text.clear();
-        self.waiting = text;
+    // Cuts the parts that wait and those of these bytes, which a separator ends.
+    fn copy_ended(&mut self, bytes: &[u8]) -> Result<(), CutFault>
+        ensures { OnOk result ((step : ℕ) (log : List ℕ) (handed : ℕ → List ℕ) → HasRead step log handed self.old → HasRead step (log ++ bytes.now) handed self.new) }
+    {
+        self.waiting.extend_from_slice(bytes)?;
+        let text = std::mem::replace(&mut self.waiting, Vec::new(self.alloc));
+        let end = self.copy(&text)?;
+        let mut rest = Vec::new(self.alloc);
+        rest.extend_from_slice(&text[end..])?;
+        self.waiting = rest;
         Ok(())
     }
 
-    fn copy(&mut self, text: &[u8]) -> Result<(), CutFault> {
-        let mut rest = text;
-        while !rest.is_empty() {
-            let (part, behind) = first_part(rest);
-            let length = rest.len() - behind.len();
-            if let Some(file) = self.file_of(trim(part))? {
-                self.outputs.push(file, &rest[..length])?;
-            }
-            if self.outputs.is_full() {
-                self.begin_file()?;
-            }
-            rest = behind;
+    // Cuts the parts that a separator ends; how many bytes they have.
+    fn copy(&mut self, text: &[u8]) -> Result<usize, CutFault>
+        ensures within { IfOk result (λ end. end ≤ length text.now) }
+        ensures unended { IfOk result (λ end. parts_of (drop end text.now) ≡ drop end text.now ∷ []) }
+        ensures cuts { IfOk result (CutsParts self.old self.new text.now) }
+    {
+        let mut start = 0;
+        while let Some(len) = separator(&text[start..]) {
+            let end = start + len;
+            self.take_part(&text[start..end], &text[start..end + 1])?;
+            start = end + 1;
+        }
+        Ok(start)
+    }
+
+    // Cuts a part of the text, which these bytes are, with its separator where it has one.
+    fn take_part(&mut self, part: &[u8], bytes: &[u8]) -> Result<(), CutFault>
+        ensures { OnOk result (CutsPart self.old self.new part.now bytes.now) }
+    {
+        self.copy_part(part, bytes)?;
+        if self.outputs.is_full() {
+            self.begin_file()?;
         }
         Ok(())
     }
 
-    // A record happens, what has to stand in front of it goes out, and it is told to which file it goes.
-    fn file_of(&mut self, record: &[u8]) -> Result<Option<usize>, CutFault> {
-        let newest = Some(self.outputs.newest());
+    fn copy_part(&mut self, part: &[u8], bytes: &[u8]) -> Result<(), CutFault>
+        ensures { OnOk result (CutsPart self.old self.new part.now bytes.now) }
+    {
+        let record = trim(part);
         if record.is_empty() {
-            return Ok(newest);
+            self.pass(bytes)?;
+            return Ok(());
         }
         self.records = self.records.saturating_add(1);
+        self.take_record(record, bytes)?;
+        Ok(())
+    }
+
+    // Cuts a record.
+    fn take_record(&mut self, record: &[u8], bytes: &[u8]) -> Result<(), CutFault>
+        ensures { OnOk result (CutsAny self.old self.new record.now bytes.now) }
+    {
         match read_record(record) {
-            Ok(Saying::Happens(event)) => self.happen(&event),
-            Ok(Saying::Enters(number)) => self.mark(number),
-            Ok(Saying::Skipped) => Ok(newest),
-            Err(cause) => Err(self.refusal(cause)),
-        }
-    }
-
-    // The section of this number is current in what is read; and in the file to which the marker goes.
-    fn mark(&mut self, number: u64) -> Result<Option<usize>, CutFault> {
-        let place = self.place_of(number)?;
-        self.current = Some(place);
-        let (file, name) = self.part_of(place);
-        if self.outputs.are_several() && name != number {
-            return Ok(None);
-        }
-        self.outputs.enter(file, number);
-        Ok(Some(file))
-    }
-
-    // The file and the number of the section's part.
-    fn part_of(&self, place: usize) -> (usize, u64) {
-        match self.sections.get(place) {
-            Some(section) => (section.file, section.name),
-            None => (0, 0),
-        }
-    }
-
-    // Begins the next file: each section is cut where it next can be.
-    fn begin_file(&mut self) -> Result<(), AllocError> {
-        self.outputs.begin()?;
-        self.named = 0;
-        for section in &mut self.sections {
-            section.hurry();
+            Ok(Saying::Happens(event)) => self.happen(&event, bytes)?,
+            Ok(Saying::Enters(number)) => self.mark(number, bytes)?,
+            Ok(Saying::Skipped) => self.pass(bytes)?,
+            Err(cause) => return Err(self.refusal(cause)),
         }
         Ok(())
     }
 
-    fn refusal(&self, cause: Cause) -> CutFault {
-        CutFault::Log(LogFault {
-            at: self.records,
-            cause,
-        })
+    // What says nothing goes to the newest file.
+    fn pass(&mut self, bytes: &[u8]) -> Result<(), AllocError>
+        ensures { OnOk result (CutsNothing self.old self.new bytes.now) }
+    {
+        let newest = self.outputs.newest();
+        let current = self.outputs.current(newest);
+        self.outputs.push(newest, bytes, current)?;
+        Ok(())
+    }
+
+    // The section of this number is current in what is read; and in the file to which the marker goes, if it goes to one.
+    fn mark(&mut self, number: u64, bytes: &[u8]) -> Result<(), CutFault>
+        ensures { OnOk result (CutsRecord self.old self.new bytes.now (Enters number)) }
+    {
+        let place = self.place_of(number)?;
+        self.current = Some(place);
+        if place >= self.sections.len() {
+            return Ok(());
+        }
+        let section = &self.sections[place];
+        if !self.outputs.are_several() || section.name == number {
+            self.outputs.push(section.file, bytes, number)?;
+        }
+        Ok(())
+    }
+
+    // An event happens in the section that is current.
+    fn happen(&mut self, event: &Event, bytes: &[u8]) -> Result<(), CutFault>
+        ensures { OnOk result (CutsRecord self.old self.new bytes.now (Happens event.now)) }
+    {
+        let place = self.current_place()?;
+        self.cut_if_due(place, event)?;
+        self.take_event(place, event, bytes)?;
+        Ok(())
+    }
+
+    // Where the section stands that is current.
+    fn current_place(&mut self) -> Result<usize, CutFault>
+        ensures { IfOk result (FindsCurrent self.old self.new) }
+    {
+        match self.current {
+            Some(place) => Ok(place),
+            None => {
+                let place = self.place_of(0)?;
+                self.current = Some(place);
+                Ok(place)
+            }
+        }
     }
 
     // Where the section of this number stands, which is there from now on.
-    fn place_of(&mut self, number: u64) -> Result<usize, CutFault> {
-        if let Some(place) = self.places.get(&number) {
-            return Ok(*place);
+    fn place_of(&mut self, number: u64) -> Result<usize, CutFault>
+        ensures { IfOk result (Finds self.old self.new number) }
+    {
+        match self.places.get(&number) {
+            Some(place) => Ok(*place),
+            None => self.open(number),
         }
+    }
+
+    // A section of this number, which has none, begins; where it stands.
+    fn open(&mut self, number: u64) -> Result<usize, CutFault>
+        ensures { get nat_cmp self.old.places number ≡ None → IfOk result (Finds self.old self.new number) }
+    {
         self.name(number, number)?;
         let place = self.sections.len();
         let file = self.outputs.newest();
@@ -210,7 +275,9 @@ impl Cutter {
     }
 
     // A part of the section gets a number, in a file that has room for it.
-    fn name(&mut self, name: u64, number: u64) -> Result<(), CutFault> {
+    fn name(&mut self, name: u64, number: u64) -> Result<(), CutFault>
+        ensures { OnOk result (Names self.old self.new name number) }
+    {
         if let Some(section) = self.names.get(&name) {
             return Err(CutFault::Taken {
                 at: self.records,
@@ -229,110 +296,49 @@ impl Cutter {
         Ok(())
     }
 
-    // An event happens in the section that is current; the file to which it goes.
-    fn happen(&mut self, event: &Event) -> Result<Option<usize>, CutFault> {
-        let place = match self.current {
-            Some(place) => place,
-            None => self.place_of(0)?,
-        };
-        self.current = Some(place);
-        let head = self.cut_if_due(place, event)?;
-        let file = self.enter(place)?;
-        self.push_head(file, &head)?;
-        if self.is_lost(place, event) {
-            self.tell(
-                place,
-                "PMT.ORDERED names bytes of before the cut: it may have lost its FAIL",
-            )?;
-        }
-        self.take_event(place, event)?;
-        Ok(Some(file))
+    // Begins the next file.
+    fn begin_file(&mut self) -> Result<(), AllocError>
+        ensures { OnOk result (BeginsFile self.old self.new) }
+    {
+        self.outputs.begin()?;
+        self.named = 0;
+        Ok(())
     }
 
-    // Writes the records of the events that are told again.
-    fn push_head(&mut self, file: usize, head: &[Event]) -> Result<(), AllocError> {
-        for event in head {
-            let mut line = String::new(self.alloc);
-            push_event(&mut line, event)?;
-            self.outputs.push(file, trim_end(line.as_bytes()))?;
-            self.outputs.push(file, b"|")?;
+    fn refusal(&self, cause: Cause) -> CutFault {
+        CutFault::Log(LogFault {
+            at: self.records,
+            cause,
+        })
+    }
+
+    // Cuts the section in front of this event, if it has to be.
+    fn cut_if_due(&mut self, place: usize, event: &Event) -> Result<(), CutFault>
+        ensures { OnOk result (Keeps self.old self.new place) }
+    {
+        let newest = self.outputs.newest();
+        if place >= self.sections.len() {
+            return Ok(());
+        }
+        let section = &mut self.sections[place];
+        let next = section.next_part(self.alloc, event, self.limit, newest, &mut self.notes)?;
+        match next {
+            Some(next) => self.cut(place, next)?,
+            None => {}
         }
         Ok(())
     }
 
-    fn is_lost(&self, place: usize, event: &Event) -> bool {
-        match self.sections.get(place) {
-            Some(section) => section.may_lose(event),
-            None => false,
-        }
-    }
-
-    fn take_event(&mut self, place: usize, event: &Event) -> Result<(), CutFault> {
-        let taken = match self.sections.get_mut(place) {
-            Some(section) => {
-                section.events = section.events.saturating_add(1);
-                section.part.take(*event)
-            }
-            None => Ok(()),
-        };
-        match taken {
-            Ok(()) => Ok(()),
-            Err(PartFault::TooManyEvents) => Err(self.refusal(Cause::TooManyEvents)),
-            Err(PartFault::OutOfMemory) => Err(CutFault::OutOfMemory),
-        }
-    }
-
-    // Makes the section's part current in its file.
-    fn enter(&mut self, place: usize) -> Result<usize, AllocError> {
-        let (file, name) = self.part_of(place);
-        if name != self.outputs.current(file) {
-            self.outputs.enter(file, name);
-            let marker = format!(in self.alloc; "PMT.SECTION;{name}|")?;
-            self.outputs.push(file, marker.as_bytes())?;
-        }
-        Ok(file)
-    }
-
-    // Cuts the section in front of this event, if it has to be, and says what its part begins with.
-    fn cut_if_due(&mut self, place: usize, event: &Event) -> Result<Vec<Event>, CutFault> {
-        let none = Vec::new(self.alloc);
-        let limit = self.limit;
-        let Some(section) = self.sections.get(place) else {
-            return Ok(none);
-        };
-        if !section.is_due() {
-            return Ok(none);
-        }
-        if !section.part.is_outside() {
-            if section.part.events() >= limit {
-                self.tell_length(place, "a transaction or a scope is open")?;
-            }
-            return Ok(none);
-        }
-        if !section.is_good(event, limit) {
-            return Ok(none);
-        }
-        let renewal = section.part.renewed(self.alloc, limit)?;
-        let head = renewal.head;
-        match renewal.part {
-            Some(part) => {
-                self.begin(place, part)?;
-                Ok(head)
-            }
-            None => {
-                self.put_off(place, head.len())?;
-                Ok(none)
-            }
-        }
-    }
-
     // The section goes on with this part, under the next number.
-    fn begin(&mut self, place: usize, part: Part) -> Result<(), CutFault> {
-        let Some(section) = self.sections.get(place) else {
+    fn cut(&mut self, place: usize, next: NextPart) -> Result<(), CutFault>
+        ensures { OnOk result (KeepsWith self.old self.new place next) }
+    {
+        if place >= self.sections.len() {
             return Ok(());
-        };
+        }
+        let section = &self.sections[place];
         let number = section.number;
-        let name = match next_name(section, self.step) {
+        let name = match section.name.checked_add(self.step) {
             Some(name) => name,
             None => {
                 return Err(CutFault::NoNumber {
@@ -343,100 +349,77 @@ impl Cutter {
         };
         self.name(name, number)?;
         self.cuts = self.cuts.saturating_add(1);
+        self.begin(place, name, next)?;
+        Ok(())
+    }
+
+    // The section's part begins in the newest file.
+    fn begin(&mut self, place: usize, name: u64, next: NextPart) -> Result<(), AllocError>
+        ensures { OnOk result ((section : Cutting) → slice_get self.old.sections.items place ≡ Some section → BeginsPart self.old self.new place name next section) }
+    {
         let limit = self.limit;
         let file = self.outputs.newest();
-        if let Some(section) = self.sections.get_mut(place) {
-            section.go_on(part, name, file, limit)?;
+        self.outputs.say(file, name, &next.head)?;
+        if place < self.sections.len() {
+            self.sections[place].go_on(next.part, name, file, limit)?;
         }
         Ok(())
     }
 
-    fn put_off(&mut self, place: usize, told: usize) -> Result<(), AllocError> {
-        let limit = self.limit;
-        let Some(section) = self.sections.get_mut(place) else {
+    // The section has one event more, and so has its part's file.
+    fn take_event(&mut self, place: usize, event: &Event, bytes: &[u8]) -> Result<(), CutFault>
+        ensures { OnOk result (TakesAt self.old self.new place bytes.now (Happens event.now)) }
+    {
+        if place >= self.sections.len() {
             return Ok(());
-        };
-        let is_long = section.part.events() >= limit;
-        section.put_off(limit);
-        if is_long {
-            let why = format!(in self.alloc;
-                "what is excluded or not durable takes {told} events"
+        }
+        let section = &mut self.sections[place];
+        if section.may_lose(event) {
+            self.notes.tell(
+                section.number,
+                section.next_event(),
+                "PMT.ORDERED names bytes of before the cut: it may have lost its FAIL",
             )?;
-            self.tell_length(place, why.as_str())?;
+        }
+        let (file, name) = (section.file, section.name);
+        match section.take(event) {
+            Ok(()) => self.outputs.put(file, name, bytes)?,
+            Err(PartFault::TooManyEvents) => return Err(self.refusal(Cause::TooManyEvents)),
+            Err(PartFault::OutOfMemory) => return Err(CutFault::OutOfMemory),
         }
         Ok(())
-    }
-
-    // A part gets longer than it may be; told once.
-    fn tell_length(&mut self, place: usize, why: &str) -> Result<(), AllocError> {
-        let limit = self.limit;
-        match self.sections.get_mut(place) {
-            Some(section) if !section.is_told => section.is_told = true,
-            _ => return Ok(()),
-        }
-        let text = format!(in self.alloc; "the piece has more than {limit} events: {why}")?;
-        self.tell(place, text.as_str())
     }
 
     // Whether a file has more bytes than it may have.
-    fn tell_size(&mut self, file: usize) -> Result<(), AllocError> {
+    fn tell_size(&mut self, file: usize) -> Result<(), AllocError>
+        ensures { self.new.outputs ≡ self.old.outputs }
+    {
         let size = self.outputs.size(file);
         let most = self.outputs.most();
         if size <= most {
             return Ok(());
         }
-        self.told = self.told.saturating_add(1);
-        let line = if self.outputs.are_several() {
-            let number = file.saturating_add(1);
-            format!(in self.alloc; "file {number} has {size} bytes, more than {most}")?
+        let number = if self.outputs.are_several() {
+            Some(file.saturating_add(1))
         } else {
-            format!(in self.alloc; "the cut log has {size} bytes, more than a log may have")?
+            None
         };
-        self.notes.push(line)?;
-        Ok(())
-    }
-
-    fn tell(&mut self, place: usize, text: &str) -> Result<(), AllocError> {
-        self.told = self.told.saturating_add(1);
-        if let Some(section) = self.sections.get(place) {
-            let number = section.number;
-            let event = section.events.saturating_add(1);
-            let line = format!(in self.alloc; "section {number}, event {event}: {text}")?;
-            self.notes.push(line)?;
-        }
-        Ok(())
+        self.notes.tell_size(number, size, most)
     }
 }
 
-fn next_name(section: &Cutting, step: u64) -> Option<u64> {
-    match section.parts.checked_mul(step) {
-        Some(above) => section.number.checked_add(above),
-        None => None,
-    }
-}
-
-// A text line without its end.
-fn trim_end(line: &[u8]) -> &[u8] {
-    match line.split_last() {
-        Some((_, front)) => front,
-        None => line,
-    }
-}
-
-// The bytes up to the first separator, and those behind it.
-fn first_part(text: &[u8]) -> (&[u8], &[u8])
-    requires { 0 < length text.now }
-    ensures { length result.1.now < length text.now }
+// How many bytes there are up to the first separator, if there is one.
+fn separator(text: &[u8]) -> Option<usize>
+    ensures cases { MatchOption result (parts_of text.now ≡ text.now ∷ []) (λ end. parts_of (take (end + 1) text.now) ≡ take end text.now ∷ [] ∷ []) }
+    ensures within { IfSome result (λ end. end < length text.now) }
 {
-    match memchr3(b'|', b'\n', b'\r', text) {
-        Some(end) if end < text.len() => (&text[..end], &text[end + 1..]),
-        _ => (text, &text[text.len()..]),
-    }
+    memchr3(b'|', b'\n', b'\r', text)
 }
 
 // How many bytes there are up to the last separator, with it.
 fn ended(piece: &[u8]) -> usize
-    ensures { result ≤ length piece.now }
+    ensures within { result ≤ length piece.now }
+    ensures unended { parts_of (drop result piece.now) ≡ drop result piece.now ∷ [] }
 {
     match memrchr3(b'|', b'\n', b'\r', piece) {
         Some(end) => end + 1,

@@ -2,9 +2,10 @@
 //!
 //! A [`Part`] keeps what its events leave open, and [`Part::renewed`] makes the part that goes on behind a cut, with its
 //! head: events that tell again what is open (`specs/Parts`). [`laws`] say which rows of the parts are those of the
-//! whole (`specs/Alike`, `specs/Laws`). A [`Cutter`] cuts the sections of a log's text so, record by record.
+//! whole (`specs/Alike`, `specs/Laws`). A [`Cutter`] cuts the sections of a log's text so, record by record: what it hands out says just
+//! such parts (`specs/Written`).
 //!
-//! Not promised here: where a cutter cuts, or the text that it writes.
+//! Not promised here: where a cutter cuts, or that memory suffices.
 #![tactic(auto)]
 
 mod comparing;
@@ -13,8 +14,10 @@ mod fault;
 mod head;
 pub mod laws;
 mod lost;
+mod notes;
 mod output;
 mod part;
+mod record;
 mod renewing;
 mod section;
 #[cfg(test)]

@@ -1,7 +1,13 @@
 //! A section that is cut, up to some event.
 
+ghost use Rattle.std.specs.Prelude.{◌≡◌, ℕ, List, [], IfOk, IfSome, OnOk};
+ghost use Rattle.pmf_event.specs.declared.event.Event.{Event};
+ghost use Rattle.pmf_cut.specs.{Cutting.{HasPart, IsSame, TakesEvent}, Parts.{BeginsAt, IsPartOf}};
+
 use crate::lost::Past;
-use crate::part::Part;
+use crate::notes::Notes;
+use crate::part::{Part, PartFault};
+use crate::renewing::Renewal;
 use pmf_event::{ADDRESS_LIMIT, Event};
 use std::alloc::{AllocError, Global};
 
@@ -14,12 +20,10 @@ pub(crate) struct Cutting {
     pub(crate) name: u64,
     /// The file that its part goes to.
     pub(crate) file: usize,
-    /// How many parts it has.
-    pub(crate) parts: u64,
     /// How many events it has had.
-    pub(crate) events: u64,
+    events: u64,
     /// Its part.
-    pub(crate) part: Part,
+    part: Part,
     /// How many events the part began with.
     head: u32,
     /// What the parts before it know.
@@ -28,37 +32,90 @@ pub(crate) struct Cutting {
     due: u32,
     /// And from how many on stores may be open there.
     overdue: u32,
+    /// The file that was the newest one when a cut was last looked for.
+    newest: usize,
     /// Whether it was told that the part is too long.
-    pub(crate) is_told: bool,
+    is_told: bool,
+}
+
+/// The part that a section goes on with, and the events that it has had.
+#[derive(Debug, Drop)]
+pub(crate) struct NextPart {
+    pub(crate) head: Vec<Event>,
+    pub(crate) part: Part,
 }
 
 impl Cutting {
     /// A section of no events.
-    pub(crate) fn new(alloc: Global, number: u64, file: usize, limit: u32) -> Cutting {
+    pub(crate) fn new(alloc: Global, number: u64, file: usize, limit: u32) -> Cutting
+        ensures has { HasPart result number number file result.part }
+        ensures part { (es : List Event) → IsPartOf result.part es 0 [] 0 }
+    {
         Cutting {
             number,
             name: number,
             file,
-            parts: 1,
             events: 0,
             part: Part::new(alloc),
             head: 0,
             past: Past::new(alloc),
             due: due_after(0, limit),
             overdue: overdue_after(0, limit),
+            newest: file,
             is_told: false,
         }
     }
 
-    /// Whether a cut is to be looked for.
-    pub(crate) fn is_due(&self) -> bool {
-        self.part.events() >= self.due
+    /// The part that goes on in front of this event, where the section is to be cut there, with the file that is the newest one.
+    pub(crate) fn next_part(
+        &mut self,
+        alloc: Global,
+        event: &Event,
+        limit: u32,
+        newest: usize,
+        notes: &mut Notes,
+    ) -> Result<Option<NextPart>, AllocError>
+        ensures same { OnOk result (IsSame self.old self.new) }
+        ensures begins { IfOk result (λ found. IfSome found (λ next. BeginsAt self.old.part next.part next.head.items)) }
+    {
+        self.hurry(newest);
+        if self.part.events() < self.due {
+            return Ok(None);
+        }
+        if !self.part.is_outside() {
+            self.tell_length(limit, notes, "a transaction or a scope is open")?;
+            return Ok(None);
+        }
+        if !self.is_good(event, limit) {
+            return Ok(None);
+        }
+        let Renewal { head, part } = self.part.renewed(alloc, limit)?;
+        match part {
+            Some(part) => Ok(Some(NextPart { head, part })),
+            None => {
+                self.put_off(alloc, limit, head.len(), notes)?;
+                Ok(None)
+            }
+        }
     }
 
-    /// Whether to cut in front of this event, where it may be: in front of any in a part of as many events as it may have; before that
-    /// in front of one that begins something, and until it is overdue only where nothing is open.
-    pub(crate) fn is_good(&self, event: &Event, limit: u32) -> bool {
-        if self.part.events() >= limit {
+    // Where a file has begun, a cut is looked for from here on, even where stores are open.
+    fn hurry(&mut self, newest: usize)
+        ensures { IsSame self.old self.new }
+    {
+        if self.newest != newest {
+            self.newest = newest;
+            let length = self.part.events();
+            self.due = self.due.min(length);
+            self.overdue = self.overdue.min(length);
+        }
+    }
+
+    // Whether to cut in front of this event, where it may be: in front of any in a part of as many events as it may have; before that
+    // in front of one that begins something, and until it is overdue only where nothing is open.
+    fn is_good(&self, event: &Event, limit: u32) -> bool {
+        let length = self.part.events();
+        if length >= limit {
             return true;
         }
         let begins = match event {
@@ -66,7 +123,7 @@ impl Cutting {
             _ => false,
         };
         begins
-            && (self.part.events() >= self.overdue
+            && (length >= self.overdue
                 || self.part.shadow.least_undurable(0, ADDRESS_LIMIT).is_none())
     }
 
@@ -80,45 +137,75 @@ impl Cutting {
         }
     }
 
-    /// A cut is looked for from here on, even where stores are open.
-    pub(crate) fn hurry(&mut self) {
-        let length = self.part.events();
-        self.due = self.due.min(length);
-        self.overdue = self.overdue.min(length);
+    /// The event happens. After an `Err` the section is of no use.
+    pub(crate) fn take(&mut self, event: &Event) -> Result<(), PartFault>
+        ensures { OnOk result (TakesEvent self.old self.new event.now) }
+    {
+        self.events = self.events.saturating_add(1);
+        self.part.take(*event)?;
+        Ok(())
     }
 
-    /// Goes on with this part, which has had its head, under this name and in this file. After an `Err` the section is of no use.
+    /// Goes on with this part, under this name and in this file. After an `Err` the section is of no use.
     pub(crate) fn go_on(
         &mut self,
         part: Part,
         name: u64,
         file: usize,
         limit: u32,
-    ) -> Result<(), AllocError> {
+    ) -> Result<(), AllocError>
+        ensures { OnOk result (HasPart self.new self.old.number name file part) }
+    {
         self.past.add(&self.part)?;
         let head = part.events();
         self.part = part;
         self.head = head;
         self.name = name;
         self.file = file;
-        self.parts = self.parts.saturating_add(1);
         self.due = due_after(head, limit);
         self.overdue = overdue_after(head, limit);
+        self.newest = file;
         self.is_told = false;
         Ok(())
     }
 
-    /// There was no room for a cut: one is looked for again, but not at each event.
-    pub(crate) fn put_off(&mut self, limit: u32) {
+    // There was no room for a cut: one is looked for again, but not at each event.
+    fn put_off(
+        &mut self,
+        alloc: Global,
+        limit: u32,
+        told: usize,
+        notes: &mut Notes,
+    ) -> Result<(), AllocError>
+        ensures { OnOk result (IsSame self.old self.new) }
+    {
         let length = self.part.events();
-        self.due = if length < limit {
-            length
-                .saturating_add(limit / 8)
-                .saturating_add(1)
-                .min(limit)
-        } else {
-            length.saturating_add(limit)
-        };
+        if length < limit {
+            let later = length.saturating_add(limit / 8).saturating_add(1);
+            self.due = later.min(limit);
+            return Ok(());
+        }
+        self.due = length.saturating_add(limit);
+        let why = format!(in alloc; "what is excluded or not durable takes {told} events")?;
+        self.tell_length(limit, notes, why.as_str())?;
+        Ok(())
+    }
+
+    // A part gets longer than it may be; told once.
+    fn tell_length(&mut self, limit: u32, notes: &mut Notes, why: &str) -> Result<(), AllocError>
+        ensures { OnOk result (IsSame self.old self.new) }
+    {
+        if self.is_told || self.part.events() < limit {
+            return Ok(());
+        }
+        self.is_told = true;
+        notes.tell_length(self.number, self.next_event(), limit, why)?;
+        Ok(())
+    }
+
+    /// The number of the event that happens next, counted from 1.
+    pub(crate) fn next_event(&self) -> u64 {
+        self.events.saturating_add(1)
     }
 }
 

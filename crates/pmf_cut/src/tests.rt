@@ -18,7 +18,7 @@ fn cut(
 ) -> Result<(Vec<Text>, Vec<String>), CutFault>
     requires { 0 < piece }
 {
-    let mut cutter = Cutter::new(alloc, events, step, most);
+    let mut cutter = Cutter::new(alloc, events, step, most)?;
     for bytes in log.chunks(piece) {
         cutter.take(bytes)?;
     }

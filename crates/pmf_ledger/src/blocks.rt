@@ -187,8 +187,7 @@ impl Blocks {
     }
 
     // So many events of the section are still to come.
-    #[tactic(auto, using(std::proofs::lemmas::Grind::common_steps, crate::proofs::lemmas::ReadingLemmas::events_more, crate::proofs::lemmas::ReadingLemmas::HasRead_at,
-        crate::proofs::lemmas::ReadingLemmas::events_none))]
+    #[tactic(auto, using(std::proofs::lemmas::Grind::common_steps, crate::proofs::lemmas::ReadingLemmas::events_more, crate::proofs::lemmas::ReadingLemmas::HasRead_at, crate::proofs::lemmas::ReadingLemmas::events_none))]
     fn with_events(
         &mut self,
         alloc: Global,

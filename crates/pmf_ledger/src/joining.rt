@@ -29,8 +29,7 @@ pub enum JoinFault {
 }
 
 // The least name that two sections have, one of each list, that differ.
-#[tactic(auto, using(std::proofs::lemmas::Grind::common_steps, crate::proofs::lemmas::ScanLemmas::Scanned_first, crate::proofs::lemmas::ScanLemmas::Scanned_second,
-    crate::proofs::lemmas::ScanLemmas::least_here))]
+#[tactic(auto, using(std::proofs::lemmas::Grind::common_steps, crate::proofs::lemmas::ScanLemmas::Scanned_first, crate::proofs::lemmas::ScanLemmas::Scanned_second, crate::proofs::lemmas::ScanLemmas::least_here))]
 fn least_differing(first: &[Verdict], second: &[Verdict]) -> Option<Name>
     requires first_rises { Rises first.now }
     requires second_rises { Rises second.now }

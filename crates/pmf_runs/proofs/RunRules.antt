@@ -3,31 +3,59 @@ use Rattle.pmf_runs.proofs.{AskingLemmas.{rank-front}, ChangingLemmas.{alters-no
 use Rattle.std.proofs.{Common.{vec_len}, lemmas.Bool.Decides.{nat_tests}, lemmas.List.{get_or_read}}
 
 pub ruleset skipped = (least-none, counted-none, first-none)
+
 pub ruleset handed = (bound_at-same, bound_at-other)
+
 pub ruleset parted = (parted-last, parted-middle)
+
 pub ruleset key = (rank-is, nat_tests, key-found, key-missing)
+
 pub ruleset leaf_halves = (rest-copied, middle-is, parts-low, parts-high, joined-low, joined-high)
+
 pub ruleset leaf_middle = (get_or_read, middle-is)
+
 pub ruleset leaf_taken = (remove-rises, same-joined, beside-taken)
+
 pub ruleset leaf_altered = (rank-bound, alters-none)
+
 pub ruleset leaf_key = (rank-bound, begins-kept, same-items, rank-is, vec_len, insert-fresh, begins-put, begins-put_kept, same-put, joined-swap, joined-put)
+
 pub ruleset leaf_begun = (begins-is)
+
 pub ruleset leaf_read = (rank-bound, state-read)
+
 pub ruleset leaf_new = (state-single)
+
 pub ruleset level_changes = (level-bound, on-ok, level-changed, parts-kept, on-error, level-set)
+
 pub ruleset in_level = (level-bound)
+
 pub ruleset parts_rewritten = (begins-bound, order-bound)
+
 pub ruleset level_rewritten = (inner-within, inner-begins, at-low, at-high, high_rank-bound, none-is-any, high-some)
+
 pub ruleset level_joins = (remove-rises, level-joined)
+
 pub ruleset level_halves = (rest-copied, level-middle-is, level-low, level-high, low-parts, high-parts)
+
 pub ruleset level_middle = (get_or_read, level-middle-is)
+
 pub ruleset level_tail = (level-tail)
+
 pub ruleset level_splits = (level-same, level-set, vec_len, insert-fresh, level-split)
+
 pub ruleset level_space = (level-bound, same-both, level-set)
+
 pub ruleset level_begun = (level-has, level-bound, level-kept, level-set, level-begun, parts-begun, parts-begun_too, parts-cut, parts-cut_too)
+
 pub ruleset level_read = (level-bound, level-read)
+
 pub ruleset level_new = (level-single)
+
 pub ruleset page_changes = (changes-none, same-none, changes-altered)
+
 pub ruleset none_changed = (changes-empty)
+
 pub ruleset no_root = (gap-is)
+
 pub ruleset start = (nat_tests, rank-front)

@@ -11,8 +11,8 @@ CanCountOneMore failures = failures < 2 ^ 64 - 1
 abbrev pub CountsFailure : {X E : Type 0} → ℕ → ℕ → Result X E → Type 0
 CountsFailure old new result = MatchResult result (λ _. new ≡ old) (λ _. new ≡ old + 1)
 
--- how many calls failed where a file was turned to
-abbrev pub failed_turns : {X : Type 0} → Result X NoFile → ℕ
-failed_turns (Ok done) = 0
-failed_turns (Err no_file.Failed) = 1
-failed_turns (Err no_file.OutOfMemory) = 0
+-- how many calls failed where a file was written to
+abbrev pub failed_files : {X : Type 0} → Result X NoFile → ℕ
+failed_files (Ok done) = 0
+failed_files (Err (no_file.Failed written)) = 1
+failed_files (Err no_file.OutOfMemory) = 0

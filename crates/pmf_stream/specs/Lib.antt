@@ -15,3 +15,4 @@ pub mod Checking
 pub mod Asked
 pub mod Joining
 pub mod Simulated
+pub mod Files

@@ -1,14 +1,14 @@
 //! A log that is read in pieces, and written with its sections cut as it is read.
 
-ghost use Rattle.std.specs.Prelude.{◌≡◌, ◌+◌, IfErr};
-ghost use Rattle.pmf_stream.specs.{Answering.{IsRefused, failed_reads, failed_writes}, Failures.{CanCountOneMore}};
+ghost use Rattle.std.specs.Prelude.{◌≡◌, ◌+◌, ◌++◌, ℕ, List, IfErr, OnOk};
+ghost use Rattle.pmf_cut.specs.Cutting.{HasCutAll, HasRead};
+ghost use Rattle.pmf_stream.specs.{Answering.{IsRefused, failed_reads, failed_writes}, Failures.{CanCountOneMore}, Files.{IsCutOf, WritesOut}};
 
 use crate::failed::Failed;
 use crate::fault::StreamFault;
 use crate::outlet::{NoFile, Outlet};
 use crate::source::{Source, read_piece};
-use crate::writing::write_text;
-use pmf_cut::{CutFault, Cutter, Text};
+use pmf_cut::{CutFault, Cutter};
 use pmf_request::Lengths;
 use pmf_storelog::{Cause, LOG_LIMIT, LogFault};
 use std::alloc::Global;
@@ -49,6 +49,7 @@ pub fn cut_stream<R: Source, W: Outlet, N: Notes>(
 ) -> Result<Pieces, StreamFault<CutFault>>
     requires read { CanCountOneMore (R.failed_calls reader.old) }
     requires write { CanCountOneMore (W.failed_calls writer.old) }
+    ensures cut { OnOk result (IsCutOf lengths.step (R.left reader.old) (R.left reader.new) (W.held_in writer.old) (W.held_in writer.new)) }
     ensures reads { R.failed_calls reader.new ≡ R.failed_calls reader.old + failed_reads result }
     ensures writes { W.failed_calls writer.new ≡ W.failed_calls writer.old + failed_writes result }
 {
@@ -56,7 +57,7 @@ pub fn cut_stream<R: Source, W: Outlet, N: Notes>(
         Some(_) => usize::MAX,
         None => LOG_LIMIT,
     };
-    let mut cutter = Cutter::new(alloc, lengths.events, lengths.step, bytes);
+    let mut cutter = Cutter::new(alloc, lengths.events, lengths.step, bytes)?;
     let mut piece = [0u8; PIECE];
     let mut total = 0;
     let mut size = 0;
@@ -98,7 +99,8 @@ fn too_long(cutter: &Cutter) -> StreamFault<CutFault>
 }
 
 fn take(cutter: &mut Cutter, piece: &[u8]) -> Result<(), StreamFault<CutFault>>
-    ensures { IfErr result IsRefused }
+    ensures reads { OnOk result ((step : ℕ) (log : List ℕ) (handed : ℕ → List ℕ) → HasRead step log handed cutter.old → HasRead step (log ++ piece.now) handed cutter.new) }
+    ensures refused { IfErr result IsRefused }
 {
     match cutter.take(piece) {
         Ok(()) => Ok(()),
@@ -107,7 +109,8 @@ fn take(cutter: &mut Cutter, piece: &[u8]) -> Result<(), StreamFault<CutFault>>
 }
 
 fn end(cutter: &mut Cutter) -> Result<(), StreamFault<CutFault>>
-    ensures { IfErr result IsRefused }
+    ensures all { OnOk result ((step : ℕ) (log : List ℕ) (handed : ℕ → List ℕ) → HasRead step log handed cutter.old → HasCutAll step log handed cutter.new) }
+    ensures refused { IfErr result IsRefused }
 {
     match cutter.finish() {
         Ok(()) => Ok(()),
@@ -115,7 +118,7 @@ fn end(cutter: &mut Cutter) -> Result<(), StreamFault<CutFault>>
     }
 }
 
-// Writes what the cutter hands out, behind so many bytes, and says what it says.
+// Writes what the cutter hands out, behind so many bytes of all files, and says what it says.
 fn write_out<W: Outlet, N: Notes>(
     cutter: &mut Cutter,
     writer: &mut W,
@@ -123,43 +126,30 @@ fn write_out<W: Outlet, N: Notes>(
     size: u64,
 ) -> Result<u64, StreamFault<CutFault>>
     requires { CanCountOneMore (W.failed_calls writer.old) }
+    ensures written { OnOk result (WritesOut cutter.old cutter.new (W.held_in writer.old) (W.held_in writer.new)) }
     ensures writes { W.failed_calls writer.new ≡ W.failed_calls writer.old + failed_writes result }
     ensures reads { failed_reads result ≡ 0 }
 {
-    let lines = cutter.notes();
-    for line in &lines {
-        notes.note(line.as_str());
-    }
     let texts = match cutter.drain() {
         Ok(texts) => texts,
         Err(fault) => return Err(StreamFault::Refused(fault)),
     };
+    let lines = cutter.notes();
+    for line in &lines {
+        notes.note(line.as_str());
+    }
     let mut size = size;
     for text in &texts {
-        size = write_part(writer, text, size)?;
+        match writer.write_to(text.file, &text.bytes) {
+            Ok(()) => {}
+            Err(NoFile::Failed { written }) => {
+                return Err(StreamFault::WriteFault {
+                    written: size.saturating_add(written),
+                });
+            }
+            Err(NoFile::OutOfMemory) => return Err(StreamFault::OutOfMemory),
+        }
+        size = size.saturating_add(text.bytes.len() as u64);
     }
     Ok(size)
-}
-
-// Writes the text to its file, behind so many bytes of all files.
-fn write_part<W: Outlet>(
-    writer: &mut W,
-    text: &Text,
-    size: u64,
-) -> Result<u64, StreamFault<CutFault>>
-    requires { CanCountOneMore (W.failed_calls writer.old) }
-    ensures writes { W.failed_calls writer.new ≡ W.failed_calls writer.old + failed_writes result }
-    ensures reads { failed_reads result ≡ 0 }
-{
-    match writer.turn_to(text.file) {
-        Ok(()) => {}
-        Err(NoFile::Failed) => return Err(StreamFault::WriteFault { written: size }),
-        Err(NoFile::OutOfMemory) => return Err(StreamFault::OutOfMemory),
-    }
-    match write_text(writer, &text.bytes) {
-        Ok(()) => Ok(size.saturating_add(text.bytes.len() as u64)),
-        Err(cut) => Err(StreamFault::WriteFault {
-            written: size.saturating_add(cut.written),
-        }),
-    }
 }

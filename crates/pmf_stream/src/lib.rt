@@ -35,7 +35,7 @@ pub use failed::Failed;
 pub use fault::StreamFault;
 pub use joining::{JoinTextFault, Joined, join_texts, join_to};
 pub use memory::ByteSink;
-pub use outlet::{NoFile, Outlet};
+pub use outlet::{NoFile, Outlet, write_whole};
 pub use pmf_request::Settings;
 pub use reading::read_all;
 pub use simulating::sim_to;

@@ -1,10 +1,10 @@
 //! A sink in memory.
 
-ghost use Rattle.std.specs.Prelude.{◌≡◌, [], Some};
+ghost use Rattle.std.specs.Prelude.{◌≡◌, ◌==◌, [], Some, if◌then◌else◌};
 
 use crate::device::Device;
 use crate::failed::Failed;
-use crate::outlet::{NoFile, Outlet};
+use crate::outlet::{NoFile, Outlet, write_whole};
 use crate::sink::Sink;
 use std::alloc::Global;
 
@@ -84,9 +84,15 @@ impl Sink for ByteSink {
     }
 }
 
-/// All goes to the one sink.
+/// The first file; there is no other.
 impl Outlet for ByteSink {
-    fn turn_to(&mut self, _file: usize) -> Result<(), NoFile> {
-        Ok(())
+    ghost held_in = { λ s file. if file == 0 then Some s.bytes.items else Some [] };
+
+    fn write_to(&mut self, file: usize, text: &[u8]) -> Result<(), NoFile> {
+        if file > 0 {
+            self.failures += 1;
+            return Err(NoFile::Failed { written: 0 });
+        }
+        write_whole(self, text)
     }
 }

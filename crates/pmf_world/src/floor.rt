@@ -176,8 +176,7 @@ impl Floor {
     }
 
     /// Hands the section out to the worker, which is idle.
-    #[tactic(auto, using(std::proofs::lemmas::Grind::common_steps, crate::proofs::lemmas::FloorLemmas::becomes, crate::proofs::lemmas::FloorLemmas::alike,
-        crate::proofs::lemmas::FloorLemmas::entry_is, crate::proofs::lemmas::FloorLemmas::doing_set))]
+    #[tactic(auto, using(std::proofs::lemmas::Grind::common_steps, crate::proofs::lemmas::FloorLemmas::becomes, crate::proofs::lemmas::FloorLemmas::alike, crate::proofs::lemmas::FloorLemmas::entry_is, crate::proofs::lemmas::FloorLemmas::doing_set))]
     pub(crate) fn hand_out(&mut self, worker: u32, section: u32)
         requires idle { slice_get self.old.farm.workers worker ≡ Some Doing.Idle }
         requires there { section < length self.old.farm.board }
@@ -243,9 +242,7 @@ impl Floor {
     }
 
     /// Marks the section, whose verdict the worker sent.
-    #[tactic(auto, using(std::proofs::lemmas::Grind::common_steps, crate::proofs::lemmas::FloorLemmas::worker_within, crate::proofs::lemmas::FloorLemmas::IsFloor_marked,
-        crate::proofs::lemmas::FloorLemmas::section_within, crate::proofs::lemmas::FloorLemmas::becomes, crate::proofs::lemmas::FloorLemmas::alike,
-        crate::proofs::lemmas::FloorLemmas::entry_is, crate::proofs::lemmas::FloorLemmas::doing_set))]
+    #[tactic(auto, using(std::proofs::lemmas::Grind::common_steps, crate::proofs::lemmas::FloorLemmas::worker_within, crate::proofs::lemmas::FloorLemmas::IsFloor_marked, crate::proofs::lemmas::FloorLemmas::section_within, crate::proofs::lemmas::FloorLemmas::becomes, crate::proofs::lemmas::FloorLemmas::alike, crate::proofs::lemmas::FloorLemmas::entry_is, crate::proofs::lemmas::FloorLemmas::doing_set))]
     pub(crate) fn mark(&mut self, worker: u32, section: u32)
         requires sent { slice_get self.old.farm.workers worker ≡ Some (Doing.HasSent section) }
         ensures { Becomes self.old (record {

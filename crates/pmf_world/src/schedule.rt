@@ -116,9 +116,7 @@ fn step_of_two(word: &[u8], first: Option<u32>, second: Option<u32>) -> Option<W
 }
 
 // The number below 2^32 that 1 to 10 decimal digits spell.
-#[tactic(auto, using(std::proofs::lemmas::Grind::common_steps, crate::proofs::lemmas::NumberWordLemmas::number_of_long, crate::proofs::lemmas::NumberWordLemmas::number_of_none,
-    crate::proofs::lemmas::NumberWordLemmas::number_of_some, std::proofs::lemmas::Bool::Decides::nat_tests, crate::proofs::lemmas::NumberWordLemmas::narrowed_cast,
-    crate::proofs::lemmas::NumberWordLemmas::number_of_rest))]
+#[tactic(auto, using(std::proofs::lemmas::Grind::common_steps, crate::proofs::lemmas::NumberWordLemmas::number_of_long, crate::proofs::lemmas::NumberWordLemmas::number_of_none, crate::proofs::lemmas::NumberWordLemmas::number_of_some, std::proofs::lemmas::Bool::Decides::nat_tests, crate::proofs::lemmas::NumberWordLemmas::narrowed_cast, crate::proofs::lemmas::NumberWordLemmas::number_of_rest))]
 fn read_number(word: &[u8]) -> Option<u32>
     ensures { result ≡ number_of word.now }
 {

@@ -1,15 +1,13 @@
 //! A log that is cut over a source and a sink: in pieces, and where a read, the log or a write fails.
 
-ghost use Rattle.std.specs.Prelude.{◌≡◌};
+ghost use Rattle.std.specs.Prelude.{◌≡◌, None};
 
 use super::fakes::{PieceSource, failed_calls};
 use crate::cutting::{Notes, Pieces, cut_stream};
 use crate::device::Device;
-use crate::failed::Failed;
 use crate::fault::StreamFault;
 use crate::memory::ByteSink;
 use crate::outlet::{NoFile, Outlet};
-use crate::sink::Sink;
 use pmf_cut::CutFault;
 use pmf_request::Lengths;
 use pmf_storelog::{Cause, LogFault};
@@ -91,7 +89,7 @@ fn devices_that_fail_and_a_fault_of_the_log_are_told(rt: HostRuntime) {
     let _ = cuts(&rt, alloc, source, ByteSink::new(alloc), refused);
 }
 
-// Files in one sink, the second of which is refused, by a failed call or not.
+// Files, the second of which is refused, by a failed call or not.
 #[derive(Drop)]
 struct OneFile {
     sink: ByteSink,
@@ -107,25 +105,18 @@ impl Device for OneFile {
     }
 }
 
-impl Sink for OneFile {
-    ghost held = { λ s. Some s.sink.bytes.items };
-
-    fn write(&mut self, bytes: &[u8]) -> Result<usize, Failed> {
-        let answer = self.sink.write(bytes);
-        self.failures += u64::from(answer.is_err());
-        answer
-    }
-}
-
 impl Outlet for OneFile {
-    fn turn_to(&mut self, file: usize) -> Result<(), NoFile> {
-        if file == 0 {
-            return Ok(());
-        }
-        if self.refusal == NoFile::Failed {
+    ghost held_in = { λ s file. None };
+
+    fn write_to(&mut self, file: usize, text: &[u8]) -> Result<(), NoFile> {
+        let answer = match file {
+            0 => self.sink.write_to(0, text),
+            _ => Err(self.refusal),
+        };
+        if let Err(NoFile::Failed { .. }) = answer {
             self.failures += 1;
         }
-        Err(self.refusal)
+        answer
     }
 }
 
@@ -134,7 +125,7 @@ fn a_file_that_is_refused_is_told(rt: HostRuntime) {
     let alloc = rt.alloc();
     let failed = StreamFault::WriteFault { written: 28 };
     for (refusal, want) in [
-        (NoFile::Failed, failed),
+        (NoFile::Failed { written: 0 }, failed),
         (NoFile::OutOfMemory, StreamFault::OutOfMemory),
     ] {
         let mut source = PieceSource::new(LOG);
@@ -154,6 +145,6 @@ fn a_file_that_is_refused_is_told(rt: HostRuntime) {
             Some(30),
         );
         assert!(rt; answer == Err(want), "{refusal:?}");
-        assert_eq!(rt; files.failures, u64::from(refusal == NoFile::Failed));
+        assert_eq!(rt; files.failures, u64::from(refusal != NoFile::OutOfMemory));
     }
 }
