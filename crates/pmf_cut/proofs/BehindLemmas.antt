@@ -1,6 +1,6 @@
 -- Behind a cut the part goes on as the whole does: it does so at the cut, and after each event more.
 use Rattle.std.proofs.{Common.{◌≡◌, ℕ, suc, ◌-◌, ◌<◌, ◌≤◌, true, false, not, ◌&&◌, nat_lt, if◌then◌else◌, List, refl, sym, ◌∙◌, ap, arith, Some, lt-ltb, le-ltb, ltb-false}, lemmas.Bool.{false_from_ne_true}}
-use Rattle.pmf_event.{specs.declared.event.Event.{Event}, specs.declared.event.Event.TheVariants.{TxBegin, TxEnd}, specs.Line.{line_of_byte}, specs.Places.{greatest}, specs.Store.{event_at, stores, flushes, is_fence, last, last_store}, specs.Interval.{interval_at, closing_fence}, specs.Exclusion.{excludes, marks}, specs.Order.{precedes, share_line, is_stored_before}, specs.LineBytes.{is_undurable, is_unwritten}, specs.Transactions.{begins, ends, depth_at, in_transaction, is_outside, adds, is_backed, opens_scope, closes_scope, scope_at, in_scope, stores_inside, is_scoped}, proofs.EventLemmas.{at-is, last-other, last-here, not_fence_and_store}, proofs.LineBytesLemmas.{lacks-parts, lacks-not}, proofs.TransactionLemmas.{depth-begun, depth-ended, depth-kept, inside-kept, outside-here, backed-added, backed-kept, scope-some, scope-none, unscoped-from, scoped-from, scope-stays, scope-opened, scope-kept, scope-closed, in_scope-same, scoped-opened, scoped-kept, scoped-stored, not_scoped}, proofs.WriteBackLemmas.{last-bound}}
+use Rattle.pmf_event.{specs.declared.event.Event.{Event}, specs.declared.event.Event.TheVariants.{TxBegin, TxEnd}, specs.Line.{line_of_byte}, specs.Places.{greatest}, specs.Store.{event_at, stores, flushes, is_fence, last, last_store}, specs.Interval.{interval_at, closing_fence}, specs.Exclusion.{excludes, marks}, specs.Order.{precedes, share_line, is_stored_before}, specs.LineBytes.{is_undurable, is_unwritten}, specs.Transactions.{begins, ends, depth_at, in_transaction, is_outside, adds, is_backed, opens_scope, closes_scope, in_scope, is_scoped}, proofs.EventLemmas.{at-is, last-other, last-here, not_fence_and_store}, proofs.LineBytesLemmas.{lacks-parts, lacks-not}, proofs.TransactionLemmas.{depth-begun, depth-ended, depth-kept, inside-kept, outside-here, backed-added, backed-kept, scope-some, scope-none, unscoped-from, scoped-from, scope-stays, scope-opened, scope-kept, scope-closed, in_scope-same, scoped-opened, scoped-kept, scoped-stored, not_scoped}, proofs.WriteBackLemmas.{last-bound}}
 use Rattle.pmf_cut.{specs.Alike.{IsCut}, specs.Behind.{SameBytes, SamePairs, SameTransactions, IsBehind}, proofs.StepLemmas.{undurable-stored_to, excluded-step, undurable-stored, undurable-kept, undurable-fenced, unwritten-stored, unwritten-kept, unwritten-flushed, precedes-parts, precedes-reopened, precedes-stored, precedes-kept}}
 
 -- ---- at the cut

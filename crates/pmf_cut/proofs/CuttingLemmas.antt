@@ -1,9 +1,9 @@
 -- What a cutter has cut, with one part, one section or one event more.
-use Rattle.std.{proofs.Common.{◌≡◌, ◌≢◌, ◌⊎◌, inl, inr, ⊎_elim, ℕ, zero, suc, ◌+◌, ◌-◌, ◌<◌, ◌≤◌, Bool, true, false, cond, List, [], ◌∷◌, ◌++◌, length, take, drop, set, slice_get, Option, Some, None, Ok, refl, sym, ap, subst, ◌∙◌, arith, length-append, length-drop, append_assoc, append-nil, take_all, eq-eqb, ne_eqb, ◌==◌, add-one}, proofs.lemmas.Bool.{cases_eq}, proofs.lemmas.List.{drop-take, take-append-drop, take-take, take-append-le, drop-append-le, drop_all, length_push}, proofs.lemmas.Option.{slice_get_within}, proofs.Math.Path.{fun_ext}, specs.BTreeMap.{get}, specs.Ordering.{nat_cmp}}
+use Rattle.std.{proofs.Common.{◌≡◌, ◌≢◌, ◌⊎◌, inl, inr, ⊎_elim, ℕ, zero, suc, ◌+◌, ◌-◌, ◌<◌, ◌≤◌, Bool, true, false, cond, List, [], ◌∷◌, ◌++◌, length, take, drop, set, slice_get, Option, Some, None, Ok, refl, sym, ap, subst, ◌∙◌, arith, length-drop, append_assoc, append-nil, take_all, eq-eqb, ne_eqb, ◌==◌, add-one}, proofs.lemmas.Bool.{cases_eq}, proofs.lemmas.List.{drop-take, take-append-drop, take-take, take-append-le, drop-append-le, drop_all, length_push}, proofs.lemmas.Option.{slice_get_within}, proofs.Math.Path.{fun_ext}, specs.BTreeMap.{get}, specs.Ordering.{nat_cmp}}
 use Rattle.pmf_event.specs.{declared.event.Event.{Event}, Store.{event_at}}
-use Rattle.pmf_storelog.{specs.declared.record.Saying.{Saying}, specs.declared.record.Saying.TheVariants.{Happens, Enters, Skipped}, specs.Records.{record_of}, specs.Separators.{ended_parts, parts_of, records_in, records_of}, specs.LogText.{events_in, current_of, number_after}, specs.Sections.{with_event}, proofs.PartLemmas.{ended_is, parts_of-append, parts_of-nil}, proofs.TallyLemmas.{current_of-nil, events_in-nil}, proofs.SplitLemmas.{joined, joined_at}, proofs.LogLemmas.{events_in-event, events_in-enter, events_in-nothing, current_of-push}}
+use Rattle.pmf_storelog.{specs.declared.record.Saying.TheVariants.{Happens, Enters}, specs.Records.{record_of}, specs.Separators.{ended_parts, parts_of, records_in, records_of}, specs.LogText.{events_in, current_of, number_after}, proofs.PartLemmas.{ended_is, parts_of-append, parts_of-nil}, proofs.TallyLemmas.{current_of-nil, events_in-nil}, proofs.SplitLemmas.{joined, joined_at}, proofs.LogLemmas.{events_in-event, events_in-enter, events_in-nothing, current_of-push}}
 use Rattle.pmf_cut.specs.{declared.section.Cutting.{Cutting}, declared.part.Part.{Part}, declared.output.Outputs.{Outputs}, declared.output.Text.{Text}, declared.cutter.Cutter.{Cutter}, Alike.{IsCut}, Parts.{IsPartOf, BeginsAt, part_of}, Written.{WrittenPart, IsWritten, AreUpTo, AreNumbered, AreOf, IsAmong, NoneNamed, IsCutInto, said_in}, Outputs.{AllOpen, AllWait, HandsOut, Holds, IsNew, IsOpen, bytes_for, IsSaid, Says, current_in, said, text_of, waiting_in}, Cutting.{HasPart, IsSame, TakesEvent, HasSection, IsCurrent, IsPlaced, HasCut, IsNamed, MoreFiles, SayNothing, Cuts, CutsPart, CutsParts, CutsTo, Drains, HasCutAll, HasRead, handed_with}}
-use Rattle.pmf_cut.proofs.OutputLemmas.{holds-ended, holds-open, nothing_behind}
+use Rattle.pmf_cut.proofs.OutputLemmas.{holds-ended, holds-open, nothing_behind, set-other}
 
 none_is_some : {X : Type 0} {x : X} → None ≡ Some x → ⊥
 none_is_some same = cc
@@ -323,13 +323,6 @@ get-set [] k x y at = absurd (none_is_some at)
 get-set (z ∷ xs) zero x y at = refl
 get-set (z ∷ xs) (suc k) x y at = get-set xs k x y at
 
-get-other : (xs : List Cutting) (j k : ℕ) (y : Cutting) → k ≢ j → slice_get (set xs j y) k ≡ slice_get xs k
-get-other [] j k y apart = refl
-get-other (z ∷ xs) zero zero y apart = absurd (apart refl)
-get-other (z ∷ xs) zero (suc k) y apart = refl
-get-other (z ∷ xs) (suc j) zero y apart = refl
-get-other (z ∷ xs) (suc j) (suc k) y apart = get-other xs j k y (λ same. apart (ap suc same))
-
 module _ (names then-names : ℕ → Option ℕ) (name number : ℕ) (named : IsNamed names then-names name number) where
   named-kept : (other k : ℕ) → names other ≡ Some k → then-names other ≡ Some k
   named-kept other k is = named.others other (λ same. none_is_some (sym named.free ∙ ap names (sym same) ∙ is)) ∙ is
@@ -475,7 +468,7 @@ module _ (step : ℕ) (records : List (List ℕ)) (handed : ℕ → List ℕ) (c
 
     -- another section stands elsewhere
     elsewhere : (new : Cutting) (other there : ℕ) → other ≢ number → places other ≡ Some there → (s : Cutting) → slice_get sections there ≡ Some s → slice_get (set sections place new) there ≡ Some s
-    elsewhere new other there apart stands s at-there = get-other sections place there new (λ same. apart (other_is same)) ∙ at-there
+    elsewhere new other there apart stands s at-there = set-other sections place there new (λ same. apart (other_is same)) ∙ at-there
       where
         other_is : there ≡ place → other ≡ number
         other_is same =

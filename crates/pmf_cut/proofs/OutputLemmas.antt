@@ -191,7 +191,7 @@ says-next file number k events event old mid new bytes within is first spells pu
     (says-event true file number (take k events) old mid new bytes spells.text event first puts spells.holds spells.says)
 
 -- an element that is set, and another one
-set-other : (outputs : List Output) (i j : ℕ) (output : Output) → j ≢ i → slice_get (set outputs i output) j ≡ slice_get outputs j
+pub set-other : {X : Type 0} (xs : List X) (i j : ℕ) (x : X) → j ≢ i → slice_get (set xs i x) j ≡ slice_get xs j
 set-other [] i j output apart = refl
 set-other (x ∷ xs) zero zero output apart = absurd (apart refl)
 set-other (x ∷ xs) zero (suc j) output apart = refl

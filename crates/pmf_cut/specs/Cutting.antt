@@ -1,5 +1,5 @@
 -- What a cutter in mid-log stands for. Defined here.
-use Rattle.std.specs.{Prelude.{◌≡◌, ◌≢◌, ℕ, ◌<◌, ◌≤◌, Bool, true, List, [], ◌∷◌, ◌++◌, length, take, drop, set, slice_get, Option, Some, None, Ok}, Ordering.{nat_cmp}, BTreeMap.{get}}
+use Rattle.std.specs.{Prelude.{◌≡◌, ◌≢◌, ℕ, ◌<◌, ◌≤◌, Bool, true, List, [], ◌∷◌, ◌++◌, length, take, set, slice_get, Option, Some, None, Ok}, Ordering.{nat_cmp}, BTreeMap.{get}}
 use Rattle.pmf_event.specs.declared.event.Event.{Event}
 use Rattle.pmf_storelog.specs.{declared.record.Saying.{Saying}, declared.record.Saying.TheVariants.{Skipped}, Records.{record_of}, Separators.{parts_of, ended_parts, records_in, records_of}, LogText.{events_in, current_of}}
 use Rattle.pmf_cut.specs.{declared.cutter.Cutter.{Cutter}, declared.section.Cutting.{Cutting}, declared.section.NextPart.{NextPart}, declared.part.Part.{Part}, Parts.{IsPartOf, GoesOnWith, BeginsAt}, Written.{WrittenPart, AreUpTo, AreNumbered, AreOf, IsAmong, IsCutInto, NoneNamed}, declared.output.Outputs.{Outputs}, declared.output.Text.{Text}, Outputs.{AllOpen, AllWait, Holds, IsSameText, Says, behind_part, bytes_for, said, text_of}}

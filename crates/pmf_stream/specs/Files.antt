@@ -1,5 +1,5 @@
 -- What files have when texts are written to them, and what a log is cut into. Defined here.
-use Rattle.std.specs.{Prelude.{◌≡◌, ◌≢◌, ℕ, List, Option}, Io.KnownBytes.{Appends, Consumes, IsAtEnd, Keeps}}
+use Rattle.std.specs.{Prelude.{◌≢◌, ℕ, List, Option}, Io.KnownBytes.{Appends, Consumes, IsAtEnd, Keeps}}
 use Rattle.pmf_cut.specs.{declared.cutter.Cutter.{Cutter}, declared.output.Text.{Text}, Outputs.{bytes_for}, Cutting.{Drains, HasRead}, Written.{IsCutInto}}
 
 -- the text was written at the end of the file, and nothing to any other

@@ -1,5 +1,5 @@
 -- Which assertions hold, by their rows.
-use Rattle.std.proofs.{Common.{◌≡◌, ℕ, zero, suc, ◌-◌, ◌<◌, ◌≤◌, Bool, true, false, not, if◌then◌else◌, List, [], ◌∷◌, map, length, refl, sym, ◌∙◌, ap, subst, arith, inl, inr, ◌↔◌, ◌⊎◌, Option, Some, None, Contains, is_none}, lemmas.List.Elements.{Contains-append_left, Contains-append_right}, lemmas.Bool.{cases_eq}}
+use Rattle.std.proofs.{Common.{◌≡◌, ℕ, zero, suc, ◌-◌, ◌<◌, ◌≤◌, Bool, true, false, if◌then◌else◌, List, [], ◌∷◌, map, length, refl, sym, ◌∙◌, ap, subst, arith, inl, inr, ◌↔◌, ◌⊎◌, Option, Some, None, Contains, is_none}, lemmas.List.Elements.{Contains-append_left, Contains-append_right}, lemmas.Bool.{cases_eq}}
 use Rattle.pmf_event.{specs.declared.event.Event.{Event}, specs.declared.event.Event.TheVariants.{Persist, Ordered, CheckEnd}, specs.declared.finding.Finding.{Finding}, specs.declared.finding.Finding.TheVariants.{PersistPass, PersistFail, PersistEmpty, OrderedPass, OrderedFail, OrderedSameLine, OrderedEmpty, CheckPass, CheckFail}, specs.declared.profile.Profile.{Profile}, specs.declared.profile.Profile.TheVariants.{One, Two}, specs.declared.span.TheConstants.{ADDRESS_LIMIT}, specs.Line.{line_of_byte}, specs.Span.{Extent, covers_byte}, specs.Store.{event_at, last_store}, specs.Ranges.{first_from, first_byte}, specs.Persist.{is_checked, is_exposed, pass_unless, persist_finding}, specs.Order.{is_stored_before, is_ordered, is_unordered, is_certified, least_pair, finding_of_pairs, ordered_finding}, specs.Transactions.{in_transaction, in_scope, is_left_open, scope_passes_unless, check_finding}, proofs.RangeLemmas.{none-passes}, proofs.LeastPairLemmas.{pair-from, unpaired}, proofs.LineLemmas.{covers-bounds}}
 use Rattle.pmf_image.{specs.declared.certificate.Certificate.{Certificate}, specs.Contradiction.{ContradictsEvent}, specs.Holds.{PersistHolds, OrderedHolds, ScopeHolds, EventHolds, Holds}, proofs.ExactLemmas.{not_holds-contradicted, holds-by_profile_two, checked-parts}}
 use Rattle.pmf_verdict.{specs.Rows.{findings_of, row_at, rows_upto, rows_at_end, rows_of}, specs.Explained.{certificate_of}, specs.Exact.{IsPassOrEmpty, IsNotFailed, AreApart, OrderIsExact, IsExact, SameLinesAreOneStore}, proofs.RowsLemmas.{place-within}, proofs.KindLemmas.{kind_of, persist-kind, ordered-kind, persist-from_rows, ordered-from_rows}, proofs.ExplainLemmas.{contradicted-by}, proofs.SoundLemmas.{passes_hold, orders_hold, scopes_hold}}

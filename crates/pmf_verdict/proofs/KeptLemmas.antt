@@ -1,8 +1,8 @@
 -- Where no row counts as FAIL, all that is asserted holds; where none counts as EMPTY, each assertion had something to check.
-use Rattle.std.proofs.{Common.{◌≡◌, ℕ, zero, suc, ◌-◌, ◌<◌, Bool, true, false, not, ◌&&◌, if◌then◌else◌, List, map, length, refl, sym, ◌∙◌, ap, subst, arith, inl, inr, ◌⊎◌, Option, Some, None, Contains, is_none}, lemmas.List.Elements.{Contains-append_right}, lemmas.Bool.{and_from, false_from_ne_true, not-false}}
+use Rattle.std.proofs.{Common.{◌≡◌, ℕ, suc, ◌-◌, Bool, true, false, not, ◌&&◌, if◌then◌else◌, List, map, length, refl, sym, ◌∙◌, ap, subst, arith, inl, inr, ◌⊎◌, Option, Some, None, Contains, is_none}, lemmas.List.Elements.{Contains-append_right}, lemmas.Bool.{and_from, false_from_ne_true, not-false}}
 use Rattle.pmf_event.{specs.declared.event.Event.{Event}, specs.declared.event.Event.TheVariants.{Store, Persist, Ordered, CheckEnd}, specs.declared.finding.Finding.{Finding}, specs.declared.finding.Finding.TheVariants.{PersistPass, PersistFail, PersistEmpty, OrderedPass, OrderedFail, OrderedSameLine, OrderedEmpty, NoBackup, CheckPass, CheckFail, TxStillOpen, Unopened, Unclosed}, specs.declared.profile.Profile.{Profile}, specs.declared.span.TheConstants.{ADDRESS_LIMIT}, specs.Span.{Extent, covers_byte}, specs.Store.{event_at}, specs.Ranges.{first_from, first_byte}, specs.Exclusion.{is_included}, specs.Persist.{is_checked, is_exposed, pass_unless, persist_finding}, specs.FlushWarnings.{if_any}, specs.Order.{is_unordered, is_certified, least_pair, finding_of_pairs, ordered_finding}, specs.Transactions.{in_transaction, is_backed, in_scope, scope_at, depth_at, lacks_backup, nobackup_with, store_finding, is_left_open, scope_passes_unless, check_finding, close_finding}, proofs.RangeLemmas.{some-or-none, none-passes, first-passes}, proofs.LineLemmas.{covers-bounds, bounds-cover}}
-use Rattle.pmf_image.specs.Holds.{PersistHolds, OrderedHolds, EventHolds, Holds}
-use Rattle.pmf_verdict.{specs.declared.outcome.Outcome.TheVariants.{Fail, Empty}, specs.Outcome.{outcome_of}, specs.Kept.{IsKept, HasChecked, IsFilled, HasNone, IsTold}, specs.Rows.{findings_of, row_at, rows_upto, rows_at_end, rows_of}, proofs.RowsLemmas.{place-within}, proofs.KindLemmas.{kind_of, persist-kind, ordered-kind, check-kind}, proofs.SoundLemmas.{scopes_hold}, proofs.HoldingLemmas.{row-of, persist-row, ordered-row, check-row, holds-by_row, rows_exact}}
+use Rattle.pmf_image.specs.Holds.{PersistHolds, OrderedHolds, EventHolds}
+use Rattle.pmf_verdict.{specs.declared.outcome.Outcome.TheVariants.{Fail, Empty}, specs.Kept.{IsKept, HasChecked, IsFilled, HasNone, IsTold}, specs.Rows.{findings_of, row_at, rows_upto, rows_at_end, rows_of}, proofs.RowsLemmas.{place-within}, proofs.KindLemmas.{kind_of, persist-kind, ordered-kind, check-kind}, proofs.SoundLemmas.{scopes_hold}, proofs.HoldingLemmas.{row-of, persist-row, ordered-row, check-row, holds-by_row, rows_exact}}
 
 -- ---- what each finding tells
 

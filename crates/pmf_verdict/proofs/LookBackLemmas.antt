@@ -1,6 +1,6 @@
 -- What is found of an event looks only at the events up to it.
-use Rattle.std.proofs.{Common.{◌≡◌, ℕ, zero, suc, ◌+◌, ◌-◌, ◌<◌, ◌≤◌, Bool, true, false, not, ◌&&◌, ◌||◌, ◌==◌, nat_lt, if◌then◌else◌, List, [], ◌∷◌, ◌++◌, map, length, refl, sym, ◌∙◌, ap, ap₂, subst, arith, Option, Some, None, is_none}, Math.Path.{fun_ext}}
-use Rattle.pmf_event.{specs.declared.event.Event.{Event}, specs.declared.event.Event.TheVariants.{Store, Flush, Persist, Ordered, TxAdd, TxEnd, CheckStart, CheckEnd}, specs.declared.finding.Finding.{Finding}, specs.declared.finding.Finding.TheVariants.{PersistEmpty, OrderedFail, OrderedEmpty, Outside, Unmatched, Nested, TxStillOpen, Unopened}, specs.declared.interval.Interval.{Interval}, specs.declared.profile.Profile.{Profile}, specs.declared.profile.Profile.TheVariants.{One, Two}, specs.declared.span.TheConstants.{ADDRESS_LIMIT}, specs.Span.{Extent}, specs.Line.{line_of_byte}, specs.Places.{least, some_between}, specs.Ranges.{first_from, first_byte}, specs.Store.{event_at, at, stores, stores_line, flushes, is_fence, last, last_store, epoch_of}, specs.Interval.{closes, closing_fence, first_write_back, epoch_after, interval_at, is_open}, specs.Exclusion.{is_excluded, is_included}, specs.Persist.{is_checked, is_exposed, pass_unless, persist_finding}, specs.Order.{precedes, share_line, is_stored_before, is_ordered, is_unordered, is_certified, least_pair, finding_of_pairs, ordered_finding}, specs.FlushWarnings.{is_clean, is_pending, lines_where, doubled_finding, needless_finding, if_any, flush_findings}, specs.Transactions.{in_transaction, depth_at, is_outside, is_backed, in_scope, is_scoped, end_finding, duplog_with, add_finding, lacks_backup, nobackup_with, store_finding, start_finding, is_left_open, scope_passes_unless, check_finding}, proofs.PlacesLemmas.{least-bound}}
+use Rattle.std.proofs.{Common.{◌≡◌, ℕ, zero, suc, ◌+◌, ◌-◌, ◌≤◌, Bool, not, ◌&&◌, ◌||◌, ◌==◌, nat_lt, if◌then◌else◌, List, [], ◌∷◌, ◌++◌, map, length, refl, sym, ◌∙◌, ap, ap₂, arith, Option, Some, None, is_none}, Math.Path.{fun_ext}}
+use Rattle.pmf_event.{specs.declared.event.Event.{Event}, specs.declared.event.Event.TheVariants.{Store, Flush, Persist, Ordered, TxAdd, TxEnd, CheckStart, CheckEnd}, specs.declared.finding.Finding.{Finding}, specs.declared.finding.Finding.TheVariants.{PersistEmpty, OrderedFail, OrderedEmpty, Outside, Unmatched, Nested, TxStillOpen, Unopened}, specs.declared.interval.Interval.{Interval}, specs.declared.profile.Profile.{Profile}, specs.declared.profile.Profile.TheVariants.{One, Two}, specs.declared.span.TheConstants.{ADDRESS_LIMIT}, specs.Span.{Extent}, specs.Line.{line_of_byte}, specs.Places.{least, some_between}, specs.Ranges.{first_from, first_byte}, specs.Store.{event_at, at, stores, stores_line, flushes, is_fence, last, last_store, epoch_of}, specs.Interval.{closes, closing_fence, epoch_after, interval_at, is_open}, specs.Exclusion.{is_included}, specs.Persist.{is_checked, is_exposed, pass_unless, persist_finding}, specs.Order.{precedes, share_line, is_stored_before, is_ordered, is_unordered, is_certified, least_pair, finding_of_pairs, ordered_finding}, specs.FlushWarnings.{is_clean, is_pending, lines_where, doubled_finding, needless_finding, if_any, flush_findings}, specs.Transactions.{in_transaction, depth_at, is_outside, end_finding, duplog_with, add_finding, lacks_backup, nobackup_with, store_finding, start_finding, is_left_open, scope_passes_unless, check_finding}, proofs.PlacesLemmas.{least-bound}}
 use Rattle.pmf_shadow.{specs.Laws.{SameEvents}, proofs.SameLemmas.{greatest-same, least-same, same-before, at-same, last-same, last_epoch-same, epoch_of-same, first_write_back-same, excluded-same, slice_get-front}}
 use Rattle.pmf_txcheck.proofs.SameTransactionLemmas.{depth-alike, inside-alike, in_scope-alike, backed-alike, scoped-alike}
 use Rattle.pmf_verdict.specs.{Rows.{findings_of, row_at, rows_upto}, LookBack.{RowsLookBack, LaterEventsChangeNoRow}}

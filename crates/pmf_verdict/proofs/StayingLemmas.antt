@@ -1,6 +1,6 @@
 -- A PASS stays as long as no byte of its span is touched.
-use Rattle.std.proofs.{Common.{◌≡◌, ℕ, zero, suc, ◌+◌, ◌-◌, ◌<◌, ◌≤◌, Bool, true, false, not, ◌&&◌, ◌||◌, ◌==◌, nat_lt, if◌then◌else◌, List, refl, sym, ◌∙◌, ap, ap₂, subst, arith, Option, Some, None, is_none, lt-ltb, ne_eqb, inl, inr}, lemmas.Bool.{cases_lt}}
-use Rattle.pmf_event.{specs.declared.event.Event.{Event}, specs.declared.finding.Finding.{Finding}, specs.declared.interval.Interval.{Interval}, specs.declared.finding.Finding.TheVariants.{PersistPass, PersistEmpty}, specs.Span.{Extent, covers_byte}, specs.Line.{line_of_byte}, specs.Places.{greatest, least}, specs.Ranges.{first_byte, first_from}, specs.Store.{at, event_at, passes, stores, last, last_store, epoch_of}, specs.Interval.{closes, closing_fence, epoch_after, interval_at, is_open}, specs.Exclusion.{excludes, marks, is_excluded}, specs.Persist.{is_checked, is_exposed, pass_unless, persist_finding}, proofs.PlacesLemmas.{least-step}, proofs.LineLemmas.{bounds-cover}, proofs.RangeLemmas.{first_from-none, first_from-same}}
+use Rattle.std.proofs.{Common.{◌≡◌, ℕ, zero, suc, ◌+◌, ◌-◌, ◌<◌, ◌≤◌, Bool, true, false, not, ◌&&◌, ◌==◌, nat_lt, if◌then◌else◌, List, refl, sym, ◌∙◌, ap, ap₂, subst, arith, Option, Some, None, lt-ltb, ne_eqb, inl, inr}, lemmas.Bool.{cases_lt}}
+use Rattle.pmf_event.{specs.declared.event.Event.{Event}, specs.declared.interval.Interval.{Interval}, specs.declared.finding.Finding.TheVariants.{PersistPass, PersistEmpty}, specs.Span.{Extent}, specs.Line.{line_of_byte}, specs.Places.{greatest, least}, specs.Store.{at, event_at, passes, stores, last, last_store, epoch_of}, specs.Interval.{closes, closing_fence, epoch_after, interval_at, is_open}, specs.Exclusion.{excludes, marks, is_excluded}, specs.Persist.{is_checked, is_exposed, pass_unless, persist_finding}, proofs.PlacesLemmas.{least-step}, proofs.LineLemmas.{bounds-cover}, proofs.RangeLemmas.{first_from-none, first_from-same}}
 use Rattle.pmf_verdict.{specs.Staying.{touches, IsUntouched, PassStays}, proofs.SoundLemmas.{pass-closed}}
 
 true_is_false : true ≡ false → ⊥

@@ -1,6 +1,6 @@
 -- What is written to files, one text after another, and what is cut of a stream so far.
-use Rattle.std.{proofs.Common.{inl, inr, ◌≡◌, ◌≢◌, ℕ, suc, ◌+◌, ◌<◌, ◌==◌, if◌then◌else◌, List, [], ◌∷◌, ◌++◌, length, take, get_or, Option, Some, None, refl, sym, ap, subst, ◌∙◌, arith, append-nil, append_assoc, eq-eqb, ne_eqb}, proofs.lemmas.Bool.{cases_eq}, proofs.KnownBytes.{Appends-kept, Appends-nil, Appends-trans, Consumes-nil, Consumes-trans}, specs.Io.KnownBytes.{Appends, Consumes, IsAtEnd, Keeps}}
-use Rattle.pmf_cut.specs.{declared.cutter.Cutter.{Cutter}, declared.output.Text.{Text}, Outputs.{bytes_for}, Cutting.{Drains, HasCutAll, HasRead, handed_with}, Written.{IsCutInto}}
+use Rattle.std.{proofs.Common.{inl, inr, ◌≡◌, ℕ, ◌==◌, if◌then◌else◌, List, [], ◌∷◌, ◌++◌, Option, refl, sym, ap, subst, ◌∙◌, append-nil, append_assoc, eq-eqb, ne_eqb}, proofs.lemmas.Bool.{cases_eq}, proofs.KnownBytes.{Appends-kept, Appends-nil, Appends-trans, Consumes-nil, Consumes-trans}, specs.Io.KnownBytes.{Appends, Consumes, IsAtEnd}}
+use Rattle.pmf_cut.specs.{declared.cutter.Cutter.{Cutter}, declared.output.Text.{Text}, Outputs.{bytes_for}, Cutting.{HasCutAll, HasRead, handed_with}}
 use Rattle.pmf_stream.specs.Files.{AppendsEach, AppendsTo, CutsSoFar, IsCutOf, WritesOut}
 
 bytes-push : (texts : List Text) (text : Text) (file : ℕ) → bytes_for (texts ++ text ∷ []) file ≡ bytes_for texts file ++ (if text.file == file then text.bytes.items else [])

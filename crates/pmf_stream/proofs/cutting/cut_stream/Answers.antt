@@ -1,4 +1,4 @@
-use Rattle.std.{proofs.Common.{◌≡◌, ◌+◌, ◌<◌, ℕ, List, [], take, length, refl, sym, ap, ◌∙◌, subst, arith}, proofs.lemmas.Grind.{common_steps}, proofs.KnownBytes.{Consumes-nil, Consumes-trans}, specs.Io.KnownBytes.{Consumes}}
+use Rattle.std.{proofs.Common.{◌≡◌, ◌<◌, [], take, length, ◌∙◌, subst, arith}, proofs.KnownBytes.{Consumes-nil, Consumes-trans}, specs.Io.KnownBytes.{Consumes}}
 use Rattle.pmf_stream.{proofs.lemmas.FilesLemmas.{cut-of, so-far-more}, proofs.cutting.cut_stream.Goals.{else-loop-total-test, then-loop-total-test+in-Ok+then-count-eq0}}
 use Rattle.pmf_stream.proofs.cutting.cut_stream.Goals as goal
 

@@ -1,4 +1,4 @@
-use Rattle.std.proofs.{Common.{◌≡◌, ◌∷◌, [], ◌++◌, List, take, refl, sym, ap, ◌∙◌, subst, arith}, lemmas.Grind.{common_steps}, lemmas.List.{take_more}}
+use Rattle.std.proofs.{Common.{◌∷◌, [], ◌++◌, List, take, sym, ap, ◌∙◌, subst, arith}, lemmas.List.{take_more}}
 use Rattle.pmf_cut.specs.{declared.output.Text.{Text}, Outputs.{bytes_for}}
 use Rattle.pmf_stream.specs.Files.{AppendsEach}
 use Rattle.pmf_stream.proofs.{lemmas.FilesLemmas.{each-more}}

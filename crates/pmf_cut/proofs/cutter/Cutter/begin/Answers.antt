@@ -1,5 +1,4 @@
-use Rattle.std.proofs.{Common.{◌≡◌, refl, sym, ◌∙◌, subst, arith, List}, lemmas.Option.{slice_get_read, slice_get_within}}
-use Rattle.pmf_event.specs.declared.event.Event.{Event}
+use Rattle.std.proofs.{Common.{◌≡◌, refl, sym, ◌∙◌, subst, arith}, lemmas.Option.{slice_get_read, slice_get_within}}
 use Rattle.pmf_cut.{specs.declared.section.Cutting.{Cutting}, specs.Cutting.{HasPart}, proofs.CuttingLemmas.{some_apart}}
 use Rattle.pmf_cut.proofs.cutter.Cutter.begin.Goals as goal
 

@@ -1,4 +1,4 @@
-use Rattle.std.proofs.Common.{◌≡◌, ◌+◌, ◌-◌, List, ℕ, [], ◌∷◌, take, drop, length, refl, subst, arith, length-drop, take_all}
+use Rattle.std.proofs.Common.{◌≡◌, ◌+◌, ◌-◌, List, ℕ, [], ◌∷◌, take, drop, length, subst, arith, length-drop, take_all}
 use Rattle.pmf_storelog.specs.Separators.{parts_of}
 use Rattle.pmf_cut.proofs.CuttingLemmas.{cuts-part}
 use Rattle.pmf_cut.proofs.cutter.Cutter.copy.Goals as goal

@@ -1,4 +1,4 @@
-use Rattle.std.proofs.Common.{true, ◌≡◌, ◌-◌, ◌≤◌, ◌++◌, ◌∷◌, [], ℕ, List, length, take}
+use Rattle.std.proofs.Common.{true, ◌≡◌, ◌-◌, ◌≤◌, ◌++◌, ◌∷◌, [], ℕ, List, length}
 use Rattle.pmf_storelog.specs.Separators.{parts_of, ended_parts, records_of}
 use Rattle.pmf_cut.specs.Cutting.{Cuts, CutsTo}
 use Rattle.pmf_cut.proofs.cutter.Cutter.copy.Given as goal

@@ -1,4 +1,4 @@
-use Rattle.std.proofs.Common.{◌≡◌, ◌++◌, ◌-◌, length, take, take_all, length-drop, arith, refl, sym, ap, ◌∙◌, drop}
+use Rattle.std.proofs.Common.{◌≡◌, ◌++◌, ◌-◌, length, take, take_all, length-drop, arith, sym, ap, ◌∙◌, drop}
 use Rattle.pmf_cut.proofs.CuttingLemmas.{reads-on}
 use Rattle.pmf_cut.proofs.cutter.Cutter.copy_ended.Goals as goal
 

@@ -1,5 +1,5 @@
 use Rattle.std.{proofs.Common.{◌≡◌, ◌<◌, ◌∷◌, [], ◌∙◌, List, ℕ, length, ap, sym, subst, arith}, proofs.lemmas.Grind.{common_steps}}
-use Rattle.pmf_storelog.{specs.Separators.{trimmed, records_in}, proofs.TallyLemmas.{records_in-blank, records_in-filled}}
+use Rattle.pmf_storelog.{proofs.TallyLemmas.{records_in-blank, records_in-filled}}
 use Rattle.pmf_cut.proofs.cutter.Cutter.copy_part.Goals as goal
 
 pub returns-then-is_empty : goal.returns-then-is_empty

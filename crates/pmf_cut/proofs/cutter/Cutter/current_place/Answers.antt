@@ -1,4 +1,4 @@
-use Rattle.std.proofs.Common.{nat_cmp, sym, ap, ◌∙◌}
+use Rattle.std.proofs.Common.{nat_cmp, ap, ◌∙◌}
 use Rattle.std.specs.BTreeMap.{get}
 use Rattle.pmf_storelog.specs.LogText.{current_of}
 use Rattle.pmf_cut.proofs.CuttingLemmas.{current-at, current-none, current-told}

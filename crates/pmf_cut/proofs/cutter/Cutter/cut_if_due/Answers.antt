@@ -1,4 +1,4 @@
-use Rattle.std.proofs.{Common.{refl, sym, subst, arith, slice_get, Option, Some, IfSome}, lemmas.Option.{slice_get_read}}
+use Rattle.std.proofs.{Common.{refl, sym, subst, arith, Option, Some, IfSome}, lemmas.Option.{slice_get_read}}
 use Rattle.pmf_cut.{specs.declared.section.NextPart.{NextPart}, specs.declared.part.Part.{Part}, specs.Parts.{BeginsAt}, proofs.CuttingLemmas.{get-set, unchanged}}
 use Rattle.pmf_cut.proofs.cutter.Cutter.cut_if_due.Goals as goal
 

@@ -1,5 +1,5 @@
-use Rattle.std.proofs.Common.{◌≡◌, List, refl, sym, subst, ap, ◌∙◌}
-use Rattle.pmf_cut.{specs.Cutting.{CutsPart}, specs.Outputs.{text_of}, specs.Written.{IsCutInto}, proofs.CuttingLemmas.{ends-log}}
+use Rattle.std.proofs.Common.{◌≡◌, ap, ◌∙◌}
+use Rattle.pmf_cut.{proofs.CuttingLemmas.{ends-log}}
 use Rattle.pmf_cut.proofs.cutter.Cutter.finish.Goals as goal
 
 pub returns : goal.returns

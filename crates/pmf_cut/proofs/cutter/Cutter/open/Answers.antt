@@ -1,4 +1,4 @@
-use Rattle.std.{proofs.Common.{◌≡◌, ◌++◌, ◌∷◌, [], Some, length, refl, sym, ap, ◌∙◌, arith}, proofs.lemmas.Grind.{common_steps}}
+use Rattle.std.{proofs.Common.{◌≡◌, ◌++◌, ◌∷◌, [], Some, length, refl, ap, ◌∙◌, arith}, proofs.lemmas.Grind.{common_steps}}
 use Rattle.pmf_cut.proofs.CuttingLemmas.{begun, cut-as}
 use Rattle.pmf_cut.proofs.cutter.Cutter.open.Goals as goal
 

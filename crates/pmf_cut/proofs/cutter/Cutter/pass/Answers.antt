@@ -1,4 +1,4 @@
-use Rattle.std.proofs.Common.{refl, sym}
+use Rattle.std.proofs.Common.{sym}
 use Rattle.pmf_cut.proofs.{CuttingLemmas.{quiet-said, silent}, OutputLemmas.{puts-nothing}}
 use Rattle.pmf_cut.proofs.cutter.Cutter.pass.Goals as goal
 

@@ -1,5 +1,5 @@
 use Rattle.std.proofs.Common.{◌+◌, refl, arith}
-use Rattle.pmf_cut.proofs.{PartLemmas.{room_from, list_kept, list-next, follows-part}, WholeLemmas.{part-next}}
+use Rattle.pmf_cut.proofs.{PartLemmas.{list-next, follows-part}, WholeLemmas.{part-next}}
 use Rattle.pmf_cut.proofs.part.Part.take.Goals as goal
 
 pub invariant_of-self-2 : goal.invariant_of-self-2
