@@ -5,3 +5,4 @@ pub use Rattle.pmf_stream.specs.Checking
 pub use Rattle.pmf_stream.specs.Asked
 pub use Rattle.pmf_stream.specs.Joining
 pub mod Statuses
+pub mod Answered

@@ -2,7 +2,7 @@
 //!
 //! [`execute`] does what the words ask for, over the streams of `pmf_stream`; which words ask for what is said in
 //! `pmf_words`. The statuses stand in `specs/Statuses`: each answer of a command has one, by [`Ending`], and the process ends with it,
-//! by [`Ended`]. Every text that is written to standard output, help too, goes out by `write_text`.
+//! by [`Ended`]; how each request is answered, from the bytes that are read to the status, is said once (`specs/Answered`). Every text that is written to standard output, help too, goes out by `write_text`.
 //!
 //! Not promised here: the words of help and fault lines.
 #![tactic(auto)]
@@ -12,6 +12,9 @@ mod diagnostics;
 mod ended;
 mod ending;
 mod files;
+pub mod laws;
+mod requests;
+mod shelf;
 mod status;
 
 pub use commands::execute;

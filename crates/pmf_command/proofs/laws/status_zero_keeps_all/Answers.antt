@@ -1,0 +1,38 @@
+use Rattle.std.proofs.Common.{◌≡◌, ℕ, Result, Ok, Err, sym, ◌∙◌, arith}
+use Rattle.pmf_storelog.specs.declared.fault.{Cause.{Cause}}
+use Rattle.pmf_farm.specs.declared.fault.FarmFault.{FarmFault}
+use Rattle.pmf_stream.specs.{Answering.{Answers}, Checking.{IsCheckFaultOf, IsReportOf}, declared.checking.{CheckLogFault.{CheckLogFault}, Done.{Done}}, declared.fault.StreamFault.{StreamFault}}
+use Rattle.pmf_request.specs.declared.settings.Settings.{Settings}
+use Rattle.pmf_command.specs.{Answered.{Streams, EndsWellOnlyIfKept}, Statuses.{status_of, status_of_cause, status_of_check_fault, status_of_done, status_of_farm_fault, status_of_fails, status_of_fault}, declared.status.{Status.{Status}, Status.TheVariants.{NoFail}}}
+use Rattle.pmf_storelog.specs.declared.fault.Cause.TheVariants as log
+use Rattle.pmf_farm.specs.declared.fault.FarmFault.TheVariants as farm
+use Rattle.pmf_stream.specs.declared.checking.CheckLogFault.TheVariants as checking
+use Rattle.pmf_stream.specs.declared.fault.StreamFault.TheVariants as stream
+use Rattle.pmf_command.proofs.laws.status_zero_keeps_all.Goals as goal
+
+-- no refusal ends well
+no_cause : (cause : Cause) → status_of_cause cause ≡ NoFail → ⊥
+no_cause log.OutOfMemory is = cc
+no_cause _ is = cc
+
+no_farm : (fault : FarmFault) → status_of_farm_fault fault ≡ NoFail → ⊥
+no_farm farm.OutOfMemory is = cc
+no_farm _ is = cc
+
+no_fault : (fault : StreamFault CheckLogFault) → status_of_fault status_of_check_fault fault ≡ NoFail → ⊥
+no_fault stream.ReadFault is = cc
+no_fault (stream.Refused (checking.Log found)) is = no_cause found.cause is
+no_fault (stream.Refused (checking.Farm found)) is = no_farm found is
+no_fault (stream.WriteFault written) is = cc
+no_fault stream.OutOfMemory is = cc
+
+no_fails : (fails : ℕ) → status_of_fails fails ≡ NoFail → fails ≡ 0
+no_fails fails is = grind arith
+
+keeps : (settings : Settings) (s : Streams) (status : Status) (answer : Result Done (StreamFault CheckLogFault)) → status ≡ status_of status_of_done status_of_check_fault answer →
+    Answers (IsReportOf settings s.left s.rest) (IsCheckFaultOf settings s.left s.rest) s.held s.holds answer → EndsWellOnlyIfKept settings s status
+keeps settings s status (Ok done) is answers = λ well. let report = answers.1 in (report.0, report.1, report.2.kept (no_fails done.fails (sym is ∙ well)))
+keeps settings s status (Err fault) is answers = λ well. absurd (no_fault fault (sym is ∙ well))
+
+pub returns : goal.returns
+returns c = λ settings s status answered. keeps settings s status answered.0 answered.1 answered.2

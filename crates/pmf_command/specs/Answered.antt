@@ -1,0 +1,105 @@
+-- How each request is answered, from the bytes that are read to the status with which the process ends. Defined here.
+use Rattle.std.specs.Prelude.{◌≡◌, ◌⊎◌, ◌+◌, ℕ, Bool, true, false, ◌&&◌, nat_le, nat_lt, List, [], ◌∷◌, map, take, Option, None, Some, Result, OnOk}
+use Rattle.pmf_event.specs.declared.section.TheConstants.{EVENT_LIMIT}
+use Rattle.pmf_storelog.specs.declared.fault.TheConstants.{LOG_LIMIT}
+use Rattle.pmf_ledger.specs.declared.loading.TheConstants.{LEDGER_LIMIT}
+use Rattle.pmf_storelog.specs.LogValue.{LogValue}
+use Rattle.pmf_ledger.specs.AllKept.{AllKept}
+use Rattle.pmf_request.specs.declared.settings.Settings.{Settings}
+use Rattle.pmf_request.specs.declared.request.{Cuts.{Cuts}, Files.{Files}, Simulation.{Simulation}, Request.{Request}, Request.TheVariants.{Check, Explain, ExplainAll, Locate, Lint, Cut, Join, Sim}}
+use Rattle.pmf_cut.specs.declared.fault.CutFault.{CutFault}
+use Rattle.pmf_query.specs.{Explanation.{IsExplanation}, AllExplained.{ExplainsAll}, Locating.{IsLocationText}, Linting.{Overviews}, Refusals.{IsEventRefusal, IsLogRefusal}}
+use Rattle.pmf_stream.specs.{Answering.{Answers}, Asked.{IsAnswerOf, IsRefusalOf}, Checking.{IsCheckFaultOf, IsLogOf, IsReportOf}, Files.{IsCutOf}, Joining.{IsJoinedText, IsRefusalOfTexts}, Reading.{HasReadAll}, Simulated.{IsSimRefusalOf, IsSimulationOf}, declared.cutting.Pieces.{Pieces}, declared.fault.StreamFault.{StreamFault}}
+use Rattle.pmf_world.specs.declared.simulating.{TheConstants.{SCHEDULE_LIMIT}}
+use Rattle.pmf_command.specs.{Statuses.{status_of, status_of_asked, status_of_check_fault, status_of_cut_fault, status_of_done, status_of_event_refusal, status_of_joined, status_of_linted, status_of_log_refusal, status_of_pieces, status_of_sim_fault, status_of_text_fault}, declared.status.{Status.{Status}, Status.TheVariants.{NoFail, Refused, NoMemory, DeviceFault}}}
+
+-- a file that is opened has the bytes that its name has, where they are known
+abbrev pub IsFileOf : Option (List ℕ) → Option (List ℕ) → Type 0
+IsFileOf None left = Unit {0}
+IsFileOf (Some bytes) left = left ≡ Some bytes
+
+-- what was read of these bytes, where they are known: all, but at most one byte more than the limit
+abbrev pub IsReadOf : ℕ → Option (List ℕ) → List ℕ → Type 0
+IsReadOf limit None text = Unit {0}
+IsReadOf limit (Some bytes) text = text ≡ take (limit + 1) bytes
+
+-- the texts are what was read of the files with these names, in their order
+abbrev pub AreRead : ℕ → (List ℕ → Option (List ℕ)) → List (List ℕ) → List (List ℕ) → Type 0
+AreRead limit files [] [] = Unit {0}
+AreRead limit files (name ∷ names) (text ∷ texts) = IsReadOf limit (files name) text × AreRead limit files names texts
+AreRead limit files [] (text ∷ texts) = ⊥
+AreRead limit files (name ∷ names) [] = ⊥
+
+-- what the streams tell, where their bytes are known: what is left of the input before and after; what the output holds; what each of
+-- its files does, and of the files that a log is cut into; and what the files have that are read
+pub record Streams : Type 0 where
+  pub left : Option (List ℕ)
+  pub rest : Option (List ℕ)
+  pub held : Option (List ℕ)
+  pub holds : Option (List ℕ)
+  pub held_in : ℕ → Option (List ℕ)
+  pub holds_in : ℕ → Option (List ℕ)
+  pub parts_held : ℕ → Option (List ℕ)
+  pub parts_hold : ℕ → Option (List ℕ)
+  pub files : List ℕ → Option (List ℕ)
+
+-- something was not read
+abbrev pub IsUnread : Status → Type 0
+IsUnread status = (status ≡ NoMemory) ⊎ (status ≡ DeviceFault)
+
+-- a command that writes a text to the output ends as it answered
+abbrev pub EndsAs : {T E : Type 0} → (T → Status) → (E → Status) → (T → List ℕ → Type 0) → (E → Type 0) → Option (List ℕ) → Option (List ℕ) → Status → Type 0
+EndsAs {T} {E} ends_as ends_refused IsText IsRefusal held holds status =
+    (answer : Result T (StreamFault E)) × (status ≡ status_of ends_as ends_refused answer) × Answers IsText IsRefusal held holds answer
+
+-- the ledgers of the files are joined, or one of the files was not read
+abbrev pub JoinsFiles : Files → (List ℕ → Option (List ℕ)) → Option (List ℕ) → Option (List ℕ) → Status → Type 0
+JoinsFiles files known held holds status =
+    IsUnread status
+    ⊎ ((texts : List (List ℕ)) × AreRead LEDGER_LIMIT known (map (λ name. name.now) files.names.items) texts
+    × EndsAs status_of_joined status_of_text_fault (IsJoinedText files.ledger texts) (IsRefusalOfTexts texts) held holds status)
+
+-- the schedule of the input is played with the log of the file, or one of the two was not read
+abbrev pub Simulates : Simulation → (List ℕ → Option (List ℕ)) → Option (List ℕ) → Option (List ℕ) → Option (List ℕ) → Option (List ℕ) → Status → Type 0
+Simulates simulation known left rest held holds status =
+    IsUnread status
+    ⊎ ((log : List ℕ) × (schedule : List ℕ) × IsReadOf LOG_LIMIT (known simulation.log.now) log × HasReadAll SCHEDULE_LIMIT left rest schedule
+    × EndsAs status_of_asked status_of_sim_fault (IsSimulationOf log schedule simulation.workers simulation.ledgers) (IsSimRefusalOf log schedule simulation.workers simulation.ledgers) held holds status)
+
+-- a part has 1 to 2^20 events, a number of its own, and a file 1 KiB up to what a log may have
+abbrev pub can_cut : Cuts → Bool
+can_cut cuts = nat_lt 0 cuts.lengths.events && nat_le cuts.lengths.events EVENT_LIMIT && nat_lt 0 cuts.lengths.step && nat_le 1024 cuts.bytes && nat_le cuts.bytes LOG_LIMIT
+
+-- a log is cut into the output, or into files where some are asked for
+abbrev pub IsCutWhere : {X : Type 0} → Option X → ℕ → Streams → Type 0
+IsCutWhere None step s = IsCutOf step s.left s.rest s.held_in s.holds_in
+IsCutWhere (Some prefix) step s = IsCutOf step s.left s.rest s.parts_held s.parts_hold
+
+-- it is cut so, where it can be
+abbrev pub IsCutAs : Cuts → Streams → Status → Type 0
+IsCutAs cuts s status =
+    (can_cut cuts ≡ false → status ≡ Refused)
+    × (can_cut cuts ≡ true → (answer : Result Pieces (StreamFault CutFault)) × (status ≡ status_of status_of_pieces status_of_cut_fault answer) × OnOk answer (IsCutWhere cuts.files cuts.lengths.step s))
+
+-- the process ends with the status of what was answered
+abbrev pub IsAnswered : Request → Streams → Status → Type 0
+IsAnswered (Check settings) s status = EndsAs status_of_done status_of_check_fault (IsReportOf settings s.left s.rest) (IsCheckFaultOf settings s.left s.rest) s.held s.holds status
+IsAnswered (Explain asked) s status =
+    EndsAs status_of_asked status_of_event_refusal (IsAnswerOf (λ bytes _ text. IsExplanation asked.run asked.section asked.event asked.profile bytes text) s.left s.rest)
+    (IsRefusalOf (IsEventRefusal (record { run = asked.run; section = asked.section; event = asked.event })) s.left s.rest) s.held s.holds status
+IsAnswered (ExplainAll asked) s status =
+    EndsAs status_of_asked status_of_log_refusal (IsAnswerOf (λ bytes _ text. ExplainsAll asked.run asked.profile bytes text) s.left s.rest) (IsRefusalOf (IsLogRefusal asked.run) s.left s.rest) s.held s.holds status
+IsAnswered (Locate sought) s status =
+    EndsAs status_of_asked status_of_event_refusal (IsAnswerOf (λ bytes _ text. IsLocationText sought.section sought.event bytes text) s.left s.rest) (IsRefusalOf (IsEventRefusal sought) s.left s.rest) s.held s.holds status
+IsAnswered Lint s status = EndsAs status_of_linted status_of_log_refusal (IsAnswerOf Overviews s.left s.rest) (IsRefusalOf (IsLogRefusal 0) s.left s.rest) s.held s.holds status
+IsAnswered (Cut cuts) s status = IsCutAs cuts s status
+IsAnswered (Join files) s status = JoinsFiles files s.files s.held s.holds status
+IsAnswered (Sim simulation) s status = Simulates simulation s.files s.left s.rest s.held s.holds status
+
+-- where `check` ends with status 0, what was read is a log, and all that it asserts holds
+abbrev pub EndsWellOnlyIfKept : Settings → Streams → Status → Type 0
+EndsWellOnlyIfKept settings s status = status ≡ NoFail → (log : LogValue) × IsLogOf settings.run s.left s.rest log × AllKept log.sections
+
+-- a law: what is answered of `check` says so, whatever the streams
+abbrev pub StatusZeroKeepsAll : Type 0
+StatusZeroKeepsAll = (settings : Settings) (s : Streams) (status : Status) → IsAnswered (Check settings) s status → EndsWellOnlyIfKept settings s status

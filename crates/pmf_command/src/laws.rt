@@ -1,0 +1,8 @@
+//! Laws of how requests are answered, each the clause of an empty function.
+
+ghost use Rattle.pmf_command.specs.Answered.{StatusZeroKeepsAll};
+
+/// Where `check` ends with status 0, what was read is a log, and all that it asserts holds in every crash image.
+pub fn status_zero_keeps_all()
+    ensures { StatusZeroKeepsAll }
+{}

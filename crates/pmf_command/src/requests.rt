@@ -1,0 +1,173 @@
+//! What is answered for each request, over the streams and the files that it is handed.
+
+ghost use Rattle.std.specs.Prelude.{◌≡◌, map, IfErr, IfOk};
+ghost use Rattle.pmf_ledger.specs.declared.loading.TheConstants.{LEDGER_LIMIT};
+ghost use Rattle.pmf_stream.specs.Failures.{CanCountOneMore};
+ghost use Rattle.pmf_command.specs.{Answered.{AreRead, IsAnswered, IsUnread, JoinsFiles, Simulates, can_cut}, declared.status.Status.{Status}};
+
+use crate::ended::{
+    Ended, answer_to, check_to, cut_to, exhausted, join_all, play_to, refused, unanswered, unread,
+};
+use crate::shelf::{Shelf, bytes_of};
+use pmf_event::EVENT_LIMIT;
+use pmf_ledger::LEDGER_LIMIT;
+use pmf_request::{Cuts, Files, Overview, Request, Simulation};
+use pmf_storelog::LOG_LIMIT;
+use pmf_stream::{JoinTextFault, Outlet, Sink, Source, read_all};
+use pmf_world::{SCHEDULE_LIMIT, SimFault};
+use std::alloc::Global;
+use std::io::Eprint;
+use std::sync::Wait;
+use std::thread::Threads;
+
+/// Does what the request asks for: reads the source and the files of the shelf, and writes to the sink, or the parts of a log to their files.
+pub(crate) fn answer<
+    R: Eprint,
+    T: Threads + Wait + Sync,
+    S: Source,
+    W: Sink + Outlet,
+    P: Outlet,
+    F: Shelf,
+>(
+    rt: &R,
+    threads: &T,
+    alloc: Global,
+    request: &Request,
+    source: &mut S,
+    sink: &mut W,
+    parts: &mut P,
+    shelf: &F,
+) -> Ended
+    requires read { CanCountOneMore (S.failed_calls source.old) }
+    requires write { CanCountOneMore (W.failed_calls sink.old) }
+    requires files { CanCountOneMore (P.failed_calls parts.old) }
+    ensures { IsAnswered request.now (record {
+      left = S.left source.old;
+      rest = S.left source.new;
+      held = W.held sink.old;
+      holds = W.held sink.new;
+      held_in = W.held_in sink.old;
+      holds_in = W.held_in sink.new;
+      parts_held = P.held_in parts.old;
+      parts_hold = P.held_in parts.new;
+      files = F.bytes shelf.now;
+    }) result }
+{
+    match request {
+        Request::Check(settings) => check_to(rt, threads, alloc, source, sink, *settings),
+        Request::Explain(question) => answer_to(rt, alloc, source, sink, question),
+        Request::ExplainAll(whole) => answer_to(rt, alloc, source, sink, whole),
+        Request::Locate(sought) => answer_to(rt, alloc, source, sink, sought),
+        Request::Lint => answer_to(rt, alloc, source, sink, &Overview),
+        Request::Cut(cuts) => {
+            if !can_be_cut(*cuts) {
+                return refuse_cuts(rt, *cuts);
+            }
+            match cuts.files {
+                Some(_) => cut_to(rt, alloc, source, parts, cuts.lengths, Some(cuts.bytes)),
+                None => cut_to(rt, alloc, source, sink, cuts.lengths, None),
+            }
+        }
+        Request::Join(files) => join_files(rt, alloc, files, sink, shelf),
+        Request::Sim(simulation) => simulate(rt, alloc, simulation, source, sink, shelf),
+    }
+}
+
+// Whether a log may be cut so.
+fn can_be_cut(cuts: Cuts) -> bool
+    ensures { result ≡ can_cut cuts.entry }
+{
+    let events = cuts.lengths.events as usize;
+    0 < events
+        && events <= EVENT_LIMIT
+        && 0 < cuts.lengths.step
+        && 1024 <= cuts.bytes
+        && cuts.bytes <= LOG_LIMIT as u64
+}
+
+fn refuse_cuts<R: Eprint>(rt: &R, cuts: Cuts) -> Ended
+    ensures { result ≡ Status.Refused }
+{
+    let events = cuts.lengths.events as usize;
+    if 0 < events && events <= EVENT_LIMIT && 0 < cuts.lengths.step {
+        return refused(rt, "error: a file has 1024 to 268435456 bytes\n");
+    }
+    refused(
+        rt,
+        "error: a piece has 1 to 1048576 events, and a step is at least 1\n",
+    )
+}
+
+// Joins the ledgers of the files, which are read whole before any is loaded.
+fn join_files<R: Eprint, W: Sink, F: Shelf>(
+    rt: &R,
+    alloc: Global,
+    files: &Files,
+    sink: &mut W,
+    shelf: &F,
+) -> Ended
+    requires { CanCountOneMore (W.failed_calls sink.old) }
+    ensures { JoinsFiles files.now (F.bytes shelf.now) (W.held sink.old) (W.held sink.new) result }
+{
+    let texts = match texts_of(rt, alloc, &files.names, shelf) {
+        Ok(texts) => texts,
+        Err(ended) => return ended,
+    };
+    join_all(rt, alloc, &files.names, &texts, sink, files.ledger)
+}
+
+// The texts of the files with these names, or how the program ends without them.
+fn texts_of<R: Eprint, F: Shelf>(
+    rt: &R,
+    alloc: Global,
+    names: &[&str],
+    shelf: &F,
+) -> Result<Vec<Vec<u8>>, Ended>
+    ensures read { IfOk result (λ texts. AreRead LEDGER_LIMIT (F.bytes shelf.now) (map (λ name. name.now) names.now) (map (λ text. text.items) texts.items)) }
+    ensures unread { IfErr result IsUnread }
+{
+    let mut texts = Vec::new(alloc);
+    for name in names {
+        let text = match bytes_of::<F, JoinTextFault>(shelf, alloc, *name, LEDGER_LIMIT) {
+            Ok(text) => text,
+            Err(fault) => return Err(unread(rt, *name, fault)),
+        };
+        match texts.push(text) {
+            Ok(()) => {}
+            Err(_) => return Err(exhausted(rt)),
+        }
+    }
+    Ok(texts)
+}
+
+// Plays the schedule of the source with the sections of the log in the file, which is read first.
+fn simulate<R: Eprint, S: Source, W: Sink, F: Shelf>(
+    rt: &R,
+    alloc: Global,
+    simulation: &Simulation,
+    source: &mut S,
+    sink: &mut W,
+    shelf: &F,
+) -> Ended
+    requires read { CanCountOneMore (S.failed_calls source.old) }
+    requires write { CanCountOneMore (W.failed_calls sink.old) }
+    ensures { Simulates simulation.now (F.bytes shelf.now) (S.left source.old) (S.left source.new) (W.held sink.old) (W.held sink.new) result }
+{
+    let log = match bytes_of::<F, SimFault>(shelf, alloc, simulation.log, LOG_LIMIT) {
+        Ok(log) => log,
+        Err(fault) => return unread(rt, simulation.log, fault),
+    };
+    let schedule = match read_all(alloc, source, SCHEDULE_LIMIT) {
+        Ok(schedule) => schedule,
+        Err(fault) => return unanswered::<_, SimFault>(rt, fault),
+    };
+    play_to(
+        rt,
+        alloc,
+        &log,
+        &schedule,
+        simulation.workers,
+        simulation.ledgers,
+        sink,
+    )
+}
