@@ -9,3 +9,4 @@ pub mod LookBackLemmas
 pub mod TextLemmas
 pub mod FitLemmas
 pub mod StayingLemmas
+pub mod LocalityLemmas

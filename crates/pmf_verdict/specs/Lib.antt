@@ -20,3 +20,4 @@ pub mod Outcome
 pub mod Kept
 pub mod LookBack
 pub mod Staying
+pub mod Locality
