@@ -1,7 +1,7 @@
 -- A comparison goes on from run to run.
 use Rattle.std.{proofs.Common.{◌≡◌, ℕ, ◌-◌, ◌/◌, ◌%◌, ◌<◌, ◌≤◌, true, false, not, ◌&&◌, ◌||◌, ◌==◌, nat_lt, if◌then◌else◌, List, [], ◌∷◌, ◌++◌, refl, sym, ◌∙◌, ap, arith, inl, inr, Some, None, is_some, is_none, le-ltb, ne_eqb}, specs.Cmp.{booleans_Decides}, proofs.Math.Bool.{beq}, proofs.lemmas.Bool.{cases_lt, cases_eq, and_parts, and_from}, proofs.lemmas.Bool.Decides.{Decides-eqb}}
 use Rattle.pmf_event.{specs.declared.event.Event.{Event}, specs.declared.span.TheConstants.{LINE_SIZE}, specs.Line.{line_of_byte}, specs.Store.{last_store}, specs.Order.{is_stored_before}, specs.LineBytes.{is_undurable}, proofs.LineLemmas.{line-bounds, line-unique}}
-use Rattle.pmf_shadow.specs.{declared.standing.Standing.{Standing}, Standing.{place_as_told, AllStandSo}}
+use Rattle.pmf_shadow.specs.{declared.standing.Standing.{Standing}, Standing.{place_as_told, AllLeaveOpen, AllStandSo}}
 use Rattle.pmf_cut.specs.Comparing.{is_same_order, agrees, SameByte, standings_agree, both_places, places_of, seen_at, seen_behind, Extends, Compared}
 
 agrees-front : (xs : List (ℕ × ℕ)) (pair : ℕ × ℕ) (u v : ℕ) → agrees (xs ++ pair ∷ []) u v ≡ true → agrees xs u v ≡ true
@@ -54,7 +54,7 @@ within-line x at y before from same =
     }
 
 module _ (fs : List Event) (m : ℕ) (gs : List Event) (q : ℕ) where
-  module _ (a b : Standing) (at end : ℕ) (one : AllStandSo (λ k. k) fs m at end a) (other : AllStandSo (λ k. k) gs q at end b) (agree : standings_agree a b ≡ true) where
+  module _ (a b : Standing) (at end : ℕ) (one : AllLeaveOpen (λ k. k) fs m at end a) (other : AllStandSo (λ k. k) gs q at end b) (agree : standings_agree a b ≡ true) where
     part-excluded : a.excluded ≡ b.excluded
     part-excluded = (booleans_Decides a.excluded b.excluded).0 (and_parts (beq a.excluded b.excluded) _ agree).0
 
@@ -100,9 +100,9 @@ module _ (fs : List Event) (m : ℕ) (gs : List Event) (q : ℕ) where
       whole : last_store fs m z ≡ x
       part : last_store gs q z ≡ y
 
-    places-of : (x y : ℕ) → a.last ≡ Some x → b.last ≡ Some y → (z : ℕ) → at ≤ z → z < end → Places z x y
-    places-of x y x_is y_is z low high = record {
-      whole = place-is (last_store fs m z) x (sym x_is ∙ (one z low high).last);
+    places-of : (x y : ℕ) → a.undurable ≡ true → a.last ≡ Some x → b.last ≡ Some y → (z : ℕ) → at ≤ z → z < end → Places z x y
+    places-of x y is x_is y_is z low high = record {
+      whole = place-is (last_store fs m z) x (sym x_is ∙ (one z low high).last is);
       part = place-is (last_store gs q z) y (sym y_is ∙ (other z low high).last);
     }
 
@@ -151,38 +151,38 @@ module _ (fs : List Event) (m : ℕ) (gs : List Event) (q : ℕ) where
           before.line (omega arith) x y (ap (λ v. agrees (if v then [] else seen) x y) (sym within.inner) ∙ agreed) z early (sym within.behind) is
 
       -- an undurable run with these places
-      compared-undurable : (x y : ℕ) → a.last ≡ Some x → b.last ≡ Some y → agrees (seen_at seen at) x y ≡ true → new ≡ seen_behind seen at end ++ (x, y) ∷ [] → Compared fs m gs q new end
+      compared-undurable : (x y : ℕ) → a.undurable ≡ true → a.last ≡ Some x → b.last ≡ Some y → agrees (seen_at seen at) x y ≡ true → new ≡ seen_behind seen at end ++ (x, y) ∷ [] → Compared fs m gs q new end
       unfolding is_stored_before
-      compared-undurable x y x_is y_is agreed new_is = record {
+      compared-undurable x y is x_is y_is agreed new_is = record {
         below = record {
           bytes = bytes-below;
           order = λ z w z_below w_below line z_open w_open. elim (cases_lt z at) [
             | inl z_early ↦ elim (cases_lt w at) [
               | inl w_early ↦ before.below.order z w z_early w_early line z_open w_open
               | inr w_late ↦
-                  let there = places-of x y x_is y_is w w_late w_below in
+                  let there = places-of x y is x_is y_is w w_late w_below in
                   let alike = order-before x y agreed z w z_early w_late ((Decides-eqb (line_of_byte z) (line_of_byte w)).0 line) z_open in
                   ap (λ k. nat_lt (last_store gs q z) k) there.part ∙ before-same (last_store fs m z) (last_store gs q z) x y alike ∙ sym (ap (λ k. nat_lt (last_store fs m z) k) there.whole)
             ]
             | inr z_late ↦
-                let here = places-of x y x_is y_is z z_late z_below in
+                let here = places-of x y is x_is y_is z z_late z_below in
                 elim (cases_lt w at) [
                   | inl w_early ↦
                       let alike = order-before x y agreed w z w_early z_late (sym ((Decides-eqb (line_of_byte z) (line_of_byte w)).0 line)) w_open in
                       ap (λ k. nat_lt k (last_store gs q w)) here.part ∙ behind-same (last_store fs m w) (last_store gs q w) x y alike ∙ sym (ap (λ k. nat_lt k (last_store fs m w)) here.whole)
                   | inr w_late ↦
-                      let there = places-of x y x_is y_is w w_late w_below in
+                      let there = places-of x y is x_is y_is w w_late w_below in
                       le-ltb (last_store gs q z) (last_store gs q w) (let one_is = here.part in let other_is = there.part in omega arith)
                       ∙ sym (le-ltb (last_store fs m z) (last_store fs m w) (let one_is = here.whole in let other_is = there.whole in omega arith))
                 ]
           ];
         };
-        line = λ positive u v so z below home is.
+        line = λ positive u v so z below home opened.
             let both = ap (λ s. agrees s u v) (sym new_is) ∙ so in
             elim (cases_lt z at) [
-              | inl early ↦ seen-before u v (agrees-front (seen_behind seen at end) (x, y) u v both) z early home is
+              | inl early ↦ seen-before u v (agrees-front (seen_behind seen at end) (x, y) u v both) z early home opened
               | inr late ↦
-                  let here = places-of x y x_is y_is z late below in
+                  let here = places-of x y is x_is y_is z late below in
                   ap (λ k. is_same_order k (last_store gs q z) u v) here.whole ∙ ap (λ k. is_same_order x k u v) here.part ∙ agrees-last (seen_behind seen at end) (x, y) u v both
             ];
       }
@@ -196,7 +196,7 @@ module _ (fs : List Event) (m : ℕ) (gs : List Event) (q : ℕ) where
               | None ↦ λ none so extends. let bad : false ≡ true = so in cc
               | Some x ↦ λ x_is so extends. elim b.last as (λ o. b.last ≡ o → is_some o ≡ true → Extends seen new (both_places (Some x) o) at end → Compared fs m gs q new end) [
                 | None ↦ λ none so extends. let bad : false ≡ true = so in cc
-                | Some y ↦ λ y_is so extends. compared-undurable x y x_is y_is extends.0 extends.1
+                | Some y ↦ λ y_is so extends. compared-undurable x y is x_is y_is extends.0 extends.1
               ] refl so extends
             ] refl so extends
           ] refl lasts extends

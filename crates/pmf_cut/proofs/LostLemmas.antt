@@ -1,23 +1,35 @@
 -- What is asked of the past of a part, run by run.
-use Rattle.std.proofs.{Common.{◌≡◌, ℕ, ◌+◌, ◌-◌, ◌<◌, ◌≤◌, Bool, true, false, not, ◌&&◌, nat_le, if◌then◌else◌, List, refl, sym, ◌∙◌, ap, arith, inl, inr, Some, None, is_some, is_none, le-leb, lt-ltb}, lemmas.Bool.{cases_lt, and_from}}
+use Rattle.std.proofs.{Common.{◌≡◌, ℕ, ◌+◌, ◌-◌, ◌<◌, ◌≤◌, Bool, true, false, not, ◌&&◌, nat_le, if◌then◌else◌, List, refl, sym, ◌∙◌, ap, subst, arith, inl, inr, Option, Some, None, IfSome, unwrap_or, is_some, is_none, le-leb, lt-ltb}, lemmas.Bool.{cases_lt, and_from}}
 use Rattle.pmf_event.{specs.declared.event.Event.{Event}, specs.Span.{Extent, covers_byte}, specs.Ranges.{first_from, first_byte}, specs.Store.{last_store}, specs.Exclusion.{is_excluded}, specs.Persist.{is_checked}, proofs.LineLemmas.{covers-bounds}, proofs.RangeLemmas.{none-from, none-passes, first-passes}}
-use Rattle.pmf_shadow.specs.{declared.shadow.Shadow.{Shadow}, declared.standing.Standing.{Standing}, Shadow.{StandsFor, ForEachList}, Standing.{place_as_told, AllStandSo}}
+use Rattle.pmf_shadow.specs.{declared.shadow.Shadow.{Shadow}, declared.standing.Standing.{Standing}, Shadow.{StandsFor, ForEachList}, Standing.{place_as_told, AllStandSo, NoneStored}}
 use Rattle.pmf_runs.specs.Runs.{state_at, passing, is_between, ChangesBetween}
-use Rattle.pmf_cut.{specs.declared.lost.Past.{Past}, specs.Behind.{SameBytes}, specs.Lost.{HasOld, NoneOld, NoneTold, Knows, is_unknown, is_within, is_told_again}, proofs.ComparingLemmas.{place-is, place-none}, proofs.RowLemmas.{checked-parts, checked-from}}
+use Rattle.pmf_cut.{specs.declared.lost.Past.{Past}, specs.declared.part.Part.{Part}, specs.Behind.{SameBytes}, specs.Lost.{Adds, HasOld, IsPast, KnowsByte, NoneOld, Puts, NoneTold, Knows, is_unknown, is_within, is_told_again}, proofs.ComparingLemmas.{place-is, place-none}, proofs.RowLemmas.{checked-parts, checked-from}}
 
--- the state of a byte as a test of the runs
-member-is : (past : Past) (first n : ℕ) → first_from (passing (λ (v : Bool). v) past.bytes) first n ≡ None → (b : ℕ) → first ≤ b → b < first + n → state_at past.bytes b ≡ false
+-- no byte before the first that is found is a member
+pub none-member : (past : Past) (first end : ℕ) (o : Option ℕ) → o ≡ first_from (passing (λ (v : Bool). v) past.bytes) first (end - first) →
+    (b : ℕ) → first ≤ b → b < unwrap_or o end → state_at past.bytes b ≡ false
 unfolding passing
-member-is past first n none b low high = none-passes (λ b. state_at past.bytes b) first n none b low high
+none-member past first end None is b low high = none-passes (λ b. state_at past.bytes b) first (end - first) (sym is) b low (omega arith)
+none-member past first end (Some k) is b low high = (first-passes (λ b. state_at past.bytes b) first (end - first) k (sym is)).before b low high
 
-pub record Member (past : Past) (first n k : ℕ) : Type 0 where
-  pub from : first ≤ k
-  pub within : k < first + n
-  pub before : (b : ℕ) → first ≤ b → b < k → state_at past.bytes b ≡ false
-
-pub member_first : (past : Past) (first n k : ℕ) → first_from (passing (λ (v : Bool). v) past.bytes) first n ≡ Some k → Member past first n k
+pub member-lies : (past : Past) (first end : ℕ) (o : Option ℕ) → o ≡ first_from (passing (λ (v : Bool). v) past.bytes) first (end - first) → IfSome o (λ k. (first ≤ k) × (k < end))
 unfolding passing
-member_first past first n k is = let found = first-passes (λ b. state_at past.bytes b) first n k is in record { from = found.from; within = found.within; before = found.before }
+member-lies past first end None is = tt
+member-lies past first end (Some k) is = let found = first-passes (λ b. state_at past.bytes b) first (end - first) k (sym is) in let from = found.from in let within = found.within in (from, omega arith)
+
+pub member-within : (o : Option ℕ) (first end : ℕ) → IfSome o (λ k. (first ≤ k) × (k < end)) → unwrap_or o end ≤ end
+member-within None first end lies = omega arith
+member-within (Some k) first end lies = let high = lies.1 in omega arith
+
+-- nor one that a part knows a store of, where its shadow has none
+pub none-known : (part : Part) (first until : ℕ) → ForEachList part.shadow (λ told es p. NoneStored es p first until) → (b : ℕ) → first ≤ b → b < until → KnowsByte (Some part) b → ⊥
+none-known part first until none b low high known =
+    let zero_is = none (λ k. k) known.0 known.1 known.2.shadow b low high in let some = known.3 in omega arith
+
+pub none-past : (past : Past) (first until : ℕ) → ((b : ℕ) → first ≤ b → b < until → state_at past.bytes b ≡ false) →
+    ((b : ℕ) → first ≤ b → b < until → KnowsByte past.last b → ⊥) → (b : ℕ) → first ≤ b → b < until → IsPast past b → ⊥
+none-past past first until none unknown b low high (inl is) = let bad : false ≡ true = sym (none b low high) ∙ is in cc
+none-past past first until none unknown b low high (inr is) = unknown b low high is
 
 -- a member stays one where a range is put in, and the range's bytes are members
 pub put-kept : (old new : Past) (first end : ℕ) → ChangesBetween first end (λ v. true) old.bytes new.bytes → (b : ℕ) → state_at old.bytes b ≡ true → state_at new.bytes b ≡ true
@@ -27,26 +39,35 @@ pub put-new : (old new : Past) (first end : ℕ) → ChangesBetween first end (�
 unfolding is_between
 put-new old new first end changes b low high = changes.states b ∙ ap (λ v. if v then true else state_at old.bytes b) (and_from _ _ (le-leb first b low) (lt-ltb b end high))
 
--- a byte that stands without a store is known to no list
-pub unknown-run : (shadow : Shadow) (first end : ℕ) (s : Standing) → ForEachList shadow (λ told es p. AllStandSo told es p first end s) → is_some s.last ≡ false →
-    (fs : List Event) (m : ℕ) → StandsFor shadow (λ k. k) fs m → (b : ℕ) → first ≤ b → b < end → last_store fs m b ≡ 0
-unknown-run shadow first end s stands none fs m is b low high =
-    place-none (last_store fs m b) (sym (none-from s.last none) ∙ (stands (λ k. k) fs m is b low high).last)
+-- a part is added: it is the last one from now on, and what was the last one, if there was one, was put to the others
+abbrev HasSame : Past → Past → Type 0
+HasSame old new = (b : ℕ) → state_at new.bytes b ≡ state_at old.bytes b
+
+pub add-first : (old new : Past) (part : Part) → old.last ≡ None → HasSame old new → new.last ≡ Some part → Adds old new part
+add-first old new part none same last fs m stands b (inl (inl member)) = inl (same b ∙ member)
+add-first old new part none same last fs m stands b (inl (inr known)) = absurd (subst (λ o. KnowsByte o b) none known)
+add-first old new part none same last fs m stands b (inr some) = inr (subst (λ o. KnowsByte o b) (sym last) (fs, m, stands, some))
+
+pub add-next : (old mid new : Past) (ended part : Part) → old.last ≡ Some ended → HasSame old mid → mid.last ≡ Some part → Puts mid new ended → Adds old new part
+add-next old mid new ended part was same last puts fs m stands b (inl (inl member)) = inl (puts.kept b (same b ∙ member))
+add-next old mid new ended part was same last puts fs m stands b (inl (inr known)) =
+    let by : KnowsByte (Some ended) b = subst (λ o. KnowsByte o b) was known in inl (puts.bytes by.0 by.1 by.2 b (inr by.3))
+add-next old mid new ended part was same last puts fs m stands b (inr some) = inr (subst (λ o. KnowsByte o b) (sym (puts.last ∙ last)) (fs, m, stands, some))
 
 -- no byte is old from a place on where none is a member
-pub none-old-rest : (past : Past) (shadow : Shadow) (first at end : ℕ) → at ≤ end → first_from (passing (λ (v : Bool). v) past.bytes) at (end - at) ≡ None → NoneOld past shadow first at → NoneOld past shadow first end
+pub none-old-rest : (past : Past) (shadow : Shadow) (first at end : ℕ) → at ≤ end → ((b : ℕ) → at ≤ b → b < end → IsPast past b → ⊥) → NoneOld past shadow first at → NoneOld past shadow first end
 none-old-rest past shadow first at end within none before fs m stands b low high old = elim (cases_lt b at) [
   | inl early ↦ before fs m stands b low early old
-  | inr late ↦ let bad : false ≡ true = sym (member-is past at (end - at) none b late (omega arith)) ∙ old.member in cc
+  | inr late ↦ absurd (none b late high old.member)
 ]
 
 -- nor where a run of members is known or excluded
-pub none-old-run : (past : Past) (shadow : Shadow) (first at byte until : ℕ) (s : Standing) → ((b : ℕ) → at ≤ b → b < byte → state_at past.bytes b ≡ false) →
+pub none-old-run : (past : Past) (shadow : Shadow) (first at byte until : ℕ) (s : Standing) → ((b : ℕ) → at ≤ b → b < byte → IsPast past b → ⊥) →
     ForEachList shadow (λ told es p. AllStandSo told es p byte until s) → is_unknown s ≡ false → NoneOld past shadow first at → NoneOld past shadow first until
 none-old-run past shadow first at byte until s between stands not_old before fs m is b low high old = elim (cases_lt b at) [
   | inl early ↦ before fs m is b low early old
   | inr late ↦ elim (cases_lt b byte) [
-    | inl outside ↦ let bad : false ≡ true = sym (between b late outside) ∙ old.member in cc
+    | inl outside ↦ absurd (between b late outside old.member)
     | inr inside ↦
         let so = stands (λ k. k) fs m is b inside high in
         elim s.excluded as (λ v. s.excluded ≡ v → (is_none s.last && not v) ≡ false → is_excluded fs m b ≡ true) [

@@ -5,17 +5,32 @@ use Rattle.pmf_shadow.specs.{declared.shadow.Shadow.{Shadow}, declared.standing.
 use Rattle.pmf_runs.specs.Runs.{state_at}
 use Rattle.pmf_cut.specs.{declared.lost.Past.{Past}, declared.part.Part.{Part}, Behind.{SameBytes, SamePairs}, Laws.{KnowsPairs}, Parts.{Stands}}
 
+-- a part knows a store of the byte, of which some list has one
+abbrev pub KnowsByte : Option Part → ℕ → Type 0
+KnowsByte None b = ⊥
+KnowsByte (Some part) b = (fs : List Event) × (m : ℕ) × Stands part fs m × (0 < last_store fs m b)
+
+-- a part before this one knows a store of the byte
+abbrev pub IsPast : Past → ℕ → Type 0
+IsPast past b = (state_at past.bytes b ≡ true) ⊎ KnowsByte past.last b
+
 -- each byte that the whole knows a store of, and the part does not, is one of the past
 abbrev pub HasOld : Past → List Event → ℕ → List Event → ℕ → Type 0
-HasOld past es n fs m = (b : ℕ) → 0 < last_store es n b → last_store fs m b ≡ 0 → state_at past.bytes b ≡ true
+HasOld past es n fs m = (b : ℕ) → 0 < last_store es n b → last_store fs m b ≡ 0 → IsPast past b
 
 -- the new past has the bytes of the old one, and those that the part knows a store of
 abbrev pub Adds : Past → Past → Part → Type 0
-Adds old new part = (fs : List Event) (m : ℕ) → Stands part fs m → (b : ℕ) → (state_at old.bytes b ≡ true) ⊎ (0 < last_store fs m b) → state_at new.bytes b ≡ true
+Adds old new part = (fs : List Event) (m : ℕ) → Stands part fs m → (b : ℕ) → IsPast old b ⊎ (0 < last_store fs m b) → IsPast new b
+
+-- the same of the bytes that were put together; the last part stays
+pub record Puts (old new : Past) (part : Part) : Type 0 where
+  pub bytes : (fs : List Event) (m : ℕ) → Stands part fs m → (b : ℕ) → (state_at old.bytes b ≡ true) ⊎ (0 < last_store fs m b) → state_at new.bytes b ≡ true
+  pub kept : (b : ℕ) → state_at old.bytes b ≡ true → state_at new.bytes b ≡ true
+  pub last : new.last ≡ old.last
 
 -- a byte of the past that the list knows no store of
 pub record IsOld (past : Past) (fs : List Event) (m b : ℕ) : Type 0 where
-  pub member : state_at past.bytes b ≡ true
+  pub member : IsPast past b
   pub unknown : last_store fs m b ≡ 0
 
 -- each such byte, from one up to another, is excluded

@@ -12,7 +12,7 @@ use std::alloc::{AllocError, Global};
 /// Whether the other shadow stands for lists in which each byte is as in those of the one: excluded, undurable, unwritten, and on each
 /// line stored to in the same order; and in which each byte that was stored to is undurable.
 ///
-/// It takes memory for the undurable runs of one line, and a step for each run of the two.
+/// It takes memory for the undurable runs of one line, and a step for each run of the other and each of what the one leaves open.
 pub(crate) fn are_alike(alloc: Global, one: &Shadow, other: &Shadow) -> Result<bool, AllocError>
     ensures { IfOk result (λ alike. alike ≡ true → (fs : List Event) (m : ℕ) (gs : List Event) (q : ℕ)
         → StandsFor one.now (λ k. k) fs m → StandsFor other.now (λ k. k) gs q → IsAlikeBelow fs m gs q ADDRESS_LIMIT) }
@@ -20,7 +20,7 @@ pub(crate) fn are_alike(alloc: Global, one: &Shadow, other: &Shadow) -> Result<b
     let mut seen = Vec::new(alloc);
     let mut at = 0;
     while at < ADDRESS_LIMIT {
-        let (a, a_end) = one.standing_from(at, ADDRESS_LIMIT);
+        let (a, a_end) = one.open_from(at, ADDRESS_LIMIT);
         let (b, b_end) = other.standing_from(at, ADDRESS_LIMIT);
         let end = a_end.min(b_end);
         if !stand_alike(a, b) {

@@ -1,8 +1,8 @@
 //! The text of a log with its sections cut.
 
-ghost use Rattle.std.specs.{Prelude.{◌≡◌, ◌+◌, ◌<◌, ◌≤◌, ◌++◌, ◌∷◌, [], ℕ, List, Some, None, length, take, drop, slice_get, OnOk, IfOk, IfSome, MatchOption}, Ordering.{nat_cmp}, BTreeMap.{get}};
+ghost use Rattle.std.specs.{Prelude.{◌≡◌, ◌+◌, ◌<◌, ◌≤◌, ◌++◌, ◌∷◌, [], ℕ, List, Some, None, length, take, drop, slice_get, OnOk, IfOk, IfSome}, Ordering.{nat_cmp}, BTreeMap.{get}};
 ghost use Rattle.pmf_event.specs.declared.event.Event.{Event};
-ghost use Rattle.pmf_storelog.specs.{Separators.{parts_of}, declared.record.Saying.TheVariants.{Enters, Happens}};
+ghost use Rattle.pmf_storelog.specs.{Quick.{SaysAlone}, Separators.{parts_of}, declared.record.Saying.TheVariants.{Enters, Happens}};
 ghost use Rattle.pmf_cut.specs.{declared.section.Cutting.{Cutting}, Cutting.{BeginsFile, BeginsPart, CutsAny, CutsNothing, CutsPart, CutsParts, CutsRecord, Drains, Finds, FindsCurrent, HasCutAll, HasRead, Keeps, KeepsWith, Names, TakesAt}};
 
 use crate::fault::CutFault;
@@ -10,9 +10,9 @@ use crate::notes::Notes;
 use crate::output::{Outputs, Text};
 use crate::part::PartFault;
 use crate::section::{Cutting, NextPart};
-use memchr::{memchr3, memrchr3};
+use memchr::memrchr3;
 use pmf_event::{EVENT_LIMIT, Event};
-use pmf_storelog::{Cause, LogFault, SECTION_LIMIT, Saying, read_record, trim};
+use pmf_storelog::{Cause, LogFault, SECTION_LIMIT, Saying, next_part, read_record, trim};
 use std::alloc::{AllocError, Global};
 use std::collections::BTreeMap;
 
@@ -94,7 +94,7 @@ impl Cutter {
         ensures { OnOk result ((step : ℕ) (log : List ℕ) (handed : ℕ → List ℕ) → HasRead step log handed self.old → HasCutAll step log handed self.new) }
     {
         let rest = std::mem::replace(&mut self.waiting, Vec::new(self.alloc));
-        self.take_part(&rest, &rest)?;
+        self.take_part(&rest, None, &rest)?;
         for file in 0..self.outputs.count() {
             self.tell_size(file)?;
         }
@@ -156,28 +156,35 @@ impl Cutter {
         ensures cuts { IfOk result (CutsParts self.old self.new text.now) }
     {
         let mut start = 0;
-        while let Some(len) = separator(&text[start..]) {
+        while let Some((len, says)) = next_part(&text[start..]) {
             let end = start + len;
-            self.take_part(&text[start..end], &text[start..end + 1])?;
+            self.take_part(&text[start..end], says, &text[start..end + 1])?;
             start = end + 1;
         }
         Ok(start)
     }
 
-    // Cuts a part of the text, which these bytes are, with its separator where it has one.
-    fn take_part(&mut self, part: &[u8], bytes: &[u8]) -> Result<(), CutFault>
+    // Cuts a part of the text, which these bytes are, with its separator where it has one; it may be known to say an event.
+    fn take_part(&mut self, part: &[u8], says: Option<Event>, bytes: &[u8]) -> Result<(), CutFault>
+        requires { IfSome says (SaysAlone part.now) }
         ensures { OnOk result (CutsPart self.old self.new part.now bytes.now) }
     {
-        self.copy_part(part, bytes)?;
+        self.copy_part(part, says, bytes)?;
         if self.outputs.is_full() {
             self.begin_file()?;
         }
         Ok(())
     }
 
-    fn copy_part(&mut self, part: &[u8], bytes: &[u8]) -> Result<(), CutFault>
+    fn copy_part(&mut self, part: &[u8], says: Option<Event>, bytes: &[u8]) -> Result<(), CutFault>
+        requires { IfSome says (SaysAlone part.now) }
         ensures { OnOk result (CutsPart self.old self.new part.now bytes.now) }
     {
+        if let Some(event) = says {
+            self.records = self.records.saturating_add(1);
+            self.happen(&event, bytes)?;
+            return Ok(());
+        }
         let record = trim(part);
         if record.is_empty() {
             self.pass(bytes)?;
@@ -317,6 +324,17 @@ impl Cutter {
         ensures { OnOk result (Keeps self.old self.new place) }
     {
         let newest = self.outputs.newest();
+        if place >= self.sections.len() || !self.sections[place].is_due(newest) {
+            return Ok(());
+        }
+        self.seek_cut(place, event, newest)?;
+        Ok(())
+    }
+
+    // Cuts the section in front of this event, where that is good.
+    fn seek_cut(&mut self, place: usize, event: &Event, newest: usize) -> Result<(), CutFault>
+        ensures { OnOk result (Keeps self.old self.new place) }
+    {
         if place >= self.sections.len() {
             return Ok(());
         }
@@ -406,14 +424,6 @@ impl Cutter {
         };
         self.notes.tell_size(number, size, most)
     }
-}
-
-// How many bytes there are up to the first separator, if there is one.
-fn separator(text: &[u8]) -> Option<usize>
-    ensures cases { MatchOption result (parts_of text.now ≡ text.now ∷ []) (λ end. parts_of (take (end + 1) text.now) ≡ take end text.now ∷ [] ∷ []) }
-    ensures within { IfSome result (λ end. end < length text.now) }
-{
-    memchr3(b'|', b'\n', b'\r', text)
 }
 
 // How many bytes there are up to the last separator, with it.

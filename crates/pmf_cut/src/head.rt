@@ -68,7 +68,7 @@ fn open_of(alloc: Global, shadow: &Shadow) -> Result<Open, AllocError> {
     };
     let mut first = 0;
     while first < ADDRESS_LIMIT {
-        let (standing, end) = shadow.standing_from(first, ADDRESS_LIMIT);
+        let (standing, end) = shadow.open_from(first, ADDRESS_LIMIT);
         if standing.excluded {
             add(&mut open.excluded, Bytes { first, end })?;
         }

@@ -1,6 +1,6 @@
 //! Which order assertions a cut may change.
 
-ghost use Rattle.std.specs.Prelude.{◌≡◌, ◌+◌, false, OnOk};
+ghost use Rattle.std.specs.Prelude.{◌≡◌, ◌+◌, ◌<◌, ◌≤◌, ℕ, false, unwrap_or, IfSome, OnOk};
 ghost use Rattle.pmf_cut.specs.Lost.{is_told_again, is_unknown};
 
 use crate::part::Part;
@@ -9,34 +9,64 @@ use pmf_runs::{IsIn, PutIn, RunMap};
 use pmf_shadow::{Shadow, Standing};
 use std::alloc::{AllocError, Global};
 
-/// The bytes that the parts before this one know a store of.
+/// The bytes that the parts before this one know a store of. Those of the last one are put to the others when the next one ends.
 #[derive(Debug, Drop)]
 pub(crate) struct Past {
     bytes: RunMap<bool>,
+    last: Option<Part>,
 }
 
 impl Past {
-    ghost use Rattle.pmf_cut.specs.Lost.{Adds, Knows, NoneOld, NoneTold};
+    ghost use Rattle.pmf_cut.specs.Lost.{Adds, IsPast, Knows, NoneOld, NoneTold, Puts};
 
     pub(crate) fn new(alloc: Global) -> Past {
         Past {
             bytes: RunMap::new(alloc, false),
+            last: None,
         }
     }
 
-    /// Takes the bytes that a part knows a store of, where it ends. A step for each run of them.
-    pub(crate) fn add(&mut self, part: &Part) -> Result<(), AllocError>
-        ensures { OnOk result (Adds self.old self.new part.now) }
+    /// Takes a part that has ended.
+    pub(crate) fn add(&mut self, part: Part) -> Result<(), AllocError>
+        ensures { OnOk result (Adds self.old self.new part) }
+    {
+        let last = std::mem::replace(&mut self.last, Some(part));
+        match last {
+            None => Ok(()),
+            Some(last) => {
+                self.put(&last)?;
+                Ok(())
+            }
+        }
+    }
+
+    // Puts the bytes that the part knows a store of to the others. A step for each run of them.
+    fn put(&mut self, part: &Part) -> Result<(), AllocError>
+        ensures { OnOk result (Puts self.old self.new part.now) }
     {
         let mut first = 0;
-        while first < ADDRESS_LIMIT {
-            let (standing, end) = part.shadow.standing_from(first, ADDRESS_LIMIT);
-            if standing.last.is_some() {
-                self.bytes.change(first, end, &PutIn)?;
-            }
+        while let Some((start, end)) = part.shadow.stored_from(first, ADDRESS_LIMIT) {
+            self.bytes.change(start, end, &PutIn)?;
             first = end;
         }
         Ok(())
+    }
+
+    // The least byte from the first one on, up to the end, that a part before this one knows a store of.
+    fn first_past(&self, first: u64, end: u64) -> Option<u64>
+        ensures lies { IfSome result (λ byte. (first ≤ byte) × (byte < end)) }
+        ensures before { (b : ℕ) → first ≤ b → b < unwrap_or result end → IsPast self.now b → ⊥ }
+    {
+        let member = self.bytes.first_where(first, end, &IsIn);
+        match &self.last {
+            None => member,
+            Some(part) => {
+                match part.shadow.stored_from(first, member.unwrap_or(end)) {
+                    None => member,
+                    Some((start, _)) => Some(start),
+                }
+            }
+        }
     }
 
     /// Whether an assertion that orders the one span before the other may have another finding in the part than in the whole: one of
@@ -52,13 +82,12 @@ impl Past {
     }
 
     // Whether a byte of the span is old, and not excluded.
-    #[tactic(auto, using(crate::proofs::LostLemmas::member_first))]
     fn has_old(&self, shadow: &Shadow, span: Span) -> bool
         ensures { result ≡ false → NoneOld self.now shadow.now span.first (span.first + span.size) }
     {
         let end = span.end();
         let mut first = span.first();
-        while let Some(byte) = self.bytes.first_where(first, end, &IsIn) {
+        while let Some(byte) = self.first_past(first, end) {
             let (standing, until) = shadow.standing_from(byte, end);
             if is_unknown(standing) {
                 return true;

@@ -66,6 +66,11 @@ impl Cutting {
         }
     }
 
+    /// Whether a cut is looked for, where this file is the newest one.
+    pub(crate) fn is_due(&self, newest: usize) -> bool {
+        self.newest != newest || self.part.events() >= self.due
+    }
+
     /// The part that goes on in front of this event, where the section is to be cut there, with the file that is the newest one.
     pub(crate) fn next_part(
         &mut self,
@@ -156,9 +161,9 @@ impl Cutting {
     ) -> Result<(), AllocError>
         ensures { OnOk result (HasPart self.new self.old.number name file part) }
     {
-        self.past.add(&self.part)?;
         let head = part.events();
-        self.part = part;
+        let ended = std::mem::replace(&mut self.part, part);
+        self.past.add(ended)?;
         self.head = head;
         self.name = name;
         self.file = file;

@@ -1,6 +1,6 @@
 -- The bounds of two cover what either covers.
 use Rattle.std.proofs.lemmas.Bool.Decides.{nat_tests}
-use Rattle.std.proofs.{Common.{◌≡◌, ℕ, Bool, true, arith, Option}, lemmas.Bool.{and_parts, and_from}}
+use Rattle.std.proofs.{Common.{◌≡◌, Bool, true, arith, Option}, lemmas.Bool.{and_parts, and_from}}
 use Rattle.pmf_shadow.specs.{declared.byte.ByteState.{ByteState}, declared.byte.Stored.{Stored}, declared.byte.bounds.Bounds.{Bounds}, States.{stored_of}, Bounds.{covers, covers_mark, covers_store, joined}}
 
 pub joined-left : (a b : Bounds) (s : ByteState) → covers a s ≡ true → covers (joined a b) s ≡ true

@@ -89,6 +89,10 @@ written_back_from epoch k = is_from epoch k.written_back
 abbrev pub lacks_write_back : Stored → Bool
 lacks_write_back k = is_none k.written_back
 
+-- whether the byte is excluded, or its last store was written back in no epoch before this one
+abbrev pub is_outstanding : ℕ → ByteState → Bool
+is_outstanding epoch s = s.excluded || holds_of (late_for epoch) (stored_of s)
+
 -- whether it is a store
 abbrev pub any_store : Stored → Bool
 any_store k = true

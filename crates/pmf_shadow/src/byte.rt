@@ -8,8 +8,8 @@ mod bounds;
 mod changes;
 
 pub(crate) use self::asking::{
-    ComesAfter, Fails, HasOneBy, HasOther, IsChecked, IsIncluded, IsLate, IsPending, IsUndurable,
-    IsUnwritten, Opening, OpensIn, Place, StoredBy,
+    ComesAfter, Fails, HasOneBy, HasOther, IsChecked, IsIncluded, IsLate, IsOutstanding, IsPending,
+    IsStored, IsUndurable, IsUnwritten, Opening, OpensIn, Place, StoredBy,
 };
 pub use self::bounds::Bounds;
 pub(crate) use self::changes::{Marked, StoredAt, WrittenBackIn};

@@ -1,11 +1,11 @@
 //! How the bytes stand, run by run, for who goes over all of them.
 
-ghost use Rattle.std.specs.Prelude.{◌≡◌, ◌<◌, ◌≤◌, ◌-◌, ℕ};
+ghost use Rattle.std.specs.Prelude.{◌≡◌, ◌<◌, ◌≤◌, ◌-◌, ℕ, IfSome, MatchOption};
 ghost use Rattle.pmf_event.specs.{LineBytes.{is_undurable}, Ranges.{first_from}};
 ghost use Rattle.pmf_runs.specs.Runs.{state_at};
-ghost use Rattle.pmf_shadow.specs.{Shadow.{ForEachList}, Standing.{AllStandSo}, States.{holds_of, lacks_write_back, late_for, place_of, stored_of}};
+ghost use Rattle.pmf_shadow.specs.{Shadow.{ForEachList}, Standing.{AllLeaveOpen, AllStandSo, AreFirstStored, LiesBetween, NoneStored}, States.{holds_of, lacks_write_back, late_for, place_of, stored_of}};
 
-use crate::byte::{ByteState, HasOther, IsUndurable, IsUnwritten};
+use crate::byte::{ByteState, Fails, HasOther, IsOutstanding, IsStored, IsUndurable, IsUnwritten};
 use crate::shadow::Shadow;
 use pmf_runs::Test;
 
@@ -22,6 +22,14 @@ pub struct Standing {
     pub excluded: bool,
 }
 
+// How bytes stand that leave nothing open; a store of them is not told.
+const NOTHING_OPEN: Standing = Standing {
+    last: None,
+    undurable: false,
+    unwritten: false,
+    excluded: false,
+};
+
 impl Shadow {
     /// How the bytes from the first one on stand, and the byte up to which they do, at most the end. It takes
     /// O(log n) steps for n runs of equal state that are held.
@@ -36,12 +44,39 @@ impl Shadow {
         (self.standing_of(state), until)
     }
 
+    /// What the bytes from the first one on leave open, and the byte up to which they do so, at most the end. Neighbouring bytes that are
+    /// not excluded, and have no store that is not durable, go together, and no store of them is told. It takes O(log n) steps.
+    pub fn open_from(&self, first: u64, end: u64) -> (Standing, u64)
+        requires { first < end }
+        ensures further { first < result.1 }
+        ensures within { result.1 ≤ end }
+        ensures opened { ForEachList self.now (λ told es p. AllLeaveOpen told es p first result.1 result.0) }
+    {
+        let outstanding = IsOutstanding { epoch: self.fences };
+        match self.bytes.first_where(first, end, &outstanding) {
+            None => (NOTHING_OPEN, end),
+            Some(byte) if first < byte => (NOTHING_OPEN, byte),
+            Some(_) => self.standing_from(first, end),
+        }
+    }
+
     /// The least byte from the first one on, up to the end, whose last store is not durable.
     pub fn least_undurable(&self, first: u64, end: u64) -> Option<u64>
         ensures { ForEachList self.now (λ told es p. result ≡ first_from (is_undurable es p) first (end - first)) }
     {
         let undurable = IsUndurable { epoch: self.fences };
         self.bytes.first_where(first, end, &undurable)
+    }
+
+    /// The first neighbouring bytes from the first one on, up to the end, that were stored to: the least of them, and the byte up to which
+    /// all of them were. It takes O(k log n) steps for the k runs of these.
+    pub fn stored_from(&self, first: u64, end: u64) -> Option<(u64, u64)>
+        ensures lie { IfSome result (LiesBetween first end) }
+        ensures stored { ForEachList self.now (λ told es p. MatchOption result (NoneStored es p first end) (AreFirstStored es p first)) }
+    {
+        let byte = self.bytes.first_where(first, end, &IsStored)?;
+        let until = self.bytes.first_where(byte, end, &Fails(IsStored));
+        Some((byte, until.unwrap_or(end)))
     }
 
     // How a byte with this state stands.

@@ -16,7 +16,7 @@
 //!
 //! [`read_event`] reads a single text line as one event (`Lines`), and [`read_number_in_front`] a number
 //! at the front of a text (`Numbers`): with [`push_event`] they serve other texts that hold events.
-//! [`trim`] and [`read_record`] (`Separators`, `Records`) serve who goes through a log's records itself.
+//! [`next_part`], [`trim`] and [`read_record`] (`Separators`, `Records`) serve who goes through a log's records itself.
 //!
 //! Not promised here: that memory suffices, or that a log is what the program did.
 #![tactic(auto)]
@@ -49,6 +49,7 @@ pub use fault::{Cause, LOG_LIMIT, LogFault, SECTION_LIMIT};
 pub use line::{LineFault, read_event};
 pub use log::Log;
 pub use number::read_number_in_front;
+pub use progress::next_part;
 pub use reader::LogReader;
 pub use reading::read_log;
 pub use record::{Saying, read_record};

@@ -81,9 +81,10 @@ impl Progress {
     }
 }
 
-// How long the first part is that a separator ends, and the event that it says where that is known.
+/// How long the first part of the text is, where a separator ends it; and the event that it says, where it is spelled as usual, with no
+/// blanks around it. Takes no memory.
 #[inline]
-fn next_part(text: &[u8]) -> Option<(usize, Option<Event>)>
+pub fn next_part(text: &[u8]) -> Option<(usize, Option<Event>)>
     ensures cases { MatchOption result (parts_of text.now ≡ text.now ∷ [])
         (λ part. parts_of (take (part.0 + 1) text.now)
         ≡ take part.0 text.now ∷ [] ∷ []) }

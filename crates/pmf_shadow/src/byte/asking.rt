@@ -1,7 +1,7 @@
 //! What questions ask of the state of a byte.
 
 ghost use Rattle.std.specs.Prelude.{◌≡◌, ◌||◌, not};
-ghost use Rattle.pmf_shadow.specs.{Bounds.{may_be_late_for_any}, EqualStates.{is_like}, States.{any_store, checked_store, comes_after, has_one_by, holds_of, is_before, is_from, kept_opening, kept_place, lacks_write_back, late_for, opens_in, stored_by, stored_of, written_back_from}};
+ghost use Rattle.pmf_shadow.specs.{Bounds.{may_be_late_for_any}, EqualStates.{is_like}, States.{any_store, checked_store, comes_after, has_one_by, holds_of, is_before, is_from, is_outstanding, kept_opening, kept_place, lacks_write_back, late_for, opens_in, stored_by, stored_of, written_back_from}};
 
 use crate::byte::bounds::may_be_less;
 use crate::byte::{Bounds, ByteState, is_late};
@@ -20,6 +20,22 @@ impl Test<ByteState> for IsChecked {
 
     fn may_pass(&self, summary: Bounds) -> bool {
         summary.may_be_checked(true)
+    }
+}
+
+/// Whether the byte was stored to.
+#[derive(Clone, Copy, Debug, Drop)]
+pub(crate) struct IsStored;
+
+impl Test<ByteState> for IsStored {
+    ghost passes = { λ t s. s.is_stored };
+
+    fn passes(&self, state: ByteState) -> bool {
+        state.is_stored
+    }
+
+    fn may_pass(&self, summary: Bounds) -> bool {
+        summary.stored
     }
 }
 
@@ -78,6 +94,24 @@ impl Test<ByteState> for IsUndurable {
 
     fn may_pass(&self, summary: Bounds) -> bool {
         summary.may_be_stored(summary.may_be_late(self.epoch))
+    }
+}
+
+/// Whether the byte is excluded, or its last store was written back in no epoch before this one.
+#[derive(Clone, Copy, Debug, Drop)]
+pub(crate) struct IsOutstanding {
+    pub(crate) epoch: u32,
+}
+
+impl Test<ByteState> for IsOutstanding {
+    ghost passes = { λ t s. is_outstanding t.epoch s };
+
+    fn passes(&self, state: ByteState) -> bool {
+        state.excluded || IsUndurable { epoch: self.epoch }.passes(state)
+    }
+
+    fn may_pass(&self, summary: Bounds) -> bool {
+        summary.excluded || IsUndurable { epoch: self.epoch }.may_pass(summary)
     }
 }
 

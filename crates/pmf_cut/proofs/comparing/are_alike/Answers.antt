@@ -4,7 +4,7 @@ use Rattle.pmf_cut.proofs.comparing.are_alike.Goals as goal
 
 pub loop-at-preserved : goal.loop-at-preserved
 loop-at-preserved c =
-    let a = c.standing_from-a_end in
+    let a = c.open_from-a_end in
     let b = c.standing_from-b_end in
     let end = c.min-end.result in
     let least = c.min-end.ensures in
@@ -14,7 +14,7 @@ loop-at-preserved c =
       omega arith,
       λ fs m gs q one other.
           compared-more fs m gs q a.result.0 b.result.0 c.loop-at.at end
-          (λ z low high. a.ensures.stands (λ k. k) fs m one z low (omega arith))
+          (λ z low high. a.ensures.opened (λ k. k) fs m one z low (omega arith))
           (λ z low high. b.ensures.stands (λ k. k) gs q other z low (omega arith))
           (sym c.stand_alike.ensures ∙ c.if-not-stand_alike.false)
           c.loop-at.seen.items c.extend.new.seen.items (omega arith) (c.loop-at.invariant.1 fs m gs q one other)

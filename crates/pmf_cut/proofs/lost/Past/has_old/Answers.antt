@@ -1,19 +1,19 @@
 use Rattle.std.proofs.Common.{◌-◌, ◌+◌, sym, ◌∙◌, subst, arith}
-use Rattle.pmf_cut.{specs.Lost.{NoneOld}, proofs.LostLemmas.{member_first, none-old-rest, none-old-run}}
+use Rattle.pmf_cut.{specs.Lost.{NoneOld}, proofs.LostLemmas.{none-old-rest, none-old-run}}
 use Rattle.pmf_cut.proofs.lost.Past.has_old.Goals as goal
 
 pub loop-byte-preserved : goal.loop-byte-preserved
 loop-byte-preserved c =
-    let found = member_first c.args.self.now c.loop-byte.first (c.end-end.result - c.loop-byte.first) c.in-Some.byte (sym c.first_where.ensures ∙ c.in-Some.is) in
-    let from = found.from in let further = c.standing_from-until.ensures.further in let at = c.loop-byte.invariant.1 in (
+    let lies = c.in-Some.ensures.lies in
+    let from = lies.0 in let below = lies.1 in let further = c.standing_from-until.ensures.further in let at = c.loop-byte.invariant.1 in (
       c.standing_from-until.ensures.within,
       omega arith,
       none-old-run c.args.self.now c.args.shadow.now c.first-first.result c.loop-byte.first c.in-Some.byte c.standing_from-until.result.1 c.standing_from-until.result.0
-          found.before c.standing_from-until.ensures.stands (sym c.is_unknown.ensures ∙ c.if-is_unknown.false) c.loop-byte.invariant.2,
+          c.in-Some.ensures.before c.standing_from-until.ensures.stands (sym c.is_unknown.ensures ∙ c.if-is_unknown.false) c.loop-byte.invariant.2,
     )
 
 pub returns : goal.returns
 returns c = λ yes.
-    let none = none-old-rest c.args.self.now c.args.shadow.now c.first-first.result c.loop-byte.first c.end-end.result c.loop-byte.invariant.0 (sym c.first_where.ensures ∙ c.in_default.is) c.loop-byte.invariant.2 in
+    let none = none-old-rest c.args.self.now c.args.shadow.now c.first-first.result c.loop-byte.first c.end-end.result c.loop-byte.invariant.0 c.in_default.ensures.before c.loop-byte.invariant.2 in
     subst (λ f. NoneOld c.args.self.now c.args.shadow.now f (c.args.span.first + c.args.span.size)) c.first-first.ensures.value
     (subst (NoneOld c.args.self.now c.args.shadow.now c.first-first.result) c.end-end.ensures.value none)

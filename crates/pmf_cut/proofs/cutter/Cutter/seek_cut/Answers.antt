@@ -1,6 +1,6 @@
 use Rattle.std.proofs.{Common.{refl, sym, subst, arith, Option, Some, IfSome}, lemmas.Option.{slice_get_read}}
 use Rattle.pmf_cut.{specs.declared.section.NextPart.{NextPart}, specs.declared.part.Part.{Part}, specs.Parts.{BeginsAt}, proofs.CuttingLemmas.{get-set, unchanged}}
-use Rattle.pmf_cut.proofs.cutter.Cutter.cut_if_due.Goals as goal
+use Rattle.pmf_cut.proofs.cutter.Cutter.seek_cut.Goals as goal
 
 pub returns-in_ok-cut-in-Some : goal.returns-in_ok-cut-in-Some
 returns-in_ok-cut-in-Some c = λ step records handed number at cuts.
