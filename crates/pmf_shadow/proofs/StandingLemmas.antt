@@ -50,7 +50,7 @@ none-stored shadow first end none told es p stands b low high =
     let zero_is = ltb-false 0 (last_store es p b) (sym (is-stored shadow told es p b stands) ∙ not) in omega arith
 
 module _ (shadow : Shadow) (first end byte : ℕ) (o : Option ℕ) (found : first_from (passing (λ s. s.is_stored) shadow.bytes) first (end - first) ≡ Some byte)
-  (rest : first_from (passing (λ s. not s.is_stored) shadow.bytes) byte (end - byte) ≡ o) where
+    (rest : first_from (passing (λ s. not s.is_stored) shadow.bytes) byte (end - byte) ≡ o) where
   begins : IsFirst (λ b. (state_at shadow.bytes b).is_stored) first (end - first) byte
   unfolding passing
   begins = first-passes (λ b. (state_at shadow.bytes b).is_stored) first (end - first) byte found

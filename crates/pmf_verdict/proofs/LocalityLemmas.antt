@@ -102,9 +102,9 @@ module _ (es : List Event) (p b : ℕ) where
       ≡ (not (at (stores b) es (suc p)) && (nat_lt 0 (closing_fence (stores b) line es p) || (at is_fence es (suc p) && nat_lt (last_store es p b) (greatest (at (flushes line) es) p))))
   closed-next = elim (at (stores b) es (suc p)) as (λ v. at (stores b) es (suc p) ≡ v → nat_lt 0 (closing_fence (stores b) line es (suc p))
       ≡ (not v && (nat_lt 0 (closing_fence (stores b) line es p) || (at is_fence es (suc p) && nat_lt (last_store es p b) (greatest (at (flushes line) es) p))))) [
-    | true ↦ closed-behind
-    | false ↦ closed-on
-  ] refl
+        | true ↦ closed-behind
+        | false ↦ closed-on
+      ] refl
 
   out-next : is_excluded es (suc p) b ≡ (if at (marks b) es (suc p) then at (excludes b) es (suc p) else is_excluded es p b)
   unfolding is_excluded
