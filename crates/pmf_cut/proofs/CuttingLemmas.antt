@@ -2,7 +2,7 @@
 use Rattle.std.{proofs.Common.{◌≡◌, ◌≢◌, ◌⊎◌, inl, inr, ⊎_elim, ℕ, zero, suc, ◌+◌, ◌-◌, ◌<◌, ◌≤◌, Bool, true, false, cond, List, [], ◌∷◌, ◌++◌, length, take, drop, set, slice_get, Option, Some, None, Ok, refl, sym, ap, subst, ◌∙◌, arith, length-drop, append_assoc, append-nil, take_all, eq-eqb, ne_eqb, ◌==◌, add-one}, proofs.lemmas.Bool.{cases_eq}, proofs.lemmas.List.{drop-take, take-append-drop, take-take, take-append-le, drop-append-le, drop_all, length_push}, proofs.lemmas.Option.{slice_get_within}, proofs.Math.Path.{fun_ext}, specs.BTreeMap.{get}, specs.Ordering.{nat_cmp}}
 use Rattle.pmf_event.specs.{declared.event.Event.{Event}, Store.{event_at}}
 use Rattle.pmf_storelog.{specs.declared.record.Saying.TheVariants.{Happens, Enters}, specs.Records.{record_of}, specs.Separators.{ended_parts, parts_of, records_in, records_of}, specs.LogText.{events_in, current_of, number_after}, proofs.PartLemmas.{ended_is, parts_of-append, parts_of-nil}, proofs.TallyLemmas.{current_of-nil, events_in-nil}, proofs.SplitLemmas.{joined, joined_at}, proofs.LogLemmas.{events_in-event, events_in-enter, events_in-nothing, current_of-push}}
-use Rattle.pmf_cut.specs.{declared.section.Cutting.{Cutting}, declared.part.Part.{Part}, declared.output.Outputs.{Outputs}, declared.output.Text.{Text}, declared.cutter.Cutter.{Cutter}, Alike.{IsCut}, Parts.{IsPartOf, BeginsAt, part_of}, Written.{WrittenPart, IsWritten, AreUpTo, AreNumbered, AreOf, IsAmong, NoneNamed, IsCutInto, said_in}, Outputs.{AllOpen, AllWait, HandsOut, Holds, IsNew, IsOpen, bytes_for, IsSaid, Says, current_in, said, text_of, waiting_in}, Cutting.{HasPart, IsSame, TakesEvent, HasSection, IsCurrent, IsPlaced, HasCut, IsNamed, MoreFiles, SayNothing, Cuts, CutsPart, CutsParts, CutsTo, Drains, HasCutAll, HasRead, handed_with}}
+use Rattle.pmf_cut.specs.{declared.section.Cutting.{Cutting}, declared.part.Part.{Part}, declared.output.Outputs.{Outputs}, declared.output.Text.{Text}, declared.cutter.Cutter.{Cutter}, Alike.{IsCut}, Parts.{IsPartOf, part_of}, Deferred.{IsUpTo, Begins, BeginsBehind}, Written.{WrittenPart, IsWritten, AreUpTo, AreNumbered, AreOf, IsAmong, NoneNamed, IsCutInto, said_in}, Outputs.{AllOpen, AllWait, HandsOut, Holds, IsNew, IsOpen, bytes_for, IsSaid, Says, current_in, said, text_of, waiting_in}, Cutting.{GoesOnAs, IsKept, HasPart, TakesEvent, HasSection, IsCurrent, IsPlaced, HasCut, IsNamed, MoreFiles, SayNothing, Cuts, CutsPart, CutsParts, CutsTo, Drains, HasCutAll, HasRead, handed_with}}
 use Rattle.pmf_cut.proofs.OutputLemmas.{holds-ended, holds-open, nothing_behind, set-other}
 
 none_is_some : {X : Type 0} {x : X} → None ≡ Some x → ⊥
@@ -99,19 +99,19 @@ section-stays says says' files files' step es parts section same more has = reco
   goes_on = has.goes_on;
 }
 
--- a section that is as it was, but for when a cut is looked for
-section-same : (says : ℕ → ℕ → List Event) (files step : ℕ) (es : List Event) (parts : List WrittenPart) (old new : Cutting) → IsSame old new → HasSection says files step es parts old → HasSection says files step es parts new
-section-same says files step es parts old new same has = record {
+-- a section that is as it was, but for when a cut is looked for, and which events wait
+section-same : (says : ℕ → ℕ → List Event) (files step : ℕ) (es : List Event) (parts : List WrittenPart) (old new : Cutting) → IsKept old new → HasSection says files step es parts old → HasSection says files step es parts new
+section-same says files step es parts old new kept has = record {
   last = has.last;
   before = has.before;
   parts_are = has.parts_are;
-  name_is = has.name_is ∙ sym same.name_is;
-  file_is = has.file_is ∙ sym same.file_is;
-  there = let there = has.there in let file = same.file_is in omega arith;
-  once = subst (λ (n : ℕ). NoneNamed n has.before) (sym same.name_is) has.once;
-  numbered = subst (λ (n : ℕ). AreNumbered step n (has.last ∷ has.before)) (sym same.number_is) has.numbered;
+  name_is = has.name_is ∙ sym kept.same.name_is;
+  file_is = has.file_is ∙ sym kept.same.file_is;
+  there = let there = has.there in let file = kept.same.file_is in omega arith;
+  once = subst (λ (n : ℕ). NoneNamed n has.before) (sym kept.same.name_is) has.once;
+  numbered = subst (λ (n : ℕ). AreNumbered step n (has.last ∷ has.before)) (sym kept.same.number_is) has.numbered;
   up_to = has.up_to;
-  goes_on = λ rest. subst (λ (p : Part). IsPartOf p (es ++ rest) has.last.first has.last.head (length es)) (sym same.part_is) (has.goes_on rest);
+  goes_on = λ rest. kept.stays (es ++ rest) has.last.first has.last.head (length es) (has.goes_on rest);
 }
 
 -- a section that has one event more
@@ -141,8 +141,8 @@ section-grows says says' files files' step es parts old new e takes here others 
   );
   goes_on = λ rest.
       let on = takes.goes_on (es ++ e ∷ rest) last.first last.head (length es) (event-behind es e rest) (has.goes_on (e ∷ rest)) in
-      subst (λ (all : List Event). IsPartOf new.part all last.first last.head (length (es ++ e ∷ []))) (sym (append_assoc es (e ∷ []) rest))
-      (subst (IsPartOf new.part (es ++ e ∷ rest) last.first last.head) (sym (length_push es e ∙ add-one (length es))) on);
+      subst (λ (all : List Event). IsUpTo new.part all last.first last.head (length (es ++ e ∷ []))) (sym (append_assoc es (e ∷ []) rest))
+      (subst (IsUpTo new.part (es ++ e ∷ rest) last.first last.head) (sym (length_push es e ∙ add-one (length es))) on);
 }
   where
     last : WrittenPart
@@ -159,18 +159,18 @@ next_part es head file number = record { first = length es; head = head; file = 
 
 -- a section that is cut: its next part has said its head
 section-goes_on : (says says' : ℕ → ℕ → List Event) (names : ℕ → Option ℕ) (files files' step number name file : ℕ) (es : List Event) (parts : List WrittenPart) (old new : Cutting) (part : Part) (head : List Event) →
-    HasPart new old.number name file part → BeginsAt old.part part head → name ≡ old.name + step → names name ≡ None → AreOf names number parts → ((other : ℕ) → says other name ≡ []) →
+    GoesOnAs new old.number name file part → BeginsBehind old.part part head → name ≡ old.name + step → names name ≡ None → AreOf names number parts → ((other : ℕ) → says other name ≡ []) →
     says' file name ≡ says file name ++ head → ((other-file other : ℕ) → (other-file ≢ file) ⊎ (other ≢ name) → says' other-file other ≡ says other-file other) → file < files' →
     HasSection says files step es parts old → HasSection says' files' step es (next_part es head file name ∷ parts) new
 section-goes_on says says' names files files' step number name file es parts old new part head renewed begins above free of_it none here others there has = record {
   last = next_part es head file name;
   before = has.last ∷ has.before;
   parts_are = ap (λ before. next_part es head file name ∷ before) has.parts_are;
-  name_is = sym renewed.name_is;
-  file_is = sym renewed.file_is;
-  there = let same = renewed.file_is in omega arith;
-  once = subst (λ (n : ℕ). NoneNamed n (has.last ∷ has.before)) (sym renewed.name_is) free_of_them;
-  numbered = subst (λ (n : ℕ). AreNumbered step n (next_part es head file name ∷ has.last ∷ has.before)) (sym renewed.number_is) (above ∙ ap (λ n. n + step) (sym has.name_is), has.numbered);
+  name_is = sym renewed.same.name_is;
+  file_is = sym renewed.same.file_is;
+  there = let same = renewed.same.file_is in omega arith;
+  once = subst (λ (n : ℕ). NoneNamed n (has.last ∷ has.before)) (sym renewed.same.name_is) free_of_them;
+  numbered = subst (λ (n : ℕ). AreNumbered step n (next_part es head file name ∷ has.last ∷ has.before)) (sym renewed.same.number_is) (above ∙ ap (λ n. n + step) (sym has.name_is), has.numbered);
   up_to = (
     record {
       within = omega arith;
@@ -180,7 +180,7 @@ section-goes_on says says' names files files' step number name file es parts old
     },
     up_to-same says says' es (has.last ∷ has.before) (length es) (same-but name says says' (λ other apart file. others file other (inr apart)) (has.last ∷ has.before) free_of_them) has.up_to,
   );
-  goes_on = λ rest. subst (λ (p : Part). IsPartOf p (es ++ rest) (length es) head (length es)) (sym renewed.part_is) (on rest);
+  goes_on = λ rest. renewed.begins (es ++ rest) (length es) head (length es) (on rest);
 }
   where
     free_of_them : NoneNamed name (has.last ∷ has.before)
@@ -191,9 +191,9 @@ section-goes_on says says' names files files' step number name file es parts old
 
 -- a section that begins
 section-begins : (says : ℕ → ℕ → List Event) (files step number file : ℕ) (section : Cutting) → HasPart section number number file section.part →
-    ((es : List Event) → IsPartOf section.part es 0 [] 0) → ((other : ℕ) → says other number ≡ []) → file < files →
+    (part : Part) → Begins part section.part → ((es : List Event) → IsPartOf part es 0 [] 0) → ((other : ℕ) → says other number ≡ []) → file < files →
     HasSection says files step [] (record { first = 0; head = []; file = file; number = number } ∷ []) section
-section-begins says files step number file section begun part none there = record {
+section-begins says files step number file section begun whole begins part none there = record {
   last = record { first = 0; head = []; file = file; number = number };
   before = [];
   parts_are = refl;
@@ -203,7 +203,7 @@ section-begins says files step number file section begun part none there = recor
   once = tt;
   numbered = sym begun.number_is;
   up_to = (record { within = omega arith; here = none file; elsewhere = λ other apart. none other; cut = λ rest. (part rest).cut }, refl);
-  goes_on = part;
+  goes_on = λ rest. begins rest 0 [] 0 (part rest);
 }
 
 -- what changes at one section, and stays at each other one
@@ -417,16 +417,16 @@ module _ (step : ℕ) (records : List (List ℕ)) (handed : ℕ → List ℕ) (c
   -- a section begins
   pub begun : (then-places then-names : ℕ → Option ℕ) (then-outputs : Outputs) (number file : ℕ) (section : Cutting) → places number ≡ None → IsNamed names then-names number number →
       then-places number ≡ Some (length sections) → ((other : ℕ) → other ≢ number → then-places other ≡ places other) → MoreFiles outputs then-outputs → file < length then-outputs.files.items →
-      HasPart section number number file section.part → ((es : List Event) → IsPartOf section.part es 0 [] 0) →
+      HasPart section number number file section.part → (part : Part) → Begins part section.part → ((es : List Event) → IsPartOf part es 0 [] 0) →
       HasCut true step records handed current then-places then-names (sections ++ section ∷ []) then-outputs
-  begun then-places then-names then-outputs number file section none named here others more there begins part =
+  begun then-places then-names then-outputs number file section none named here others more there begins whole started part =
       changed true step records records handed current current places then-places names then-names sections (sections ++ section ∷ []) outputs then-outputs number has record {
         own = record { first = 0; head = []; file = file; number = number } ∷ [];
         section = section;
         number_is = begins.number_is;
         has =
             subst (λ es. HasSection (said handed then-outputs) (length then-outputs.files.items) step es (record { first = 0; head = []; file = file; number = number } ∷ []) section) (sym (has.absent number none).0)
-            (section-begins (said handed then-outputs) (length then-outputs.files.items) step number file section begins part (λ other. more-says handed outputs then-outputs more other number ∙ has.nothing_else number named.free other) there);
+            (section-begins (said handed then-outputs) (length then-outputs.files.items) step number file section begins whole started part (λ other. more-says handed outputs then-outputs more other number ∙ has.nothing_else number named.free other) there);
         here = λ place at. subst (λ k. slice_get (sections ++ section ∷ []) k ≡ Some section) (some_apart _ _ (sym here ∙ at)) (get-push sections section);
         there = λ other place apart at. (sym (others other apart) ∙ at, λ s is. get-front sections (section ∷ []) place s is);
         current_is = current-kept then-places (λ other place is. others other (λ same. none_is_some (sym none ∙ ap places (sym same) ∙ is)) ∙ is) current has.current_is;
@@ -483,13 +483,13 @@ module _ (step : ℕ) (records : List (List ℕ)) (handed : ℕ → List ℕ) (c
     not_it other none same = none_is_some (sym none ∙ ap places same ∙ at)
 
     -- a cut was looked for
-    pub unchanged : (new : Cutting) → IsSame section new → HasCut true step records handed current places names (set sections place new) outputs
-    unchanged new same =
+    pub unchanged : (new : Cutting) → IsKept section new → HasCut true step records handed current places names (set sections place new) outputs
+    unchanged new kept =
         changed true step records records handed current current places places names names sections (set sections place new) outputs outputs number has record {
           own = has.parts number;
           section = new;
-          number_is = same.number_is ∙ number_of_it;
-          has = section-same (said handed outputs) (length outputs.files.items) step _ (has.parts number) section new same section-at;
+          number_is = kept.same.number_is ∙ number_of_it;
+          has = section-same (said handed outputs) (length outputs.files.items) step _ (has.parts number) section new kept section-at;
           here = here-then new;
           there = λ other its-place apart stands. (stands, elsewhere new other its-place apart stands);
           current_is = has.current_is;
@@ -508,13 +508,13 @@ module _ (step : ℕ) (records : List (List ℕ)) (handed : ℕ → List ℕ) (c
 
     -- it goes on with its next part
     pub renewed : (mid then-outputs : Outputs) (then-names : ℕ → Option ℕ) (name file : ℕ) (new : Cutting) (part : Part) (head : List Event) → IsNamed names then-names name section.number → name ≡ section.name + step →
-        BeginsAt section.part part head → HasPart new section.number name file part → MoreFiles outputs mid → file < length mid.files.items → Says true file name head mid then-outputs →
+        BeginsBehind section.part part head → GoesOnAs new section.number name file part → MoreFiles outputs mid → file < length mid.files.items → Says true file name head mid then-outputs →
         HasCut true step records handed current places then-names (set sections place new) then-outputs
     renewed mid then-outputs then-names name file new part head its-name above begins goes_on more there says =
         changed true step records records handed current current places places names then-names sections (set sections place new) outputs then-outputs number has record {
           own = next_part (events_in records number) head file name ∷ has.parts number;
           section = new;
-          number_is = goes_on.number_is ∙ number_of_it;
+          number_is = goes_on.same.number_is ∙ number_of_it;
           has = section-goes_on (said handed outputs) (said handed then-outputs) names (length outputs.files.items) (length then-outputs.files.items) step number name file _ (has.parts number) section new part head
               goes_on begins above named.free (has.of_it number) (λ other. has.nothing_else name named.free other)
               (is-said.here ∙ ap (λ events. events ++ head) (before file name)) (λ other-file other apart. is-said.others other-file other apart ∙ before other-file other)

@@ -6,5 +6,6 @@ pub mod PartLemmas
 pub mod ComparingLemmas
 pub mod WholeLemmas
 pub mod LostLemmas
+pub mod DeferredLemmas
 pub mod CuttingLemmas
 pub mod OutputLemmas

@@ -2,10 +2,10 @@
 use Rattle.std.specs.{Prelude.{◌≡◌, ◌≢◌, ℕ, ◌<◌, ◌≤◌, Bool, true, List, [], ◌∷◌, ◌++◌, length, take, set, slice_get, Option, Some, None, Ok}, Ordering.{nat_cmp}, BTreeMap.{get}}
 use Rattle.pmf_event.specs.declared.event.Event.{Event}
 use Rattle.pmf_storelog.specs.{declared.record.Saying.{Saying}, declared.record.Saying.TheVariants.{Skipped}, Records.{record_of}, Separators.{parts_of, ended_parts, records_in, records_of}, LogText.{events_in, current_of}}
-use Rattle.pmf_cut.specs.{declared.cutter.Cutter.{Cutter}, declared.section.Cutting.{Cutting}, declared.section.NextPart.{NextPart}, declared.part.Part.{Part}, Parts.{IsPartOf, GoesOnWith, BeginsAt}, Written.{WrittenPart, AreUpTo, AreNumbered, AreOf, IsAmong, IsCutInto, NoneNamed}, declared.output.Outputs.{Outputs}, declared.output.Text.{Text}, Outputs.{AllOpen, AllWait, Holds, IsSameText, Says, behind_part, bytes_for, said, text_of}}
+use Rattle.pmf_cut.specs.{declared.cutter.Cutter.{Cutter}, declared.section.Cutting.{Cutting}, declared.section.NextPart.{NextPart}, declared.part.Part.{Part}, declared.deferred.Deferred.{Deferred}, Deferred.{IsUpTo, Begins, StaysUpTo, GoesOnUpTo, BeginsBehind}, Written.{WrittenPart, AreUpTo, AreNumbered, AreOf, IsAmong, IsCutInto, NoneNamed}, declared.output.Outputs.{Outputs}, declared.output.Text.{Text}, Outputs.{AllOpen, AllWait, Holds, IsSameText, Says, behind_part, bytes_for, said, text_of}}
 
 -- the section has this part, under this name and in this file
-pub record HasPart (section : Cutting) (number name file : ℕ) (part : Part) : Type 0 where
+pub record HasPart (section : Cutting) (number name file : ℕ) (part : Deferred) : Type 0 where
   pub number_is : section.number ≡ number
   pub name_is : section.name ≡ name
   pub file_is : section.file ≡ file
@@ -15,10 +15,20 @@ pub record HasPart (section : Cutting) (number name file : ℕ) (part : Part) : 
 abbrev pub IsSame : Cutting → Cutting → Type 0
 IsSame old new = HasPart new old.number old.name old.file old.part
 
+-- the same, but for which events of its part wait
+pub record IsKept (old new : Cutting) : Type 0 where
+  pub same : HasPart new old.number old.name old.file new.part
+  pub stays : StaysUpTo old.part new.part
+
 -- the section's part has one event more
 pub record TakesEvent (old new : Cutting) (event : Event) : Type 0 where
   pub same : HasPart new old.number old.name old.file new.part
-  pub goes_on : GoesOnWith old.part new.part event
+  pub goes_on : GoesOnUpTo old.part new.part event
+
+-- the section goes on with this part, under this name and in this file
+pub record GoesOnAs (new : Cutting) (number name file : ℕ) (part : Part) : Type 0 where
+  pub same : HasPart new number name file new.part
+  pub begins : Begins part new.part
 
 -- the parts are the section up to its last event, and it goes on with the last one of them, whatever follows
 pub record HasSection (says : ℕ → ℕ → List Event) (files step : ℕ) (es : List Event) (parts : List WrittenPart) (section : Cutting) : Type 0 where
@@ -31,7 +41,7 @@ pub record HasSection (says : ℕ → ℕ → List Event) (files step : ℕ) (es
   pub once : NoneNamed section.name before
   pub numbered : AreNumbered step section.number (last ∷ before)
   pub up_to : AreUpTo says es (last ∷ before) (length es)
-  pub goes_on : (rest : List Event) → IsPartOf section.part (es ++ rest) last.first last.head (length es)
+  pub goes_on : (rest : List Event) → IsUpTo section.part (es ++ rest) last.first last.head (length es)
 
 -- what is current in what was read
 abbrev pub IsCurrent : (ℕ → Option ℕ) → ℕ → Option ℕ → Type 0
@@ -80,7 +90,7 @@ Keeps old new place = (step : ℕ) (records : List (List ℕ)) (handed : ℕ →
 
 -- the same, where the next part goes on as that section's does
 abbrev pub KeepsWith : Cutter → Cutter → ℕ → NextPart → Type 0
-KeepsWith old new place next = (section : Cutting) → slice_get old.sections.items place ≡ Some section → BeginsAt section.part next.part next.head.items → Keeps old new place
+KeepsWith old new place next = (section : Cutting) → slice_get old.sections.items place ≡ Some section → BeginsBehind section.part next.part next.head.items → Keeps old new place
 
 -- the bytes, which are a record that says this, are cut, too
 abbrev pub CutsRecord : Cutter → Cutter → List ℕ → Saying → Type 0
@@ -143,7 +153,7 @@ pub record BeginsPart (old new : Cutter) (place name : ℕ) (next : NextPart) (s
   pub there : file < length old.outputs.files.items
   pub says : Says true file name next.head.items old.outputs new.outputs
   pub renewed : Cutting
-  pub has : HasPart renewed section.number name file next.part
+  pub has : GoesOnAs renewed section.number name file next.part
   pub sections : new.sections.items ≡ set old.sections.items place renewed
   pub places : new.places ≡ old.places
   pub names : new.names ≡ old.names

@@ -3,6 +3,7 @@ pub use Rattle.pmf_verdict.specs.Rows
 pub mod Alike
 pub mod Behind
 pub mod Parts
+pub mod Deferred
 pub mod Comparing
 pub mod Lost
 pub mod Laws

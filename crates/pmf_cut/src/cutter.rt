@@ -312,6 +312,13 @@ impl Cutter {
         Ok(())
     }
 
+    fn refused(&self, fault: PartFault) -> CutFault {
+        match fault {
+            PartFault::TooManyEvents => self.refusal(Cause::TooManyEvents),
+            PartFault::OutOfMemory => CutFault::OutOfMemory,
+        }
+    }
+
     fn refusal(&self, cause: Cause) -> CutFault {
         CutFault::Log(LogFault {
             at: self.records,
@@ -339,10 +346,10 @@ impl Cutter {
             return Ok(());
         }
         let section = &mut self.sections[place];
-        let next = section.next_part(self.alloc, event, self.limit, newest, &mut self.notes)?;
-        match next {
-            Some(next) => self.cut(place, next)?,
-            None => {}
+        match section.next_part(self.alloc, event, self.limit, newest, &mut self.notes) {
+            Ok(Some(next)) => self.cut(place, next)?,
+            Ok(None) => {}
+            Err(fault) => return Err(self.refused(fault)),
         }
         Ok(())
     }
@@ -392,18 +399,10 @@ impl Cutter {
             return Ok(());
         }
         let section = &mut self.sections[place];
-        if section.may_lose(event) {
-            self.notes.tell(
-                section.number,
-                section.next_event(),
-                "PMT.ORDERED names bytes of before the cut: it may have lost its FAIL",
-            )?;
-        }
         let (file, name) = (section.file, section.name);
-        match section.take(event) {
+        match section.take(event, &mut self.notes) {
             Ok(()) => self.outputs.put(file, name, bytes)?,
-            Err(PartFault::TooManyEvents) => return Err(self.refusal(Cause::TooManyEvents)),
-            Err(PartFault::OutOfMemory) => return Err(CutFault::OutOfMemory),
+            Err(fault) => return Err(self.refused(fault)),
         }
         Ok(())
     }

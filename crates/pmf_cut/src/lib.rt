@@ -10,6 +10,7 @@
 
 mod comparing;
 mod cutter;
+mod deferred;
 mod fault;
 mod head;
 pub mod laws;

@@ -26,6 +26,11 @@ impl Past {
         }
     }
 
+    /// Whether no part has ended.
+    pub(crate) fn is_empty(&self) -> bool {
+        self.last.is_none()
+    }
+
     /// Takes a part that has ended.
     pub(crate) fn add(&mut self, part: Part) -> Result<(), AllocError>
         ensures { OnOk result (Adds self.old self.new part) }

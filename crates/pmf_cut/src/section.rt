@@ -2,13 +2,14 @@
 
 ghost use Rattle.std.specs.Prelude.{◌≡◌, ℕ, List, [], IfOk, IfSome, OnOk};
 ghost use Rattle.pmf_event.specs.declared.event.Event.{Event};
-ghost use Rattle.pmf_cut.specs.{Cutting.{HasPart, IsSame, TakesEvent}, Parts.{BeginsAt, IsPartOf}};
+ghost use Rattle.pmf_cut.specs.{Cutting.{GoesOnAs, HasPart, IsKept, IsSame, TakesEvent}, Deferred.{Begins, BeginsBehind}, Parts.{IsPartOf}, declared.part.Part.{Part}};
 
+use crate::deferred::Deferred;
 use crate::lost::Past;
 use crate::notes::Notes;
 use crate::part::{Part, PartFault};
 use crate::renewing::Renewal;
-use pmf_event::{ADDRESS_LIMIT, Event};
+use pmf_event::{ADDRESS_LIMIT, Event, Span};
 use std::alloc::{AllocError, Global};
 
 /// A section of the log, and the part of it that goes on.
@@ -23,7 +24,7 @@ pub(crate) struct Cutting {
     /// How many events it has had.
     events: u64,
     /// Its part.
-    part: Part,
+    part: Deferred,
     /// How many events the part began with.
     head: u32,
     /// What the parts before it know.
@@ -49,14 +50,14 @@ impl Cutting {
     /// A section of no events.
     pub(crate) fn new(alloc: Global, number: u64, file: usize, limit: u32) -> Cutting
         ensures has { HasPart result number number file result.part }
-        ensures part { (es : List Event) → IsPartOf result.part es 0 [] 0 }
+        ensures part { (part : Part) × Begins part result.part × ((es : List Event) → IsPartOf part es 0 [] 0) }
     {
         Cutting {
             number,
             name: number,
             file,
             events: 0,
-            part: Part::new(alloc),
+            part: Deferred::new(alloc, Part::new(alloc)),
             head: 0,
             past: Past::new(alloc),
             due: due_after(0, limit),
@@ -79,22 +80,20 @@ impl Cutting {
         limit: u32,
         newest: usize,
         notes: &mut Notes,
-    ) -> Result<Option<NextPart>, AllocError>
-        ensures same { OnOk result (IsSame self.old self.new) }
-        ensures begins { IfOk result (λ found. IfSome found (λ next. BeginsAt self.old.part next.part next.head.items)) }
+    ) -> Result<Option<NextPart>, PartFault>
+        ensures same { OnOk result (IsKept self.old self.new) }
+        ensures begins { IfOk result (λ found. IfSome found (λ next. BeginsBehind self.new.part next.part next.head.items)) }
     {
         self.hurry(newest);
-        if self.part.events() < self.due {
-            return Ok(None);
-        }
-        if !self.part.is_outside() {
+        self.part.catch_up()?;
+        if !self.part.part().is_outside() {
             self.tell_length(limit, notes, "a transaction or a scope is open")?;
             return Ok(None);
         }
         if !self.is_good(event, limit) {
             return Ok(None);
         }
-        let Renewal { head, part } = self.part.renewed(alloc, limit)?;
+        let Renewal { head, part } = self.part.part().renewed(alloc, limit)?;
         match part {
             Some(part) => Ok(Some(NextPart { head, part })),
             None => {
@@ -129,25 +128,41 @@ impl Cutting {
         };
         begins
             && (length >= self.overdue
-                || self.part.shadow.least_undurable(0, ADDRESS_LIMIT).is_none())
+                || self
+                    .part
+                    .part()
+                    .shadow
+                    .least_undurable(0, ADDRESS_LIMIT)
+                    .is_none())
     }
 
-    /// Whether the event is an order assertion that the cuts may have changed.
-    pub(crate) fn may_lose(&self, event: &Event) -> bool {
-        match event {
-            Event::Ordered(before, after) => self
-                .past
-                .may_lose(&self.part.shadow, self.head, *before, *after),
-            _ => false,
-        }
-    }
-
-    /// The event happens. After an `Err` the section is of no use.
-    pub(crate) fn take(&mut self, event: &Event) -> Result<(), PartFault>
+    /// The event happens; where it is an order assertion that the cuts may have changed, that is said. After an `Err` the section is of no use.
+    pub(crate) fn take(&mut self, event: &Event, notes: &mut Notes) -> Result<(), PartFault>
         ensures { OnOk result (TakesEvent self.old self.new event.now) }
     {
+        if let Event::Ordered(before, after) = event {
+            self.tell_lost(*before, *after, notes)?;
+        }
         self.events = self.events.saturating_add(1);
         self.part.take(*event)?;
+        Ok(())
+    }
+
+    fn tell_lost(&mut self, before: Span, after: Span, notes: &mut Notes) -> Result<(), PartFault>
+        ensures { OnOk result (IsKept self.old self.new) }
+    {
+        if self.past.is_empty() {
+            return Ok(());
+        }
+        self.part.catch_up()?;
+        let shadow = &self.part.part().shadow;
+        if self.past.may_lose(shadow, self.head, before, after) {
+            notes.tell(
+                self.number,
+                self.next_event(),
+                "PMT.ORDERED names bytes of before the cut: it may have lost its FAIL",
+            )?;
+        }
         Ok(())
     }
 
@@ -159,10 +174,10 @@ impl Cutting {
         file: usize,
         limit: u32,
     ) -> Result<(), AllocError>
-        ensures { OnOk result (HasPart self.new self.old.number name file part) }
+        ensures { OnOk result (GoesOnAs self.new self.old.number name file part) }
     {
         let head = part.events();
-        let ended = std::mem::replace(&mut self.part, part);
+        let ended = self.part.go_on(part);
         self.past.add(ended)?;
         self.head = head;
         self.name = name;
@@ -208,8 +223,8 @@ impl Cutting {
         Ok(())
     }
 
-    /// The number of the event that happens next, counted from 1.
-    pub(crate) fn next_event(&self) -> u64 {
+    // The number of the event that happens next, counted from 1.
+    fn next_event(&self) -> u64 {
         self.events.saturating_add(1)
     }
 }

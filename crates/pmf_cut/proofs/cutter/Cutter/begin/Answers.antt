@@ -1,5 +1,5 @@
 use Rattle.std.proofs.{Common.{◌≡◌, refl, sym, ◌∙◌, subst, arith}, lemmas.Option.{slice_get_read, slice_get_within}}
-use Rattle.pmf_cut.{specs.declared.section.Cutting.{Cutting}, specs.Cutting.{HasPart}, proofs.CuttingLemmas.{some_apart}}
+use Rattle.pmf_cut.{specs.declared.section.Cutting.{Cutting}, specs.Cutting.{GoesOnAs}, proofs.CuttingLemmas.{some_apart}}
 use Rattle.pmf_cut.proofs.cutter.Cutter.begin.Goals as goal
 
 pub returns-in_ok-go_on : goal.returns-in_ok-go_on
@@ -11,7 +11,7 @@ returns-in_ok-go_on c = λ section is.
       there = c.newest-file.ensures;
       says = rw c.deref.ensures.value at c.in_ok-say.ensures;
       renewed = c.go_on.new.self;
-      has = subst (λ (s : Cutting). HasPart c.go_on.new.self s.number c.args.name c.newest-file.result c.args.next.part) its c.in_ok-go_on.ensures;
+      has = subst (λ (s : Cutting). GoesOnAs c.go_on.new.self s.number c.args.name c.newest-file.result c.args.next.part) its c.in_ok-go_on.ensures;
       sections = refl;
       places = refl;
       names = refl;

@@ -1,4 +1,4 @@
-use Rattle.std.proofs.Common.{◌-◌, ◌+◌, sym, ◌∙◌, subst, arith}
+use Rattle.std.proofs.Common.{◌+◌, sym, ◌∙◌, subst, arith}
 use Rattle.pmf_cut.{specs.Lost.{NoneOld}, proofs.LostLemmas.{none-old-rest, none-old-run}}
 use Rattle.pmf_cut.proofs.lost.Past.has_old.Goals as goal
 
