@@ -1,6 +1,7 @@
 //! The order in which workers take sections.
 
-ghost use Rattle.std.specs.Prelude.{◌≡◌, length, vec_len, IfOk};
+ghost use Rattle.std.specs.Prelude.{◌≡◌, length, get_or, map, vec_len, IfOk, IsPermutation};
+ghost use Rattle.pmf_farm.specs.Rolls.{IsQueueOf, with_places};
 
 use crate::gate::{Gate, Turn};
 use crate::slot::Slot;
@@ -25,7 +26,9 @@ pub(crate) struct Queue {
 
 // The sections of the roll, the longest first, so that none is left to one worker at the end.
 fn longest_first(alloc: Global, roll: &[Slot]) -> Result<Vec<Placed>, AllocError>
-    ensures { IfOk result (λ placed. vec_len placed ≡ length roll.now) }
+    ensures len { IfOk result (λ placed. vec_len placed ≡ length roll.now) }
+    ensures same { IfOk result (λ placed. IsPermutation (with_places roll.now)
+        (map (λ p. (p.section.value, p.place)) placed.items)) }
 {
     let mut placed = Vec::with_capacity(alloc, roll.len())?;
     for slot in roll {
@@ -42,7 +45,9 @@ fn longest_first(alloc: Global, roll: &[Slot]) -> Result<Vec<Placed>, AllocError
 impl Queue {
     /// The queue of the roll's sections, in which long ones come first. Takes memory for 12 bytes a section.
     pub(crate) fn new(alloc: Global, roll: &[Slot]) -> Result<Queue, AllocError>
-        ensures { IfOk result (λ queue. vec_len queue.sections ≡ length roll.now) }
+        ensures same { IfOk result (λ queue.
+            IsQueueOf roll.now (map (λ s. s.value) queue.sections.items) queue.places.items) }
+        ensures len { IfOk result (λ queue. vec_len queue.sections ≡ length roll.now) }
     {
         let placed = longest_first(alloc, roll)?;
         let mut sections = Vec::with_capacity(alloc, placed.len())?;
@@ -54,7 +59,10 @@ impl Queue {
         Ok(Queue { sections, places })
     }
 
-    fn place(&self, index: u32) -> u32 {
+    // The place of the section at this index, and the index where there is none.
+    fn place(&self, index: u32) -> u32
+        ensures { result ≡ get_or self.now.places.items index index }
+    {
         match self.places.get(index as usize) {
             Some(place) => *place,
             None => index,

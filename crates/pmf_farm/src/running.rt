@@ -1,8 +1,8 @@
 //! A farm: workers on threads of their own, and the ledger of what they and the caller's own thread checked.
 
-ghost use Rattle.std.specs.Prelude.{◌≡◌, ◌≤◌, map, length, vec_len, IfOk, IfErr, All};
+ghost use Rattle.std.specs.{Prelude.{◌≡◌, ◌≤◌, map, length, vec_len, IfOk, IfErr, All}, List.{AllZip}};
 ghost use Rattle.pmf_ledger.specs.{Gathered.{IsLedgerOf}, Repeats.{HaveOwnNames}};
-ghost use Rattle.pmf_farm.specs.{Rolls.{IsRepeatOf, sections_of}, Running.{IsRefused, IsTaken}};
+ghost use Rattle.pmf_farm.specs.{Rolls.{IsRepeatOf, RollRises, Stays, checks, sections_of}, Running.{IsRefused, IsTaken}};
 
 use crate::fault::FarmFault;
 use crate::gate::Gate;
@@ -91,7 +91,8 @@ fn work_on_thread<R: Wait, G: Gate>(
 
 // The roll with the verdicts that arrive until no sender is left.
 fn collect<R: Wait>(rt: &R, channel: &Receiver<Verdict, Global>, mut roll: Vec<Slot>) -> Vec<Slot>
-    ensures { result.items ≡ roll.items }
+    requires { RollRises roll.items }
+    ensures { AllZip Stays roll.items result.items }
 {
     for verdict in channel.iter(rt) {
         keep(roll.as_mut_slice(), verdict);
@@ -114,7 +115,8 @@ fn farm_out<R: Threads + Wait + Sync, G: Gate + Sync>(
 ) -> Vec<Slot>
     requires own { All (λ h. h.pass.board ≡ board.now) hands.items }
     requires all { vec_len queue.now.sections ≡ board.now.words }
-    ensures { result.items ≡ roll.items }
+    requires rises { RollRises roll.items }
+    ensures { AllZip Stays roll.items result.items }
 {
     thread::scope(
         thread::scope_env(),
@@ -122,7 +124,8 @@ fn farm_out<R: Threads + Wait + Sync, G: Gate + Sync>(
         |scope| -> Vec<Slot>
             requires own { All (λ h. h.pass.board ≡ board.now) hands.items }
             requires all { vec_len queue.now.sections ≡ board.now.words }
-            ensures { result.items ≡ roll.items }
+            requires rises { RollRises roll.items }
+            ensures { AllZip Stays roll.items result.items }
         {
             for hand in hands {
                 drop(scope.spawn(
@@ -144,7 +147,7 @@ fn gather<G: Gate>(
     profile: Profile,
     gate: &G,
 ) -> Result<Ledger, AllocError>
-    ensures { IfOk result (IsLedgerOf profile (sections_of roll.items)) }
+    ensures { IfOk result (IsLedgerOf profile (sections_of (checks roll.items))) }
 {
     let mut ledger = Ledger::new(alloc, profile);
     for slot in roll {
