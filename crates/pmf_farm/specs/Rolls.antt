@@ -1,5 +1,5 @@
 -- The sections that were handed in, in the order of their names, and the queue of them. Defined here.
-use Rattle.std.specs.{Prelude.{◌≡◌, ◌⊎◌, ◌↔◌, ℕ, Bool, true, false, List, map, length, zip, AllPairs}, List.{AllZip, range_with_len}, List.Sorted.{IsPermutation}}
+use Rattle.std.specs.{Prelude.{◌≡◌, ◌⊎◌, ◌↔◌, ℕ, Bool, true, false, List, map, length, zip, AllPairs}, List.{range_with_len}, List.Sorted.{IsPermutation}}
 use Rattle.pmf_event.specs.{declared.profile.Profile.{Profile}, Section.{Trace}}
 use Rattle.pmf_ledger.specs.{Names.{ComesBefore}, Repeats.{IsLeastTwice, section_at}}
 use Rattle.pmf_verdict.specs.Checked.{Checked, checked_by}

@@ -78,6 +78,10 @@ pub(crate) struct QueueGate<'a, G> {
 }
 
 impl<'a, G: Gate> Gate for QueueGate<'a, G> {
+    // What the caller's gate may answer about the place of the section.
+    ghost answers = { λ g worker section turn.
+        G.answers g.gate.now worker (get_or g.queue.now.places.items section section) turn };
+
     fn turn(&self, worker: u32, section: u32) -> Turn {
         self.gate.turn(worker, self.queue.place(section))
     }

@@ -1,5 +1,5 @@
 -- The slots of a roll: at their places, in the order of their names, and with the verdicts that they keep.
-use Rattle.std.{proofs.Common.{◌≡◌, ◌≢◌, ◌⊎◌, ℕ, zero, suc, ◌+◌, ◌<◌, ◌≤◌, List, [], ◌∷◌, ◌++◌, map, length, refl, sym, ◌∙◌, ap, subst, arith, inl, inr, get_or, set, zip, take, false, MatchResult, Result, Ok, Err, IsPermutation, Ordering, Less, Equal, Greater, is_lt, AllPairs, All, Option, None}, specs.List.{AllZip, range_with_len, HoldsAt}, specs.List.Sorted.{IsSortedByKey, IsBinarySearchResult}, specs.Cmp.{IsTotalOrder}, specs.Ordering.{nat_cmp, ordering_then}, proofs.lemmas.Simd.{map-map}, proofs.lemmas.List.{length-map, get_or-map, take_all}, proofs.lemmas.List.FromFn.{fill_by_all, map-range_with_len_more}, proofs.lemmas.List.Elements.{AllZip-get_or, length_all_zip, All-map}, proofs.lemmas.List.Sorted.{IsPermutation-map, ranks_by, sorted_far, searchable_from_sorted, IsPermutation-sym, All-permutation}, proofs.lemmas.Cmp.{nat_cmp_total, on_total, then_total}, proofs.lemmas.Bool.{cases_eq, cases_lt}, proofs.lemmas.Grind.{common_steps}}
+use Rattle.std.{proofs.Common.{◌≡◌, ◌≢◌, ℕ, zero, suc, ◌+◌, ◌<◌, ◌≤◌, List, [], ◌∷◌, ◌++◌, map, length, refl, sym, ◌∙◌, ap, subst, arith, inl, inr, get_or, set, zip, take, false, Err, IsPermutation, Ordering, Less, Equal, Greater, is_lt, All, None}, specs.List.{AllZip, range_with_len}, specs.List.Sorted.{IsSortedByKey, IsBinarySearchResult}, specs.Cmp.{IsTotalOrder}, proofs.lemmas.Simd.{map-map}, proofs.lemmas.List.{length-map, get_or-map, take_all}, proofs.lemmas.List.FromFn.{fill_by_all, map-range_with_len_more}, proofs.lemmas.List.Elements.{AllZip-get_or, length_all_zip, All-map}, proofs.lemmas.List.Sorted.{IsPermutation-map, ranks_by, sorted_far, searchable_from_sorted, IsPermutation-sym, All-permutation}, proofs.lemmas.Cmp.{nat_cmp_total, on_total, then_total}, proofs.lemmas.Bool.{cases_lt}}
 use Rattle.pmf_event.specs.{declared.name.Name.{Name}, declared.profile.Profile.{Profile}, Section.{Trace}}
 use Rattle.pmf_verdict.specs.Checked.{Checked, checked_by}
 use Rattle.pmf_ledger.{specs.Names.{IsBefore}, specs.Repeats.{AreOwn, HaveOwnNames, is_name, names_of, section_at, no_section}, proofs.lemmas.NameLemmas.{before-itself, before-trans, before-total, compared, compares_tells, Tells}, proofs.lemmas.RepeatLemmas.{before-compares, is_name-yes, repeats-permuted, some_two}}
