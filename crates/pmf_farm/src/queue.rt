@@ -1,11 +1,11 @@
 //! The order in which workers take sections.
 
-ghost use Rattle.std.specs.Prelude.{◌≡◌, length, get_or, map, vec_len, IfOk, IsPermutation};
+ghost use Rattle.std.specs.Prelude.{◌≡◌, All, length, get_or, map, vec_len, IfOk, IsPermutation};
 ghost use Rattle.pmf_farm.specs.Rolls.{IsQueueOf, with_places};
 
 use crate::gate::{Gate, Turn};
 use crate::slot::Slot;
-use pmf_event::Section;
+use pmf_event::{Profile, Section};
 use std::alloc::{AllocError, Global};
 use std::cmp::Reverse;
 use std::sync::Arc;
@@ -17,11 +17,13 @@ struct Placed {
     place: u32,
 }
 
-/// The sections in the order in which workers take them, each with the place at which it was handed in.
+/// The sections in the order in which workers take them, each with the place at which it was handed in, and the profile
+/// by which they are checked.
 #[derive(Drop)]
 pub(crate) struct Queue {
     pub(crate) sections: Vec<Arc<Section>>,
     places: Vec<u32>,
+    pub(crate) profile: Profile,
 }
 
 // The sections of the roll, the longest first, so that none is left to one worker at the end.
@@ -44,10 +46,16 @@ fn longest_first(alloc: Global, roll: &[Slot]) -> Result<Vec<Placed>, AllocError
 
 impl Queue {
     /// The queue of the roll's sections, in which long ones come first. Takes memory for 12 bytes a section.
-    pub(crate) fn new(alloc: Global, roll: &[Slot]) -> Result<Queue, AllocError>
+    pub(crate) fn new(
+        alloc: Global,
+        roll: &[Slot],
+        profile: Profile,
+    ) -> Result<Queue, AllocError>
+        requires { All (λ s. s.checked.profile ≡ profile) roll.now }
         ensures same { IfOk result (λ queue.
             IsQueueOf roll.now (map (λ s. s.value) queue.sections.items) queue.places.items) }
         ensures len { IfOk result (λ queue. vec_len queue.sections ≡ length roll.now) }
+        ensures profile { IfOk result (λ queue. queue.profile ≡ profile) }
     {
         let placed = longest_first(alloc, roll)?;
         let mut sections = Vec::with_capacity(alloc, placed.len())?;
@@ -56,7 +64,11 @@ impl Queue {
             sections.push(section)?;
             places.push(place)?;
         }
-        Ok(Queue { sections, places })
+        Ok(Queue {
+            sections,
+            places,
+            profile,
+        })
     }
 
     // The place of the section at this index, and the index where there is none.

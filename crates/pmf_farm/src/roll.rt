@@ -1,6 +1,6 @@
 //! The sections that were handed in, in the order of their names.
 
-ghost use Rattle.std.specs.{Prelude.{◌≡◌, ◌≤◌, map, length, vec_len, IfOk, IfErr, IsPermutation}, List.{AllZip}};
+ghost use Rattle.std.specs.{Prelude.{◌≡◌, ◌≤◌, All, map, length, vec_len, IfOk, IfErr, IsPermutation}, List.{AllZip}};
 ghost use Rattle.pmf_ledger.specs.Repeats.{HaveOwnNames};
 ghost use Rattle.pmf_farm.specs.Rolls.{IsRepeatOf, Keeps, RollRises, slots_by};
 
@@ -41,6 +41,7 @@ pub(crate) fn call(
     requires few { length sections.now ≤ 65536 }
     ensures same { IfOk result (λ roll.
         IsPermutation (slots_by profile (map (λ s. s.value) sections.now)) roll.items) }
+    ensures profile { IfOk result (λ roll. All (λ s. s.checked.profile ≡ profile) roll.items) }
     ensures rises { IfOk result (λ roll. RollRises roll.items) }
     ensures len { IfOk result (λ roll. vec_len roll ≡ length sections.now) }
     ensures own { IfOk result (λ roll. HaveOwnNames (map (λ s. s.value) sections.now)) }
