@@ -46,11 +46,7 @@ fn longest_first(alloc: Global, roll: &[Slot]) -> Result<Vec<Placed>, AllocError
 
 impl Queue {
     /// The queue of the roll's sections, in which long ones come first. Takes memory for 12 bytes a section.
-    pub(crate) fn new(
-        alloc: Global,
-        roll: &[Slot],
-        profile: Profile,
-    ) -> Result<Queue, AllocError>
+    pub(crate) fn new(alloc: Global, roll: &[Slot], profile: Profile) -> Result<Queue, AllocError>
         requires { All (λ s. s.checked.profile ≡ profile) roll.now }
         ensures same { IfOk result (λ queue.
             IsQueueOf roll.now (map (λ s. s.value) queue.sections.items) queue.places.items) }

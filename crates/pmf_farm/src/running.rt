@@ -1,6 +1,7 @@
 //! A farm: workers on threads of their own, and the ledger of what they and the caller's own thread checked.
 
 ghost use Rattle.std.specs.{Prelude.{◌≡◌, ◌<◌, ◌≤◌, [], get_or, map, length, vec_len, IfOk, IfErr, All, AllPairs, Ok}, List.{AllZip}};
+ghost use Rattle.pmf_board.specs.Calls.{PassesOverAll};
 ghost use Rattle.pmf_verdict.specs.Checked.{checked_by};
 ghost use Rattle.pmf_ledger.specs.{Gathered.{IsLedgerOf}, Repeats.{HaveOwnNames}};
 ghost use Rattle.pmf_farm.specs.{Rolls.{IsRepeatOf, RollRises, Stays, checks, sections_of}, Running.{IsRefused, IsTaken}, Working.{HasWorked, IsLost, most_left}};
@@ -74,6 +75,7 @@ fn work_on_thread<'a, R: Wait, G: Gate>(
         (most_left result.2) }
     ensures lost { (result.2 ≡ Ok Ended.Lost) → IsLost (λ worker section.
         G.answers gate.now worker (get_or queue.now.places.items section section)) hand.number result.0.view }
+    ensures all { (result.2 ≡ Ok Ended.All) → PassesOverAll 8 board.now.words result.0.view }
 {
     let Hand {
         number,
@@ -194,9 +196,7 @@ fn check_all<R: Threads + Wait + Sync, G: Gate + Sync>(
     let hands = hands_of(alloc, &board, &mut first, workers.min(count), &sender)?;
     // From then on only workers can send.
     drop(sender);
-    let roll = farm_out(
-        rt, alloc, &board, hands, &queue, gate, &receiver, roll,
-    );
+    let roll = farm_out(rt, alloc, &board, hands, &queue, gate, &receiver, roll);
     let ledger = gather(alloc, roll, profile, gate)?;
     Ok(ledger)
 }

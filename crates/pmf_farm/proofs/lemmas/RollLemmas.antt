@@ -1,5 +1,5 @@
 -- The slots of a roll: at their places, in the order of their names, and with the verdicts that they keep.
-use Rattle.std.{proofs.Common.{◌≡◌, ◌≢◌, ℕ, zero, suc, ◌+◌, ◌<◌, ◌≤◌, List, [], ◌∷◌, ◌++◌, map, length, refl, sym, ◌∙◌, ap, subst, arith, inl, inr, get_or, set, zip, take, false, Err, IsPermutation, Ordering, Less, Equal, Greater, is_lt, All, None}, specs.List.{AllZip, range_with_len}, specs.List.Sorted.{IsSortedByKey, IsBinarySearchResult}, specs.Cmp.{IsTotalOrder}, proofs.lemmas.Simd.{map-map}, proofs.lemmas.List.{length-map, get_or-map, take_all}, proofs.lemmas.List.FromFn.{fill_by_all, map-range_with_len_more}, proofs.lemmas.List.Elements.{AllZip-get_or, length_all_zip, All-map}, proofs.lemmas.List.Sorted.{IsPermutation-map, ranks_by, sorted_far, searchable_from_sorted, IsPermutation-sym, All-permutation}, proofs.lemmas.Cmp.{nat_cmp_total, on_total, then_total}, proofs.lemmas.Bool.{cases_lt}}
+use Rattle.std.{proofs.Common.{◌≡◌, ◌≢◌, ℕ, zero, suc, ◌+◌, ◌<◌, ◌≤◌, List, [], ◌∷◌, ◌++◌, map, length, refl, sym, ◌∙◌, ap, subst, arith, inl, inr, get_or, set, zip, take, false, Err, IsPermutation, Ordering, Less, Equal, Greater, is_lt, All, None}, specs.List.{AllZip, range_with_len}, specs.List.Sorted.{IsSortedByKey, IsBinarySearchResult}, specs.Cmp.{IsTotalOrder}, proofs.lemmas.Simd.{map-map}, proofs.lemmas.List.{length-map, get_or-map, take_all}, proofs.lemmas.List.FromFn.{fill_by_all, map-range_with_len_more}, proofs.lemmas.List.Elements.{AllZip-get_or, length_all_zip, All-map}, proofs.lemmas.List.Sorted.{IsPermutation-map, ranks_by, sorted_far, searchable_from_sorted, IsPermutation-sym, All-permutation}, proofs.lemmas.Cmp.{nat_cmp_total, on_total, then_total}, proofs.lemmas.Grind.{common_steps}, proofs.lemmas.Bool.{cases_lt}}
 use Rattle.pmf_event.specs.{declared.name.Name.{Name}, declared.profile.Profile.{Profile}, Section.{Trace}}
 use Rattle.pmf_verdict.specs.Checked.{Checked, checked_by}
 use Rattle.pmf_ledger.{specs.Names.{IsBefore}, specs.Repeats.{AreOwn, HaveOwnNames, is_name, names_of, section_at, no_section}, proofs.lemmas.NameLemmas.{before-itself, before-trans, before-total, compared, compares_tells, Tells}, proofs.lemmas.RepeatLemmas.{before-compares, is_name-yes, repeats-permuted, some_two}}
@@ -53,9 +53,7 @@ names_total : IsTotalOrder compared
 names_total = then_total (on_total (λ n. n.run) nat_cmp_total) (on_total (λ n. n.number) nat_cmp_total)
 
 not_less : (a b : Name) (found : Ordering) → Tells b a found → IsBefore a b → is_lt found ≡ false
-not_less a b Less tells before = absurd (before-itself a (before-trans a b a before tells))
-not_less a b Equal tells before = refl
-not_less a b Greater tells before = refl
+not_less a b found tells before = grind (arith, common_steps, before-itself, before-trans)
 
 module _ (verdict : Checked) (roll : List Slotted) where
   -- a slot of another section keeps nothing
@@ -66,15 +64,17 @@ module _ (verdict : Checked) (roll : List Slotted) where
     filled = (inl, λ e. elim e [ inl full ↦ full | inr is ↦ absurd (other (ap (λ (c : Checked). c.section.name) (sym is))) ]);
   }
 
+  told : (d : Slotted) (k : ℕ) (o : Ordering) → compared (name_in (get_or roll k d)) verdict.section.name ≡ o → Tells (name_in (get_or roll k d)) verdict.section.name o
+  told d k o is = subst (Tells (name_in (get_or roll k d)) verdict.section.name) is (compares_tells (name_in (get_or roll k d)) verdict.section.name)
+
   -- the verdict goes into the slot where its name was found
   pub keeps-found : (k : ℕ) (slot new : Slotted) → RollRises roll → k < length roll → ((d : Slotted) → compared (name_in (get_or roll k d)) verdict.section.name ≡ Equal) → Keeps verdict (get_or roll k slot) new → AllZip (Keeps verdict) roll (set roll k new)
   keeps-found k slot new rises inside found keeps =
       all_zip-set (Keeps verdict) roll k slot new inside keeps (λ i d less apart. keeps-other (get_or roll i d) (λ same.
-        let here : name_in (get_or roll k d) ≡ verdict.section.name = subst (Tells (name_in (get_or roll k d)) verdict.section.name) (found d) (compares_tells (name_in (get_or roll k d)) verdict.section.name) in
-        elim (cases_lt i k) [
-          | inl low ↦ before-itself verdict.section.name (subst (λ n. IsBefore n verdict.section.name) same (subst (IsBefore (name_in (get_or roll i d))) here (rises i k d low inside)))
-          | inr high ↦ before-itself verdict.section.name (subst (λ n. IsBefore n verdict.section.name) here (subst (IsBefore (name_in (get_or roll k d))) same (rises k i d (omega (arith, high, apart)) less)))
-        ]))
+      let here : name_in (get_or roll k d) ≡ verdict.section.name = told d k Equal (found d) in
+      let before = rises i k d in
+      let behind = rises k i d in
+      grind (arith, common_steps, before-itself, before, behind)))
 
   -- where its name was not found, no slot is of its section
   pub keeps-none : (k : ℕ) (name : Name) → name ≡ verdict.section.name → RollRises roll → IsBinarySearchResult (λ s. compared (name_in s) name) roll (Err k) → AllZip (Keeps verdict) roll roll
@@ -82,10 +82,10 @@ module _ (verdict : Checked) (roll : List Slotted) where
       let missing = subst (λ n. IsBinarySearchResult (λ s. compared (name_in s) n) roll (Err k)) named found in
       let parts = missing (searchable_from_sorted names_total name_in roll verdict.section.name (λ i d low less. not_less _ _ _ (compares_tells (name_in (get_or roll (i + 1) d)) (name_in (get_or roll i d))) (rises i (i + 1) d (omega arith) less))) in
       all_zip-same (Keeps verdict) roll (λ i d inside. keeps-other (get_or roll i d) (λ same.
-        elim (cases_lt i k) [
-          | inl low ↦ before-itself verdict.section.name (subst (λ n. IsBefore n verdict.section.name) same (subst (Tells (name_in (get_or roll i d)) verdict.section.name) (parts.0 i d (omega arith) low) (compares_tells (name_in (get_or roll i d)) verdict.section.name)))
-          | inr high ↦ before-itself verdict.section.name (subst (IsBefore verdict.section.name) same (subst (Tells (name_in (get_or roll i d)) verdict.section.name) (parts.1 i d high inside) (compares_tells (name_in (get_or roll i d)) verdict.section.name)))
-        ]))
+      elim (cases_lt i k) [
+        | inl low ↦ before-itself verdict.section.name (subst (λ n. IsBefore n verdict.section.name) same (told d i Less (parts.0 i d (omega arith) low)))
+        | inr high ↦ before-itself verdict.section.name (subst (IsBefore verdict.section.name) same (told d i Greater (parts.1 i d high inside)))
+      ]))
 
 -- what stays
 pub stays-itself : (roll : List Slotted) → AllZip Stays roll roll
@@ -113,8 +113,7 @@ pub stays-rises : (a b : List Slotted) → AllZip Stays a b → RollRises a → 
 stays-rises a b stays rises i j d less inside =
     let long : length a ≡ length b = length_all_zip Stays a b stays in
     let at : (k : ℕ) → k < length b → (get_or b k d).checked ≡ (get_or a k d).checked = λ k low. (AllZip-get_or Stays a b k d d stays (omega (arith, long, low))).checked in
-    subst (λ (c : Checked). IsBefore c.section.name (name_in (get_or b j d))) (sym (at i (omega (arith, less, inside))))
-    (subst (λ (c : Checked). IsBefore (name_in (get_or a i d)) c.section.name) (sym (at j inside)) (rises i j d less (omega (arith, long, inside))))
+    rw (at i (omega (arith, less, inside)), at j inside) (rises i j d less (omega (arith, long, inside)))
 
 module _ (profile : Profile) (ss : List Trace) (roll : List Slotted) (moved : IsPermutation (slots_by profile ss) roll) where
   names-slots : map name_in (slots_by profile ss) ≡ names_of ss
@@ -130,13 +129,9 @@ module _ (profile : Profile) (ss : List Trace) (roll : List Slotted) (moved : Is
       let b = name_in (get_or roll j d) in
       let far = sorted_far (λ x y. is_lt (compared (name_in x) (name_in y))) (ranks_by names_total name_in) roll sorted i j d (omega (arith, less)) inside in
       let named : (k : ℕ) → k < length roll → get_or (map name_in roll) k b ≡ name_in (get_or roll k d) = λ k low. get_or-map name_in roll k d b low in
-      elim (before-total a b) [
-        | inl before ↦ before
-        | inr rest ↦ elim rest [
-            | inl same ↦ absurd (own-names own b (some_two (is_name b) (map name_in roll) i j b less (omega (arith, inside, length-map roll name_in)) (is_name-yes b _ (named i (omega (arith, less, inside)) ∙ same)) (is_name-yes b _ (named j inside))))
-            | inr behind ↦ absurd (before-compares b a behind far)
-          ]
-      ]
+      let apart : a ≢ b = λ same. own-names own b (some_two (is_name b) (map name_in roll) i j b less (omega (arith, inside, length-map roll name_in)) (is_name-yes b _ (named i (omega (arith, less, inside)) ∙ same)) (is_name-yes b _ (named j inside))) in
+      let ahead : IsBefore b a → ⊥ = λ behind. before-compares b a behind far in
+      grind (arith, common_steps, before-total, apart, ahead)
 
   -- each slot is by the profile
   pub by-profile : All (λ (s : Slotted). s.checked.profile ≡ profile) roll
