@@ -1,2 +1,3 @@
 pub mod WorkingLemmas
+pub mod RollLemmas
 pub mod GatherLemmas

@@ -1,9 +1,8 @@
 //! The sections that were handed in, in the order of their names.
 
-ghost use Rattle.std.specs.Prelude.{◌≡◌, ◌≤◌, map, length, vec_len, IfOk, IfErr, IsPermutation};
-ghost use Rattle.pmf_verdict.specs.Checked.{checked_by};
+ghost use Rattle.std.specs.{Prelude.{◌≡◌, ◌≤◌, All, map, length, vec_len, IfOk, IfErr, IsPermutation}, List.{AllZip}};
 ghost use Rattle.pmf_ledger.specs.Repeats.{HaveOwnNames};
-ghost use Rattle.pmf_farm.specs.Rolls.{IsRepeatOf};
+ghost use Rattle.pmf_farm.specs.Rolls.{IsRepeatOf, Keeps, RollRises, slots_by};
 
 use crate::fault::FarmFault;
 use crate::slot::Slot;
@@ -20,7 +19,9 @@ fn slots_of(
     profile: Profile,
 ) -> Result<Vec<Slot>, AllocError>
     requires few { length sections.now ≤ 65536 }
-    ensures { IfOk result (λ roll. roll.items ≡ map (λ s. checked_by profile s.value) sections.now) }
+    ensures same { IfOk result (λ roll.
+        roll.items ≡ slots_by profile (map (λ s. s.value) sections.now)) }
+    ensures len { IfOk result (λ roll. vec_len roll ≡ length sections.now) }
 {
     let mut roll = Vec::with_capacity(alloc, sections.len())?;
     for place in 0..sections.len() {
@@ -39,7 +40,9 @@ pub(crate) fn call(
 ) -> Result<Vec<Slot>, FarmFault>
     requires few { length sections.now ≤ 65536 }
     ensures same { IfOk result (λ roll.
-        IsPermutation (map (λ s. checked_by profile s.value) sections.now) roll.items) }
+        IsPermutation (slots_by profile (map (λ s. s.value) sections.now)) roll.items) }
+    ensures profile { IfOk result (λ roll. All (λ s. s.checked.profile ≡ profile) roll.items) }
+    ensures rises { IfOk result (λ roll. RollRises roll.items) }
     ensures len { IfOk result (λ roll. vec_len roll ≡ length sections.now) }
     ensures own { IfOk result (λ roll. HaveOwnNames (map (λ s. s.value) sections.now)) }
     ensures refused { IfErr result (IsRepeatOf (map (λ s. s.value) sections.now)) }
@@ -54,7 +57,8 @@ pub(crate) fn call(
 
 /// Keeps the verdict in the slot of its section, if it is one of a section of the roll. Any other is dropped.
 pub(crate) fn keep(roll: &mut [Slot], verdict: Verdict)
-    ensures { roll.new ≡ roll.old }
+    requires { RollRises roll.old }
+    ensures { AllZip (Keeps verdict) roll.old roll.new }
 {
     if let Ok(place) = roll.binary_search_by_key(&verdict.name(), |slot| slot.name()) {
         roll[place].keep(verdict);

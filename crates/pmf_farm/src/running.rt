@@ -1,8 +1,10 @@
 //! A farm: workers on threads of their own, and the ledger of what they and the caller's own thread checked.
 
-ghost use Rattle.std.specs.Prelude.{◌≡◌, ◌≤◌, map, length, vec_len, IfOk, IfErr, All};
+ghost use Rattle.std.specs.{Prelude.{◌≡◌, ◌<◌, ◌≤◌, [], get_or, map, length, vec_len, IfOk, IfErr, All, AllPairs, Ok}, List.{AllZip}};
+ghost use Rattle.pmf_board.specs.Calls.{PassesOverAll};
+ghost use Rattle.pmf_verdict.specs.Checked.{checked_by};
 ghost use Rattle.pmf_ledger.specs.{Gathered.{IsLedgerOf}, Repeats.{HaveOwnNames}};
-ghost use Rattle.pmf_farm.specs.{Rolls.{IsRepeatOf, sections_of}, Running.{IsRefused, IsTaken}};
+ghost use Rattle.pmf_farm.specs.{Rolls.{IsRepeatOf, RollRises, Stays, checks, sections_of}, Running.{IsRefused, IsTaken}, Working.{HasWorked, IsLost, most_left}};
 
 use crate::fault::FarmFault;
 use crate::gate::Gate;
@@ -10,7 +12,7 @@ use crate::outbox::ChannelOutbox;
 use crate::queue::{Queue, QueueGate};
 use crate::roll::{call, keep};
 use crate::slot::Slot;
-use crate::working::work;
+use crate::working::{Ended, work};
 use crossbeam_channel::{Receiver, Sender, unbounded};
 use pmf_board::{Board, MOST_SECTIONS, MOST_WORKERS, Pass};
 use pmf_event::{Profile, Section};
@@ -38,7 +40,9 @@ fn hands_of(
     channel: &Sender<Verdict, Global>,
 ) -> Result<Vec<Hand>, AllocError>
     requires own { first.old.board ≡ board.now }
-    ensures { IfOk result (λ hands. All (λ h. h.pass.board ≡ board.now) hands.items) }
+    ensures own { IfOk result (λ hands. All (λ h. h.pass.board ≡ board.now) hands.items) }
+    ensures numbers { IfOk result (λ hands. AllPairs (λ a b. a.number < b.number) hands.items) }
+    ensures few { IfOk result (λ hands. All (λ h. h.number < workers) hands.items) }
 {
     let mut hands = Vec::with_capacity(alloc, workers as usize)?;
     for number in 0..workers {
@@ -55,18 +59,23 @@ fn hands_of(
     Ok(hands)
 }
 
-// What the thread of a worker does.
-fn work_on_thread<R: Wait, G: Gate>(
-    rt: &R,
+// What the thread of a worker does. However it ended, the caller's own thread checks what is missing.
+fn work_on_thread<'a, R: Wait, G: Gate>(
+    rt: &'a R,
     alloc: Global,
     board: &Board,
     hand: Hand,
     queue: &Queue,
-    profile: Profile,
     gate: &G,
-)
+) -> (Pass, ChannelOutbox<'a, R>, Result<Ended, AllocError>)
     requires own { hand.pass.board ≡ board.now }
     requires all { vec_len queue.now.sections ≡ board.now.words }
+    ensures worked { HasWorked (map (λ s. s.value) queue.now.sections.items) queue.now.profile
+        hand.pass.view result.0.view [] (map (λ s. checked_by s.profile s.section.value) result.1.sent.items)
+        (most_left result.2) }
+    ensures lost { (result.2 ≡ Ok Ended.Lost) → IsLost (λ worker section.
+        G.answers gate.now worker (get_or queue.now.places.items section section)) hand.number result.0.view }
+    ensures all { (result.2 ≡ Ok Ended.All) → PassesOverAll 8 board.now.words result.0.view }
 {
     let Hand {
         number,
@@ -76,22 +85,23 @@ fn work_on_thread<R: Wait, G: Gate>(
     let mut outbox = ChannelOutbox::new(rt, alloc, channel);
     let gate = QueueGate { queue, gate };
     let sections = queue.sections.as_slice();
-    // However it ended, the caller's own thread checks what is missing.
-    drop(work(
+    let ended = work(
         alloc,
         board,
         &mut pass,
         sections,
         number,
-        profile,
+        queue.profile,
         &mut outbox,
         &gate,
-    ));
+    );
+    (pass, outbox, ended)
 }
 
 // The roll with the verdicts that arrive until no sender is left.
 fn collect<R: Wait>(rt: &R, channel: &Receiver<Verdict, Global>, mut roll: Vec<Slot>) -> Vec<Slot>
-    ensures { result.items ≡ roll.items }
+    requires { RollRises roll.items }
+    ensures { AllZip Stays roll.items result.items }
 {
     for verdict in channel.iter(rt) {
         keep(roll.as_mut_slice(), verdict);
@@ -107,14 +117,14 @@ fn farm_out<R: Threads + Wait + Sync, G: Gate + Sync>(
     board: &Board,
     hands: Vec<Hand>,
     queue: &Queue,
-    profile: Profile,
     gate: &G,
     channel: &Receiver<Verdict, Global>,
     roll: Vec<Slot>,
 ) -> Vec<Slot>
     requires own { All (λ h. h.pass.board ≡ board.now) hands.items }
     requires all { vec_len queue.now.sections ≡ board.now.words }
-    ensures { result.items ≡ roll.items }
+    requires rises { RollRises roll.items }
+    ensures { AllZip Stays roll.items result.items }
 {
     thread::scope(
         thread::scope_env(),
@@ -122,14 +132,15 @@ fn farm_out<R: Threads + Wait + Sync, G: Gate + Sync>(
         |scope| -> Vec<Slot>
             requires own { All (λ h. h.pass.board ≡ board.now) hands.items }
             requires all { vec_len queue.now.sections ≡ board.now.words }
-            ensures { result.items ≡ roll.items }
+            requires rises { RollRises roll.items }
+            ensures { AllZip Stays roll.items result.items }
         {
             for hand in hands {
                 drop(scope.spawn(
                     move ||
                         requires own { hand.pass.board ≡ board.now }
                         requires all { vec_len queue.now.sections ≡ board.now.words }
-                    { work_on_thread(rt, alloc, board, hand, queue, profile, gate) },
+                    { drop(work_on_thread(rt, alloc, board, hand, queue, gate)) },
                 ));
             }
             collect(rt, channel, roll)
@@ -144,7 +155,7 @@ fn gather<G: Gate>(
     profile: Profile,
     gate: &G,
 ) -> Result<Ledger, AllocError>
-    ensures { IfOk result (IsLedgerOf profile (sections_of roll.items)) }
+    ensures { IfOk result (IsLedgerOf profile (sections_of (checks roll.items))) }
 {
     let mut ledger = Ledger::new(alloc, profile);
     for slot in roll {
@@ -175,7 +186,7 @@ fn check_all<R: Threads + Wait + Sync, G: Gate + Sync>(
         return Ok(Ledger::new(alloc, profile));
     }
     let roll = call(alloc, sections, profile)?;
-    let queue = Queue::new(alloc, roll.as_slice())?;
+    let queue = Queue::new(alloc, roll.as_slice(), profile)?;
     let count = sections.len() as u32;
     let Ok((board, mut first)) = Board::new(alloc, count) else {
         return Err(FarmFault::OutOfMemory);
@@ -185,9 +196,7 @@ fn check_all<R: Threads + Wait + Sync, G: Gate + Sync>(
     let hands = hands_of(alloc, &board, &mut first, workers.min(count), &sender)?;
     // From then on only workers can send.
     drop(sender);
-    let roll = farm_out(
-        rt, alloc, &board, hands, &queue, profile, gate, &receiver, roll,
-    );
+    let roll = farm_out(rt, alloc, &board, hands, &queue, gate, &receiver, roll);
     let ledger = gather(alloc, roll, profile, gate)?;
     Ok(ledger)
 }

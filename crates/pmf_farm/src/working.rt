@@ -4,7 +4,7 @@ ghost use Rattle.std.specs.Prelude.{◌≡◌, ◌≢◌, ◌<◌, length, map, 
 ghost use Rattle.pmf_board.specs.{Calls.{PassesOverAll, Stays, Takes}, Views.{HasTaken}};
 ghost use Rattle.pmf_verdict.specs.Checked.{checked_by};
 ghost use Rattle.pmf_ledger.specs.Repeats.{section_at};
-ghost use Rattle.pmf_farm.specs.Working.{HasWorked, Serves, limit_of, most_left};
+ghost use Rattle.pmf_farm.specs.Working.{HasWorked, IsLost, Serves, limit_of, most_left};
 
 use crate::gate::{Gate, Turn};
 use crate::outbox::Outbox;
@@ -65,6 +65,7 @@ impl<'a, G: Gate> Worker<'a, G> {
         requires taken { HasTaken pass.old.view task }
         requires there { task.section < self.now.board.now.words }
         ensures same { pass.new.board ≡ pass.old.board }
+        ensures told { IfOk result (G.answers self.now.gate.now self.now.number task.section) }
         ensures served { (result ≡ Ok Turn.Go)
             → Serves (map (λ s. s.value) self.now.sections.now) self.now.profile task
             pass.old.view pass.new.view (O.sent outbox.old) (O.sent outbox.new) }
@@ -128,6 +129,8 @@ impl<'a, G: Gate> Worker<'a, G> {
         ensures same { pass.new.board ≡ pass.old.board }
         ensures worked { HasWorked (map (λ s. s.value) self.now.sections.now) self.now.profile
             pass.old.view pass.new.view (O.sent outbox.old) (O.sent outbox.new) (most_left result) }
+        ensures lost { (result ≡ Ok Ended.Lost)
+            → IsLost (G.answers self.now.gate.now) self.now.number pass.new.view }
         ensures all { (result ≡ Ok Ended.All)
             → PassesOverAll (limit_of again) self.now.board.now.words pass.new.view }
     {
@@ -151,6 +154,8 @@ impl<'a, G: Gate> Worker<'a, G> {
         ensures same { pass.new.board ≡ pass.old.board }
         ensures worked { HasWorked (map (λ s. s.value) self.now.sections.now) self.now.profile
             pass.old.view pass.new.view (O.sent outbox.old) (O.sent outbox.new) (most_left result) }
+        ensures lost { (result ≡ Ok Ended.Lost)
+            → IsLost (G.answers self.now.gate.now) self.now.number pass.new.view }
     {
         for section in 0..self.board.sections() {
             if self.is_done_soon(pass, section) {
@@ -192,6 +197,9 @@ pub fn work<O: Outbox, G: Gate>(
     // What it put are, in order, the verdicts of the sections that it marked; it took those and at most one more.
     ensures worked { HasWorked (map (λ s. s.value) sections.now) profile
         pass.old.view pass.new.view (O.sent outbox.old) (O.sent outbox.new) (most_left result) }
+
+    // At Lost its gate lost it, by its own number, over a section that it took.
+    ensures lost { (result ≡ Ok Ended.Lost) → IsLost (G.answers gate.now) worker pass.new.view }
 
     // At All each section was seen done, or with 8 hand-outs.
     ensures all { (result ≡ Ok Ended.All) → PassesOverAll 8 board.now.words pass.new.view }

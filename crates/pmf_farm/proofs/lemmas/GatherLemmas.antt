@@ -1,9 +1,9 @@
 -- A ledger that gains the sections of a roll one after another.
-use Rattle.std.proofs.{Common.{map, refl, ◌≡◌, List, ◌∷◌, [], ◌++◌, sym, ap, subst, inl, inr, IsPermutation}, lemmas.List.{map-append}, lemmas.List.Sorted.{Contains-permutation, IsPermutation-map, IsPermutation-sym}, lemmas.List.Elements.{Contains-append_left, Contains-append_right, Contains-append_cases}}
+use Rattle.std.proofs.{Common.{map, refl, ◌≡◌, List, ◌∷◌, [], ◌++◌, sym, ◌∙◌, ap, subst, inl, inr, IsPermutation}, lemmas.List.{map-append}, lemmas.List.Sorted.{Contains-permutation, IsPermutation-map, IsPermutation-sym}, lemmas.List.Elements.{Contains-append_left, Contains-append_right, Contains-append_cases}}
 use Rattle.pmf_event.specs.{declared.profile.Profile.{Profile}, Section.{Trace}}
 use Rattle.pmf_verdict.specs.Checked.{Checked, checked_by}
 use Rattle.pmf_ledger.specs.{Gathered.{Gathers, IsLedgerOf}, LedgerValue.{LedgerValue}}
-use Rattle.pmf_farm.specs.Rolls.{sections_of}
+use Rattle.pmf_farm.specs.Rolls.{Slotted, checks, sections_of}
 
 -- where the section stands in the set doesn't count
 pub IsLedgerOf-push : (profile : Profile) (set : List Trace) (section : Trace) (ledger : LedgerValue) → IsLedgerOf profile (section ∷ set) ledger → IsLedgerOf profile (set ++ section ∷ []) ledger
@@ -24,14 +24,14 @@ IsLedgerOf-push profile set section ledger is = record {
 }
 
 -- a ledger that took the verdict of one more slot
-pub IsLedgerOf-more : (profile : Profile) (roll : List Checked) (slot verdict : Checked) (old new : LedgerValue) → verdict ≡ slot →
-    Gathers old verdict.section new → IsLedgerOf profile (sections_of roll) old → IsLedgerOf profile (sections_of (roll ++ slot ∷ [])) new
+pub IsLedgerOf-more : (profile : Profile) (roll : List Slotted) (slot : Slotted) (verdict : Checked) (old new : LedgerValue) → verdict ≡ slot.checked →
+    Gathers old verdict.section new → IsLedgerOf profile (sections_of (checks roll)) old → IsLedgerOf profile (sections_of (checks (roll ++ slot ∷ []))) new
 IsLedgerOf-more profile roll slot verdict old new of gathers is =
-    let set = sections_of roll in
+    let set = sections_of (checks roll) in
     let held = gathers set (subst (λ p. IsLedgerOf p set old) (sym is.profile_is) is) in
     let by = subst (λ p. IsLedgerOf p (verdict.section ∷ set) new) is.profile_is held in
-    let one = IsLedgerOf-push profile set slot.section new (subst (λ (s : Trace). IsLedgerOf profile (s ∷ set) new) (ap (λ (v : Checked). v.section) of) by) in
-    subst (λ xs. IsLedgerOf profile xs new) (sym (map-append (λ (c : Checked). c.section) roll (slot ∷ []))) one
+    let one = IsLedgerOf-push profile set slot.checked.section new (subst (λ (s : Trace). IsLedgerOf profile (s ∷ set) new) (ap (λ (v : Checked). v.section) of) by) in
+    subst (λ xs. IsLedgerOf profile xs new) (sym (ap sections_of (map-append (λ (s : Slotted). s.checked) roll (slot ∷ [])) ∙ map-append (λ (c : Checked). c.section) (checks roll) (slot.checked ∷ []))) one
 
 -- the sections of checked sections are those sections
 pub sections-checked : (profile : Profile) (ss : List Trace) → sections_of (map (checked_by profile) ss) ≡ ss
@@ -51,8 +51,3 @@ IsLedgerOf-permuted profile sections roll ledger moved is =
       rises = is.rises;
       same = λ s. (λ held. Contains-permutation (sections_of roll) sections s back ((is.same s).0 held), λ found. (is.same s).1 (Contains-permutation sections (sections_of roll) s there found));
     }
-
--- the values of shared sections, checked, are those sections checked
-pub checked-values : {S : Type 0} (value : S → Trace) (profile : Profile) (ss : List S) → map (λ s. checked_by profile (value s)) ss ≡ map (checked_by profile) (map value ss)
-checked-values value profile [] = refl
-checked-values value profile (s ∷ ss) = ap (λ rest. checked_by profile (value s) ∷ rest) (checked-values value profile ss)

@@ -21,6 +21,8 @@ impl LosesFirst {
 }
 
 impl Gate for LosesFirst {
+    ghost answers = { λ _ _ _ _. Unit {0} };
+
     fn turn(&self, worker: u32, _section: u32) -> Turn {
         if worker == 0 && self.turns.fetch_add(1, Ordering::SeqCst).wrapping_add(1) == self.at {
             return Turn::Lost;
@@ -79,6 +81,8 @@ impl Holds {
 }
 
 impl Gate for Holds {
+    ghost answers = { λ _ _ _ _. Unit {0} };
+
     fn turn(&self, worker: u32, _section: u32) -> Turn {
         let own = if worker == 0 { 1 } else { 2 };
         if self.begun.fetch_or(own, Ordering::SeqCst) == 0 {
@@ -127,6 +131,8 @@ fn append(digits: &AtomicU64, place: u32) {
 }
 
 impl Gate for Keeps {
+    ghost answers = { λ _ _ _ _. Unit {0} };
+
     fn turn(&self, _worker: u32, section: u32) -> Turn {
         append(&self.turns, section);
         self.turn

@@ -22,21 +22,26 @@ fn two_workers_take_turns(rt: HostRuntime) -> Result<(), Fail> {
 fn farm_out<R: Threads + Wait + Sync + Abort, G: Gate + Sync>(
     rt: &R,
     alloc: Global,
+    profile: Profile,
     gate: &G,
 ) -> Result<(), Fail> {
     let mut sections = Vec::new(alloc);
     for (number, events) in [(3, 2), (1, 5), (4, 1), (2, 9)] {
         sections.push(fences(alloc, name(0, number), events)?)?;
     }
-    let ledger = run(rt, alloc, sections.as_slice(), 1, Profile::One, gate)?;
+    let ledger = run(rt, alloc, sections.as_slice(), 1, profile, gate)?;
     assert_eq!(rt; ledger.len(), 4);
     Ok(())
 }
 
-#[test]
-fn long_sections_are_taken_first_and_told_by_their_place(rt: HostRuntime) -> Result<(), Fail> {
+// Of no section the caller's own thread has to be told: each verdict is by the profile that was asked for, and kept.
+fn assert_all_kept<R: Threads + Wait + Sync + Abort>(
+    rt: &R,
+    alloc: Global,
+    profile: Profile,
+) -> Result<(), Fail> {
     let gate = Keeps::answering(Turn::Go);
-    farm_out(&rt, rt.alloc(), &gate)?;
+    farm_out(rt, alloc, profile, &gate)?;
     // Its gate loses no worker, so that one leaves a section for want of memory alone.
     if gate.missing_told() != 0 {
         return Err(AllocError.into());
@@ -46,9 +51,15 @@ fn long_sections_are_taken_first_and_told_by_their_place(rt: HostRuntime) -> Res
 }
 
 #[test]
+fn long_sections_are_taken_first_and_told_by_their_place(rt: HostRuntime) -> Result<(), Fail> {
+    assert_all_kept(&rt, rt.alloc(), Profile::One)?;
+    assert_all_kept(&rt, rt.alloc(), Profile::Two)
+}
+
+#[test]
 fn sections_that_no_worker_did_are_told_by_their_place(rt: HostRuntime) -> Result<(), Fail> {
     let gate = Keeps::answering(Turn::Lost);
-    farm_out(&rt, rt.alloc(), &gate)?;
+    farm_out(&rt, rt.alloc(), Profile::One, &gate)?;
     assert_eq!(rt; gate.missing_told(), 2_413);
     // A worker has no turn at all for want of memory alone.
     if gate.turns() == 0 {

@@ -7,3 +7,7 @@ returns-clause-worked g c =
     (HasWorked-then _ _ _ _ _ _ _ _ _ (HasWorked-all _ _ _ _ _ _ _ c.in-Ok-All.field-0-is c.in-Ok-All.ensures.worked)
     (HasWorked-all _ _ _ _ _ _ _ c.in-Ok-All-serve_late.field-0-is c.in-Ok-All-serve_late.ensures.worked))
     c.serve_all-2.ensures.worked
+
+pub returns-in_default-serve_late-clause-worked : goal.returns-in_default-serve_late-clause-worked
+returns-in_default-serve_late-clause-worked g c =
+    HasWorked-then _ _ _ _ _ _ _ _ _ (HasWorked-all _ _ _ _ _ _ _ c.in-Ok-All.field-0-is c.in-Ok-All.ensures.worked) c.in_default-serve_late.ensures.worked
