@@ -20,8 +20,8 @@ use std::collections::BTreeMap;
 ///
 /// Every record goes out as it came, with its separators. What is put in stands in front of a record, and ends with `|`.
 /// Where there are several files, each part goes whole to the file that was the newest when the part began, and a marker goes out
-/// as long as its section is not cut. Memory: for the runs of equal bytes of each section's part, for those that its earlier parts
-/// stored to, and for each file.
+/// as long as its section is not cut. Memory: for each section its part's runs of equal bytes, up to 128 events that wait, and, once it
+/// is cut, the runs of the part before and of the bytes that those before it stored to; and for each file.
 #[derive(Debug, Drop)]
 pub struct Cutter {
     alloc: Global,
