@@ -60,8 +60,8 @@ pub(crate) fn answer<
         Request::Locate(sought) => answer_to(rt, alloc, source, sink, sought),
         Request::Lint => answer_to(rt, alloc, source, sink, &Overview),
         Request::Cut(cuts) => {
-            if !can_be_cut(*cuts) {
-                return refuse_cuts(rt, *cuts);
+            if let Some(why) = refusal_of(*cuts) {
+                return refused(rt, why);
             }
             match cuts.files {
                 Some(_) => cut_to(rt, alloc, source, parts, cuts.lengths, Some(cuts.bytes)),
@@ -73,29 +73,18 @@ pub(crate) fn answer<
     }
 }
 
-// Whether a log may be cut so.
-fn can_be_cut(cuts: Cuts) -> bool
-    ensures { result ≡ can_cut cuts.entry }
+// Why a log may not be cut so.
+fn refusal_of(cuts: Cuts) -> Option<&'static str>
+    ensures { is_none result ≡ can_cut cuts.entry }
 {
     let events = cuts.lengths.events as usize;
-    0 < events
-        && events <= EVENT_LIMIT
-        && 0 < cuts.lengths.step
-        && 1024 <= cuts.bytes
-        && cuts.bytes <= LOG_LIMIT as u64
-}
-
-fn refuse_cuts<R: Eprint>(rt: &R, cuts: Cuts) -> Ended
-    ensures { result ≡ Status.Refused }
-{
-    let events = cuts.lengths.events as usize;
-    if 0 < events && events <= EVENT_LIMIT && 0 < cuts.lengths.step {
-        return refused(rt, "error: a file has 1024 to 268435456 bytes\n");
+    if events == 0 || EVENT_LIMIT < events || cuts.lengths.step == 0 {
+        return Some("error: a piece has 1 to 1048576 events, and a step is at least 1\n");
     }
-    refused(
-        rt,
-        "error: a piece has 1 to 1048576 events, and a step is at least 1\n",
-    )
+    if cuts.bytes < 1024 || LOG_LIMIT as u64 < cuts.bytes {
+        return Some("error: a file has 1024 to 268435456 bytes\n");
+    }
+    None
 }
 
 // Joins the ledgers of the files, which are read whole before any is loaded.

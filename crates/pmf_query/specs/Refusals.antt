@@ -21,20 +21,24 @@ IsMissing section event log fault.NoSection = (t : Trace) → IsSection section 
 IsMissing section event log fault.NoEvent = (t : Trace) × IsSection section log t × (IsPlace event t → ⊥)
 IsMissing section event log _ = ⊥
 
--- the fault is why the bytes have no such event, want of memory aside: the log's own fault, and else what it lacks
+-- the log has this event
+abbrev pub HasPlace : ℕ → ℕ → LogValue → Type 0
+HasPlace section event log = (t : Trace) × IsSection section log t × IsPlace event t
+
+-- the fault is why the bytes give no answer: the log's own fault, want of memory aside, and else what it lacks; memory was wanted where it lacks nothing
 abbrev pub IsEventFault : ℕ → ℕ → ℕ → List ℕ → EventFault → Type 0
 IsEventFault run section event bytes (fault.Log found) = found ≢ out_of_memory → log_of run bytes ≡ Err found
-IsEventFault run section event bytes fault.OutOfMemory = Unit {0}
+IsEventFault run section event bytes fault.OutOfMemory = (log : LogValue) × (log_of run bytes ≡ Ok log) × HasPlace section event log
 IsEventFault run section event bytes found = (log : LogValue) × (log_of run bytes ≡ Ok log) × IsMissing section event log found
 
 -- the same, told with the event that is sought
 abbrev pub IsEventRefusal : Sought → List ℕ → EventRefusal → Type 0
 IsEventRefusal sought bytes found = (found.sought ≡ sought) × IsEventFault sought.run sought.section sought.event bytes found.fault
 
--- the fault is the log's own, want of memory aside
+-- the fault is the log's own, want of memory aside; or memory was wanted for an answer of a log without a fault
 abbrev pub IsLogRefusal : ℕ → List ℕ → LogRefusal → Type 0
 IsLogRefusal run bytes (refusal.Log found) = found ≢ out_of_memory → log_of run bytes ≡ Err found
-IsLogRefusal run bytes refusal.OutOfMemory = Unit {0}
+IsLogRefusal run bytes refusal.OutOfMemory = (log : LogValue) × (log_of run bytes ≡ Ok log)
 
 -- `no section R.N`, and `no event K in section R.N`
 abbrev pub no_section : ℕ → ℕ → List ℕ
