@@ -1,6 +1,5 @@
 -- Worked examples of ledgers that hold one name with different events, and of their text lines, by the definitions alone.
-use Rattle.std.specs.Fmt.{digits}
-use Rattle.std.proofs.Common.{◌≡◌, ◌≢◌, [], ◌∷◌, length, codes, refl, sym, ◌∙◌, ap, subst, arith, inl, inr}
+use Rattle.std.{specs.Fmt.{digits}, proofs.Common.{◌≡◌, ◌≢◌, [], ◌∷◌, length, codes, refl, sym, ◌∙◌, ap, subst, arith, inl, inr}}
 use Rattle.pmf_event.specs.{declared.event.Event.TheVariants.{Fence}, declared.name.Name.{Name}, declared.profile.Profile.TheVariants.{One, Two}, Section.{Trace}}
 use Rattle.pmf_verdict.specs.Checked.{Checked, checked_by}
 use Rattle.pmf_ledger.{specs.Gathered.{ClashesAt, Holds, HoldsOther, IsLeastClash}, specs.LedgerText.{text_of_end, text_of_head, text_of_ledger}, specs.LedgerValue.{LedgerValue}, specs.Report.{text_of_counts, text_of_totals}, specs.Names.{IsBefore}, proofs.lemmas.AddingLemmas.{Contains-cons_cases}, proofs.lemmas.MergingLemmas.{none_of_empty}, proofs.lemmas.NameLemmas.{before-itself}}
