@@ -41,7 +41,8 @@ PassesOver limit sections start t v = (s : ℕ) → s < sections → round_from 
 abbrev pub PassesOverAll : ℕ → ℕ → View → Type 0
 PassesOverAll limit sections v = (s : ℕ) → s < sections → HasSeenClosed limit v s
 
--- the tally has each hand-out that the view took, each once and no others, and as done just what it marked
+-- the tally has each hand-out that the view took, each once and no others, as done just what it marked, and of what is done as many hand-outs as it saw
 pub record IsTallied (v : View) (tally : List Entry) : Type 0 where
   pub once : (s k : ℕ) → times s k v ≡ due tally s k
   pub done : (s : ℕ) → ((entry_at tally s).done ≡ true) ↔ HasMarked v s
+  pub frozen : (s : ℕ) → (entry_at tally s).done ≡ true → most_seen s v ≡ (entry_at tally s).handouts

@@ -1,6 +1,6 @@
 -- The board's rule on its words and on the views of all passes. Defined here.
-use Rattle.std.specs.Prelude.{◌≡◌, ℕ, ◌+◌, ◌%◌, ◌<◌, ◌≤◌, true, cond, ◌&&◌, leb, List, map, length, sum_by, ◌↔◌}
-use Rattle.pmf_board.specs.{declared.entry.Entry.{Entry}, declared.view.View.{View}, Machine.{entry, entry_at}, Views.{times, marks, most_seen, spent, HasSeenDone, HasMarked}}
+use Rattle.std.specs.Prelude.{◌≡◌, ℕ, ◌+◌, ◌%◌, ◌<◌, ◌≤◌, true, cond, ◌&&◌, leb, List, map, length, sum_by, ◌↔◌, Contains}
+use Rattle.pmf_board.specs.{declared.entry.Entry.{Entry}, declared.view.Sight.{Sight}, declared.view.View.{View}, Machine.{entry, entry_at}, Views.{times, marks, most_seen, spent, HasSeenDone, HasMarked}}
 use mathlib.Core.Option.{some}
 use lib.ListN.{get_elem?}
 
@@ -16,10 +16,11 @@ entry_of n = entry (n % 16) (leb 16 n)
 abbrev pub due : List Entry → ℕ → ℕ → ℕ
 due board s k = cond (leb 1 k && leb k (entry_at board s).handouts) 1 0
 
--- what a view saw is at most what stands, and only a spent view has no share
+-- what a view saw is at most what stands, what it saw done stands so, with as many hand-outs, what it marked it saw done, and only a spent view has no share
 pub record Fits (board : List Entry) (v : View) : Type 0 where
   pub most : (s : ℕ) → most_seen s v ≤ (entry_at board s).handouts
-  pub done : (s : ℕ) → HasSeenDone v s → (entry_at board s).done ≡ true
+  pub done : (x : Sight) → Contains v.saw x → x.entry.done ≡ true → entry_at board x.section ≡ x.entry
+  pub own : (s : ℕ) → HasMarked v s → HasSeenDone v s
   pub idle : v.shares ≡ 0 → v ≡ spent
 
 -- no section has more than 8 hand-outs, shares add up to 65, each view fits, each hand-out was taken once, and a section is done exactly where some view marked it
@@ -37,9 +38,10 @@ pub record Rules (sections : ℕ) (words : List ℕ) (views : List View) : Type 
   pub as_many : length board ≡ sections
   pub is_kept : IsKept board views
 
--- what the view saw and marked agrees with the entry: it isn't above it
+-- what the view saw and marked agrees with the entry: it isn't above it, and what was seen done has no more hand-outs
 pub record Agrees (v : View) (s : ℕ) (e : Entry) : Type 0 where
   pub few : e.handouts ≤ 8
   pub most : most_seen s v ≤ e.handouts
   pub done : HasSeenDone v s → e.done ≡ true
   pub marked : HasMarked v s → e.done ≡ true
+  pub frozen : HasSeenDone v s → most_seen s v ≡ e.handouts

@@ -1,5 +1,5 @@
 -- What a pass took, marked and saw, told by looking back over its lists. Defined here.
-use Rattle.std.specs.Prelude.{ℕ, ◌+◌, ◌-◌, ◌<◌, ◌≤◌, max, Bool, true, false, cond, ◌&&◌, eqb, ◌⊎◌, List, [], ◌∷◌, ◌++◌, count_by}
+use Rattle.std.specs.Prelude.{ℕ, ◌+◌, ◌-◌, ◌<◌, ◌≤◌, max, Bool, true, false, cond, ◌&&◌, eqb, ◌⊎◌, ◌≡◌, List, [], ◌∷◌, ◌++◌, count_by, Contains}
 use Rattle.pmf_board.specs.{declared.entry.Entry.{Entry}, declared.task.Task.{Task}, declared.view.Sight.{Sight}, declared.view.View.{View}, Machine.{entry}}
 
 -- the task of the section with this number
@@ -67,10 +67,15 @@ HasSeenDone v s = 0 < dones s v
 abbrev pub HasSeenClosed : ℕ → View → ℕ → Type 0
 HasSeenClosed limit v s = HasSeenDone v s ⊎ (limit ≤ most_seen s v)
 
--- what was seen never falls
+-- of a section that was seen done, no sight has more hand-outs than that one
+abbrev pub IsFrozen : View → Type 0
+IsFrozen v = (x : Sight) → Contains v.saw x → x.entry.done ≡ true → most_seen x.section v ≤ x.entry.handouts
+
+-- what was seen never falls, and of a section that was seen done no more hand-outs are ever seen
 pub record NeverFalls (old new : View) : Type 0 where
   pub most : (s : ℕ) → most_seen s old ≤ most_seen s new
   pub done : (s : ℕ) → HasSeenDone old s → HasSeenDone new s
+  pub frozen : (s : ℕ) → HasSeenDone old s → most_seen s new ≡ most_seen s old
 
 -- the view after it saw the section so
 abbrev pub seen : View → ℕ → Entry → View

@@ -4,9 +4,10 @@
 //! steps on such words, and only [`Board::new`] takes memory. Every worker has a [`Pass`]. Contracts see of it a view:
 //! what it took, marked and saw, and its shares (`specs/Views`). [`Board::take_fresh`] and [`Board::take_again`] give a
 //! [`Task`] that was found on offer, with a number above all that the pass had seen, or tell that each section was seen
-//! handed out or done; what a pass marked or saw done is done for ever, by [`Board::is_done`] and by takes. Passes are
-//! split and joined; no hand-out is in two. Who holds all 65 shares closes the board and knows it whole: its [`Tally`]
-//! has each hand-out that the pass took, once, and as done just what it marked.
+//! handed out or done; what a pass marked or saw done is done for ever, by [`Board::is_done`] and by takes, and its
+//! hand-outs are what they were then. Passes are split and joined; no hand-out is in two. Who holds all 65 shares closes
+//! the board and knows it whole: its [`Tally`] has each hand-out that the pass took, once, and as done just what it
+//! marked.
 //!
 //! The definitions: `specs/Machine` (what stands of a section, takes and marks, with no word of atomics), `specs/Rule`
 //! (what holds of the words and of the views of all passes, between any two steps), `specs/Laws` (that the words and

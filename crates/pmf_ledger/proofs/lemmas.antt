@@ -16,6 +16,7 @@ pub mod GatheringLemmas
 pub mod ReadingLemmas
 pub mod LinesLemmas
 pub mod GivingLemmas
+pub mod RefusingLemmas
 pub mod AlikeLemmas
 pub mod SpelledLemmas
 pub mod LedgerTextLemmas

@@ -66,12 +66,17 @@ RefusesForCause = (gathering : Gathering) (profile : Profile) → Agrees (set_of
 abbrev pub GivesWhereItMay : Type 0
 GivesWhereItMay = (gathering : Gathering) (profile : Profile) → Agrees (set_of gathering) → IsBy profile gathering → (ledger : LedgerValue) × Gives gathering ledger
 
--- two gatherings are the same in all: they give one ledger, what the one gives the other gives, and then neither is
--- refused
+-- each gathering gives a ledger or is refused, and none does both
+abbrev pub GivesOrIsRefused : Type 0
+GivesOrIsRefused = (gathering : Gathering) →
+    (((ledger : LedgerValue) × Gives gathering ledger) ⊎ IsRefused gathering) × ((ledger : LedgerValue) → Gives gathering ledger → IsRefused gathering → ⊥)
+
+-- two gatherings are the same in all: they give one ledger, what the one gives the other gives, and the one is refused
+-- exactly where the other is
 pub record AreAlike (g h : Gathering) : Type 0 where
   pub same : (a b : LedgerValue) → Gives g a → Gives h b → a ≡ b
   pub gives : (a : LedgerValue) → Gives g a ↔ Gives h a
-  pub unrefused : (a : LedgerValue) → Gives g a → IsRefused g ⊎ IsRefused h → ⊥
+  pub refused : IsRefused g ↔ IsRefused h
 
 -- joining commutes
 abbrev pub JoiningCommutes : Type 0

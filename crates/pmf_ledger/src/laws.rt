@@ -1,6 +1,6 @@
 //! Laws of gatherings, of their ledgers and of ledger texts, each the clause of an empty function.
 
-ghost use Rattle.pmf_ledger.specs.{AllKept.{AllRowsAreTrue, NoEmptyIsFilled, NoFailIsKept}, Gathering.{GivesItsLedger, GivesWhereItMay, JoiningAssociates, JoiningCommutes, JoiningRepeats, OnlyTheSetCounts, RefusesForCause}, Laws.{EqualSetsHaveOneLedger, TextsLoadAsOneLedger, WhatLoadsIsNotRefused}, ReportTold.{ReportsTellSections, ReportsTellTotals}};
+ghost use Rattle.pmf_ledger.specs.{AllKept.{AllRowsAreTrue, NoEmptyIsFilled, NoFailIsKept}, Gathering.{GivesItsLedger, GivesOrIsRefused, GivesWhereItMay, JoiningAssociates, JoiningCommutes, JoiningRepeats, OnlyTheSetCounts, RefusesForCause}, Laws.{EqualSetsHaveOneLedger, TextsLoadAsOneLedger, WhatLoadsIsNotRefused}, ReportTold.{ReportsTellSections, ReportsTellTotals}};
 
 /// Whatever ledger a gathering gives, in whatever order it took and joined, it is the ledger of the set that
 /// was gathered: each of its sections once, in the order of their names. That set agrees, and all is by one
@@ -22,29 +22,32 @@ pub fn gatherings_that_agree_give_a_ledger()
     ensures { GivesWhereItMay }
 {}
 
-/// Joined the one way or the other, two gatherings give one ledger, and neither way is refused where the
-/// other gives one.
-#[tactic(auto, using(std::proofs::lemmas::Grind::common_steps, crate::proofs::lemmas::AlikeLemmas::joining_commutes))]
+/// A gathering is refused exactly where it can't give a ledger: whatever was gathered, there is a ledger of it or a
+/// step that is refused for cause, and never both. So what is said of refusals is said of all that lacks a ledger.
+#[tactic(auto, using(std::proofs::lemmas::Grind::common_steps, crate::proofs::lemmas::RefusingLemmas::gives_or_is_refused))]
+pub fn gatherings_give_or_are_refused()
+    ensures { GivesOrIsRefused }
+{}
+
+/// Joined the one way or the other, two gatherings give one ledger, and the one way is refused exactly where the
+/// other is.
 pub fn joining_commutes()
     ensures { JoiningCommutes }
 {}
 
-/// Three gatherings give one ledger in whichever order the two joins are made, and neither order is refused
-/// where the other gives one.
-#[tactic(auto, using(std::proofs::lemmas::Grind::common_steps, crate::proofs::lemmas::AlikeLemmas::joining_associates))]
+/// Three gatherings give one ledger in whichever order the two joins are made, and the one order is refused exactly
+/// where the other is.
 pub fn joining_associates()
     ensures { JoiningAssociates }
 {}
 
-/// A gathering that is joined with itself gives what it gave, and is not refused where it gave a ledger.
-#[tactic(auto, using(std::proofs::lemmas::Grind::common_steps, crate::proofs::lemmas::AlikeLemmas::joining_repeats))]
+/// A gathering that is joined with itself gives what it gave, and is refused exactly where it was.
 pub fn joining_again_changes_nothing()
     ensures { JoiningRepeats }
 {}
 
-/// Two gatherings by one profile, of sets with the same members, give one ledger, and neither is refused
-/// where the other gives one: orders, repeats and joins leave no trace.
-#[tactic(auto, using(std::proofs::lemmas::Grind::common_steps, crate::proofs::lemmas::AlikeLemmas::set_counts))]
+/// Two gatherings by one profile, of sets with the same members, give one ledger, and the one is refused exactly
+/// where the other is: orders, repeats and joins leave no trace.
 pub fn only_the_set_counts()
     ensures { OnlyTheSetCounts }
 {}

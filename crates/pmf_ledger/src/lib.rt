@@ -31,10 +31,11 @@ mod writing;
 pub use joining::JoinFault;
 pub use laws::{
     all_rows_are_true, equal_sets_have_one_ledger, gatherings_are_refused_for_cause_alone,
-    gatherings_give_the_ledger_of_their_set, gatherings_that_agree_give_a_ledger,
-    joining_again_changes_nothing, joining_associates, joining_commutes, no_empty_is_filled,
-    no_fail_is_kept, only_the_set_counts, reports_tell_their_sections, reports_tell_their_totals,
-    texts_load_as_one_ledger, what_loads_is_not_refused,
+    gatherings_give_or_are_refused, gatherings_give_the_ledger_of_their_set,
+    gatherings_that_agree_give_a_ledger, joining_again_changes_nothing, joining_associates,
+    joining_commutes, no_empty_is_filled, no_fail_is_kept, only_the_set_counts,
+    reports_tell_their_sections, reports_tell_their_totals, texts_load_as_one_ledger,
+    what_loads_is_not_refused,
 };
 pub use ledger::Ledger;
 pub use loading::{LEDGER_LIMIT, LedgerFault, load_ledger};

@@ -1,16 +1,31 @@
 -- What the calls do to what a pass knows, of one step and of several.
-use Rattle.std.proofs.{Common.{◌≡◌, ℕ, ◌+◌, ◌-◌, ◌%◌, ◌<◌, ◌≤◌, true, false, cond, ◌&&◌, eqb, count_by, ◌⊎◌, inl, inr, ⊎_elim, [], ◌∷◌, ◌++◌, refl, sym, ◌∙◌, ap, subst, arith, Option, Some, None, is_some, IfSome, IfNone, eq-eqb, le-leb}, lemmas.Bool.{lt-leb, cases_lt, true≢false}}
-use Rattle.pmf_board.{specs.declared.entry.Entry.{Entry}, specs.declared.task.Task.{Task}, specs.declared.view.View.{View}, specs.Machine.{entry}, specs.Views.{task, both, most_seen, seen, took, HasSeenDone, HasSeenClosed, NeverFalls}, specs.Rule.{Agrees, entry_of}, specs.Calls.{Stays, Takes, round_from}, proofs.lemmas.KeepLemmas.{bit, times-took, dones-both}, proofs.lemmas.SightLemmas.{most-append_left, most-append_right, most-more, most-here, dones-more, dones-here, dones-cons}}
+use Rattle.std.proofs.{Common.{◌≡◌, ℕ, ◌+◌, ◌-◌, ◌%◌, ◌<◌, ◌≤◌, true, false, cond, ◌&&◌, eqb, count_by, ◌⊎◌, inl, inr, ⊎_elim, [], ◌∷◌, ◌++◌, refl, sym, ◌∙◌, ap, subst, arith, Option, Some, None, is_some, IfSome, IfNone, eq-eqb, le-leb}, lemmas.Bool.{lt-leb, cases_lt, true≢false}, lemmas.List.Elements.{Contains-append_left, Contains-append_right}}
+use Rattle.pmf_board.{specs.declared.entry.Entry.{Entry}, specs.declared.task.Task.{Task}, specs.declared.view.View.{View}, specs.Machine.{entry}, specs.Views.{task, both, most_seen, seen, took, marked, HasSeenDone, HasSeenClosed, IsFrozen, NeverFalls}, specs.Rule.{Agrees, entry_of}, specs.Calls.{Marks, Stays, Takes, round_from}, proofs.lemmas.KeepLemmas.{bit, times-took, dones-both}, proofs.lemmas.SightLemmas.{most-le, most-of, dones-found, most-append_left, most-append_right, most-more, most-here, dones-more, dones-here, dones-cons}}
 
-NeverFalls-step : (v w : View) (s : ℕ) (e : Entry) → w.saw ≡ (seen v s e).saw → NeverFalls v w
-NeverFalls-step v w s e is = subst (λ saw. NeverFalls v (record { took = w.took; marked = w.marked; saw = saw; shares = w.shares })) (sym is)
-    (record { most = λ t. most-more s e v.saw t; done = λ t d. omega (arith, d, dones-more s e v.saw t) })
+pub NeverFalls-step : (v w : View) (s : ℕ) (e : Entry) → (HasSeenDone v s → e.handouts ≤ most_seen s v) → w.saw ≡ (seen v s e).saw → NeverFalls v w
+NeverFalls-step v w s e still is = subst (λ saw. NeverFalls v (record { took = w.took; marked = w.marked; saw = saw; shares = w.shares })) (sym is)
+    (record {
+      most = λ t. most-more s e v.saw t;
+      done = λ t d. omega (arith, d, dones-more s e v.saw t);
+      frozen = λ t d.
+          let le = most-le s t (most_seen t v) e v.saw (λ same. subst (λ (k : ℕ). HasSeenDone v k → e.handouts ≤ most_seen k v) same still d) (omega arith) in
+          omega (arith, le, most-more s e v.saw t);
+    })
 
 pub NeverFalls-both : (u v w : View) → NeverFalls u v → NeverFalls v w → NeverFalls u w
-NeverFalls-both u v w a b = record { most = λ s. omega (arith, a.most s, b.most s); done = λ s d. b.done s (a.done s d) }
+NeverFalls-both u v w a b = record { most = λ s. omega (arith, a.most s, b.most s); done = λ s d. b.done s (a.done s d); frozen = λ s d. b.frozen s (a.done s d) ∙ a.frozen s d }
 
-pub Stays-seen : (v w : View) (s : ℕ) (e : Entry) → w ≡ seen v s e → Stays v w
-Stays-seen v w s e is = record { took = ap (λ u. u.took) is; marked = ap (λ u. u.marked) is; shares = ap (λ u. u.shares) is; never_falls = NeverFalls-step v w s e (ap (λ u. u.saw) is) }
+pub Stays-seen : (v w : View) (s : ℕ) (e : Entry) → Agrees v s e → w ≡ seen v s e → Stays v w
+Stays-seen v w s e agrees is = record { took = ap (λ u. u.took) is; marked = ap (λ u. u.marked) is; shares = ap (λ u. u.shares) is; never_falls = NeverFalls-step v w s e (λ d. omega (arith, agrees.frozen d)) (ap (λ u. u.saw) is) }
+
+pub Marks-marked : (v w : View) (s : ℕ) (e : Entry) → Agrees v s e → w ≡ marked v s e.handouts → Marks v s w
+Marks-marked v w s e agrees is = subst (Marks v s) (sym is) (record {
+  took = refl;
+  marked = refl;
+  shares = refl;
+  done = dones-here s (entry e.handouts true) v.saw refl;
+  never_falls = NeverFalls-step v (marked v s e.handouts) s (entry e.handouts true) (λ d. omega (arith, agrees.frozen d)) refl;
+})
 
 pub Stays-both : (u v w : View) → Stays u v → Stays v w → Stays u w
 Stays-both u v w a b = record { took = b.took ∙ a.took; marked = b.marked ∙ a.marked; shares = b.shares ∙ a.shares; never_falls = NeverFalls-both u v w a.never_falls b.never_falls }
@@ -33,7 +48,7 @@ Takes-took limit v w s e agrees not_done less is = subst (Takes limit v (task s 
   above = omega (arith, agrees.most);
   open_before = ((λ d. true≢false (sym (agrees.done d) ∙ not_done)), (λ m. true≢false (sym (agrees.marked m) ∙ not_done)));
   seen = (most-here s (entry (e.handouts + 1) false) v.saw (omega (arith, agrees.most)), (λ d. ⊎_elim (λ h. true≢false (sym h.1)) (λ h. true≢false (sym (agrees.done h) ∙ not_done)) (dones-cons s (entry (e.handouts + 1) false) v.saw s d)));
-  never_falls = NeverFalls-step v (took v (task s (e.handouts + 1))) s (entry (e.handouts + 1) false) refl;
+  never_falls = NeverFalls-step v (took v (task s (e.handouts + 1))) s (entry (e.handouts + 1) false) (λ d. absurd (true≢false (sym (agrees.done d) ∙ not_done))) refl;
 })
 
 pub Takes-after : (limit : ℕ) (u v w : View) (t : Task) → Stays u v → Takes limit v t w → Takes limit u t w
@@ -120,8 +135,22 @@ module _ {A : Type 0} {P Q : A → Type 0} where
   IfSome-then (Some x) f p = f x p
 
 -- what either of two joined passes saw never falls
-pub NeverFalls-left : (v w : View) → NeverFalls v (both v w)
-NeverFalls-left v w = record { most = λ s. most-append_left s v.saw w.saw; done = λ s d. omega (arith, d, dones-both v w s) }
+pub NeverFalls-left : (v w : View) → IsFrozen (both v w) → NeverFalls v (both v w)
+NeverFalls-left v w is = record {
+  most = λ s. most-append_left s v.saw w.saw;
+  done = λ s d. omega (arith, d, dones-both v w s);
+  frozen = λ s d.
+      let found = dones-found s v.saw d in
+      let top = is found.0 (Contains-append_left v.saw w.saw found.0 found.1) found.3 in
+      subst (λ (k : ℕ). most_seen k (both v w) ≡ most_seen k v) found.2 (omega (arith, top, most-of found.0 v.saw found.1, most-append_left found.0.section v.saw w.saw));
+}
 
-pub NeverFalls-right : (v w : View) → NeverFalls w (both v w)
-NeverFalls-right v w = record { most = λ s. most-append_right s v.saw w.saw; done = λ s d. omega (arith, d, dones-both v w s) }
+pub NeverFalls-right : (v w : View) → IsFrozen (both v w) → NeverFalls w (both v w)
+NeverFalls-right v w is = record {
+  most = λ s. most-append_right s v.saw w.saw;
+  done = λ s d. omega (arith, d, dones-both v w s);
+  frozen = λ s d.
+      let found = dones-found s w.saw d in
+      let top = is found.0 (Contains-append_right v.saw w.saw found.0 found.1) found.3 in
+      subst (λ (k : ℕ). most_seen k (both v w) ≡ most_seen k w) found.2 (omega (arith, top, most-of found.0 w.saw found.1, most-append_right found.0.section v.saw w.saw));
+}

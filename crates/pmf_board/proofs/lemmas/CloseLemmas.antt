@@ -1,7 +1,7 @@
 -- What the words say when a board is closed.
 use Rattle.std.proofs.{Common.{◌≡◌, ℕ, zero, suc, ◌+◌, ◌<◌, ◌≤◌, List, [], ◌∷◌, ◌++◌, map, take, length, get_or, refl, sym, ◌∙◌, ap, subst}, lemmas.List.{take_more}}
 use Rattle.atomic_table.specs.Table.{Final, Seen}
-use Rattle.pmf_board.{specs.declared.entry.Entry.{Entry}, specs.declared.view.View.{View}, specs.Machine.{entry_at}, specs.Rule.{word_of, entry_of}, specs.Calls.{IsTallied}, proofs.lemmas.WordLemmas.{entry_of-word}, proofs.lemmas.KeepLemmas.{alone-times, alone-done}, proofs.lemmas.StepLemmas.{Holds}}
+use Rattle.pmf_board.{specs.declared.entry.Entry.{Entry}, specs.declared.view.View.{View}, specs.Machine.{entry_at}, specs.Rule.{word_of, entry_of}, specs.Calls.{IsTallied}, proofs.lemmas.WordLemmas.{entry_of-word}, proofs.lemmas.KeepLemmas.{Fits-done, alone-times, alone-done}, proofs.lemmas.StepLemmas.{Holds}}
 use mathlib.Core.List.{map-append}
 use mathlib.Core.Option.{some, some-injective, some-ne-none}
 use lib.ListN.{get_elem?}
@@ -28,4 +28,6 @@ module _ (sections id : ℕ) (v : View) (words : List ℕ) (slots : List (Unit {
   closed-tallied =
       let r = final.1.0 in
       let same : map entry_of words ≡ r.board = ap (map entry_of) (sym final.2 ∙ r.words_are) ∙ read-board r.board r.is_kept.few in
-      subst (IsTallied v) (sym same) (record { once = alone-times r.board final.0.views id v r.is_kept final.1.1 all; done = alone-done r.board final.0.views id v r.is_kept final.1.1 all })
+      let done = alone-done r.board final.0.views id v r.is_kept final.1.1 all in
+      let fits = r.is_kept.fits id v final.1.1 in
+      subst (IsTallied v) (sym same) (record { once = alone-times r.board final.0.views id v r.is_kept final.1.1 all; done = done; frozen = λ s d. (Fits-done r.board v s fits (fits.own s ((done s).0 d))).1 })

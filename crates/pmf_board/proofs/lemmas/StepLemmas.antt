@@ -1,7 +1,7 @@
 -- The five kinds of step, as the table asks for them.
 use Rattle.std.proofs.{Common.{◌≡◌, ℕ, ◌+◌, ◌<◌, false, eqb, bit_or, [], length, get_or, set, replicate, refl, sym, ◌∙◌, ap, subst, arith, eq-eqb, ne_eqb, length-set}, lemmas.List.{map-set, set-get_or, length-replicate}}
 use Rattle.atomic_table.{proofs.Lists.{set_again}, specs.Table.{State, step, keeps, Allows, Splits, Joins, opening}}
-use Rattle.pmf_board.{specs.declared.view.View.{View}, specs.Machine.{entry_at, hand_out, mark, handed_out, finished}, specs.Views.{task, seen, took, marked, kept, given, both, spent, first_view}, specs.Rule.{Rules, IsKept, Agrees, word_of, entry_of}, specs.Steps.{Mine, looked, exchanged, raised, counted}, proofs.lemmas.WordLemmas.{entry_of-word, word-at, word-handed_out, word-finished, words-opening}, proofs.lemmas.KeepLemmas.{IsKept-moves, Moves-seen, Moves-took, Moves-marked, Agrees-at, IsKept-split, IsKept-join, IsKept-first, shares-le, times-le}}
+use Rattle.pmf_board.{specs.declared.view.View.{View}, specs.Machine.{entry_at, hand_out, mark, handed_out, finished}, specs.Views.{task, seen, took, marked, kept, given, both, spent, first_view}, specs.Rule.{Rules, IsKept, Agrees, word_of, entry_of}, specs.Steps.{Mine, looked, exchanged, raised, counted}, proofs.lemmas.WordLemmas.{entry_of-word, word-at, word-handed_out, word-finished, words-opening}, proofs.lemmas.KeepLemmas.{IsKept-moves, Moves-seen, Moves-took, Moves-marked, Agrees-at, IsKept-split, IsKept-join, IsKept-first, shares-le, times-le, frozen-at}}
 use mathlib.Core.Logic.{dite}
 use mathlib.Core.Option.{none, some}
 use native.Mathlib.Decide.{ℕ_discrete}
@@ -99,7 +99,7 @@ module _ (sections : ℕ) where
     keeps,
     tt,
     record { board = r.board; words_are = set-get_or s.words i 0 ∙ r.words_are; as_many = r.as_many; is_kept = subst (IsKept r.board) (sym (set_again s.views id me.0 at)) r.is_kept },
-    (refl, shares-le r.board s.views id me.0 r.is_kept at, times-le r.board s.views id me.0 r.is_kept at),
+    (refl, shares-le r.board s.views id me.0 r.is_kept at, times-le r.board s.views id me.0 r.is_kept at, frozen-at r.board s.views id me.0 r.is_kept at),
   )
 
   -- the split move

@@ -1,7 +1,7 @@
 -- Gatherings that are alike: only the set counts, and how it was joined doesn't.
 use Rattle.std.proofs.{Common.{◌≡◌, List, ◌++◌, sym, ap, subst, append_assoc, inl, inr, Contains}, lemmas.List.Elements.{Contains-append_cases, Contains-append_left, Contains-append_right}}
 use Rattle.pmf_event.specs.declared.profile.Profile.{Profile}
-use Rattle.pmf_ledger.{specs.Report.{report_of}, specs.Gathered.{IsLedgerOf}, specs.Gathering.{AreAlike, Gathering, Gives, HaveSameMembers, IsBy, Joined, JoiningAssociates, JoiningCommutes, JoiningRepeats, OnlyTheSetCounts, set_of}, specs.Laws.{EqualSetsHaveOneLedger}, specs.LedgerText.{text_of_ledger}, specs.LedgerValue.{LedgerValue}, proofs.lemmas.UniqueLemmas.{ledger_once}, proofs.lemmas.GatheringLemmas.{agrees_within, by_one, gives_ledger, refuses_for_cause}, proofs.lemmas.GivingLemmas.{gives_where_it_may}}
+use Rattle.pmf_ledger.{specs.Report.{report_of}, specs.Gathered.{IsLedgerOf}, specs.Gathering.{AreAlike, Gathering, Gives, HaveSameMembers, IsBy, IsRefused, Joined, JoiningAssociates, JoiningCommutes, JoiningRepeats, OnlyTheSetCounts, set_of}, specs.Laws.{EqualSetsHaveOneLedger}, specs.LedgerText.{text_of_ledger}, specs.LedgerValue.{LedgerValue}, proofs.lemmas.UniqueLemmas.{ledger_once}, proofs.lemmas.GatheringLemmas.{agrees_within, by_one, gives_ledger}, proofs.lemmas.GivingLemmas.{gives_where_it_may}, proofs.lemmas.RefusingLemmas.{gives_or_is_refused}}
 
 -- gatherings of sets with the same members give one ledger, where the profiles of the one are those of the other
 one_ledger : (g h : Gathering) → ((p : Profile) → IsBy p g → IsBy p h) → ((p : Profile) → IsBy p h → IsBy p g) → HaveSameMembers (set_of g) (set_of h) →
@@ -19,17 +19,19 @@ also_gives g h to from members a first =
     let given = gives_where_it_may h a.profile (agrees_within (set_of g) (set_of h) (λ s. (members s).1) of_a.1) (to a.profile of_a.2) in
     subst (Gives h) (sym (one_ledger g h to from members a given.0 first given.1)) given.1
 
+-- where the one is refused, the other is
+refused_too : (g h : Gathering) → ((p : Profile) → IsBy p g → IsBy p h) → ((p : Profile) → IsBy p h → IsBy p g) → HaveSameMembers (set_of g) (set_of h) → IsRefused g → IsRefused h
+refused_too g h to from members refused = elim (gives_or_is_refused h).0 [
+  | inl given ↦ absurd ((gives_or_is_refused g).1 given.0 (also_gives h g from to (λ s. ((members s).1, (members s).0)) given.0 given.1) refused)
+  | inr too ↦ too
+]
+
 -- gatherings of sets with the same members are alike, where the profiles of the one are those of the other
 alike : (g h : Gathering) → ((p : Profile) → IsBy p g → IsBy p h) → ((p : Profile) → IsBy p h → IsBy p g) → HaveSameMembers (set_of g) (set_of h) → AreAlike g h
 alike g h to from members = record {
   same = one_ledger g h to from members;
   gives = λ a. (also_gives g h to from members a, also_gives h g from to (λ s. ((members s).1, (members s).0)) a);
-  unrefused = λ a first refused.
-      let of_a = gives_ledger g a first in
-      elim refused [
-        | inl here ↦ refuses_for_cause g a.profile of_a.1 of_a.2 here
-        | inr there ↦ refuses_for_cause h a.profile (agrees_within (set_of g) (set_of h) (λ s. (members s).1) of_a.1) (to a.profile of_a.2) there
-      ];
+  refused = (refused_too g h to from members, refused_too h g from to (λ s. ((members s).1, (members s).0)));
 }
 
 turned : {X : Type 0} (xs ys : List X) (x : X) → Contains (xs ++ ys) x → Contains (ys ++ xs) x

@@ -1,5 +1,5 @@
 use Rattle.std.proofs.Common.{rules, ◌≡◌, ◌+◌, ◌≤◌, ap, sym, subst, ◌∙◌, arith}
-use Rattle.pmf_board.{specs.Passes.{PassValue}, specs.Views.{times, both, NeverFalls}, specs.Steps.{Mine}, proofs.lemmas.StepLemmas.{joins, counts}, proofs.lemmas.KeepLemmas.{times-both}, proofs.lemmas.CallLemmas.{NeverFalls-left, NeverFalls-right}, proofs.lemmas.PassLemmas.{at-equal, after-join}}
+use Rattle.pmf_board.{specs.Passes.{PassValue}, specs.Views.{times, both, IsFrozen, NeverFalls}, specs.Steps.{Mine}, proofs.lemmas.StepLemmas.{joins, counts}, proofs.lemmas.KeepLemmas.{times-both}, proofs.lemmas.CallLemmas.{NeverFalls-left, NeverFalls-right}, proofs.lemmas.PassLemmas.{at-equal, after-join}}
 use Rattle.pmf_board.proofs.board.Board.join.Goals as goal
 
 pub join_seat-requires : goal.join_seat-requires
@@ -26,4 +26,5 @@ returns-clause-apart c s k =
 pub returns-clause-never_falls : goal.returns-clause-never_falls
 returns-clause-never_falls c =
     let joined : c.load.new.seat.me.0 ≡ both c.args.pass.now.view c.args.other.view = search rules in
-    (subst (NeverFalls c.args.pass.now.view) (sym joined) (NeverFalls-left c.args.pass.now.view c.args.other.view), subst (NeverFalls c.args.other.view) (sym joined) (NeverFalls-right c.args.pass.now.view c.args.other.view))
+    let is : IsFrozen (both c.args.pass.now.view c.args.other.view) = subst IsFrozen (ap (λ (m : Mine). m.0) (sym c.load.ensures.2.0) ∙ joined) c.load.ensures.2.3 in
+    (subst (NeverFalls c.args.pass.now.view) (sym joined) (NeverFalls-left c.args.pass.now.view c.args.other.view is), subst (NeverFalls c.args.other.view) (sym joined) (NeverFalls-right c.args.pass.now.view c.args.other.view is))

@@ -1,5 +1,5 @@
-use Rattle.std.proofs.Common.{rules, ◌≡◌, ◌<◌, subst, sym}
-use Rattle.pmf_board.{specs.Passes.{PassValue, BoardId}, specs.Rule.{entry_of}, specs.Views.{HasTaken}, proofs.lemmas.StepLemmas.{raises}, proofs.lemmas.PassLemmas.{at-equal, after-marked}}
+use Rattle.std.proofs.Common.{rules, ◌≡◌, ◌<◌, ap, subst, sym}
+use Rattle.pmf_board.{specs.Passes.{PassValue, BoardId}, specs.Rule.{entry_of}, specs.Calls.{Marks}, specs.Steps.{Mine}, specs.Views.{HasTaken}, proofs.lemmas.CallLemmas.{Marks-marked}, proofs.lemmas.StepLemmas.{raises}, proofs.lemmas.PassLemmas.{at-equal, after-marked}}
 use Rattle.pmf_board.proofs.board.Board.mark.Goals as goal
 
 pub fetch_or-requires : goal.fetch_or-requires
@@ -13,3 +13,9 @@ fetch_or-requires c =
 
 pub invariant_of-pass : goal.invariant_of-pass
 invariant_of-pass c = at-equal _ _ _ _ _ c.fetch_or.ensures.0 c.fetch_or.ensures.2.1 (after-marked _ _ c.pass.inside.seat.me c.args.task.section (entry_of c.fetch_or.result).handouts c.pass.invariant)
+
+pub returns-clause-marks : goal.returns-clause-marks
+returns-clause-marks c =
+    let told = c.fetch_or.ensures.2 in
+    subst (λ (p : PassValue). Marks p.view c.args.task.section c.fetch_or.new.seat.me.0) c.pass.view_is
+    (Marks-marked _ _ c.args.task.section (entry_of c.fetch_or.result) told.0 (ap (λ (m : Mine). m.0) told.1))

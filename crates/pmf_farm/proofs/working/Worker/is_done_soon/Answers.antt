@@ -7,3 +7,6 @@ returns-then-is_done-clause-stays g c = Stays-both _ _ _ c.loop.invariant.1 c.is
 
 pub loop-preserved : goal.loop-preserved
 loop-preserved g c = (c.is_done.ensures.same ∙ c.loop.invariant.0, Stays-both _ _ _ c.loop.invariant.1 c.is_done.ensures.stays)
+
+pub returns-clause-stays : goal.returns-clause-stays
+returns-clause-stays g c = Stays-both _ _ _ c.loop.invariant.1 c.is_done-2.ensures.stays

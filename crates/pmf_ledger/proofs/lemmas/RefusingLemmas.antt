@@ -1,0 +1,126 @@
+-- A gathering gives a ledger or is refused: which of the two is decided step by step.
+use Rattle.std.{proofs.Common.{rules, ◌≡◌, ◌≢◌, ◌⊎◌, Bool, true, false, List, [], ◌∷◌, ◌++◌, refl, sym, ◌∙◌, ap, subst, inl, inr, Contains, Decides, arith}, specs.Cmp.Lexicographic.{pointwise}, proofs.lemmas.Bool.{true≢false}, proofs.lemmas.List.Elements.{Contains-append_cases, Contains-push_cases}, proofs.lemmas.Grind.{common_steps}, proofs.lemmas.Slice.Eq.{slice_eq-Decides}}
+use Rattle.pmf_event.specs.{declared.event.Event.{Event}, declared.profile.Profile.{Profile}, declared.profile.Profile.TheVariants.{One, Two}, contracts.event.EventPartialEq.TheImpl.{eq-value}, Section.{Trace}}
+use Rattle.pmf_ledger.{specs.Gathering.{Agrees, Begun, Gathering, GivesOrIsRefused, IsBy, IsRefused, Joined, WithVerdict, set_of}, specs.Names.{IsBefore}, proofs.lemmas.AddingLemmas.{Contains-cons, Contains-cons_cases}, proofs.lemmas.GatheringLemmas.{gives_ledger, refuses_for_cause}, proofs.lemmas.GivingLemmas.{gives_where_it_may}, proofs.lemmas.MergingLemmas.{none_of_empty}, proofs.lemmas.NameLemmas.{before-itself, before-total}}
+
+event_Decides : (a b : Event) → Decides (eq-value.it a b) (a ≡ b)
+event_Decides a b = (λ same. search rules, λ same. search rules)
+
+same_events : (xs ys : List Event) → (xs ≡ ys) ⊎ (xs ≢ ys)
+same_events xs ys = by (pointwise eq-value.it xs ys) (slice_eq-Decides event_Decides xs ys (pointwise eq-value.it xs ys) refl)
+  where
+    by : (r : Bool) → Decides r (xs ≡ ys) → (xs ≡ ys) ⊎ (xs ≢ ys)
+    by true decides = inl (decides.0 refl)
+    by false decides = inr (λ same. true≢false (sym (decides.1 same)))
+
+same_profile : (p q : Profile) → (p ≡ q) ⊎ (p ≢ q)
+same_profile One One = inl refl
+same_profile One Two = inr (λ same. search rules)
+same_profile Two One = inr (λ same. search rules)
+same_profile Two Two = inl refl
+
+-- the section has the name and other events, or is this one if it has the name
+one_of_name : (t s : Trace) → ((t.name ≡ s.name) × (t ≢ s)) ⊎ (t.name ≡ s.name → t ≡ s)
+one_of_name t s = elim (before-total t.name s.name) [
+  | inl before ↦ inr (λ same. absurd (before-itself s.name (subst (λ n. IsBefore n s.name) same before)))
+  | inr other ↦ elim other [
+    | inl same ↦ elim (same_events t.events s.events) [
+      | inl equal ↦ inr (λ named i. record { name = same i; events = equal i })
+      | inr differ ↦ inl (same, (λ is. differ (ap (λ (u : Trace). u.events) is)))
+    ]
+    | inr after ↦ inr (λ same. absurd (before-itself s.name (subst (IsBefore s.name) same after)))
+  ]
+]
+
+-- so of all sections of a set
+among : (s : Trace) (set : List Trace) → ((t : Trace) × Contains set t × (t.name ≡ s.name) × (t ≢ s)) ⊎ ((t : Trace) → Contains set t → t.name ≡ s.name → t ≡ s)
+among s [] = inr (λ t found same. absurd (none_of_empty [] t refl found))
+among s (t ∷ set) = elim (one_of_name t s) [
+  | inl other ↦ inl (t, Contains-cons t t set (inl refl), other.0, other.1)
+  | inr one ↦ elim (among s set) [
+    | inl u ↦ inl (u.0, Contains-cons u.0 t set (inr u.1), u.2, u.3)
+    | inr all ↦ inr (λ u found same. elim (Contains-cons_cases u t set found) [
+      | inl is ↦ is ∙ one (ap (λ (v : Trace). v.name) (sym is) ∙ same)
+      | inr later ↦ all u later same
+    ])
+  ]
+]
+
+-- and of those of two sets
+between_two : (xs ys : List Trace) → ((s : Trace) × (t : Trace) × Contains xs s × Contains ys t × (t.name ≡ s.name) × (t ≢ s)) ⊎ ((s t : Trace) → Contains xs s → Contains ys t → t.name ≡ s.name → t ≡ s)
+between_two [] ys = inr (λ s t found has same. absurd (none_of_empty [] s refl found))
+between_two (s ∷ xs) ys = elim (among s ys) [
+  | inl t ↦ inl (s, t.0, Contains-cons s s xs (inl refl), t.1, t.2, t.3)
+  | inr all ↦ elim (between_two xs ys) [
+    | inl u ↦ inl (u.0, u.1, Contains-cons u.0 s xs (inr u.2), u.3, u.4, u.5)
+    | inr rest ↦ inr (λ u t found has same. elim (Contains-cons_cases u s xs found) [
+      | inl is ↦ all t has (same ∙ ap (λ (v : Trace). v.name) is) ∙ sym is
+      | inr later ↦ rest u t later has same
+    ])
+  ]
+]
+
+-- two sets that agree, and with each other, agree as one
+agree_as_one : (xs ys : List Trace) → Agrees xs → Agrees ys → ((s t : Trace) → Contains xs s → Contains ys t → t.name ≡ s.name → t ≡ s) → Agrees (xs ++ ys)
+agree_as_one xs ys first second each s t has_s has_t same = elim (Contains-append_cases xs ys s has_s) [
+  | inl s_first ↦ elim (Contains-append_cases xs ys t has_t) [
+    | inl t_first ↦ first s t s_first t_first same
+    | inr t_second ↦ sym (each s t s_first t_second (sym same))
+  ]
+  | inr s_second ↦ elim (Contains-append_cases xs ys t has_t) [
+    | inl t_first ↦ each t s t_first s_second same
+    | inr t_second ↦ second s t s_second t_second same
+  ]
+]
+
+-- what holds of one section holds of each in a set of it alone
+alone : (P : Trace → Type 0) (s : Trace) → P s → (t : Trace) → Contains (s ∷ []) t → P t
+alone P s holds t found = grind (arith, common_steps, Contains-push_cases, none_of_empty)
+
+-- a gathering is refused, or its set agrees and it has one profile
+refused_or_fair : (gathering : Gathering) → IsRefused gathering ⊎ ((profile : Profile) × Agrees (set_of gathering) × IsBy profile gathering)
+unfolding IsRefused set_of IsBy
+refused_or_fair (Begun own) = inr (own, (λ s t found. absurd (none_of_empty [] s refl found)), refl)
+refused_or_fair (WithVerdict gathering verdict) = elim (refused_or_fair gathering) [
+  | inl before ↦ inl (inl before)
+  | inr fair ↦
+      let given = gives_where_it_may gathering fair.0 fair.1 fair.2 in
+      let is = gives_ledger gathering given.0 given.1 in
+      let s = verdict.section in
+      elim (same_profile verdict.profile given.0.profile) [
+        | inl even ↦ elim (among s (set_of gathering)) [
+          | inl t ↦ inl (inr (given.0, given.1, inr (t.0, (is.0.same t.0).1 t.1, t.2, t.3)))
+          | inr all ↦ inr (
+            given.0.profile,
+            agree_as_one (s ∷ []) (set_of gathering) (λ t u has_t has_u same. alone (λ v. v ≡ u) s (sym (alone (λ v. v ≡ s) s refl u has_u)) t has_t) is.1
+                (λ t u has_t has_u. alone (λ v. u.name ≡ v.name → u ≡ v) s (all u has_u) t has_t),
+            (is.2, even),
+          )
+        ]
+        | inr differ ↦ inl (inr (given.0, given.1, inl differ))
+      ]
+]
+refused_or_fair (Joined g h) = elim (refused_or_fair g) [
+  | inl first ↦ inl (inl (inl first))
+  | inr fair_g ↦ elim (refused_or_fair h) [
+    | inl second ↦ inl (inl (inr second))
+    | inr fair_h ↦
+        let a = gives_where_it_may g fair_g.0 fair_g.1 fair_g.2 in
+        let b = gives_where_it_may h fair_h.0 fair_h.1 fair_h.2 in
+        let is_a = gives_ledger g a.0 a.1 in
+        let is_b = gives_ledger h b.0 b.1 in
+        elim (same_profile a.0.profile b.0.profile) [
+          | inl even ↦ elim (between_two (set_of g) (set_of h)) [
+            | inl u ↦ inl (inr (a.0, b.0, a.1, b.1, inr (u.0.name, (u.0, u.1, (is_a.0.same u.0).1 u.2, (is_b.0.same u.1).1 u.3, refl, u.4, (λ is. u.5 (sym is))))))
+            | inr all ↦ inr (a.0.profile, agree_as_one (set_of g) (set_of h) is_a.1 is_b.1 all, (is_a.2, subst (λ p. IsBy p h) (sym even) is_b.2))
+          ]
+          | inr differ ↦ inl (inr (a.0, b.0, a.1, b.1, inl differ))
+        ]
+  ]
+]
+
+pub gives_or_is_refused : GivesOrIsRefused
+gives_or_is_refused gathering = (
+  elim (refused_or_fair gathering) [ inl refused ↦ inr refused | inr fair ↦ inl (gives_where_it_may gathering fair.0 fair.1 fair.2) ],
+  λ ledger gives refused. let is = gives_ledger gathering ledger gives in refuses_for_cause gathering ledger.profile is.1 is.2 refused,
+)
