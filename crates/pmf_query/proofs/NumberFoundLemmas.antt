@@ -26,6 +26,11 @@ pub read_so : (run : ℕ) (bytes : List ℕ) (log : LogValue) → log_of run byt
 unfolding log_of value_of
 read_so run bytes log is = grind (arith, common_steps, by_fault)
 
+-- and one without a fault is read
+pub reads : (run : ℕ) (bytes : List ℕ) → IsFaultless bytes → log_of run bytes ≡ Ok (value_of run bytes)
+unfolding log_of
+reads run bytes none = ap (λ fault. value_unless fault (value_of run bytes)) none
+
 contains_from_map : (f : ℕ → Trace) (numbers : List ℕ) (t : Trace) → Contains (map f numbers) t → (number : ℕ) × Contains numbers number × (f number ≡ t)
 contains_from_map f numbers t found =
     let inside : found.0 < length numbers = rw (length-map numbers f) at found.1 in

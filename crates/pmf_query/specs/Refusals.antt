@@ -21,14 +21,14 @@ IsMissing section event log fault.NoSection = (t : Trace) → IsSection section 
 IsMissing section event log fault.NoEvent = (t : Trace) × IsSection section log t × (IsPlace event t → ⊥)
 IsMissing section event log _ = ⊥
 
--- the log has this event
-abbrev pub HasPlace : ℕ → ℕ → LogValue → Type 0
-HasPlace section event log = (t : Trace) × IsSection section log t × IsPlace event t
+-- the bytes are a log without a fault, which has this event
+abbrev pub HasEvent : ℕ → ℕ → ℕ → List ℕ → Type 0
+HasEvent run section event bytes = (log : LogValue) × (t : Trace) × (log_of run bytes ≡ Ok log) × IsSection section log t × IsPlace event t
 
--- the fault is why the bytes give no answer: the log's own fault, want of memory aside, and else what it lacks; memory was wanted where it lacks nothing
+-- the fault is why the bytes give no answer: the log's own fault, want of memory aside, and else what it lacks; memory was wanted for an event that is there
 abbrev pub IsEventFault : ℕ → ℕ → ℕ → List ℕ → EventFault → Type 0
 IsEventFault run section event bytes (fault.Log found) = found ≢ out_of_memory → log_of run bytes ≡ Err found
-IsEventFault run section event bytes fault.OutOfMemory = (log : LogValue) × (log_of run bytes ≡ Ok log) × HasPlace section event log
+IsEventFault run section event bytes fault.OutOfMemory = HasEvent run section event bytes
 IsEventFault run section event bytes found = (log : LogValue) × (log_of run bytes ≡ Ok log) × IsMissing section event log found
 
 -- the same, told with the event that is sought

@@ -38,8 +38,10 @@ impl Query for Overview {
         let told = Linted {
             is_suspicious: lint.is_suspicious(),
         };
-        let text = lint_text(alloc, &lint)?;
-        Ok(Answer { told, text })
+        match lint_text(alloc, &lint) {
+            Ok(text) => Ok(Answer { told, text }),
+            Err(_) => Err(LogRefusal::OutOfMemory),
+        }
     }
 }
 

@@ -2,7 +2,7 @@
 
 ghost use Rattle.std.specs.Prelude.{◌≡◌, ◌≢◌, ◌<◌, ◌≤◌, length, MatchResult, MatchOption, IfErr, IfOk};
 ghost use Rattle.pmf_storelog.specs.{LogText.{events_in}, Separators.{records_of}};
-ghost use Rattle.pmf_query.specs.{Locating.{IsLocated, IsLocation, IsLocationText, text_of_location}, Refusals.{IsEventFault, IsEventRefusal}};
+ghost use Rattle.pmf_query.specs.{Locating.{IsLocated, IsLocation, IsLocationText, text_of_location}, Refusals.{HasEvent, IsEventFault, IsEventRefusal}};
 
 use crate::passing::Passed;
 use crate::query::{Answer, Query};
@@ -58,6 +58,7 @@ pub fn locate_event<'a>(
     ensures answer { MatchResult result
         (λ l. IsLocated log.now section event l.record l.offset l.text.now)
         (IsEventFault run section event log.now) }
+    ensures there { IfOk result (λ l. HasEvent run section event log.now) }
     ensures memory { IfErr result (λ fault. fault ≢ EventFault.OutOfMemory) }
 {
     let read = match read_log(alloc, log, run) {
