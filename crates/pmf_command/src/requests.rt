@@ -1,6 +1,6 @@
 //! What is answered for each request, over the streams and the files that it is handed.
 
-ghost use Rattle.std.specs.Prelude.{◌≡◌, map, IfErr, IfOk};
+ghost use Rattle.std.specs.Prelude.{◌≡◌, is_none, map, IfErr, IfOk};
 ghost use Rattle.pmf_ledger.specs.declared.loading.TheConstants.{LEDGER_LIMIT};
 ghost use Rattle.pmf_stream.specs.Failures.{CanCountOneMore};
 ghost use Rattle.pmf_command.specs.{Answered.{AreRead, IsAnswered, IsUnread, JoinsFiles, Simulates, can_cut}, declared.status.Status.{Status}};
@@ -81,7 +81,7 @@ fn refusal_of(cuts: Cuts) -> Option<&'static str>
     if events == 0 || EVENT_LIMIT < events || cuts.lengths.step == 0 {
         return Some("error: a piece has 1 to 1048576 events, and a step is at least 1\n");
     }
-    if cuts.bytes < 1024 || LOG_LIMIT as u64 < cuts.bytes {
+    if cuts.bytes < 1024 || cuts.bytes > LOG_LIMIT as u64 {
         return Some("error: a file has 1024 to 268435456 bytes\n");
     }
     None
