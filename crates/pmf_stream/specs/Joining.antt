@@ -1,9 +1,11 @@
 -- What the texts of ledgers give that are joined, text after text. Defined here.
 use Rattle.std.specs.Prelude.{◌≡◌, ◌≢◌, ℕ, zero, suc, ◌<◌, ◌≤◌, Bool, List, [], false, length, map, take, slice_index_or, None, All, flat_map}
 use Rattle.pmf_event.specs.{declared.profile.Profile.{Profile}, declared.profile.Profile.TheVariants.{One}, Section.{Trace}}
-use Rattle.pmf_ledger.specs.{declared.joining.JoinFault.{JoinFault}, Gathered.{GathersBoth, IsLeastClash, IsLedgerOf, Unites}, AllKept.{AllKept, AllFilled}, LedgerValue.{LedgerValue}, Loading.{IsRefusedWith, LoadsAs, fault_of, reading_of}, Report.{totals_of}, ReportTold.{sections_told, shown}}
+use Rattle.pmf_ledger.specs.{declared.joining.JoinFault.{JoinFault}, declared.loading.LedgerFault.{LedgerFault}, Gathered.{GathersBoth, IsLeastClash, IsLedgerOf, Unites}, AllKept.{AllKept, AllFilled}, LedgerValue.{LedgerValue}, Loading.{IsRefusedWith, LoadsAs, fault_of, reading_of}, Report.{totals_of}, ReportTold.{sections_told, shown}}
 use Rattle.pmf_stream.specs.{declared.joining.Joined.{Joined}, declared.joining.JoinTextFault.{JoinTextFault}, Checking.{text_asked}}
 use Rattle.pmf_ledger.specs.declared.joining.JoinFault.TheVariants as join
+use Rattle.pmf_ledger.specs.declared.loading.LedgerFault.TheVariants as load
+use Rattle.pmf_storelog.specs.declared.fault.Cause.TheVariants as cause
 use Rattle.pmf_stream.specs.declared.joining.JoinTextFault.TheVariants as fault
 
 -- the sections of a text's blocks
@@ -24,6 +26,12 @@ pub record IsJoinOf (texts : List (List ℕ)) (ledger : LedgerValue) : Type 0 wh
 pub record IsReached (texts : List (List ℕ)) (index : ℕ) (before : LedgerValue) : Type 0 where
   pub within : index < length texts
   pub joined : IsJoinOf (take index texts) before
+
+-- the loader's fault is want of memory, its own or that of an event
+abbrev pub IsWantOfMemory : LedgerFault → Type 0
+IsWantOfMemory load.OutOfMemory = Unit {0}
+IsWantOfMemory (load.Log found) = found.cause ≡ cause.OutOfMemory
+IsWantOfMemory _ = ⊥
 
 -- two ledgers are not joined for this reason
 abbrev pub IsJoinFaultOf : LedgerValue → LedgerValue → JoinFault → Type 0

@@ -2,7 +2,7 @@
 
 ghost use Rattle.std.specs.Prelude.{◌≡◌, ◌+◌, ◌≤◌, ℕ, List, map, IfOk, IfErr, MatchResult};
 ghost use Rattle.pmf_ledger.specs.{LedgerValue.{LedgerValue}, Loading.{IsOfText, IsRefusedWith, LoadsAs}};
-ghost use Rattle.pmf_stream.specs.{Answering.{Answers, TellsFaults}, Failures.{CanCountOneMore}, Joining.{IsFirstRefusal, IsJoinFaultOf, IsJoinOf, IsJoinOfTwo, IsJoinedAt, IsJoinedText, IsRefusalOfTexts, IsRefusedAt}};
+ghost use Rattle.pmf_stream.specs.{Answering.{Answers, TellsFaults}, Failures.{CanCountOneMore}, Joining.{IsFirstRefusal, IsJoinFaultOf, IsJoinOf, IsJoinOfTwo, IsJoinedAt, IsJoinedText, IsRefusalOfTexts, IsRefusedAt, IsWantOfMemory}};
 
 use crate::checking::write_asked;
 use crate::fault::StreamFault;
@@ -42,8 +42,9 @@ pub enum JoinTextFault {
 
 // Why the text of this index was not loaded.
 fn fault_at(index: usize, fault: LedgerFault) -> JoinTextFault
-    ensures { (before : LedgerValue) (text : List ℕ)
+    ensures refused { (before : LedgerValue) (text : List ℕ)
         → (IsOfText fault → IsRefusedWith text fault) → IsRefusedAt before index text result }
+    ensures memory { result ≡ JoinTextFault.OutOfMemory → IsWantOfMemory fault }
 {
     match fault {
         LedgerFault::OutOfMemory => JoinTextFault::OutOfMemory,
@@ -59,8 +60,9 @@ fn fault_at(index: usize, fault: LedgerFault) -> JoinTextFault
 
 // Why the ledger of a text doesn't join that of the texts before it.
 fn fault_of_join(fault: JoinFault) -> JoinTextFault
-    ensures { (before after : LedgerValue) (index : ℕ) (text : List ℕ) → 1 ≤ index → LoadsAs text after
+    ensures refused { (before after : LedgerValue) (index : ℕ) (text : List ℕ) → 1 ≤ index → LoadsAs text after
         → IsJoinFaultOf before after fault → IsRefusedAt before index text result }
+    ensures memory { result ≡ JoinTextFault.OutOfMemory → fault ≡ JoinFault.OutOfMemory }
 {
     match fault {
         JoinFault::OutOfMemory => JoinTextFault::OutOfMemory,
