@@ -136,7 +136,8 @@ impl Cutting {
                     .is_none())
     }
 
-    /// The event happens; where it is an order assertion that the cuts may have changed, that is said. After an `Err` the section is of no use.
+    /// The event happens; where it is an order assertion that the cuts may have changed, that is said. After an `Err` the section is
+    /// of no use.
     pub(crate) fn take(&mut self, event: &Event, notes: &mut Notes) -> Result<(), PartFault>
         ensures { OnOk result (TakesEvent self.old self.new event.now) }
     {
