@@ -1,7 +1,7 @@
 -- What the definitions say at p looks only at the events up to p.
-use Rattle.std.proofs.{Common.{◌≡◌, ℕ, zero, suc, ◌-◌, ◌<◌, ◌≤◌, Bool, ◌&&◌, nat_lt, List, [], ◌∷◌, ◌++◌, length, take, refl, ◌∙◌, ap, arith, Some, slice_get, length-take-le}, lemmas.Bool.{cases_lt}, lemmas.Option.{slice_get_within}}
+use Rattle.std.proofs.{Common.{◌≡◌, ℕ, zero, suc, ◌-◌, ◌<◌, ◌≤◌, Bool, ◌&&◌, ◌==◌, nat_lt, if◌then◌else◌, List, [], ◌∷◌, ◌++◌, length, take, refl, sym, ◌∙◌, ap, arith, eq-eqb, ne_eqb, Some, slice_get, length-take-le}, lemmas.Bool.{cases_lt}, lemmas.Option.{slice_get_within}}
 use Rattle.pmf_event.{specs.declared.event.Event.{Event}, specs.Places.{greatest, least, count}, specs.Store.{event_at, passes, at, flushes, is_fence, last, epoch_of}, specs.Interval.{writes_back, first_write_back}, specs.WriteBack.{write_back_epoch}, specs.Exclusion.{is_excluded}, specs.LineBytes.{HasBytes}, proofs.PlacesLemmas.{SameUpTo, least-bound}, proofs.WriteBackLemmas.{last-bound}}
-use Rattle.pmf_shadow.specs.Laws.{SameEvents}
+use Rattle.pmf_shadow.specs.Laws.{SameEvents, SamePlaces}
 
 -- ---- searches
 
@@ -114,3 +114,13 @@ length-taken es p e here = let within = within-list es p e here in length-take-l
 -- its first p events with the next one at their end are its first events too
 pub same-retaken : (es : List Event) (p : ℕ) (e : Event) → event_at es (suc p) ≡ Some e → SameEvents (take p es ++ e ∷ []) es (suc p)
 same-retaken es p e here k within = grind (arith, cases_lt, length-taken, at_the_end, same-longer, same-taken)
+
+-- the places that were told, but that this one is told of event n
+abbrev pub told_also : ℕ → ℕ → (ℕ → ℕ) → ℕ → ℕ
+told_also n place told k = if k == n then place else told k
+
+pub same-places_before : (n place : ℕ) (told : ℕ → ℕ) → SamePlaces told (told_also (suc n) place told) n
+same-places_before n place told k within = sym (ap (λ v. if v then place else told k) (ne_eqb k (suc n) (λ same. omega (arith, same))))
+
+pub told-there : (n place : ℕ) (told : ℕ → ℕ) → told_also n place told n ≡ place
+told-there n place told = ap (λ v. if v then place else told n) (eq-eqb n n refl)

@@ -1,8 +1,8 @@
 -- The shadow stands for one more event: what the definitions say of a byte after it, and that the changed
 -- runs say the same.
-use Rattle.std.proofs.{Common.{◌≡◌, ℕ, suc, ◌+◌, ◌-◌, ◌*◌, ◌/◌, ◌<◌, ◌≤◌, Bool, true, false, ◌==◌, if◌then◌else◌, List, [], ◌∷◌, ◌++◌, length, take, refl, sym, ◌∙◌, ap, subst, arith, Option, Some, None, is_none, ne_eqb}, lemmas.Bool.{cases_eq}, lemmas.Bool.Decides.{Decides-eqb}}
+use Rattle.std.proofs.{Common.{◌≡◌, ℕ, suc, ◌+◌, ◌-◌, ◌*◌, ◌/◌, ◌<◌, ◌≤◌, Bool, true, false, ◌==◌, if◌then◌else◌, List, [], ◌∷◌, ◌++◌, length, take, refl, sym, ◌∙◌, ap, subst, arith, Option, Some, None, is_none, ne_eqb, add-one}, lemmas.Bool.{cases_eq}, lemmas.Bool.Decides.{Decides-eqb}, lemmas.List.{length_push}}
 use Rattle.pmf_event.{specs.declared.event.Event.{Event}, specs.declared.event.Event.TheVariants.{Store, Flush, Fence}, specs.Span.{Extent}, specs.Line.{line_of_byte, meets_line}, specs.Places.{count}, specs.Store.{event_at, at, stores, flushes, is_fence, last_store, epoch_of}, specs.WriteBack.{write_back_epoch}, specs.Exclusion.{excludes, marks, is_excluded}, specs.LineBytes.{HasBytes}, proofs.PlacesLemmas.{count-le, count-zero}, proofs.EventLemmas.{at-is, last-none, last-other, last-here, epoch_of-next, fences-step}, proofs.WriteBackLemmas.{last-bound, write_back-kept, write_back-stored, write_back-flushed}}
-use Rattle.pmf_shadow.{specs.declared.byte.ByteState.{ByteState}, specs.declared.byte.Stored.{Stored}, specs.declared.shadow.Shadow.{Shadow}, specs.States.{stored_of, after_store, after_write_back, after_mark}, specs.EqualStates.{state_of}, specs.Shadow.{stored_at, StandsFor, FollowsAt}, specs.Laws.{SameEvents, SamePlaces, is_unseen, UnseenEventsChangeNothing, OnlyPastEventsCount, StepsFollowWithin}, proofs.SameLemmas.{count_at-same, last-same, last_epoch-same, write_back_epoch-same, excluded-same, sized-same, same-longer, at_the_end, length-taken, same-taken, same-retaken}}
+use Rattle.pmf_shadow.{specs.declared.byte.ByteState.{ByteState}, specs.declared.byte.Stored.{Stored}, specs.declared.shadow.Shadow.{Shadow}, specs.States.{stored_of, after_store, after_write_back, after_mark}, specs.EqualStates.{state_of}, specs.Shadow.{stored_at, StandsFor, FollowsAt}, specs.Laws.{SameEvents, SamePlaces, is_unseen, UnseenEventsChangeNothing, OnlyPastEventsCount, StepsFollowWithin, StepsStandForSome}, proofs.SameLemmas.{told_also, told-there, same-places_before, count_at-same, last-same, last_epoch-same, write_back_epoch-same, excluded-same, sized-same, same-longer, at_the_end, length-taken, same-taken, same-retaken}}
 use Rattle.pmf_runs.specs.{declared.runs.RunMap.{RunMap}, declared.state.State.{Ghosts}, Runs.{state_at, is_between, ChangesBetween}}
 
 -- ---- one byte
@@ -223,3 +223,9 @@ follows-mark out place old new s e f l at_f at_l fences bytes no_fence sized no_
     follows-changed place old new e f l s.first (s.first + s.size) (after_mark out) at_f at_l no_fence sized fences bytes
     (λ told es p b here at_place now within. byte-marked told es p b e here out (no_store b) (no_flush (line_of_byte b)) (mark b ∙ within) (marked b within))
     (λ told es p b here without. byte-kept told es p b e here (no_store b) (no_flush (line_of_byte b)) (mark b ∙ without))
+
+pub steps_stand : StepsStandForSome
+steps_stand place old new e follows (told, es, stands) =
+    let tells = told_also (suc (length es)) place told in
+    let now = follows tells es (told-there (suc (length es)) place told) (stands-past old told tells es es (length es) (λ k within. refl) (same-places_before (length es) place told) stands) in
+    (tells, es ++ e ∷ [], subst (StandsFor new tells (es ++ e ∷ [])) (sym (length_push es e ∙ add-one (length es))) now)

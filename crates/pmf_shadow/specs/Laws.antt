@@ -1,5 +1,5 @@
 -- Laws of what a shadow stands for, which its empty public functions prove.
-use Rattle.std.specs.Prelude.{◌≡◌, ℕ, suc, ◌≤◌, Bool, true, false, List, Some}
+use Rattle.std.specs.Prelude.{◌≡◌, ℕ, suc, ◌≤◌, Bool, true, false, List, length, Some}
 use Rattle.pmf_event.specs.{declared.event.Event.{Event}, declared.event.Event.TheVariants.{Store, Flush, Fence, Exclude, Include}, Store.{event_at}}
 use Rattle.pmf_shadow.specs.{declared.shadow.Shadow.{Shadow}, Shadow.{StandsFor, FollowsAt, Follows}}
 
@@ -35,3 +35,11 @@ abbrev pub StepsFollowWithin : Type 0
 StepsFollowWithin = (place : ℕ) (old new : Shadow) (e : Event) → FollowsAt place old new e →
     (told : ℕ → ℕ) (es : List Event) (p : ℕ) → event_at es (suc p) ≡ Some e → told (suc p) ≡ place →
     StandsFor old told es p → StandsFor new told es (suc p)
+
+-- the shadow stands for some list, told at some places
+abbrev pub StandsForSome : Shadow → Type 0
+StandsForSome shadow = (told : ℕ → ℕ) × (es : List Event) × StandsFor shadow told es (length es)
+
+-- what stands for some list does so after each step, wherever it is told
+abbrev pub StepsStandForSome : Type 0
+StepsStandForSome = (place : ℕ) (old new : Shadow) (e : Event) → FollowsAt place old new e → StandsForSome old → StandsForSome new

@@ -378,3 +378,9 @@ untracked-follows state e untracked place = follows-from place state state e (λ
 pub one-list : OneListIsACase
 unfolding lacks_backup store_finding is_left_open check_finding lacks_backup_by store_finding_by is_left_open_by check_finding_by
 one-list = record { store = λ es p s. refl; check = λ es p. refl }
+
+pub steps_track : StepsTrackSome
+steps_track place old new e follows (told, es, tracks) =
+    let tells = told_also (suc (length es)) place told in
+    let now = follows tells es (told-there (suc (length es)) place told) (tracks-past old told tells es es (length es) (λ k within. refl) (same-places_before (length es) place told) tracks) in
+    (tells, es ++ e ∷ [], subst (Tracks new tells (es ++ e ∷ [])) (sym (length_push es e ∙ add-one (length es))) now)

@@ -1,5 +1,5 @@
 -- Laws of what a state stands for and of its findings, which its empty public functions prove.
-use Rattle.std.specs.Prelude.{◌≡◌, ℕ, suc, Bool, true, false, List, Some}
+use Rattle.std.specs.Prelude.{◌≡◌, ℕ, suc, Bool, true, false, List, length, Some}
 use Rattle.pmf_event.specs.{declared.event.Event.{Event}, declared.event.Event.TheVariants.{Store, TxBegin, TxAdd, TxEnd, CheckStart, CheckEnd}, Span.{Extent}, Store.{event_at}, Transactions.{store_finding, check_finding}}
 use Rattle.pmf_shadow.specs.Laws.{SameEvents, SamePlaces}
 use Rattle.pmf_txcheck.specs.{declared.state.TxState.{TxState}, Tracking.{Tracks, FollowsAt, Follows}, Findings.{store_finding_by, check_finding_by}}
@@ -29,6 +29,14 @@ abbrev pub StepsFollowWithin : Type 0
 StepsFollowWithin = (place : ℕ) (old new : TxState) (e : Event) → FollowsAt place old new e →
     (told : ℕ → ℕ) (es : List Event) (p : ℕ) → event_at es (suc p) ≡ Some e → told (suc p) ≡ place →
     Tracks old told es p → Tracks new told es (suc p)
+
+-- the state stands for some list, told at some places
+abbrev pub TracksSome : TxState → Type 0
+TracksSome state = (told : ℕ → ℕ) × (es : List Event) × Tracks state told es (length es)
+
+-- what stands for some list does so after each step, wherever it is told
+abbrev pub StepsTrackSome : Type 0
+StepsTrackSome = (place : ℕ) (old new : TxState) (e : Event) → FollowsAt place old new e → TracksSome old → TracksSome new
 
 -- where both stand for one list, and the shadow has followed the event already, the findings by two lists are those
 -- that the definitions give

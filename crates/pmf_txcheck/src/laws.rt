@@ -1,6 +1,6 @@
 //! Laws of what a state stands for, each the clause of an empty function.
 
-ghost use Rattle.pmf_txcheck.specs.Laws.{OneListIsACase, OnlyPastEventsCount, StepsFollowWithin, UntrackedEventsChangeNothing};
+ghost use Rattle.pmf_txcheck.specs.Laws.{OneListIsACase, OnlyPastEventsCount, StepsFollowWithin, StepsTrackSome, UntrackedEventsChangeNothing};
 
 /// Write-backs, fences, assertions, exclusions and inclusions change nothing that a state stands for.
 pub fn untracked_events_change_nothing()
@@ -16,6 +16,12 @@ pub fn only_past_events_count()
 /// A call that follows an event at the end of a list follows it within a longer list too.
 pub fn steps_follow_within()
     ensures { StepsFollowWithin }
+{}
+
+/// A state that stands for some list does so after each call that follows an event; so each state does, as a shadow does.
+#[tactic(auto, using(crate::proofs::TrackLemmas::steps_track))]
+pub fn steps_stand_for_some_list()
+    ensures { StepsTrackSome }
 {}
 
 /// Where the state and the shadow stand for one list, the findings of stores and of CHECKENDs are those of
