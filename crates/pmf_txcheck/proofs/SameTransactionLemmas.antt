@@ -1,6 +1,6 @@
 -- What the definitions of transactions say at p looks only at the events up to p.
 use Rattle.std.proofs.Common.{◌≡◌, ℕ, zero, suc, ◌-◌, ◌≤◌, not, ◌&&◌, nat_lt, max, List, ◌∙◌, ap, ap₂, arith}
-use Rattle.pmf_event.{specs.declared.event.Event.{Event}, specs.Places.{least, highest}, specs.Store.{at, stores, last}, specs.Transactions.{rise, depth_at, in_transaction, is_outside, adds, is_backed, opens_scope, closes_scope, opens_after, scope_at, in_scope, stores_inside, is_scoped}, proofs.PlacesLemmas.{SameUpTo, least-bound}}
+use Rattle.pmf_event.{specs.declared.event.Event.{Event}, specs.Places.{least, highest}, specs.Store.{stores, last}, specs.Transactions.{rise, depth_at, in_transaction, is_outside, adds, is_backed, opens_scope, closes_scope, opens_after, scope_at, in_scope, stores_inside, is_scoped}, proofs.PlacesLemmas.{SameUpTo, least-bound}}
 use Rattle.pmf_shadow.{specs.Laws.{SameEvents}, proofs.SameLemmas.{greatest-same, least-same, same-before, at-same, last-same, count_at-same}}
 
 highest-same : (f g : ℕ → ℕ) (n : ℕ) → ((k : ℕ) → k ≤ n → f k ≡ g k) → highest f n ≡ highest g n

@@ -1,9 +1,9 @@
 -- The state tracks one more event, and its findings are those of the definitions: a lemma for each call.
-use Rattle.std.proofs.{Common.{◌≡◌, ℕ, suc, ◌+◌, ◌-◌, ◌<◌, Bool, true, false, not, ◌&&◌, ◌==◌, if◌then◌else◌, List, refl, sym, ◌∙◌, ap, arith, Option, Some, None, is_some, option_map, eq-eqb, ne_eqb}, Math.Bool.{and-false}, lemmas.Bool.{both_ways}}
+use Rattle.std.proofs.{Common.{◌≡◌, ℕ, suc, ◌+◌, ◌-◌, ◌<◌, Bool, true, false, not, ◌&&◌, ◌==◌, if◌then◌else◌, List, [], ◌∷◌, ◌++◌, length, refl, sym, ◌∙◌, ap, subst, arith, add-one, Option, Some, None, is_some, option_map, eq-eqb, ne_eqb}, Math.Bool.{and-false}, lemmas.List.{length_push}, lemmas.Bool.{both_ways}}
 use Rattle.pmf_event.{specs.declared.event.Event.{Event}, specs.declared.event.Event.TheVariants.{Store, TxBegin, TxAdd, TxEnd, CheckStart, CheckEnd}, specs.declared.finding.Finding.TheVariants.{TxStillOpen, Unmatched, Outside, Nested, Unopened, Unclosed}, specs.declared.span.TheConstants.{ADDRESS_LIMIT}, specs.Span.{Extent}, specs.Ranges.{first_from, first_byte}, specs.Store.{event_at, stores}, specs.Transactions.{begins, ends, depth_at, in_transaction, is_outside, adds, is_backed, opens_scope, closes_scope, scope_at, in_scope, is_scoped, lacks_backup, is_left_open, duplog_with, nobackup_with, scope_passes_unless, end_finding, add_finding, store_finding, start_finding, check_finding, close_finding}, proofs.RangeLemmas.{first_from-same, some-from}, proofs.TransactionLemmas.{depth-start, depth-begun, depth-ended, depth-kept, inside-from, outside-from, inside-depth, inside-kept, backed-begun, backed-added, backed-kept, scope-start, scope-some, scoped-from, unscoped-from, in_scope-same, scope-stays, scope-opened, scope-kept, scope-closed, scoped-opened, scoped-kept, scoped-stored}}
 use Rattle.pmf_runs.specs.{declared.members.Members.{Members}, declared.runs.RunMap.{RunMap}, contracts.members.BoolState.TheImpl.{ghosts}, Runs.{state_at, passing, is_between, ChangesBetween}}
-use Rattle.pmf_shadow.{specs.Told.{finding_as_told}, proofs.StandsLemmas.{at-end, at-within}}
-use Rattle.pmf_txcheck.{specs.declared.state.TxState.{TxState}, specs.Findings.{lacks_backup_by, store_finding_by, is_left_open_by, check_finding_by}, specs.Laws.{is_untracked, UntrackedEventsChangeNothing, OnlyPastEventsCount, StepsFollowWithin, OneListIsACase}, specs.Tracking.{scope_as_told, Tracks, FollowsAt}, proofs.SameTransactionLemmas.{depth-alike, inside-alike, scope-alike, scope-within, in_scope-alike, backed-alike, scoped-alike}}
+use Rattle.pmf_shadow.{specs.Told.{finding_as_told}, proofs.SameLemmas.{told_also, told-there, same-places_before}, proofs.StandsLemmas.{at-end, at-within}}
+use Rattle.pmf_txcheck.{specs.declared.state.TxState.{TxState}, specs.Findings.{lacks_backup_by, store_finding_by, is_left_open_by, check_finding_by}, specs.Laws.{is_untracked, UntrackedEventsChangeNothing, OnlyPastEventsCount, StepsFollowWithin, StepsTrackSome, OneListIsACase}, specs.Tracking.{scope_as_told, Tracks, FollowsAt}, proofs.SameTransactionLemmas.{depth-alike, inside-alike, scope-alike, scope-within, in_scope-alike, backed-alike, scoped-alike}}
 
 -- ---- what is kept says whether a transaction runs, and whether there is a scope
 
