@@ -31,18 +31,10 @@ pub fn sim_to<W: Sink>(
 {
     let text = match sim_text(alloc, log, schedule, workers, ledgers) {
         Ok(text) => text,
-        Err(fault) => return Err(refused(fault)),
+        Err(fault) => match fault {
+            SimFault::OutOfMemory => return Err(StreamFault::OutOfMemory),
+            _ => return Err(StreamFault::Refused(fault)),
+        },
     };
     write_answer(writer, &text, ())
-}
-
-// Why no text was made.
-fn refused(fault: SimFault) -> StreamFault<SimFault>
-    ensures refused { (found : SimFault) → result ≡ StreamFault.Refused found → (found ≡ fault) × (fault ≢ SimFault.OutOfMemory) }
-    ensures memory { result ≡ StreamFault.OutOfMemory → fault ≡ SimFault.OutOfMemory }
-{
-    match fault {
-        SimFault::OutOfMemory => StreamFault::OutOfMemory,
-        _ => StreamFault::Refused(fault),
-    }
 }
