@@ -10,14 +10,10 @@ none_is_some same = cc
 
 -- the events behind the first ones, up to a last one, where more follow
 up_to-push : (first last : ℕ) (es more : List Event) → first ≤ last → last ≤ length es → take (last - first) (drop first (es ++ more)) ≡ take (last - first) (drop first es)
-up_to-push first last es more begins within =
-    ap (take (last - first)) (drop-append-le first es more (omega arith)) ∙ take-append-le (last - first) (drop first es) more (omega (arith, length-drop first es))
+up_to-push first last es more begins within = grind (arith, drop-append-le, take-append-le, length-drop)
 
 all-push : (first : ℕ) (es : List Event) (e : Event) → first ≤ length es → take (length (es ++ e ∷ []) - first) (drop first (es ++ e ∷ [])) ≡ take (length es - first) (drop first es) ++ e ∷ []
-all-push first es e within =
-    take_all _ (drop first (es ++ e ∷ [])) (omega (arith, length-drop first (es ++ e ∷ [])))
-    ∙ drop-append-le first es (e ∷ []) within
-    ∙ ap (λ xs. xs ++ e ∷ []) (sym (take_all (length es - first) (drop first es) (omega (arith, length-drop first es))))
+all-push first es e within = grind (arith, take_all, length-drop, drop-append-le)
 
 none-behind : (es : List Event) (n : ℕ) → n ≡ length es → take (length es - n) (drop n es) ≡ []
 none-behind es n is = take_all (length es - n) (drop n es) (omega (arith, length-drop n es)) ∙ drop_all n es (omega arith)
@@ -54,8 +50,7 @@ of-kept names names' number kept (part ∷ before) of_it = (kept part.number of_
 -- what was cut whatever follows is cut with one event more
 cut-more : (es more : List Event) (first : ℕ) (head : List Event) → ((rest : List Event) → IsCut (es ++ rest) first (part_of (es ++ rest) first head) (length head)) →
     (rest : List Event) → IsCut ((es ++ more) ++ rest) first (part_of ((es ++ more) ++ rest) first head) (length head)
-cut-more es more first head cut rest =
-    subst (λ (all : List Event). IsCut all first (part_of all first head) (length head)) (sym (append_assoc es more rest)) (cut (more ++ rest))
+cut-more es more first head cut rest = grind (arith, append_assoc)
 
 -- the parts of a section, where the same is said of them, or more events follow
 up_to-same : (says says' : ℕ → ℕ → List Event) (es : List Event) (parts : List WrittenPart) (last : ℕ) → SameAt says says' parts → AreUpTo says es parts last → AreUpTo says' es parts last
@@ -86,33 +81,11 @@ up_to-more says es more (part ∷ before) last within up_to =
 -- a section to which nothing happens
 section-stays : (says says' : ℕ → ℕ → List Event) (files files' step : ℕ) (es : List Event) (parts : List WrittenPart) (section : Cutting) →
     SameAt says says' parts → files ≤ files' → HasSection says files step es parts section → HasSection says' files' step es parts section
-section-stays says says' files files' step es parts section same more has = record {
-  last = has.last;
-  before = has.before;
-  parts_are = has.parts_are;
-  name_is = has.name_is;
-  file_is = has.file_is;
-  there = let there = has.there in omega arith;
-  once = has.once;
-  numbered = has.numbered;
-  up_to = up_to-same says says' es (has.last ∷ has.before) (length es) (subst (SameAt says says') has.parts_are same) has.up_to;
-  goes_on = has.goes_on;
-}
+section-stays says says' files files' step es parts section same more has = grind (arith, up_to-same)
 
 -- a section that is as it was, but for when a cut is looked for, and which events wait
 section-same : (says : ℕ → ℕ → List Event) (files step : ℕ) (es : List Event) (parts : List WrittenPart) (old new : Cutting) → IsKept old new → HasSection says files step es parts old → HasSection says files step es parts new
-section-same says files step es parts old new kept has = record {
-  last = has.last;
-  before = has.before;
-  parts_are = has.parts_are;
-  name_is = has.name_is ∙ sym kept.same.name_is;
-  file_is = has.file_is ∙ sym kept.same.file_is;
-  there = let there = has.there in let file = kept.same.file_is in omega arith;
-  once = subst (λ (n : ℕ). NoneNamed n has.before) (sym kept.same.name_is) has.once;
-  numbered = subst (λ (n : ℕ). AreNumbered step n (has.last ∷ has.before)) (sym kept.same.number_is) has.numbered;
-  up_to = has.up_to;
-  goes_on = λ rest. kept.stays (es ++ rest) has.last.first has.last.head (length es) (has.goes_on rest);
-}
+section-same says files step es parts old new kept has = grind arith
 
 -- a section that has one event more
 section-grows : (says says' : ℕ → ℕ → List Event) (files files' step : ℕ) (es : List Event) (parts : List WrittenPart) (old new : Cutting) (e : Event) → TakesEvent old new e →
@@ -241,22 +214,13 @@ module _ (ends : Bool) (step : ℕ) (records then-records : List (List ℕ)) (ha
   parts-there other apart = rw (ne_eqb other number apart) refl
 
   of_it-then : (other : ℕ) → AreOf then-names other (then-parts other)
-  of_it-then other = ⊎_elim
-      (λ is. subst (AreOf then-names other) (sym (parts-here other is)) (subst (λ n. AreOf then-names n changes.own) (sym is) changes.of_it))
-      (λ apart. subst (AreOf then-names other) (sym (parts-there other apart)) (of-kept names then-names other (λ name. changes.kept name other) (has.parts other) (has.of_it other)))
-      (cases_eq other number)
+  of_it-then other = grind (arith, ⊎_elim, parts-here, parts-there, of-kept, cases_eq)
 
   among-then : (name other : ℕ) → then-names name ≡ Some other → IsAmong name (then-parts other)
-  among-then name other named = ⊎_elim
-      (λ is. subst (IsAmong name) (sym (parts-here other is)) (changes.among name (named ∙ ap (λ n. Some n) is)))
-      (λ apart. subst (IsAmong name) (sym (parts-there other apart)) (has.among name other (changes.new name other apart named)))
-      (cases_eq other number)
+  among-then name other named = grind (arith, ⊎_elim, parts-here, parts-there, cases_eq)
 
   absent-then : (other : ℕ) → then-places other ≡ None → (events_in then-records other ≡ []) × (then-parts other ≡ [])
-  absent-then other none =
-      let found = changes.found other none in
-      let was = has.absent other found.1 in
-      (changes.events other found.0 ∙ was.0, parts-there other found.0 ∙ was.1)
+  absent-then other none = grind (arith, parts-there)
 
   PlacedAt : ℕ → ℕ → Type 0
   PlacedAt other place = IsPlaced (said handed then-outputs) (length then-outputs.files.items) step then-sections other place (events_in then-records other) (then-parts other)
@@ -286,10 +250,7 @@ module _ (ends : Bool) (step : ℕ) (records then-records : List (List ℕ)) (ha
       }
 
   placed-then : (other place : ℕ) → then-places other ≡ Some place → PlacedAt other place
-  placed-then other place at = ⊎_elim
-      (λ is. subst (λ n. PlacedAt n place) (sym is) (placed-here place (ap then-places (sym is) ∙ at)))
-      (λ apart. placed-there other place apart at)
-      (cases_eq other number)
+  placed-then other place at = grind (arith, ⊎_elim, placed-here, placed-there, cases_eq)
 
   pub changed : HasCut ends step then-records handed current then-places then-names then-sections then-outputs
   unfolding PlacedAt
@@ -328,15 +289,10 @@ module _ (names then-names : ℕ → Option ℕ) (name number : ℕ) (named : Is
   named-kept other k is = named.others other (λ same. none_is_some (sym named.free ∙ ap names (sym same) ∙ is)) ∙ is
 
   named-new : (other k : ℕ) → then-names other ≡ Some k → ((other ≡ name) × (k ≡ number)) ⊎ (names other ≡ Some k)
-  named-new other k is = ⊎_elim
-      (λ same. inl (same, some_apart k number (sym is ∙ ap then-names same ∙ named.here)))
-      (λ apart. inr (sym (named.others other apart) ∙ is))
-      (cases_eq other name)
+  named-new other k is = grind arith
 
   named-none : (other : ℕ) → then-names other ≡ None → (other ≢ name) × (names other ≡ None)
-  named-none other none =
-      let apart : other ≢ name = λ same. none_is_some (sym none ∙ ap then-names same ∙ named.here) in
-      (apart, sym (named.others other apart) ∙ none)
+  named-none other none = grind arith
 
   named-by : (other k : ℕ) → k ≢ number → then-names other ≡ Some k → names other ≡ Some k
   named-by other k apart is = ⊎_elim (λ both. absurd (apart both.1)) (λ was. was) (named-new other k is)
@@ -346,9 +302,7 @@ more-says : (handed : ℕ → List ℕ) (outputs then-outputs : Outputs) → Mor
 more-says handed outputs then-outputs more file name = ap (λ text. said_in (handed file ++ text) name) (more.texts.texts file)
 
 more-open : (ends : Bool) (handed : ℕ → List ℕ) (outputs then-outputs : Outputs) → MoreFiles outputs then-outputs → AllOpen ends handed outputs → AllOpen ends handed then-outputs
-more-open ends handed outputs then-outputs more opened file =
-    subst (IsOpen ends (text_of handed then-outputs file)) (sym (more.texts.currents file))
-    (subst (λ text. IsOpen ends (handed file ++ text) (current_in outputs file)) (sym (more.texts.texts file)) (opened file))
+more-open ends handed outputs then-outputs more opened file = grind arith
 
 module _ (ends : Bool) (step : ℕ) (records : List (List ℕ)) (handed : ℕ → List ℕ) (current : Option ℕ) (places names : ℕ → Option ℕ) (sections : List Cutting) (outputs : Outputs)
     (has : HasCut ends step records handed current places names sections outputs) where
@@ -380,8 +334,7 @@ module _ (ends : Bool) (step : ℕ) (records : List (List ℕ)) (handed : ℕ �
 
   -- files began
   pub more-files : (then-outputs : Outputs) → MoreFiles outputs then-outputs → HasCut ends step records handed current places names sections then-outputs
-  more-files then-outputs more =
-      passed ends records handed current then-outputs (λ number. refl) has.current_is (more-says handed outputs then-outputs more) more.count (more-open ends handed outputs then-outputs more has.opened) (more.texts.waits has.waits)
+  more-files then-outputs more = grind (arith, passed, more-says, more-open)
 
   -- the log that has these records is cut into what was handed out and waits
   whole-at : (number : ℕ) (place : Option ℕ) → places number ≡ place → AreUpTo (said handed outputs) (events_in records number) (has.parts number) (length (events_in records number))
@@ -411,8 +364,7 @@ module _ (ends : Bool) (step : ℕ) (records : List (List ℕ)) (handed : ℕ �
 module _ (step : ℕ) (records : List (List ℕ)) (handed : ℕ → List ℕ) (current : Option ℕ) (places names : ℕ → Option ℕ) (sections : List Cutting) (outputs : Outputs)
     (has : HasCut true step records handed current places names sections outputs) where
   current-kept : (then-places : ℕ → Option ℕ) → ((other place : ℕ) → places other ≡ Some place → then-places other ≡ Some place) → (at : Option ℕ) → IsCurrent places (current_of records) at → IsCurrent then-places (current_of records) at
-  current-kept then-places kept None is = is
-  current-kept then-places kept (Some place) is = kept _ place is
+  current-kept then-places kept v2 is = grind arith
 
   -- a section begins
   pub begun : (then-places then-names : ℕ → Option ℕ) (then-outputs : Outputs) (number file : ℕ) (section : Cutting) → places number ≡ None → IsNamed names then-names number number →
@@ -600,27 +552,10 @@ pub record IsQuiet (ends : Bool) (handed : ℕ → List ℕ) (old new : Outputs)
   pub waits : AllWait old → AllWait new
 
 pub quiet-said : (ends : Bool) (handed : ℕ → List ℕ) (file number : ℕ) (old new : Outputs) → IsSaid ends handed file number [] old new → IsQuiet ends handed old new
-quiet-said ends handed file number old new is = record {
-  says = λ other name. ⊎_elim
-      (λ same-file. ⊎_elim
-      (λ same-name.
-      ap (λ f. said handed new f name) same-file ∙ ap (said handed new file) same-name ∙ is.here ∙ append-nil _ ∙ ap (said handed old file) (sym same-name) ∙ ap (λ f. said handed old f name) (sym same-file))
-      (λ apart. is.others other name (inr apart))
-      (cases_eq name number))
-      (λ apart. is.others other name (inl apart))
-      (cases_eq other file);
-  count = let count = is.count in omega arith;
-  opened = is.opened;
-  waits = is.waits;
-}
+quiet-said ends handed file number old new is = grind (arith, ⊎_elim, append-nil, cases_eq)
 
 pub quiet-same : (ends : Bool) (handed : ℕ → List ℕ) (outputs : Outputs) → AllOpen true handed outputs → IsQuiet ends handed outputs outputs
-quiet-same ends handed outputs opened = record {
-  says = λ file name. refl;
-  count = omega arith;
-  opened = λ file. record { ended = λ is. (opened file).ended refl; current_is = (opened file).current_is };
-  waits = λ waits. waits;
-}
+quiet-same ends handed outputs opened = grind arith
 
 module _ (step : ℕ) (records : List (List ℕ)) (handed : ℕ → List ℕ) (current : Option ℕ) (places names : ℕ → Option ℕ) (sections : List Cutting) (outputs : Outputs)
     (has : HasCut true step records handed current places names sections outputs) where
@@ -630,8 +565,7 @@ module _ (step : ℕ) (records : List (List ℕ)) (handed : ℕ → List ℕ) (c
 
   -- the place that is current is told
   pub current-told : (place : ℕ) → places (current_of records) ≡ Some place → HasCut true step records handed (Some place) places names sections outputs
-  current-told place at =
-      passed true step records handed current places names sections outputs has true records handed (Some place) outputs (λ number. refl) at (λ file name. refl) (omega arith) has.opened has.waits
+  current-told place at = grind arith
 
   -- a marker makes a section current
   pub marked : (ends : Bool) (then-outputs : Outputs) (text : List ℕ) (number place : ℕ) → record_of text ≡ Ok (Enters number) → places number ≡ Some place → IsQuiet ends handed outputs then-outputs →
@@ -643,21 +577,13 @@ module _ (step : ℕ) (records : List (List ℕ)) (handed : ℕ → List ℕ) (c
   -- what says nothing
   pub silent : (ends : Bool) (then-outputs : Outputs) (more : List (List ℕ)) → SayNothing more → IsQuiet ends handed outputs then-outputs →
       HasCut ends step (records ++ more) handed current places names sections then-outputs
-  silent ends then-outputs [] says quiet =
-      subst (λ rs. HasCut ends step rs handed current places names sections then-outputs) (sym (append-nil records))
-      (passed true step records handed current places names sections outputs has ends records handed current then-outputs (λ number. refl) has.current_is quiet.says quiet.count quiet.opened (quiet.waits has.waits))
-  silent ends then-outputs (text ∷ rest) says quiet =
-      subst (λ rs. HasCut ends step (records ++ text ∷ rs) handed current places names sections then-outputs) (sym says.1)
-      (passed true step records handed current places names sections outputs has ends (records ++ text ∷ []) handed current then-outputs (events_in-nothing records text says.0)
-      (subst (λ n. IsCurrent places n current) (sym (current_of-push records text ∙ ap (λ reading. number_after reading (current_of records)) says.0)) has.current_is)
-      quiet.says quiet.count quiet.opened (quiet.waits has.waits))
+  silent ends then-outputs v2 says quiet = grind (arith, append-nil, passed, events_in-nothing, current_of-push)
 
 -- the same of equals
 pub cut-as : (ends : Bool) (step : ℕ) (records : List (List ℕ)) (handed : ℕ → List ℕ) (current then-current : Option ℕ) (places then-places names then-names : ℕ → Option ℕ) (sections then-sections : List Cutting) (outputs : Outputs) →
     then-current ≡ current → then-places ≡ places → then-names ≡ names → then-sections ≡ sections → HasCut ends step records handed current places names sections outputs →
     HasCut ends step records handed then-current then-places then-names then-sections outputs
-cut-as ends step records handed current then-current places then-places names then-names sections then-sections outputs same-current same-places same-names same-sections has =
-    rw (same-current, same-places, same-names, same-sections) has
+cut-as ends step records handed current then-current places then-places names then-names sections then-sections outputs same-current same-places same-names same-sections has = grind arith
 
 -- what is handed out is no longer to be written
 handed-same : (handed : ℕ → List ℕ) (old new : Outputs) (texts : List Text) → HandsOut old texts new → (file : ℕ) → text_of (handed_with handed texts) new file ≡ text_of handed old file

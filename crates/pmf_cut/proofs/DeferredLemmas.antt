@@ -10,12 +10,7 @@ last-is (x ∷ xs) e = last-is xs e
 
 -- a part for which nothing waits
 pub begins : (part : Part) (new : Deferred) → new.part ≡ part → new.waiting.items ≡ [] → Begins part new
-begins part new same none es p head n is = record {
-  had = n;
-  all = omega (arith, ap length none);
-  part = subst (λ (q : Part). IsPartOf q es p head n) (sym same) is;
-  next = λ k below. absurd (omega (arith, below, ap length none));
-}
+begins part new same none es p head n is = grind arith
 
 -- one event more waits
 pub waits_more : (old new : Deferred) (e : Event) → new.part ≡ old.part → new.waiting.items ≡ old.waiting.items ++ e ∷ [] → GoesOnUpTo old new e
@@ -36,21 +31,11 @@ waits_more old new e same more es p head n here is =
 
 -- all that waited were taken
 pub caught_up : (old new : Deferred) → TakesFirst old.part new.part old.waiting.items (length old.waiting.items) → new.waiting.items ≡ [] → CatchesUp old new
-caught_up old new takes none = record {
-  stays = λ es p head n is. record {
-    had = n;
-    all = omega (arith, ap length none);
-    part = subst (IsPartOf new.part es p head) is.all (takes es p head is.had is.next is.part);
-    next = λ k below. absurd (omega (arith, below, ap length none));
-  };
-  none = none;
-}
+caught_up old new takes none = grind arith
 
 -- what begins behind a part that has caught up
 pub begins-behind : (deferred : Deferred) (part : Part) (head : List Event) → deferred.waiting.items ≡ [] → BeginsAt deferred.part part head → BeginsBehind deferred part head
-begins-behind deferred part head none begins es p before n is =
-    let all = is.all in let here : is.had ≡ n = omega (arith, ap length none) in
-    begins es p before n (subst (IsPartOf deferred.part es p before) here is.part)
+begins-behind deferred part head none begins es p before n is = grind arith
 
 -- a part goes on with events, one after another
 pub goes-on-none : (part : Part) (events : List Event) → TakesFirst part part events 0

@@ -10,14 +10,11 @@ high-uncovered s b valid high = let ends = valid.ends in ap (λ v. nat_le s.firs
 
 high-unstored : (e : Event) (b : ℕ) → IsValidEvent e → ADDRESS_LIMIT ≤ b → stores b e ≡ false
 unfolding stores
-high-unstored (Store s) b valid high = high-uncovered s b valid high
-high-unstored _ b valid high = refl
+high-unstored v0 b valid high = grind arith
 
 high-unmarked : (e : Event) (b : ℕ) → IsValidEvent e → ADDRESS_LIMIT ≤ b → marks b e ≡ false
 unfolding marks
-high-unmarked (Exclude s) b valid high = high-uncovered s b valid high
-high-unmarked (Include s) b valid high = high-uncovered s b valid high
-high-unmarked _ b valid high = refl
+high-unmarked v0 b valid high = grind arith
 
 low-step : (fs : List Event) (m : ℕ) (e : Event) → event_at fs (suc m) ≡ Some e → IsValidEvent e → LiesLow fs m → LiesLow fs (suc m)
 low-step fs m e here valid low b high = (
@@ -39,13 +36,7 @@ follows-part old new e valid follows longer depth scope = λ fs m here stands.
 
 pub stands-none : (part : Part) (fs : List Event) → part.events ≡ 0 → part.depth ≡ 0 → part.is_scoped ≡ false → StandsFor part.shadow (λ k. k) fs 0 → Stands part fs 0
 unfolding is_excluded at event_at
-stands-none part fs events depth scope shadow = record {
-  shadow = shadow;
-  events = events;
-  depth = depth ∙ sym (depth-start fs);
-  scope = scope ∙ sym (unscoped-from fs 0 (first-scope fs));
-  low = λ b high. (last-none (stores b) fs, ap (at (excludes b) fs) (last-none (marks b) fs));
-}
+stands-none part fs events depth scope shadow = grind (arith, depth-start, unscoped-from, first-scope, last-none)
 
 -- ---- depth and scope
 
@@ -63,10 +54,7 @@ module _ (fs : List Event) (m : ℕ) where
 
   pub scope_start : event_at fs (suc m) ≡ Some CheckStart → in_scope fs (suc m) ≡ true
   unfolding opens_scope closes_scope
-  scope_start here = elim (in_scope fs m) as (λ v. in_scope fs m ≡ v → in_scope fs (suc m) ≡ true) [
-    | true ↦ λ is. in_scope-same fs m (suc m) (scope-stays fs m CheckStart here refl (scope-some fs m is)) ∙ is
-    | false ↦ λ none. scoped-from fs (suc m) (let now = scope-opened fs m CheckStart here refl refl (scope-none fs m none) in omega arith)
-  ] refl
+  scope_start here = grind (arith, in_scope-same, scope-stays, scope-some, scoped-from, scope-opened, scope-none)
 
   pub scope_end : event_at fs (suc m) ≡ Some CheckEnd → in_scope fs (suc m) ≡ false
   unfolding closes_scope
@@ -108,27 +96,10 @@ low-unwritten fs m b none = lacks-not (last_store fs m b) (first_write_back (sto
 
 -- an undurable byte lies below the limit of addresses
 undurable-low : (fs : List Event) (m : ℕ) → LiesLow fs m → (b : ℕ) → is_undurable fs m b ≡ true → b < ADDRESS_LIMIT
-undurable-low fs m low b is = elim (cases_lt b ADDRESS_LIMIT) [
-  | inl below ↦ below
-  | inr high ↦ let bad : false ≡ true = sym (low-undurable fs m b (low b high).0) ∙ is in cc
-]
+undurable-low fs m low b is = grind (arith, cases_lt, low-undurable)
 
 alike-everywhere : (fs : List Event) (m : ℕ) (gs : List Event) (q : ℕ) → LiesLow fs m → LiesLow gs q → IsAlikeBelow fs m gs q ADDRESS_LIMIT → IsAlike fs m gs q
-alike-everywhere fs m gs q low low_too below = record {
-  excluded = λ b. elim (cases_lt b ADDRESS_LIMIT) [
-    | inl inside ↦ (below.bytes b inside).excluded
-    | inr high ↦ (low_too b high).1 ∙ sym (low b high).1
-  ];
-  undurable = λ b. elim (cases_lt b ADDRESS_LIMIT) [
-    | inl inside ↦ (below.bytes b inside).undurable
-    | inr high ↦ low-undurable gs q b (low_too b high).0 ∙ sym (low-undurable fs m b (low b high).0)
-  ];
-  unwritten = λ b. elim (cases_lt b ADDRESS_LIMIT) [
-    | inl inside ↦ (below.bytes b inside).unwritten
-    | inr high ↦ low-unwritten gs q b (low_too b high).0 ∙ sym (low-unwritten fs m b (low b high).0)
-  ];
-  order = λ x y line x_is y_is. below.order x y (undurable-low fs m low x x_is) (undurable-low fs m low y y_is) line x_is y_is;
-}
+alike-everywhere fs m gs q low low_too below = grind (arith, cases_lt, low-undurable, low-unwritten, undurable-low)
 
 pub renews-by : (old new : Part) (head : List Event) → ((gs : List Event) → BeginsWith gs head → Stands new gs (length head)) → new.depth ≡ 0 → new.is_scoped ≡ false →
     ((fs : List Event) (m : ℕ) (gs : List Event) (q : ℕ) → StandsFor old.shadow (λ k. k) fs m → StandsFor new.shadow (λ k. k) gs q → IsAlikeBelow fs m gs q ADDRESS_LIMIT) → Renews old new head

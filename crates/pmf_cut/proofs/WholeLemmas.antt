@@ -27,13 +27,7 @@ unfolding event_at
 part-begins es p head k within = get-front head (drop p es) k within
 
 whole-cut : (es : List Event) → IsCut es 0 es 0
-whole-cut es =
-    let outside : IsOutside es 0 = record { transaction = outside-from es 0 (depth-start es); scope = unscoped-from es 0 (scope-start es) } in record {
-      alike = record { excluded = λ b. refl; undurable = λ b. refl; unwritten = λ b. refl; order = λ x y line x_is y_is. refl };
-      fresh = λ b some. let none = last-none (stores b) es in absurd (omega arith);
-      whole = outside;
-      part = outside;
-    }
+whole-cut es = grind (arith, outside-from, depth-start, unscoped-from, scope-start, last-none)
 
 pub part-first : (part : Part) → ((fs : List Event) → Stands part fs 0) → (es : List Event) → IsPartOf part es 0 [] 0
 part-first part stands es = record {

@@ -6,10 +6,7 @@ pub loop-file-init : goal.loop-file-init
 loop-file-init c = record { kept = λ file. rw c.new-texts.ensures.items refl; gone = λ k within. absurd (omega arith); currents = λ file. refl; count = refl }
 
 pub loop-file-preserved-then-is_empty : goal.loop-file-preserved-then-is_empty
-loop-file-preserved-then-is_empty c =
-    let none : length c.take_text-bytes.result.items ≡ 0 = grind (arith, common_steps) in
-    let took = c.take_text-bytes.ensures in
-    drained-empty _ c.loop-file.self _ _ c.loop-file.file-index _ _ _ refl c.loop-file.invariant took.taken took.none_left took.others took.currents took.count none
+loop-file-preserved-then-is_empty c = grind (arith, common_steps, drained-empty)
 
 pub loop-file-preserved : goal.loop-file-preserved
 loop-file-preserved c =
