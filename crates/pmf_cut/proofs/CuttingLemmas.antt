@@ -279,10 +279,10 @@ get-front [] more k x at = absurd (none_is_some at)
 get-front (y ∷ xs) more zero x at = at
 get-front (y ∷ xs) more (suc k) x at = get-front xs more k x at
 
-pub get-set : (xs : List Cutting) (k : ℕ) (x y : Cutting) → slice_get xs k ≡ Some x → slice_get (set xs k y) k ≡ Some y
-get-set [] k x y at = absurd (none_is_some at)
-get-set (z ∷ xs) zero x y at = refl
-get-set (z ∷ xs) (suc k) x y at = get-set xs k x y at
+pub get_set : (xs : List Cutting) (k : ℕ) (x y : Cutting) → slice_get xs k ≡ Some x → slice_get (set xs k y) k ≡ Some y
+get_set [] k x y at = absurd (none_is_some at)
+get_set (z ∷ xs) zero x y at = refl
+get_set (z ∷ xs) (suc k) x y at = get_set xs k x y at
 
 module _ (names then-names : ℕ → Option ℕ) (name number : ℕ) (named : IsNamed names then-names name number) where
   named-kept : (other k : ℕ) → names other ≡ Some k → then-names other ≡ Some k
@@ -333,8 +333,8 @@ module _ (ends : Bool) (step : ℕ) (records : List (List ℕ)) (handed : ℕ �
   }
 
   -- files began
-  pub more-files : (then-outputs : Outputs) → MoreFiles outputs then-outputs → HasCut ends step records handed current places names sections then-outputs
-  more-files then-outputs more = grind (arith, passed, more-says, more-open)
+  pub more_files : (then-outputs : Outputs) → MoreFiles outputs then-outputs → HasCut ends step records handed current places names sections then-outputs
+  more_files then-outputs more = grind (arith, passed, more-says, more-open)
 
   -- the log that has these records is cut into what was handed out and waits
   whole-at : (number : ℕ) (place : Option ℕ) → places number ≡ place → AreUpTo (said handed outputs) (events_in records number) (has.parts number) (length (events_in records number))
@@ -429,7 +429,7 @@ module _ (step : ℕ) (records : List (List ℕ)) (handed : ℕ → List ℕ) (c
             ∙ number_of_it
 
     here-then : (new : Cutting) (there : ℕ) → places number ≡ Some there → slice_get (set sections place new) there ≡ Some new
-    here-then new there stands = subst (λ k. slice_get (set sections place new) k ≡ Some new) (some_apart place there (sym at ∙ stands)) (get-set sections place section new is)
+    here-then new there stands = subst (λ k. slice_get (set sections place new) k ≡ Some new) (some_apart place there (sym at ∙ stands)) (get_set sections place section new is)
 
     not_it : (other : ℕ) → places other ≡ None → other ≢ number
     not_it other none same = none_is_some (sym none ∙ ap places same ∙ at)
@@ -580,10 +580,10 @@ module _ (step : ℕ) (records : List (List ℕ)) (handed : ℕ → List ℕ) (c
   silent ends then-outputs v2 says quiet = grind (arith, append-nil, passed, events_in-nothing, current_of-push)
 
 -- the same of equals
-pub cut-as : (ends : Bool) (step : ℕ) (records : List (List ℕ)) (handed : ℕ → List ℕ) (current then-current : Option ℕ) (places then-places names then-names : ℕ → Option ℕ) (sections then-sections : List Cutting) (outputs : Outputs) →
+pub cut_as : (ends : Bool) (step : ℕ) (records : List (List ℕ)) (handed : ℕ → List ℕ) (current then-current : Option ℕ) (places then-places names then-names : ℕ → Option ℕ) (sections then-sections : List Cutting) (outputs : Outputs) →
     then-current ≡ current → then-places ≡ places → then-names ≡ names → then-sections ≡ sections → HasCut ends step records handed current places names sections outputs →
     HasCut ends step records handed then-current then-places then-names then-sections outputs
-cut-as ends step records handed current then-current places then-places names then-names sections then-sections outputs same-current same-places same-names same-sections has = grind arith
+cut_as ends step records handed current then-current places then-places names then-names sections then-sections outputs same-current same-places same-names same-sections has = grind arith
 
 -- what is handed out is no longer to be written
 handed-same : (handed : ℕ → List ℕ) (old new : Outputs) (texts : List Text) → HandsOut old texts new → (file : ℕ) → text_of (handed_with handed texts) new file ≡ text_of handed old file
@@ -616,9 +616,9 @@ take-further start len text =
     ∙ take-append-drop start (take (start + len + 1) text)
 
 -- a part of the text more
-pub cuts-part : (step : ℕ) (done text : List ℕ) (handed : ℕ → List ℕ) (mid new : Cutter) (start len : ℕ) → CutsTo step done text handed mid start →
+pub cuts_part : (step : ℕ) (done text : List ℕ) (handed : ℕ → List ℕ) (mid new : Cutter) (start len : ℕ) → CutsTo step done text handed mid start →
     parts_of (take (len + 1) (drop start text)) ≡ take len (drop start text) ∷ [] ∷ [] → CutsPart mid new (take len (drop start text)) (take (len + 1) (drop start text)) → CutsTo step done text handed new (start + len + 1)
-cuts-part step done text handed mid new start len so_far parts cuts =
+cuts_part step done text handed mid new start len so_far parts cuts =
     let before = done ++ take start text in
     let bytes = take (len + 1) (drop start text) in
     let more = records_in (take len (drop start text) ∷ []) in
@@ -656,8 +656,8 @@ reads-on step log bytes text handed old mid new end text_is waiting unended cuts
     }
 
 -- the end of the log
-pub ends-log : (step : ℕ) (log : List ℕ) (handed : ℕ → List ℕ) (old new : Cutter) → CutsPart old new old.waiting.items old.waiting.items → HasRead step log handed old → HasCutAll step log handed new
-ends-log step log handed old new cuts read =
+pub ends_log : (step : ℕ) (log : List ℕ) (handed : ℕ → List ℕ) (old new : Cutter) → CutsPart old new old.waiting.items old.waiting.items → HasRead step log handed old → HasCutAll step log handed new
+ends_log step log handed old new cuts read =
     let rest = old.waiting.items in
     let cut = cuts false step _ handed read.cuts read.unended in
     let holds : Holds false rest (records_in (rest ∷ [])) = record { part = rest; parts = read.unended; records_are = refl } in

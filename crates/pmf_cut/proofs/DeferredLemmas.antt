@@ -34,8 +34,10 @@ pub caught_up : (old new : Deferred) → TakesFirst old.part new.part old.waitin
 caught_up old new takes none = grind arith
 
 -- what begins behind a part that has caught up
-pub begins-behind : (deferred : Deferred) (part : Part) (head : List Event) → deferred.waiting.items ≡ [] → BeginsAt deferred.part part head → BeginsBehind deferred part head
-begins-behind deferred part head none begins es p before n is = grind arith
+pub begins_behind : (deferred : Deferred) (part : Part) (head : List Event) → deferred.waiting.items ≡ [] → BeginsAt deferred.part part head → BeginsBehind deferred part head
+begins_behind deferred part head none begins es p before n is =
+    let all = is.all in let here : is.had ≡ n = omega (arith, ap length none) in
+    begins es p before n (subst (IsPartOf deferred.part es p before) here is.part)
 
 -- a part goes on with events, one after another
 pub goes-on-none : (part : Part) (events : List Event) → TakesFirst part part events 0

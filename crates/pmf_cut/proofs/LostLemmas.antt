@@ -40,11 +40,11 @@ put-new old new first end changes b low high = changes.states b ∙ ap (λ v. if
 abbrev HasSame : Past → Past → Type 0
 HasSame old new = (b : ℕ) → state_at new.bytes b ≡ state_at old.bytes b
 
-pub add-first : (old new : Past) (part : Part) → old.last ≡ None → HasSame old new → new.last ≡ Some part → Adds old new part
-add-first old new part none same last fs m stands b v10 = grind arith
+pub add_first : (old new : Past) (part : Part) → old.last ≡ None → HasSame old new → new.last ≡ Some part → Adds old new part
+add_first old new part none same last fs m stands b v10 = grind arith
 
-pub add-next : (old mid new : Past) (ended part : Part) → old.last ≡ Some ended → HasSame old mid → mid.last ≡ Some part → Puts mid new ended → Adds old new part
-add-next old mid new ended part was same last puts fs m stands b v13 = grind arith
+pub add_next : (old mid new : Past) (ended part : Part) → old.last ≡ Some ended → HasSame old mid → mid.last ≡ Some part → Puts mid new ended → Adds old new part
+add_next old mid new ended part was same last puts fs m stands b v13 = grind arith
 
 -- no byte is old from a place on where none is a member
 pub none-old-rest : (past : Past) (shadow : Shadow) (first at end : ℕ) → at ≤ end → ((b : ℕ) → at ≤ b → b < end → IsPast past b → ⊥) → NoneOld past shadow first at → NoneOld past shadow first end

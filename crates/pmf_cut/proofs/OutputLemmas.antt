@@ -15,9 +15,9 @@ spells-plain text saying plain says = record {
   says = says;
 }
 
-pub spells-event : (event : Event) (line text bytes : List ℕ) (n : ℕ) → AllValid event → line ≡ text_of_event event ++ codes "\n" → n ≡ length line → text ≡ take (n - 1) line → bytes ≡ text ++ 124 ∷ [] →
+pub spells_event : (event : Event) (line text bytes : List ℕ) (n : ℕ) → AllValid event → line ≡ text_of_event event ++ codes "\n" → n ≡ length line → text ≡ take (n - 1) line → bytes ≡ text ++ 124 ∷ [] →
     Spells bytes (Happens event)
-spells-event event line text bytes n valid line_is n_is text_is is = grind (arith, text_of_event, length-append, take_at, spells-plain, text_of_event-plain, record_of-event)
+spells_event event line text bytes n valid line_is n_is text_is is = grind (arith, text_of_event, length-append, take_at, spells-plain, text_of_event-plain, record_of-event)
 
 -- digits are not `0x`
 digits-front : (ds : List ℕ) → AllDigits 10 ds → starts_with nat_eq ds (codes "0x") ≡ false
@@ -52,8 +52,8 @@ record_of-marker n small =
     ∙ ap (λ fs. codes "PMT.SECTION" ∷ fs) (fields_of-last (decimal n) (each-digits _ 10 (λ c small. no_field_end c (omega (arith, small))) (decimal n) digits)))
     ∙ ap section_of_number (number_of-decimal n small)
 
-pub spells-marker : (n : ℕ) (bytes : List ℕ) → n < 2 ^ 64 → bytes ≡ marker_text n ++ 124 ∷ [] → Spells bytes (Enters n)
-spells-marker n bytes small is = rw is (spells-plain (marker_text n) (Enters n) (marker-plain n small) (record_of-marker n small))
+pub spells_marker : (n : ℕ) (bytes : List ℕ) → n < 2 ^ 64 → bytes ≡ marker_text n ++ 124 ∷ [] → Spells bytes (Enters n)
+spells_marker n bytes small is = rw is (spells-plain (marker_text n) (Enters n) (marker-plain n small) (record_of-marker n small))
 
 -- records behind a text that a separator ends
 pub nothing_behind : (ends : Bool) → records_in (behind_part ends) ≡ []
@@ -180,10 +180,10 @@ set-here : (outputs : List Output) (i : ℕ) (output : Output) → i < length ou
 set-here outputs i output within = slice_get_read (set outputs i output) (length outputs) i output (sym (length-set outputs i output)) within (sym (get_or-set_same outputs i output output within))
 
 -- the bytes go to a file that waits
-pub puts-set : (old new : Outputs) (file : ℕ) (bytes : List ℕ) (before after : Output) → before ≡ get_or old.files.items file before → new.files.items ≡ set old.files.items file after →
+pub puts_set : (old new : Outputs) (file : ℕ) (bytes : List ℕ) (before after : Output) → before ≡ get_or old.files.items file before → new.files.items ≡ set old.files.items file after →
     after.text.items ≡ before.text.items ++ bytes → (AllWait old → (other : ℕ) → 0 < length (waiting_in old other) → Contains new.waiting.items other) →
     (AllWait old → file < length old.files.items → Contains new.waiting.items file) → Puts old new file bytes after.current
-puts-set old new file bytes before after at is text waits has = grind (arith, set-here, set-other, slice_get_read, length-set, cases_eq)
+puts_set old new file bytes before after at is text waits has = grind (arith, set-here, set-other, slice_get_read, length-set, cases_eq)
 
 -- the texts with one more
 bytes_for-push : (texts : List Text) (text : Text) (file : ℕ) → bytes_for (texts ++ text ∷ []) file ≡ bytes_for texts file ++ bytes_for (text ∷ []) file

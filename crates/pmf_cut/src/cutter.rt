@@ -102,6 +102,7 @@ impl Cutter {
     }
 
     /// What is to be written of what was read since the last call, for each file once: it is handed out once.
+    #[tactic(auto, using(crate::proofs::CuttingLemmas::drained))]
     pub fn drain(&mut self) -> Result<Vec<Text>, CutFault>
         ensures { IfOk result (λ texts. Drains self.old texts.items self.new) }
     {
