@@ -66,19 +66,11 @@ module _ (es fs : List Event) (n m : ℕ) (e : Event) (here : event_at es (suc n
   known-before : (b : ℕ) → stores b e ≡ false → 0 < last_store fs (suc m) b → 0 < last_store fs m b
   known-before b other known = let same = last-other (stores b) fs m e there other in omega arith
 
-  precedes-step : SameBytes es n fs m → (p q : ℕ) → SamePairs es p n fs q m → (x y : ℕ) → 0 < last_store fs (suc m) x → 0 < last_store fs (suc m) y →
-      precedes (interval_at fs (suc m) x) (interval_at fs (suc m) y) ≡ precedes (interval_at es (suc n) x) (interval_at es (suc n) y)
-  precedes-step same p q pairs x y one other = grind (arith, precedes-reopened, known-before, precedes-stored, no_fence, precedes-kept)
-
   -- which of two bytes was stored to first, after one event more
   before-step : (gs : List Event) (k x y : ℕ) → event_at gs (suc k) ≡ Some e →
       is_stored_before gs (suc k) x y ≡ (if stores y e then not (stores x e) else (if stores x e then false else is_stored_before gs k x y))
   unfolding is_stored_before
   before-step gs k x y now = grind (arith, nat_lt, last-here, le-ltb, last-other, last-bound, lt-ltb)
-
-  order-step : (p q : ℕ) → SamePairs es p n fs q m → (x y : ℕ) → share_line x y ≡ true → 0 < last_store fs (suc m) x → 0 < last_store fs (suc m) y →
-      is_stored_before fs (suc m) x y ≡ is_stored_before es (suc n) x y
-  order-step p q pairs x y line one other = grind (arith, before-step, known-before)
 
   -- what the part does not know a store of is durable
   durable : (b : ℕ) → last_store fs m b ≡ 0 → is_undurable fs m b ≡ false
@@ -90,7 +82,7 @@ module _ (es fs : List Event) (n m : ℕ) (e : Event) (here : event_at es (suc n
   old-step same p q within pairs x y unknown stored behind = grind (arith, last-here, last-other, precedes-stored, no_fence, durable, precedes-kept)
 
   pairs-step : SameBytes es n fs m → (p q : ℕ) → p ≤ n → SamePairs es p n fs q m → SamePairs es p (suc n) fs q (suc m)
-  pairs-step same p q within pairs = grind (arith, last-here, known-before, last-other, durable, precedes-step, order-step, old-step)
+  pairs-step same p q within pairs = grind (arith, last-here, known-before, last-other, durable, old-step, precedes-reopened, precedes-stored, no_fence, precedes-kept, before-step)
 
   depth-step : depth_at fs m ≡ depth_at es n → depth_at fs (suc m) ≡ depth_at es (suc n)
   depth-step same = grind (arith, depth-begun, begins_or_ends, depth-ended, depth-kept)

@@ -35,31 +35,14 @@ record Within (x at y : ℕ) : Type 0 where
   behind : line_of_byte (at - 1) ≡ line_of_byte x
   number : at / LINE_SIZE ≡ y / LINE_SIZE
 
-within-line : (x at y : ℕ) → x < at → at ≤ y → line_of_byte x ≡ line_of_byte y → Within x at y
-within-line x at y before from same = grind arith
-
 module _ (fs : List Event) (m : ℕ) (gs : List Event) (q : ℕ) where
   module _ (a b : Standing) (at end : ℕ) (one : AllLeaveOpen (λ k. k) fs m at end a) (other : AllStandSo (λ k. k) gs q at end b) (agree : standings_agree a b ≡ true) where
-    part-excluded : a.excluded ≡ b.excluded
-    part-excluded = (booleans_Decides a.excluded b.excluded).0 (and_parts (beq a.excluded b.excluded) _ agree).0
 
     rest-undurable : (beq a.undurable b.undurable && (beq a.unwritten b.unwritten && ((b.undurable || is_none b.last) && (not a.undurable || (is_some a.last && is_some b.last))))) ≡ true
     rest-undurable = (and_parts (beq a.excluded b.excluded) _ agree).1
 
-    part-undurable : a.undurable ≡ b.undurable
-    part-undurable = (booleans_Decides a.undurable b.undurable).0 (and_parts (beq a.undurable b.undurable) _ rest-undurable).0
-
     rest-unwritten : (beq a.unwritten b.unwritten && ((b.undurable || is_none b.last) && (not a.undurable || (is_some a.last && is_some b.last)))) ≡ true
     rest-unwritten = (and_parts (beq a.undurable b.undurable) _ rest-undurable).1
-
-    part-unwritten : a.unwritten ≡ b.unwritten
-    part-unwritten = (booleans_Decides a.unwritten b.unwritten).0 (and_parts (beq a.unwritten b.unwritten) _ rest-unwritten).0
-
-    rest-last : ((b.undurable || is_none b.last) && (not a.undurable || (is_some a.last && is_some b.last))) ≡ true
-    rest-last = (and_parts (beq a.unwritten b.unwritten) _ rest-unwritten).1
-
-    part-fresh : (z : ℕ) → at ≤ z → z < end → 0 < last_store gs q z → is_undurable gs q z ≡ true
-    part-fresh z low high some = grind arith
 
     byte-same : (z : ℕ) → at ≤ z → z < end → SameByte fs m gs q z
     byte-same z low high = grind arith
@@ -72,9 +55,6 @@ module _ (fs : List Event) (m : ℕ) (gs : List Event) (q : ℕ) where
     places-of : (x y : ℕ) → a.undurable ≡ true → a.last ≡ Some x → b.last ≡ Some y → (z : ℕ) → at ≤ z → z < end → Places z x y
     places-of x y is x_is y_is z low high = grind arith
 
-    undurable-run : (z : ℕ) → at ≤ z → z < end → is_undurable fs m z ≡ true → a.undurable ≡ true
-    undurable-run z low high is = (one z low high).undurable ∙ is
-
     module _ (seen new : List (ℕ × ℕ)) (some : at < end) (before : Compared fs m gs q seen at) where
       bytes-below : (z : ℕ) → z < end → SameByte fs m gs q z
       bytes-below z below = grind (arith, cases_lt, byte-same)
@@ -83,10 +63,6 @@ module _ (fs : List Event) (m : ℕ) (gs : List Event) (q : ℕ) where
       seen-before : (u v : ℕ) → agrees (seen_behind seen at end) u v ≡ true → (x : ℕ) → x < at → line_of_byte x ≡ line_of_byte (end - 1) → is_undurable fs m x ≡ true →
           is_same_order (last_store fs m x) (last_store gs q x) u v ≡ true
       seen-before u v agreed x early home is = grind arith
-
-      -- a run that is not undurable
-      compared-durable : a.undurable ≡ false → new ≡ seen_behind seen at end → Compared fs m gs q new end
-      compared-durable durable new_is = grind arith
 
       -- a byte that comes before the run on its line stands to the run in one order
       order-before : (x y : ℕ) → agrees (seen_at seen at) x y ≡ true → (z w : ℕ) → z < at → at ≤ w → line_of_byte z ≡ line_of_byte w → is_undurable fs m z ≡ true →
@@ -131,4 +107,4 @@ module _ (fs : List Event) (m : ℕ) (gs : List Event) (q : ℕ) where
       }
 
       pub compared-more : Extends seen new (places_of a b) at end → Compared fs m gs q new end
-      compared-more extends = grind (arith, and_parts, is_none, rest-last, is_some, compared-durable, compared-undurable)
+      compared-more extends = grind (arith, and_parts, is_none, is_some, compared-undurable)

@@ -68,12 +68,9 @@ module _ (es : List Event) (p n : ℕ) (fs : List Event) (q m : ℕ) (behind : I
   exposed-after : (b : ℕ) → is_exposed fs (suc m) b ≡ is_exposed es (suc n) b
   exposed-after b = grind (arith, exposed-is)
 
-  left_open-same : (b : ℕ) → is_left_open fs m b ≡ is_left_open es n b
-  left_open-same b = grind (arith, left_open-exposed, exposed-after, left_open-none)
-
   check-stays : check_finding fs m ≡ check_finding es n
   unfolding check_finding
-  check-stays = grind (arith, first_from-same, left_open-same, inside)
+  check-stays = grind (arith, first_from-same, inside, left_open-exposed, exposed-after, left_open-none)
 
 -- ---- all of them
 

@@ -39,10 +39,6 @@ begins_behind deferred part head none begins es p before n is =
     let all = is.all in let here : is.had ≡ n = omega (arith, ap length none) in
     begins es p before n (subst (IsPartOf deferred.part es p before) here is.part)
 
--- a part goes on with events, one after another
-pub goes-on-none : (part : Part) (events : List Event) → TakesFirst part part events 0
-goes-on-none part events es p head n next is = subst (IsPartOf part es p head) (omega arith) is
-
 pub goes-on-next : (old mid new : Part) (events : List Event) (i : ℕ) (e : Event) → i < length events → slice_get events i ≡ Some e → TakesFirst old mid events i → GoesOnWith mid new e → TakesFirst old new events (i + 1)
 goes-on-next old mid new events i e within at takes on es p head n next is =
     let after : suc (n + i) ≡ n + (i + 1) = omega arith in

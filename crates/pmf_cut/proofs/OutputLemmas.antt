@@ -149,11 +149,6 @@ said-more ends handed file number xs ys old mid new first next = record {
   waits = λ all. next.waits (first.waits all);
 }
 
-pub says-more : (ends : Bool) (file number : ℕ) (xs ys : List Event) (old mid new : Outputs) → Says true file number xs old mid → Says ends file number ys mid new → Says ends file number (xs ++ ys) old new
-says-more ends file number xs ys old mid new first next = λ handed there opened.
-    let one = first handed there opened in
-    said-more ends handed file number xs ys old mid new one (next handed (omega (arith, one.count)) one.opened)
-
 -- one event more, behind those that the file says of the number
 pub says-event : (ends : Bool) (file number : ℕ) (xs : List Event) (old mid new : Outputs) (bytes text : List ℕ) (event : Event) → Says true file number xs old mid → Puts mid new file bytes number →
     Holds ends bytes (text ∷ []) → record_of text ≡ Ok (Happens event) → Says ends file number (xs ++ event ∷ []) old new
@@ -201,11 +196,9 @@ pub record Drained (old : Outputs) (names : List ℕ) (done : ℕ) (texts : List
 module _ (old mid new : Outputs) (names : List ℕ) (done name : ℕ) (texts : List Text) (bytes : List ℕ) (name_is : name ≡ get_or names done 0) (so_far : Drained old names done texts mid) (taken : bytes ≡ waiting_in mid name)
     (none_left : waiting_in new name ≡ []) (others : (other : ℕ) → other ≢ name → waiting_in new other ≡ waiting_in mid other) (currents : (other : ℕ) → current_in new other ≡ current_in mid other)
     (count : length new.files.items ≡ length mid.files.items) where
-  still_gone : (k : ℕ) → k < done + 1 → waiting_in new (get_or names k 0) ≡ []
-  still_gone k within = grind arith
 
   drained-step : (more : List Text) → ((file : ℕ) → bytes_for more file ≡ bytes_for texts file ++ (if name == file then bytes else [])) → Drained old names (done + 1) more new
-  drained-step more is = grind (arith, cases_eq, eq-eqb, append-nil, ne_eqb, still_gone)
+  drained-step more is = grind (arith, cases_eq, eq-eqb, append-nil, ne_eqb)
 
   pub drained-push : (text : Text) → text.file ≡ name → text.bytes.items ≡ bytes → Drained old names (done + 1) (texts ++ text ∷ []) new
   drained-push text file_is bytes_is = drained-step (texts ++ text ∷ []) (λ file. bytes_for-push texts text file ∙ rw (file_is, bytes_is, append-nil (if name == file then bytes else [])) refl)

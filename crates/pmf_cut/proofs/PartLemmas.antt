@@ -5,9 +5,6 @@ use Rattle.pmf_event.{specs.declared.event.Event.{Event}, specs.declared.event.E
 use Rattle.pmf_shadow.{specs.declared.shadow.Shadow.{Shadow}, specs.Shadow.{FollowsAt, StandsFor, Keeps}, proofs.StandsLemmas.{follows-within, stands-fences}}
 use Rattle.pmf_cut.{specs.declared.part.Part.{Part}, specs.Alike.{IsAlike}, specs.Comparing.{IsAlikeBelow}, specs.Parts.{LiesLow, Stands, Follows, BeginsWith, Renews}, proofs.StepLemmas.{excluded-step}}
 
-high-uncovered : (s : Extent) (b : ℕ) → IsValidExtent s.first s.size → ADDRESS_LIMIT ≤ b → covers_byte s b ≡ false
-high-uncovered s b valid high = let ends = valid.ends in ap (λ v. nat_le s.first b && v) (le-ltb b (s.first + s.size) (omega arith)) ∙ and-false (nat_le s.first b)
-
 high-unstored : (e : Event) (b : ℕ) → IsValidEvent e → ADDRESS_LIMIT ≤ b → stores b e ≡ false
 unfolding stores
 high-unstored v0 b valid high = grind arith
@@ -94,12 +91,8 @@ low-unwritten : (fs : List Event) (m b : ℕ) → last_store fs m b ≡ 0 → is
 unfolding is_unwritten
 low-unwritten fs m b none = lacks-not (last_store fs m b) (first_write_back (stores b) (line_of_byte b) fs m) (λ some. absurd (omega arith))
 
--- an undurable byte lies below the limit of addresses
-undurable-low : (fs : List Event) (m : ℕ) → LiesLow fs m → (b : ℕ) → is_undurable fs m b ≡ true → b < ADDRESS_LIMIT
-undurable-low fs m low b is = grind (arith, cases_lt, low-undurable)
-
 alike-everywhere : (fs : List Event) (m : ℕ) (gs : List Event) (q : ℕ) → LiesLow fs m → LiesLow gs q → IsAlikeBelow fs m gs q ADDRESS_LIMIT → IsAlike fs m gs q
-alike-everywhere fs m gs q low low_too below = grind (arith, cases_lt, low-undurable, low-unwritten, undurable-low)
+alike-everywhere fs m gs q low low_too below = grind (arith, cases_lt, low-undurable, low-unwritten)
 
 pub renews-by : (old new : Part) (head : List Event) → ((gs : List Event) → BeginsWith gs head → Stands new gs (length head)) → new.depth ≡ 0 → new.is_scoped ≡ false →
     ((fs : List Event) (m : ℕ) (gs : List Event) (q : ℕ) → StandsFor old.shadow (λ k. k) fs m → StandsFor new.shadow (λ k. k) gs q → IsAlikeBelow fs m gs q ADDRESS_LIMIT) → Renews old new head

@@ -6,16 +6,6 @@ use Rattle.pmf_cut.specs.{Behind.{IsBehind}, Laws.{IsSameOrEmpty, IsSameOrder, K
 
 -- ---- persist assertions
 
-exposed-cases : (written out unclosed : Bool) → ((written && not out) && (written && unclosed)) ≡ ((written && unclosed) && not out)
-exposed-cases true true true = grind arith
-exposed-cases true true false = grind arith
-exposed-cases true false true = grind arith
-exposed-cases true false false = grind arith
-exposed-cases false out unclosed = grind arith
-
-not-zero : (n : ℕ) → not (n == 0) ≡ nat_lt 0 n
-not-zero n = grind arith
-
 -- a byte is exposed where it is undurable and not excluded
 pub exposed-is : (es : List Event) (p b : ℕ) → is_exposed es p b ≡ (is_undurable es p b && not (is_excluded es p b))
 unfolding is_exposed is_checked is_undurable
@@ -57,9 +47,6 @@ module _ (es : List Event) (p n : ℕ) (fs : List Event) (q m : ℕ) (behind : I
   persist-stays s = grind (arith, first_from-same, exposed-same, some-or-none, persist-checked, is_none, wider-some, checked-known, persist-empty, narrower-none, exposed-checked)
 
 -- ---- order assertions
-
-share-other_way : (x y : ℕ) → share_line x y ≡ true → share_line y x ≡ true
-share-other_way x y is = (Decides-eqb (line_of_byte y) (line_of_byte x)).1 (sym ((Decides-eqb (line_of_byte x) (line_of_byte y)).0 is))
 
 unordered-parts : (profile : Profile) (es : List Event) (p x y : ℕ) → is_unordered profile es p x y ≡ true →
     (is_checked es p x ≡ true) × (is_checked es p y ≡ true) × (is_ordered profile es p x y ≡ false)
@@ -107,10 +94,6 @@ module _ (profile : Profile) (es : List Event) (p n : ℕ) (fs : List Event) (q 
   unfolding is_ordered
   ordered-alike v0 x y intervals order = grind arith
 
-  -- pairs that the part knows are ordered alike
-  ordered-same : (x y : ℕ) → 0 < last_store fs m x → 0 < last_store fs m y → is_ordered profile fs m x y ≡ is_ordered profile es n x y
-  ordered-same x y one other = grind (arith, ordered-alike)
-
   checked-same : (b : ℕ) → 0 < last_store fs m b → is_checked es n b ≡ true → is_checked fs m b ≡ true
   checked-same b known is = checked-from fs m b known (behind.bytes.excluded b ∙ (checked-parts es n b is).1)
 
@@ -130,10 +113,10 @@ module _ (profile : Profile) (es : List Event) (p n : ℕ) (fs : List Event) (q 
         ]
 
     unordered-same : (x y : ℕ) → covers_byte a x ≡ true → covers_byte b y ≡ true → is_unordered profile fs m x y ≡ is_unordered profile es n x y
-    unordered-same x y one other = grind (arith, both_ways, unordered-parts, ordered-same, checked-parts, unordered-from, checked-known, known-pair, checked-same)
+    unordered-same x y one other = grind (arith, both_ways, unordered-parts, checked-parts, unordered-from, checked-known, known-pair, checked-same, ordered-alike)
 
     certified-same : (x y : ℕ) → covers_byte a x ≡ true → covers_byte b y ≡ true → is_certified profile fs m x y ≡ is_certified profile es n x y
-    certified-same x y one other = grind (arith, certified-is, unordered-same, known-pair, share-other_way)
+    certified-same x y one other = grind (arith, certified-is, unordered-same, known-pair)
 
     -- where the part checks nothing of a span, no pair of the whole is unordered
     none-unordered : (first_byte (is_checked fs m) a ≡ None) ⊎ (first_byte (is_checked fs m) b ≡ None) → (x y : ℕ) → covers_byte a x ≡ true → covers_byte b y ≡ true → is_unordered profile es n x y ≡ false

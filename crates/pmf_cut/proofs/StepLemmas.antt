@@ -151,18 +151,11 @@ interval_of-some : (l opens : ℕ) (closes : Option ℕ) → 0 < l → interval_
 unfolding interval_of
 interval_of-some l opens closes some = ap (λ v. if v then None else Some (record { last = l; opens = opens; closes = closes })) (ne_eqb l 0 (λ zero_is. omega arith))
 
-interval_of-none : (l opens : ℕ) (closes : Option ℕ) → l ≡ 0 → interval_of l opens closes ≡ None
-unfolding interval_of
-interval_of-none l opens closes none = ap (λ v. if v then None else Some (record { last = l; opens = opens; closes = closes })) ((Decides-eqb l 0).1 none)
-
 -- the one byte was stored to, and closed by a fence before the last store of the other
 pub record IsBefore (es : List Event) (p x y : ℕ) : Type 0 where
   pub stored : 0 < last_store es p x
   pub closed : 0 < closing_fence (stores x) (line_of_byte x) es p
   pub before : closing_fence (stores x) (line_of_byte x) es p < last_store es p y
-
-nothing-precedes : (o : Option Interval) → precedes o None ≡ false
-nothing-precedes v0 = grind arith
 
 module _ (es : List Event) (p x y : ℕ) where
   closing-fences : 0 < closing_fence (stores x) (line_of_byte x) es p → at is_fence es (closing_fence (stores x) (line_of_byte x) es p) ≡ true
@@ -171,7 +164,7 @@ module _ (es : List Event) (p x y : ℕ) where
 
   pub precedes-parts : precedes (interval_at es p x) (interval_at es p y) ≡ true → IsBefore es p x y
   unfolding epoch_of
-  precedes-parts is = grind (arith, cases_lt, interval-is, interval_of-none, nothing-precedes, interval_of-some, epoch_after-none, nat_le, epoch_after-some, leb-true, count-mono)
+  precedes-parts is = grind (arith, cases_lt, interval-is, interval_of-some, epoch_after-none, nat_le, epoch_after-some, leb-true, count-mono)
 
   pub precedes-from : IsBefore es p x y → precedes (interval_at es p x) (interval_at es p y) ≡ true
   unfolding epoch_of
