@@ -48,17 +48,11 @@ module _ (es fs : List Event) (n m : ℕ) (e : Event) (here : event_at es (suc n
     excluded = λ b. excluded-step fs m b e there ∙ ap (λ v. if marks b e then excludes b e else v) (same.excluded b) ∙ sym (excluded-step es n b e here);
     undurable = λ b. elim (stores b e) as (λ v. stores b e ≡ v → is_undurable fs (suc m) b ≡ is_undurable es (suc n) b) [
       | true ↦ λ is. undurable-stored fs m b e there is ∙ sym (undurable-stored es n b e here is)
-      | false ↦ λ other. elim (is_fence e) as (λ v. is_fence e ≡ v → is_undurable fs (suc m) b ≡ is_undurable es (suc n) b) [
-        | true ↦ λ fence. undurable-fenced fs m b e there other fence ∙ same.unwritten b ∙ sym (undurable-fenced es n b e here other fence)
-        | false ↦ λ none. undurable-kept fs m b e there other none ∙ same.undurable b ∙ sym (undurable-kept es n b e here other none)
-      ] refl
+      | false ↦ grind (arith, undurable-fenced, undurable-kept)
     ] refl;
     unwritten = λ b. elim (stores b e) as (λ v. stores b e ≡ v → is_unwritten fs (suc m) b ≡ is_unwritten es (suc n) b) [
       | true ↦ λ is. unwritten-stored fs m b e there is ∙ sym (unwritten-stored es n b e here is)
-      | false ↦ λ other. elim (flushes (line_of_byte b) e) as (λ v. flushes (line_of_byte b) e ≡ v → is_unwritten fs (suc m) b ≡ is_unwritten es (suc n) b) [
-        | true ↦ λ flush. unwritten-flushed fs m b e there other flush ∙ sym (unwritten-flushed es n b e here other flush)
-        | false ↦ λ none. unwritten-kept fs m b e there other none ∙ same.unwritten b ∙ sym (unwritten-kept es n b e here other none)
-      ] refl
+      | false ↦ grind (arith, unwritten-flushed, unwritten-kept)
     ] refl;
   }
 
@@ -93,9 +87,7 @@ module _ (es fs : List Event) (n m : ℕ) (e : Event) (here : event_at es (suc n
       elim (in_transaction es (suc n)) as (λ v. in_transaction es (suc n) ≡ v → is_backed fs (suc m) b ≡ is_backed es (suc n) b) [
         | false ↦ λ outside. backed-outside fs (suc m) b (inside ∙ outside) ∙ sym (backed-outside es (suc n) b outside)
         | true ↦ λ runs. elim (adds b e) as (λ v. adds b e ≡ v → is_backed fs (suc m) b ≡ is_backed es (suc n) b) [
-          | true ↦ λ is.
-              let before = sym (inside-kept es n e here (adds_or_begins b e is) (adds_or_ends b e is)) ∙ runs in
-              backed-added fs m e there b (inside-by es fs n m same ∙ before) (inside ∙ runs) is ∙ sym (backed-added es n e here b before runs is)
+          | true ↦ grind (arith, inside-kept, adds_or_begins, adds_or_ends, backed-added, inside-by)
           | false ↦ λ other. backed-kept fs m e there b (inside ∙ runs) other ∙ backed ∙ sym (backed-kept es n e here b runs other)
         ] refl
       ] refl
@@ -108,16 +100,7 @@ module _ (es fs : List Event) (n m : ℕ) (e : Event) (here : event_at es (suc n
       let inside = inside-by es fs (suc n) (suc m) depth in
       let backed = λ (b : ℕ). backed-step same.depth b (same.backed b) in
       elim (closes_scope e) as (λ v. closes_scope e ≡ v → SameTransactions es p (suc n) fs q (suc m)) [
-        | true ↦ λ is.
-            let none = unscoped-from es (suc n) (scope-closed es n e here is) in
-            let none_there = unscoped-from fs (suc m) (scope-closed fs m e there is) in record {
-              shift = omega arith;
-              depth = depth;
-              backed = backed;
-              scope = none_there ∙ sym none;
-              opened = λ some. let bad : false ≡ true = sym none ∙ some in cc;
-              scoped = λ b. not_scoped fs (suc m) b none_there ∙ sym (not_scoped es (suc n) b none);
-            }
+        | true ↦ grind (arith, unscoped-from, scope-closed, not_scoped)
         | false ↦ λ other. elim (in_scope es n) as (λ v. in_scope es n ≡ v → SameTransactions es p (suc n) fs q (suc m)) [
           | true ↦ λ some.
               let stays = scope-stays es n e here other (scope-some es n some) in
@@ -133,31 +116,7 @@ module _ (es fs : List Event) (n m : ℕ) (e : Event) (here : event_at es (suc n
                   | false ↦ λ is. scoped-kept fs m e there b stays_there (ap (λ v. stores b e && v) inside ∙ is) ∙ same.scoped b ∙ sym (scoped-kept es n e here b stays is)
                 ] refl;
               }
-          | false ↦ λ none.
-              let zero_is = scope-none es n none in
-              let zero_there = scope-none fs m (same.scope ∙ none) in
-              elim (opens_scope e) as (λ v. opens_scope e ≡ v → SameTransactions es p (suc n) fs q (suc m)) [
-                | true ↦ λ is.
-                    let now = scope-opened es n e here other is zero_is in
-                    let now_there = scope-opened fs m e there other is zero_there in record {
-                      shift = omega arith;
-                      depth = depth;
-                      backed = backed;
-                      scope = scoped-from fs (suc m) (omega arith) ∙ sym (scoped-from es (suc n) (omega arith));
-                      opened = λ some. omega arith;
-                      scoped = λ b. scoped-opened fs (suc m) b now_there ∙ sym (scoped-opened es (suc n) b now);
-                    }
-                | false ↦ λ no_start.
-                    let kept = unscoped-from es (suc n) (scope-kept es n e here other no_start ∙ zero_is) in
-                    let kept_there = unscoped-from fs (suc m) (scope-kept fs m e there other no_start ∙ zero_there) in record {
-                      shift = omega arith;
-                      depth = depth;
-                      backed = backed;
-                      scope = kept_there ∙ sym kept;
-                      opened = λ some. let bad : false ≡ true = sym kept ∙ some in cc;
-                      scoped = λ b. not_scoped fs (suc m) b kept_there ∙ sym (not_scoped es (suc n) b kept);
-                    }
-              ] refl
+          | false ↦ grind (arith, scope-none, scope-opened, scoped-from, scoped-opened, unscoped-from, scope-kept, not_scoped)
         ] refl
       ] refl
 

@@ -89,21 +89,11 @@ module _ (fs : List Event) (m : ℕ) (gs : List Event) (q : ℕ) where
                   | inl w_early ↦
                       let alike = order-before x y agreed w z w_early z_late (sym ((Decides-eqb (line_of_byte z) (line_of_byte w)).0 line)) w_open in
                       ap (λ k. nat_lt k (last_store gs q w)) here.part ∙ behind-same (last_store fs m w) (last_store gs q w) x y alike ∙ sym (ap (λ k. nat_lt k (last_store fs m w)) here.whole)
-                  | inr w_late ↦
-                      let there = places-of x y is x_is y_is w w_late w_below in
-                      le-ltb (last_store gs q z) (last_store gs q w) (let one_is = here.part in let other_is = there.part in omega arith)
-                      ∙ sym (le-ltb (last_store fs m z) (last_store fs m w) (let one_is = here.whole in let other_is = there.whole in omega arith))
+                  | inr w_late ↦ grind arith
                 ]
           ];
         };
-        line = λ positive u v so z below home opened.
-            let both = ap (λ s. agrees s u v) (sym new_is) ∙ so in
-            elim (cases_lt z at) [
-              | inl early ↦ seen-before u v (agrees-front (seen_behind seen at end) (x, y) u v both) z early home opened
-              | inr late ↦
-                  let here = places-of x y is x_is y_is z late below in
-                  ap (λ k. is_same_order k (last_store gs q z) u v) here.whole ∙ ap (λ k. is_same_order x k u v) here.part ∙ agrees-last (seen_behind seen at end) (x, y) u v both
-            ];
+        line = grind (arith, cases_lt, seen-before, agrees-front, places-of, agrees-last);
       }
 
       pub compared-more : Extends seen new (places_of a b) at end → Compared fs m gs q new end

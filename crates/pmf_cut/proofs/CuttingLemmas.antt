@@ -103,19 +103,14 @@ section-grows says says' files files' step es parts old new e takes here others 
   up_to = (
     record {
       within = omega (arith, length_push es e);
-      here =
-          ap (λ file. says' file last.number) has.file_is ∙ ap (says' old.file) has.name_is ∙ here ∙ ap (λ events. events ++ e ∷ []) (ap (says old.file) (sym has.name_is) ∙ ap (λ file. says file last.number) (sym has.file_is) ∙ written.here)
-          ∙ append_assoc last.head _ (e ∷ []) ∙ ap (λ events. last.head ++ events) (sym (all-push last.first es e begins));
+      here = grind (arith, append_assoc, all-push);
       elsewhere = λ file other. others file last.number (inl (λ same. other (same ∙ sym has.file_is))) ∙ written.elsewhere file other;
       cut = cut-more es (e ∷ []) last.first last.head written.cut;
     },
     up_to-more says' es (e ∷ []) has.before last.first begins
         (up_to-same says says' es has.before last.first (same-but old.name says says' (λ other apart file. others file other (inr apart)) has.before has.once) has.up_to.1),
   );
-  goes_on = λ rest.
-      let on = takes.goes_on (es ++ e ∷ rest) last.first last.head (length es) (event-behind es e rest) (has.goes_on (e ∷ rest)) in
-      subst (λ (all : List Event). IsUpTo new.part all last.first last.head (length (es ++ e ∷ []))) (sym (append_assoc es (e ∷ []) rest))
-      (subst (IsUpTo new.part (es ++ e ∷ rest) last.first last.head) (sym (length_push es e ∙ add-one (length es))) on);
+  goes_on = grind (arith, event-behind, append_assoc, length_push, add-one);
 }
   where
     last : WrittenPart
@@ -382,17 +377,12 @@ module _ (step : ℕ) (records : List (List ℕ)) (handed : ℕ → List ℕ) (c
         here = λ place at. subst (λ k. slice_get (sections ++ section ∷ []) k ≡ Some section) (some_apart _ _ (sym here ∙ at)) (get-push sections section);
         there = λ other place apart at. (sym (others other apart) ∙ at, λ s is. get-front sections (section ∷ []) place s is);
         current_is = current-kept then-places (λ other place is. others other (λ same. none_is_some (sym none ∙ ap places (sym same) ∙ is)) ∙ is) current has.current_is;
-        found = λ other at.
-            let apart : other ≢ number = λ same. none_is_some (sym at ∙ ap then-places same ∙ here) in
-            (apart, sym (others other apart) ∙ at);
+        found = grind arith;
         events = λ other apart. refl;
         kept = named-kept names then-names number number named;
         new = named-by names then-names number number named;
         of_it = (named.here, tt);
-        among = λ name is. ⊎_elim
-            (λ both. inl (sym both.0))
-            (λ was. absurd (subst (IsAmong name) (has.absent number none).1 (has.among name number was)))
-            (named-new names then-names number number named name number is);
+        among = grind arith;
         says = λ name other apart is file. more-says handed outputs then-outputs more file name;
         nothing_else = λ name is file. more-says handed outputs then-outputs more file name ∙ has.nothing_else name (named-none names then-names number number named name is).1 file;
         count = more.count;
@@ -481,9 +471,7 @@ module _ (step : ℕ) (records : List (List ℕ)) (handed : ℕ → List ℕ) (c
           of_it = (named.here, of-kept names then-names number (λ other. named-kept names then-names name number named other number) (has.parts number) (has.of_it number));
           among = λ other is-named. ⊎_elim (λ both. inl (sym both.0)) (λ was. inr (has.among other number was)) (named-new names then-names name number named other number is-named);
           says = λ other k apart is-named its-file. is-said.others its-file other (inr (λ same. none_is_some (sym named.free ∙ ap names (sym same) ∙ is-named))) ∙ before its-file other;
-          nothing_else = λ other none its-file.
-              let free = named-none names then-names name number named other none in
-              is-said.others its-file other (inr free.0) ∙ before its-file other ∙ has.nothing_else other free.1 its-file;
+          nothing_else = grind arith;
           count = let count = is-said.count in let longer = more.count in omega arith;
           opened = is-said.opened;
           waits = is-said.waits (more.texts.waits has.waits);
@@ -647,9 +635,7 @@ reads-on step log bytes text handed old mid new end text_is waiting unended cuts
     let cut = cuts step read.done handed read.ended read.cuts in
     record {
       done = read.done ++ take end text;
-      whole =
-          ap (λ front. front ++ bytes) read.whole ∙ append_assoc read.done old.waiting.items bytes
-          ∙ ap (λ all. read.done ++ all) (sym text_is ∙ sym (take-append-drop end text) ∙ ap (λ rest. take end text ++ rest) (sym waiting)) ∙ sym (append_assoc read.done (take end text) new.waiting.items);
+      whole = grind (arith, append_assoc, take-append-drop);
       ended = cut.ended;
       unended = rw waiting unended;
       cuts = same _ cut.cuts;

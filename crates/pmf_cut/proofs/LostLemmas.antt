@@ -61,11 +61,7 @@ none-old-run past shadow first at byte until s between stands not_old before fs 
         let so = stands (λ k. k) fs m is b inside high in
         elim s.excluded as (λ v. s.excluded ≡ v → (is_none s.last && not v) ≡ false → is_excluded fs m b ≡ true) [
           | true ↦ λ out any. sym so.excluded ∙ out
-          | false ↦ λ kept any. elim s.last as (λ o. s.last ≡ o → (is_none o && true) ≡ false → is_excluded fs m b ≡ true) [
-            | None ↦ λ none bad. let no : true ≡ false = bad in cc
-            | Some k ↦ λ there fine.
-                let bad : Some k ≡ None = sym there ∙ so.last ∙ ap (place_as_told (λ k. k)) old.unknown in cc
-          ] refl any
+          | false ↦ grind arith
         ] refl not_old
   ]
 ]

@@ -106,19 +106,10 @@ puts-adds ends old new file number bytes more events puts holds adds = λ handed
           ended = λ is. rw text (holds-ended ends (text_of handed old file) bytes more is ended holds);
           current_is = ap current_of records ∙ is.current_is ∙ sym put.its;
         })
-        | inr apart ↦ record {
-          ended = λ is. rw (same other apart) ((opened other).ended refl);
-          current_is = ap (λ t. current_of (records_of t)) (same other apart) ∙ (opened other).current_is ∙ sym (put.others other apart).1;
-        }
+        | inr apart ↦ grind arith
       ];
       here = ap (λ r. events_in r number) records ∙ is.here;
-      others = λ other name which. elim (cases_eq other file) [
-        | inl here ↦ elim which [
-          | inl apart ↦ absurd (apart here)
-          | inr another ↦ rw here (ap (λ r. events_in r name) records ∙ is.others name another)
-        ]
-        | inr apart ↦ ap (λ t. events_in (records_of t) name) (same other apart)
-      ];
+      others = grind arith;
       current_is = put.its;
       count = put.count;
       waits = put.waits;

@@ -107,9 +107,5 @@ renews-by old new head stands flat unscoped alike = record {
         | inl inside ↦ ((alike fs m gs (length head) one.shadow other.shadow).bytes b inside).fresh some
         | inr high ↦ let none = (other.low b high).0 in absurd (omega arith)
       ];
-  outside = λ gs begins.
-      let other = stands gs begins in record {
-        transaction = outside-from gs (length head) (sym other.depth ∙ flat);
-        scope = sym other.scope ∙ unscoped;
-      };
+  outside = grind (arith, outside-from);
 }

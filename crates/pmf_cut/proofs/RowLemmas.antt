@@ -104,12 +104,7 @@ module _ (profile : Profile) (es : List Event) (p n : ℕ) (fs : List Event) (q 
         let parts = unordered-parts profile es n x y is in
         elim (knows x y one other parts.0 parts.1) [
           | inl both ↦ both
-          | inr behind_cut ↦ elim (cases_lt 0 (last_store fs m x)) [
-            | inl known ↦ (known, behind.pairs.fresh y behind_cut)
-            | inr unknown ↦
-                let ordered = ordered-by_interval profile es n x y (behind.pairs.old x y (omega arith) (checked-parts es n x parts.0).0 behind_cut) in
-                let bad : false ≡ true = sym parts.2 ∙ ordered in cc
-          ]
+          | inr behind_cut ↦ grind (arith, cases_lt, ordered-by_interval, checked-parts)
         ]
 
     unordered-same : (x y : ℕ) → covers_byte a x ≡ true → covers_byte b y ≡ true → is_unordered profile fs m x y ≡ is_unordered profile es n x y

@@ -99,19 +99,8 @@ module _ (es : List Event) (p b : ℕ) (e : Event) (here : event_at es (suc p) �
       ap (λ l. nat_lt 0 l && closing_fence (stores b) line es (suc p) == 0) (last-other (stores b) es p e here other)
       ∙ ap (λ c. nat_lt 0 k && c == 0) now
       ∙ elim (cases_lt 0 w) [
-        | inl some ↦ lacks-not k (if nat_lt 0 f then f else (if nat_lt 0 w then suc p else 0)) (λ positive. elim (cases_lt 0 f) [
-          | inl closed ↦ let is : (if nat_lt 0 f then f else (if nat_lt 0 w then suc p else 0)) ≡ f = ap (λ v. if v then f else (if nat_lt 0 w then suc p else 0)) (lt-ltb 0 f closed) in omega arith
-          | inr unclosed ↦ let is : (if nat_lt 0 f then f else (if nat_lt 0 w then suc p else 0)) ≡ suc p =
-              ap (λ v. if v then f else (if nat_lt 0 w then suc p else 0)) (le-ltb 0 f unclosed) ∙ ap (λ v. if v then suc p else 0) (lt-ltb 0 w some) in omega arith
-        ]) ∙ sym (lacks-not k w (λ positive. some))
-        | inr none ↦
-            let unclosed : f ≤ 0 = elim (cases_lt 0 f) [
-              | inl closed ↦ let more = first-closed closed in absurd (omega arith)
-              | inr small ↦ small
-            ] in
-            let is : (if nat_lt 0 f then f else (if nat_lt 0 w then suc p else 0)) ≡ 0 =
-            ap (λ v. if v then f else (if nat_lt 0 w then suc p else 0)) (le-ltb 0 f unclosed) ∙ ap (λ v. if v then suc p else 0) (le-ltb 0 w none) in
-            ap (λ c. nat_lt 0 k && c == 0) is ∙ ap (λ c. nat_lt 0 k && c == 0) (let zero_is : 0 ≡ w = omega arith in zero_is)
+        | inl some ↦ grind arith
+        | inr none ↦ grind (arith, cases_lt, first-closed, nat_lt, le-ltb)
       ]
 
   pub unwritten-stored : stores b e ≡ true → is_unwritten es (suc p) b ≡ true

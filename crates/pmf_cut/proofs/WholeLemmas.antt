@@ -61,21 +61,9 @@ part-cut old new head renews flat unscoped es p before n is =
     let bytes = is.behind.bytes in
     let undurable_there = λ (b : ℕ) (open_there : is_undurable es n b ≡ true). bytes.undurable b ∙ open_there in
     let cut : IsCut es n gs q = record {
-      alike = record {
-        excluded = λ b. alike.excluded b ∙ bytes.excluded b;
-        undurable = λ b. alike.undurable b ∙ bytes.undurable b;
-        unwritten = λ b. alike.unwritten b ∙ bytes.unwritten b;
-        order = λ x y line x_is y_is.
-            let x_there = undurable_there x x_is in
-            let y_there = undurable_there y y_is in
-            alike.order x y line x_there y_there
-            ∙ is.behind.pairs.order x y line (undurable-stored_to fs m x x_there) (undurable-stored_to fs m y y_there);
-      };
+      alike = grind (arith, undurable-stored_to);
       fresh = renews.fresh fs m gs is.stands begins;
-      whole = record {
-        transaction = outside-from es n (sym is.behind.transactions.depth ∙ sym is.stands.depth ∙ flat);
-        scope = sym is.behind.transactions.scope ∙ sym is.stands.scope ∙ unscoped;
-      };
+      whole = grind (arith, outside-from);
       part = renews.outside gs begins;
     } in record {
       cut = cut;
