@@ -41,9 +41,6 @@ module _ (fs : List Event) (m : ℕ) (gs : List Event) (q : ℕ) where
     rest-undurable : (beq a.undurable b.undurable && (beq a.unwritten b.unwritten && ((b.undurable || is_none b.last) && (not a.undurable || (is_some a.last && is_some b.last))))) ≡ true
     rest-undurable = (and_parts (beq a.excluded b.excluded) _ agree).1
 
-    rest-unwritten : (beq a.unwritten b.unwritten && ((b.undurable || is_none b.last) && (not a.undurable || (is_some a.last && is_some b.last)))) ≡ true
-    rest-unwritten = (and_parts (beq a.undurable b.undurable) _ rest-undurable).1
-
     byte-same : (z : ℕ) → at ≤ z → z < end → SameByte fs m gs q z
     byte-same z low high = grind arith
 

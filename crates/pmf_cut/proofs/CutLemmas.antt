@@ -65,12 +65,9 @@ module _ (es : List Event) (p n : ℕ) (fs : List Event) (q m : ℕ) (behind : I
   unfolding start_finding
   start-stays = ap (λ v. if v then Some Nested else None) behind.transactions.scope
 
-  exposed-after : (b : ℕ) → is_exposed fs (suc m) b ≡ is_exposed es (suc n) b
-  exposed-after b = grind (arith, exposed-is)
-
   check-stays : check_finding fs m ≡ check_finding es n
   unfolding check_finding
-  check-stays = grind (arith, first_from-same, inside, left_open-exposed, exposed-after, left_open-none)
+  check-stays = grind (arith, first_from-same, inside, left_open-exposed, left_open-none, exposed-is)
 
 -- ---- all of them
 

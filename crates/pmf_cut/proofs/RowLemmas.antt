@@ -70,11 +70,6 @@ least_pair-within : (s t : ℕ → ℕ → Bool) (a b : Extent) → ((x y : ℕ)
 unfolding least_pair has_partner
 least_pair-within s t a b same = grind (arith, first_from-same, bounds-cover, is_some, some-or-none, first-passes)
 
--- where a byte of the one span or of the other is never checked, no pair passes
-no-pair : (test : ℕ → ℕ → Bool) (a b : Extent) → ((x y : ℕ) → covers_byte a x ≡ true → covers_byte b y ≡ true → test x y ≡ false) → least_pair test a b ≡ None
-unfolding least_pair has_partner
-no-pair test a b never = grind (arith, first_from-none, is_some, bounds-cover)
-
 ordered-some : (profile : Profile) (es : List Event) (p : ℕ) (a b : Extent) → is_none (first_byte (is_checked es p) a) ≡ false → is_none (first_byte (is_checked es p) b) ≡ false →
     ordered_finding profile es p a b ≡ finding_of_pairs es p (least_pair (is_certified profile es p) a b) (least_pair (is_unordered profile es p) a b)
 unfolding ordered_finding
@@ -125,7 +120,8 @@ module _ (profile : Profile) (es : List Event) (p n : ℕ) (fs : List Event) (q 
         ])
 
     ordered-empty : (first_byte (is_checked fs m) a ≡ None) ⊎ (first_byte (is_checked fs m) b ≡ None) → IsSameOrder (ordered_finding profile es n a b) (ordered_finding profile fs m a b)
-    ordered-empty none = grind (arith, ordered-none, none-unordered, no-pair, certified-is, some-or-none, order-by, ordered-some, is_none)
+    unfolding least_pair has_partner
+    ordered-empty none = grind (arith, ordered-none, none-unordered, certified-is, some-or-none, order-by, ordered-some, is_none, first_from-none, is_some, bounds-cover)
 
     pub ordered-stays : IsSameOrder (ordered_finding profile es n a b) (ordered_finding profile fs m a b)
     ordered-stays = elim (some-or-none (first_byte (is_checked fs m) a)) [
