@@ -1,7 +1,7 @@
 -- Behind a cut the part goes on as the whole does: it does so at the cut, and after each event more.
-use Rattle.std.proofs.{Common.{◌≡◌, ℕ, suc, ◌-◌, ◌<◌, ◌≤◌, true, false, not, ◌&&◌, nat_lt, if◌then◌else◌, List, refl, sym, ◌∙◌, ap, arith, Some, lt-ltb, le-ltb, ltb-false}, lemmas.Bool.{false_from_ne_true}}
-use Rattle.pmf_event.{specs.declared.event.Event.{Event}, specs.declared.event.Event.TheVariants.{TxBegin, TxEnd}, specs.Line.{line_of_byte}, specs.Places.{greatest}, specs.Store.{event_at, stores, flushes, is_fence, last, last_store}, specs.Interval.{interval_at, closing_fence}, specs.Exclusion.{excludes, marks}, specs.Order.{precedes, share_line, is_stored_before}, specs.LineBytes.{is_undurable, is_unwritten}, specs.Transactions.{begins, ends, depth_at, in_transaction, is_outside, adds, is_backed, opens_scope, closes_scope, in_scope, is_scoped}, proofs.EventLemmas.{at-is, last-other, last-here, not_fence_and_store}, proofs.LineBytesLemmas.{lacks-parts, lacks-not}, proofs.TransactionLemmas.{depth-begun, depth-ended, depth-kept, inside-kept, outside-here, backed-added, backed-kept, scope-some, scope-none, unscoped-from, scoped-from, scope-stays, scope-opened, scope-kept, scope-closed, in_scope-same, scoped-opened, scoped-kept, scoped-stored, not_scoped}, proofs.WriteBackLemmas.{last-bound}}
-use Rattle.pmf_cut.{specs.Alike.{IsCut}, specs.Behind.{SameBytes, SamePairs, SameTransactions, IsBehind}, proofs.StepLemmas.{undurable-stored_to, excluded-step, undurable-stored, undurable-kept, undurable-fenced, unwritten-stored, unwritten-kept, unwritten-flushed, precedes-parts, precedes-reopened, precedes-stored, precedes-kept}}
+use Rattle.std.proofs.{Common.{◌≡◌, ℕ, suc, ◌<◌, ◌≤◌, true, false, not, ◌&&◌, nat_lt, if◌then◌else◌, List, refl, sym, ◌∙◌, ap, arith, Some, lt-ltb, le-ltb, ltb-false}, lemmas.Bool.{false_from_ne_true}}
+use Rattle.pmf_event.{specs.declared.event.Event.{Event}, specs.Line.{line_of_byte}, specs.Store.{event_at, stores, is_fence, last_store}, specs.Interval.{interval_at, closing_fence}, specs.Exclusion.{excludes, marks}, specs.Order.{precedes, is_stored_before}, specs.LineBytes.{is_undurable, is_unwritten}, specs.Transactions.{begins, ends, depth_at, in_transaction, adds, is_backed, closes_scope, in_scope, is_scoped}, proofs.EventLemmas.{at-is, last-other, last-here, not_fence_and_store}, proofs.LineBytesLemmas.{lacks-not}, proofs.TransactionLemmas.{depth-begun, depth-ended, depth-kept, inside-kept, outside-here, backed-added, backed-kept, scope-some, scope-none, unscoped-from, scoped-from, scope-stays, scope-opened, scope-kept, scope-closed, in_scope-same, scoped-opened, scoped-kept, scoped-stored, not_scoped}, proofs.WriteBackLemmas.{last-bound}}
+use Rattle.pmf_cut.{specs.Alike.{IsCut}, specs.Behind.{SameBytes, SamePairs, SameTransactions, IsBehind}, proofs.StepLemmas.{undurable-stored_to, excluded-step, undurable-stored, undurable-kept, undurable-fenced, unwritten-stored, unwritten-kept, unwritten-flushed, precedes-reopened, precedes-stored, precedes-kept}}
 
 -- ---- at the cut
 
@@ -121,8 +121,4 @@ module _ (es fs : List Event) (n m : ℕ) (e : Event) (here : event_at es (suc n
       ] refl
 
   pub behind-step : (p q : ℕ) → p ≤ n → IsBehind es p n fs q m → IsBehind es p (suc n) fs q (suc m)
-  behind-step p q within behind = record {
-    bytes = bytes-step behind.bytes;
-    pairs = pairs-step behind.bytes p q within behind.pairs;
-    transactions = transactions-step p q behind.transactions;
-  }
+  behind-step p q within behind = search (arith, bytes-step, pairs-step, transactions-step)

@@ -1,8 +1,8 @@
 -- A comparison goes on from run to run.
-use Rattle.std.{proofs.Common.{◌≡◌, ℕ, ◌-◌, ◌/◌, ◌%◌, ◌<◌, ◌≤◌, true, false, not, ◌&&◌, ◌||◌, ◌==◌, nat_lt, if◌then◌else◌, List, [], ◌∷◌, ◌++◌, refl, sym, ◌∙◌, ap, arith, inl, inr, Some, None, is_some, is_none, le-ltb, ne_eqb}, specs.Cmp.{booleans_Decides}, proofs.Math.Bool.{beq}, proofs.lemmas.Bool.{cases_lt, cases_eq, and_parts, and_from}, proofs.lemmas.Bool.Decides.{Decides-eqb}}
-use Rattle.pmf_event.{specs.declared.event.Event.{Event}, specs.declared.span.TheConstants.{LINE_SIZE}, specs.Line.{line_of_byte}, specs.Store.{last_store}, specs.Order.{is_stored_before}, specs.LineBytes.{is_undurable}, proofs.LineLemmas.{line-bounds, line-unique}}
+use Rattle.std.{proofs.Common.{◌≡◌, ℕ, ◌-◌, ◌/◌, ◌%◌, ◌<◌, ◌≤◌, true, false, not, ◌&&◌, ◌||◌, ◌==◌, nat_lt, List, [], ◌∷◌, ◌++◌, refl, sym, ◌∙◌, ap, arith, inl, inr, Some, None, is_some, is_none}, specs.Cmp.{booleans_Decides}, proofs.Math.Bool.{beq}, proofs.lemmas.Bool.{cases_lt, and_parts, and_from}, proofs.lemmas.Bool.Decides.{Decides-eqb}}
+use Rattle.pmf_event.{specs.declared.event.Event.{Event}, specs.declared.span.TheConstants.{LINE_SIZE}, specs.Line.{line_of_byte}, specs.Store.{last_store}, specs.Order.{is_stored_before}, specs.LineBytes.{is_undurable}}
 use Rattle.pmf_shadow.specs.{declared.standing.Standing.{Standing}, Standing.{place_as_told, AllLeaveOpen, AllStandSo}}
-use Rattle.pmf_cut.specs.Comparing.{is_same_order, agrees, SameByte, standings_agree, both_places, places_of, seen_at, seen_behind, Extends, Compared}
+use Rattle.pmf_cut.specs.Comparing.{is_same_order, agrees, SameByte, standings_agree, places_of, seen_at, seen_behind, Extends, Compared}
 
 agrees-front : (xs : List (ℕ × ℕ)) (pair : ℕ × ℕ) (u v : ℕ) → agrees (xs ++ pair ∷ []) u v ≡ true → agrees xs u v ≡ true
 unfolding agrees
@@ -37,7 +37,6 @@ record Within (x at y : ℕ) : Type 0 where
 
 module _ (fs : List Event) (m : ℕ) (gs : List Event) (q : ℕ) where
   module _ (a b : Standing) (at end : ℕ) (one : AllLeaveOpen (λ k. k) fs m at end a) (other : AllStandSo (λ k. k) gs q at end b) (agree : standings_agree a b ≡ true) where
-
     rest-undurable : (beq a.undurable b.undurable && (beq a.unwritten b.unwritten && ((b.undurable || is_none b.last) && (not a.undurable || (is_some a.last && is_some b.last))))) ≡ true
     rest-undurable = (and_parts (beq a.excluded b.excluded) _ agree).1
 

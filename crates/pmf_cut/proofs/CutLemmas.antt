@@ -1,6 +1,6 @@
 -- Each finding behind a cut, from what holds of the whole and of its part there.
-use Rattle.std.{proofs.Common.{◌≡◌, ℕ, zero, suc, ◌+◌, ◌-◌, ◌*◌, ◌%◌, ◌≤◌, Bool, true, false, not, ◌&&◌, if◌then◌else◌, List, [], ◌∷◌, ◌++◌, slice_get, refl, sym, ◌∙◌, ap, subst, arith, inl, inr, Option, Some, None}, specs.Cmp.{both_ways}, proofs.lemmas.Option.{slice_get_past, slice_get_cases}}
-use Rattle.pmf_event.{specs.declared.event.Event.{Event}, specs.declared.event.Event.TheVariants.{Store, Flush, Fence, Persist, Ordered, Exclude, Include, TxBegin, TxAdd, TxEnd, CheckStart, CheckEnd}, specs.declared.finding.Finding.TheVariants.{Unmatched, Outside, Nested, Unopened, TxStillOpen, Unclosed}, specs.declared.profile.Profile.{Profile}, specs.declared.span.TheConstants.{ADDRESS_LIMIT, LINE_SIZE}, specs.Span.{Extent}, specs.Ranges.{first_from, count_from, first_byte}, specs.Store.{event_at}, specs.Interval.{interval_at, is_open}, specs.Exclusion.{is_excluded, is_included}, specs.Persist.{is_exposed}, specs.FlushWarnings.{is_clean, is_pending, numbered, first_line, line_count, lines_from, lines_where, doubled_finding, needless_finding, if_any, flush_findings}, specs.LineBytes.{is_undurable, is_unwritten, HasBytes}, specs.Transactions.{in_transaction, is_outside, in_scope, is_scoped, is_backed, depth_at, lacks_backup, store_finding, duplog_with, nobackup_with, add_finding, end_finding, start_finding, is_left_open, scope_passes_unless, check_finding, scope_at, close_finding}, proofs.LineBytesLemmas.{lines_follow_from_their_bytes}, proofs.RangeLemmas.{first_from-same, count_from-same}, proofs.TransactionLemmas.{left_open-exposed}}
+use Rattle.std.{proofs.Common.{◌≡◌, ℕ, zero, suc, ◌+◌, ◌-◌, ◌*◌, ◌%◌, ◌≤◌, Bool, true, false, ◌&&◌, if◌then◌else◌, List, ◌++◌, slice_get, refl, sym, ◌∙◌, ap, subst, arith, inl, inr, Option, Some, None}, specs.Cmp.{both_ways}, proofs.lemmas.Option.{slice_get_past, slice_get_cases}}
+use Rattle.pmf_event.{specs.declared.event.Event.{Event}, specs.declared.finding.Finding.TheVariants.{Unmatched, Nested}, specs.declared.profile.Profile.{Profile}, specs.declared.span.TheConstants.{LINE_SIZE}, specs.Span.{Extent}, specs.Store.{event_at}, specs.Interval.{interval_at, is_open}, specs.Exclusion.{is_included}, specs.FlushWarnings.{is_clean, is_pending, numbered, lines_where, doubled_finding, needless_finding, if_any, flush_findings}, specs.LineBytes.{is_undurable, is_unwritten, HasBytes}, specs.Transactions.{in_transaction, is_outside, is_scoped, lacks_backup, store_finding, add_finding, end_finding, start_finding, is_left_open, check_finding, close_finding}, proofs.LineBytesLemmas.{lines_follow_from_their_bytes}, proofs.RangeLemmas.{first_from-same}, proofs.TransactionLemmas.{left_open-exposed}}
 use Rattle.pmf_verdict.specs.Rows.{findings_of}
 use Rattle.pmf_cut.{specs.Alike.{IsCut, GoesOn}, specs.Behind.{SameBytes, IsBehind}, specs.Laws.{Stays, FindingsStay, IsSameEnd, EndsStay}, proofs.BehindLemmas.{inside-by, behind-cut, behind-step}, proofs.RowLemmas.{exposed-is, persist-stays, ordered-stays}}
 

@@ -2,7 +2,7 @@
 use Rattle.std.{proofs.Common.{◌≡◌, ◌≢◌, ◌⊎◌, inl, inr, ⊎_elim, ℕ, zero, suc, ◌+◌, ◌-◌, ◌<◌, ◌≤◌, Bool, true, false, cond, List, [], ◌∷◌, ◌++◌, length, take, drop, set, slice_get, Option, Some, None, Ok, refl, sym, ap, subst, ◌∙◌, arith, length-drop, append_assoc, append-nil, take_all, eq-eqb, ne_eqb, ◌==◌, add-one}, proofs.lemmas.Bool.{cases_eq}, proofs.lemmas.List.{drop-take, take-append-drop, take-take, take-append-le, drop-append-le, drop_all, length_push}, proofs.lemmas.Option.{slice_get_within}, proofs.Math.Path.{fun_ext}, specs.BTreeMap.{get}, specs.Ordering.{nat_cmp}}
 use Rattle.pmf_event.specs.{declared.event.Event.{Event}, Store.{event_at}}
 use Rattle.pmf_storelog.{specs.declared.record.Saying.TheVariants.{Happens, Enters}, specs.Records.{record_of}, specs.Separators.{ended_parts, parts_of, records_in, records_of}, specs.LogText.{events_in, current_of, number_after}, proofs.PartLemmas.{ended_is, parts_of-append, parts_of-nil}, proofs.TallyLemmas.{current_of-nil, events_in-nil}, proofs.SplitLemmas.{joined, joined_at}, proofs.LogLemmas.{events_in-event, events_in-enter, events_in-nothing, current_of-push}}
-use Rattle.pmf_cut.specs.{declared.section.Cutting.{Cutting}, declared.part.Part.{Part}, declared.output.Outputs.{Outputs}, declared.output.Text.{Text}, declared.cutter.Cutter.{Cutter}, Alike.{IsCut}, Parts.{IsPartOf, part_of}, Deferred.{IsUpTo, Begins, BeginsBehind}, Written.{WrittenPart, IsWritten, AreUpTo, AreNumbered, AreOf, IsAmong, NoneNamed, IsCutInto, said_in}, Outputs.{AllOpen, AllWait, HandsOut, Holds, IsNew, IsOpen, bytes_for, IsSaid, Says, current_in, said, text_of, waiting_in}, Cutting.{GoesOnAs, IsKept, HasPart, TakesEvent, HasSection, IsCurrent, IsPlaced, HasCut, IsNamed, MoreFiles, SayNothing, Cuts, CutsPart, CutsParts, CutsTo, Drains, HasCutAll, HasRead, handed_with}}
+use Rattle.pmf_cut.specs.{declared.section.Cutting.{Cutting}, declared.part.Part.{Part}, declared.output.Outputs.{Outputs}, declared.output.Text.{Text}, declared.cutter.Cutter.{Cutter}, Alike.{IsCut}, Parts.{IsPartOf, part_of}, Deferred.{Begins, BeginsBehind}, Written.{WrittenPart, IsWritten, AreUpTo, AreNumbered, AreOf, IsAmong, NoneNamed, IsCutInto, said_in}, Outputs.{AllOpen, AllWait, HandsOut, Holds, IsNew, IsOpen, bytes_for, IsSaid, Says, current_in, said, text_of, waiting_in}, Cutting.{GoesOnAs, IsKept, HasPart, TakesEvent, HasSection, IsCurrent, IsPlaced, HasCut, IsNamed, MoreFiles, SayNothing, Cuts, CutsPart, CutsParts, CutsTo, Drains, HasCutAll, HasRead, handed_with}}
 use Rattle.pmf_cut.proofs.OutputLemmas.{holds-ended, holds-open, nothing_behind, set-other}
 
 none_is_some : {X : Type 0} {x : X} → None ≡ Some x → ⊥

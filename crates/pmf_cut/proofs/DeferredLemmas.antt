@@ -35,9 +35,7 @@ caught_up old new takes none = grind arith
 
 -- what begins behind a part that has caught up
 pub begins_behind : (deferred : Deferred) (part : Part) (head : List Event) → deferred.waiting.items ≡ [] → BeginsAt deferred.part part head → BeginsBehind deferred part head
-begins_behind deferred part head none begins es p before n is =
-    let all = is.all in let here : is.had ≡ n = omega (arith, ap length none) in
-    begins es p before n (subst (IsPartOf deferred.part es p before) here is.part)
+begins_behind deferred part head none begins es p before n is = search arith
 
 pub goes-on-next : (old mid new : Part) (events : List Event) (i : ℕ) (e : Event) → i < length events → slice_get events i ≡ Some e → TakesFirst old mid events i → GoesOnWith mid new e → TakesFirst old new events (i + 1)
 goes-on-next old mid new events i e within at takes on es p head n next is =

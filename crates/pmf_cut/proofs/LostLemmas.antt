@@ -1,7 +1,7 @@
 -- What is asked of the past of a part, run by run.
-use Rattle.std.proofs.{Common.{◌≡◌, ℕ, ◌+◌, ◌-◌, ◌<◌, ◌≤◌, Bool, true, false, not, ◌&&◌, nat_le, if◌then◌else◌, List, refl, sym, ◌∙◌, ap, subst, arith, inl, inr, Option, Some, None, IfSome, unwrap_or, is_some, is_none, le-leb, lt-ltb}, lemmas.Bool.{cases_lt, and_from}}
+use Rattle.std.proofs.{Common.{◌≡◌, ℕ, ◌+◌, ◌-◌, ◌<◌, ◌≤◌, Bool, true, false, not, ◌&&◌, nat_le, if◌then◌else◌, List, refl, sym, ◌∙◌, ap, arith, inl, inr, Option, Some, None, IfSome, unwrap_or, is_some, is_none, le-leb, lt-ltb}, lemmas.Bool.{cases_lt, and_from}}
 use Rattle.pmf_event.{specs.declared.event.Event.{Event}, specs.Span.{Extent, covers_byte}, specs.Ranges.{first_from, first_byte}, specs.Store.{last_store}, specs.Exclusion.{is_excluded}, specs.Persist.{is_checked}, proofs.LineLemmas.{covers-bounds}, proofs.RangeLemmas.{none-from, none-passes, first-passes}}
-use Rattle.pmf_shadow.specs.{declared.shadow.Shadow.{Shadow}, declared.standing.Standing.{Standing}, Shadow.{StandsFor, ForEachList}, Standing.{place_as_told, AllStandSo, NoneStored}}
+use Rattle.pmf_shadow.specs.{declared.shadow.Shadow.{Shadow}, declared.standing.Standing.{Standing}, Shadow.{StandsFor, ForEachList}, Standing.{AllStandSo, NoneStored}}
 use Rattle.pmf_runs.specs.Runs.{state_at, passing, is_between, ChangesBetween}
 use Rattle.pmf_cut.{specs.declared.lost.Past.{Past}, specs.declared.part.Part.{Part}, specs.Behind.{SameBytes}, specs.Lost.{Adds, HasOld, IsPast, KnowsByte, NoneOld, Puts, NoneTold, Knows, is_unknown, is_within, is_told_again}, proofs.ComparingLemmas.{place-is, place-none}, proofs.RowLemmas.{checked-parts, checked-from}}
 
@@ -101,8 +101,7 @@ knows-none past shadow es n fs m s same has stands none unchecked b inside is = 
 
 pub knows-unchecked : (past : Past) (shadow : Shadow) (head : ℕ) (before after : Extent) → ForEachList shadow (λ told es p. is_some (first_byte (is_checked es p) before) ≡ false) →
     NoneOld past shadow before.first (before.first + before.size) → Knows past shadow head before after
-knows-unchecked past shadow head before after unchecked none es p n fs m same pairs has stands x y one other x_is y_is =
-    absurd (knows-none past shadow es n fs m before same has stands none (unchecked (λ k. k) fs m stands) x one x_is)
+knows-unchecked past shadow head before after unchecked none es p n fs m same pairs has stands x y one other x_is y_is = search (arith, knows-none)
 
 pub knows-all : (past : Past) (shadow : Shadow) (head : ℕ) (before after : Extent) → NoneOld past shadow before.first (before.first + before.size) →
     NoneOld past shadow after.first (after.first + after.size) → Knows past shadow head before after

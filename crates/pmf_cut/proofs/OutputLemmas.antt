@@ -1,19 +1,15 @@
 -- What the files say when records are put into them, and what is handed out of them.
 use Rattle.std.proofs.{Common.{◌≡◌, ◌≢◌, inl, inr, ℕ, zero, suc, ◌+◌, ◌-◌, ◌^◌, ◌==◌, if◌then◌else◌, ◌<◌, ◌≤◌, Bool, true, false, List, [], ◌∷◌, ◌++◌, length, take, get_or, set, Contains, Some, Ok, slice_get, nat_eq, codes, refl, sym, ap, subst, ◌∙◌, arith, rules, append_assoc, append-nil, length-append, length-set}, lemmas.Bool.{cases_eq, eq-eqb, ne_eqb, cases_lt}, lemmas.Option.{slice_get_read}, lemmas.List.{get_or-set_same, take_at, take_more, get_or_default, nil_from_length}, lemmas.List.Elements.{All-from_recursion}, lemmas.List.Splits.{slice_split_at}, lemmas.Fmt.{decimal_is_IsNumeral, length-decimal-le}}
-use Rattle.std.specs.{Fmt.{decimal}, Char.{digit_value}, Str.Parse.{AllDigits}, List.{starts_with}}
+use Rattle.std.specs.{Fmt.{decimal}, Str.Parse.{AllDigits}, List.{starts_with}}
 use Rattle.pmf_event.specs.declared.event.Event.{Event}
 use Rattle.pmf_storelog.specs.{declared.record.Saying.{Saying}, declared.record.Saying.TheVariants.{Happens, Enters}, Records.{record_of, saying_of_fields, section_of_fields, section_of_number, saying_of}, Numbers.{number_of}, Separators.{is_separator, is_blank, without_front_blanks, without_end_blanks, records_in, parts_of, ended_parts, records_of}, LogText.{events_in, current_of}, Spelling.{AllValid}}
 use Rattle.pmf_storelog.proofs.{PartLemmas.{parts_of-append, parts_of-ended, records_in-append}, SplitLemmas.{joined_at}, LogLemmas.{events_in-event, events_in-enter, events_in-nothing, current_of-push}, CanonicalLemmas.{numeral_of-digits, each-digits, each-append, no_field_end, fields_of-more, fields_of-last}, PlainLemmas.{text_of_event, text_of_event-plain, no_separator, no_blank}, PlainRecordLemmas.{IsPlain, records_in-plain}, SpellingLemmas.{record_of-event}}
-use Rattle.pmf_cut.specs.{declared.output.Output.{Output}, declared.output.Outputs.{Outputs}, declared.output.Text.{Text}, Cutting.{SayNothing}, Outputs.{text_of_output, current_of_output, waiting_in, current_in, AllWait, Puts, behind_part, Holds, Spells, text_of, said, IsSaid, Says, bytes_for, HandsOut}}
+use Rattle.pmf_cut.specs.{declared.output.Output.{Output}, declared.output.Outputs.{Outputs}, declared.output.Text.{Text}, Cutting.{SayNothing}, Outputs.{waiting_in, current_in, AllWait, Puts, behind_part, Holds, Spells, text_of, said, IsSaid, Says, bytes_for, HandsOut}}
 
 -- a line that is a record, and what it says, with a separator behind it
 spells-plain : (text : List ℕ) (saying : Saying) → IsPlain text → record_of text ≡ Ok saying → Spells (text ++ 124 ∷ []) saying
 unfolding parts_of
-spells-plain text saying plain says = record {
-  text = text;
-  holds = record { part = text; parts = slice_split_at is_separator text 124 [] plain.whole refl; records_are = records_in-plain text plain };
-  says = says;
-}
+spells-plain text saying plain says = search (arith, slice_split_at, records_in-plain)
 
 pub spells_event : (event : Event) (line text bytes : List ℕ) (n : ℕ) → AllValid event → line ≡ text_of_event event ++ codes "\n" → n ≡ length line → text ≡ take (n - 1) line → bytes ≡ text ++ 124 ∷ [] →
     Spells bytes (Happens event)
@@ -187,7 +183,6 @@ pub record Drained (old : Outputs) (names : List ℕ) (done : ℕ) (texts : List
 module _ (old mid new : Outputs) (names : List ℕ) (done name : ℕ) (texts : List Text) (bytes : List ℕ) (name_is : name ≡ get_or names done 0) (so_far : Drained old names done texts mid) (taken : bytes ≡ waiting_in mid name)
     (none_left : waiting_in new name ≡ []) (others : (other : ℕ) → other ≢ name → waiting_in new other ≡ waiting_in mid other) (currents : (other : ℕ) → current_in new other ≡ current_in mid other)
     (count : length new.files.items ≡ length mid.files.items) where
-
   drained-step : (more : List Text) → ((file : ℕ) → bytes_for more file ≡ bytes_for texts file ++ (if name == file then bytes else [])) → Drained old names (done + 1) more new
   drained-step more is = grind (arith, cases_eq, eq-eqb, append-nil, ne_eqb)
 

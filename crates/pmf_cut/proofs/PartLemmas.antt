@@ -1,7 +1,7 @@
 -- A part takes one event more.
 use mathlib.Core.Logic.{∥∥₁_elim, ∥∥₁_map}
-use Rattle.std.proofs.{Props.{props}, Common.{length-append, ◌≡◌, ℕ, suc, ◌+◌, ◌-◌, ◌<◌, ◌≤◌, true, false, ◌&&◌, nat_le, if◌then◌else◌, List, [], ◌∷◌, ◌++◌, length, refl, sym, ◌∙◌, ap, subst, arith, inl, inr, Some, le-ltb}, Math.Bool.{and-false}, lemmas.Bool.{cases_lt}}
-use Rattle.pmf_event.{specs.declared.event.Event.{Event}, specs.declared.event.Event.TheVariants.{Store, Exclude, Include, TxBegin, TxEnd, CheckStart, CheckEnd}, specs.declared.section.TheConstants.{EVENT_LIMIT}, specs.declared.span.TheConstants.{ADDRESS_LIMIT}, specs.Span.{Extent, IsValidExtent, covers_byte}, specs.Section.{IsValidEvent}, specs.Line.{line_of_byte}, specs.Store.{event_at, at, stores, last_store}, specs.Interval.{first_write_back, closing_fence}, specs.LineBytes.{is_undurable, is_unwritten}, specs.Exclusion.{excludes, marks, is_excluded}, specs.Transactions.{begins, ends, opens_scope, closes_scope, depth_at, in_scope}, proofs.EventLemmas.{last-none, last-other}, proofs.LineBytesLemmas.{lacks-not}, proofs.TransactionLemmas.{outside-from, depth-start, scope-start as first-scope, depth-begun, depth-ended, depth-kept, scope-some, scope-none, scoped-from, unscoped-from, scope-stays, scope-opened, scope-kept, scope-closed, in_scope-same, begins-other, ends-other, opens-other, closes-other}}
+use Rattle.std.proofs.{Props.{props}, Common.{length-append, ◌≡◌, ℕ, suc, ◌+◌, ◌-◌, ◌<◌, ◌≤◌, true, false, if◌then◌else◌, List, [], ◌∷◌, ◌++◌, length, refl, sym, ◌∙◌, ap, subst, arith, inl, inr, Some}, lemmas.Bool.{cases_lt}}
+use Rattle.pmf_event.{specs.declared.event.Event.{Event}, specs.declared.event.Event.TheVariants.{TxBegin, TxEnd, CheckStart, CheckEnd}, specs.declared.section.TheConstants.{EVENT_LIMIT}, specs.declared.span.TheConstants.{ADDRESS_LIMIT}, specs.Section.{IsValidEvent}, specs.Line.{line_of_byte}, specs.Store.{event_at, at, stores, last_store}, specs.Interval.{first_write_back, closing_fence}, specs.LineBytes.{is_undurable, is_unwritten}, specs.Exclusion.{excludes, marks, is_excluded}, specs.Transactions.{begins, ends, opens_scope, closes_scope, depth_at, in_scope}, proofs.EventLemmas.{last-none, last-other}, proofs.LineBytesLemmas.{lacks-not}, proofs.TransactionLemmas.{outside-from, depth-start, scope-start as first-scope, depth-begun, depth-ended, depth-kept, scope-some, scope-none, scoped-from, unscoped-from, scope-stays, scope-opened, scope-kept, scope-closed, in_scope-same, begins-other, ends-other, opens-other, closes-other}}
 use Rattle.pmf_shadow.{specs.declared.shadow.Shadow.{Shadow}, specs.Shadow.{FollowsAt, StandsFor, Keeps}, proofs.StandsLemmas.{follows-within, stands-fences}}
 use Rattle.pmf_cut.{specs.declared.part.Part.{Part}, specs.Alike.{IsAlike}, specs.Comparing.{IsAlikeBelow}, specs.Parts.{LiesLow, Stands, Follows, BeginsWith, Renews}, proofs.StepLemmas.{excluded-step}}
 

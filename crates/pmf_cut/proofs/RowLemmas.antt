@@ -1,6 +1,6 @@
 -- What is found behind a cut: of the part as of the whole.
-use Rattle.std.{proofs.Common.{◌≡◌, ◌⊎◌, ℕ, ◌<◌, Bool, true, false, not, ◌&&◌, ◌||◌, ◌==◌, nat_lt, if◌then◌else◌, List, refl, sym, ◌∙◌, ap, subst, arith, inl, inr, Option, Some, None, is_some, is_none, lt-ltb, le-ltb, ne_eqb}, specs.Cmp.{both_ways}, proofs.lemmas.Bool.{cases_lt, ltb-true, and_parts, and_from, not-true, not_from_false, false_from_ne_true}, proofs.lemmas.Bool.Decides.{Decides-eqb}}
-use Rattle.pmf_event.{specs.declared.event.Event.{Event}, specs.declared.finding.Finding.{Finding}, specs.declared.finding.Finding.TheVariants.{PersistEmpty, OrderedPass, OrderedEmpty}, specs.declared.profile.Profile.{Profile}, specs.declared.profile.Profile.TheVariants.{One, Two}, specs.Span.{Extent, covers_byte}, specs.Line.{line_of_byte}, specs.Ranges.{first_byte}, specs.Store.{stores, last_store}, specs.Interval.{closing_fence, interval_at, is_open}, specs.Exclusion.{is_excluded}, specs.Persist.{is_checked, is_exposed, pass_unless, persist_finding}, specs.Order.{precedes, share_line, is_stored_before, is_ordered, is_unordered, is_certified, has_partner, paired, with_partner, least_pair, finding_of_pairs, ordered_finding}, specs.LineBytes.{is_undurable}, proofs.IntervalLemmas.{is_open-interval_at}, proofs.LineLemmas.{covers-bounds, bounds-cover}, proofs.RangeLemmas.{some-or-none, first_from-same, first_from-none, none-passes, first-passes}}
+use Rattle.std.{proofs.Common.{◌≡◌, ◌⊎◌, ℕ, ◌<◌, Bool, true, false, not, ◌&&◌, ◌||◌, nat_lt, if◌then◌else◌, List, refl, sym, ◌∙◌, ap, subst, arith, inl, inr, Option, Some, None, is_some, is_none, lt-ltb}, specs.Cmp.{both_ways}, proofs.lemmas.Bool.{cases_lt, ltb-true, and_parts, and_from, not-true, not_from_false, false_from_ne_true}}
+use Rattle.pmf_event.{specs.declared.event.Event.{Event}, specs.declared.finding.Finding.{Finding}, specs.declared.finding.Finding.TheVariants.{PersistEmpty}, specs.declared.profile.Profile.{Profile}, specs.Span.{Extent, covers_byte}, specs.Ranges.{first_byte}, specs.Store.{last_store}, specs.Interval.{interval_at, is_open}, specs.Exclusion.{is_excluded}, specs.Persist.{is_checked, is_exposed, pass_unless, persist_finding}, specs.Order.{precedes, share_line, is_stored_before, is_ordered, is_unordered, is_certified, has_partner, least_pair, finding_of_pairs, ordered_finding}, specs.LineBytes.{is_undurable}, proofs.LineLemmas.{covers-bounds, bounds-cover}, proofs.RangeLemmas.{some-or-none, first_from-same, first_from-none, none-passes, first-passes}}
 use Rattle.pmf_verdict.proofs.KeptLemmas.{persist-empty, ordered-empty as ordered-none}
 use Rattle.pmf_cut.specs.{Behind.{IsBehind}, Laws.{IsSameOrEmpty, IsSameOrder, KnowsPairs}}
 

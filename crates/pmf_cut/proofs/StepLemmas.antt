@@ -1,5 +1,5 @@
 -- One more event: which bytes are excluded, undurable and unwritten after it, and which pairs are ordered.
-use Rattle.std.{proofs.Common.{◌≡◌, ℕ, suc, ◌+◌, ◌-◌, ◌<◌, ◌≤◌, Bool, true, false, not, ◌&&◌, ◌==◌, nat_lt, nat_le, if◌then◌else◌, List, refl, sym, ◌∙◌, ap, arith, inl, inr, Option, Some, None, lt-ltb, le-ltb, le-leb, ne_eqb}, specs.Cmp.{both_ways}, proofs.lemmas.Bool.{cases_lt, ltb-true, leb-true, and_parts, and_from, false_from_ne_true}, proofs.lemmas.Bool.Decides.{Decides-eqb}}
+use Rattle.std.{proofs.Common.{◌≡◌, ℕ, suc, ◌+◌, ◌-◌, ◌<◌, ◌≤◌, true, false, not, ◌&&◌, ◌==◌, nat_lt, nat_le, if◌then◌else◌, List, refl, sym, ◌∙◌, ap, arith, inl, inr, Option, Some, None, lt-ltb, le-ltb, le-leb, ne_eqb}, specs.Cmp.{both_ways}, proofs.lemmas.Bool.{cases_lt, ltb-true, leb-true, and_parts, and_from, false_from_ne_true}}
 use Rattle.pmf_event.{specs.declared.event.Event.{Event}, specs.declared.interval.Interval.{Interval}, specs.Line.{line_of_byte}, specs.Places.{greatest, least, some_between}, specs.Store.{event_at, at, stores, flushes, is_fence, last, last_store, epoch_of}, specs.Interval.{writes_back, first_write_back, closes, closing_fence, epoch_after, interval_at}, specs.Exclusion.{excludes, marks, is_excluded}, specs.Order.{precedes, is_closed_by}, specs.LineBytes.{is_undurable, is_unwritten}, proofs.PlacesLemmas.{greatest-above, greatest-bound, greatest-passes, least-step, least-bound, least-passes, least-none_behind, least-below, count-mono, count-here, some_between-found}, proofs.EventLemmas.{at-is, last-step, last-other, last-here}, proofs.IntervalLemmas.{Closing-found, write_back-from_Closing}, proofs.LineBytesLemmas.{lacks-parts, lacks-from, lacks-not}, proofs.WriteBackLemmas.{or-zero, last-bound, epoch_after-none, epoch_after-some, first_write_back-next}}
 
 -- a write-back follows a place where the last write-back does

@@ -1,7 +1,7 @@
 -- A part of a whole goes on with it, and another one begins where it is cut.
-use Rattle.std.proofs.Common.{◌≡◌, ℕ, zero, suc, ◌+◌, ◌-◌, ◌<◌, true, false, List, [], ◌∷◌, ◌++◌, length, drop, slice_get, refl, sym, ◌∙◌, ap, subst, arith, Some}
-use Rattle.pmf_event.{specs.declared.event.Event.{Event}, specs.Store.{event_at, stores}, specs.LineBytes.{is_undurable}, proofs.EventLemmas.{last-none}, proofs.TransactionLemmas.{depth-start, scope-start, outside-from, unscoped-from}}
-use Rattle.pmf_cut.{specs.declared.part.Part.{Part}, specs.Alike.{IsOutside, IsCut}, specs.Parts.{Stands, Follows, BeginsWith, Renews, part_of, IsPartOf, GoesOnWith, BeginsAt}, proofs.StepLemmas.{undurable-stored_to}, proofs.BehindLemmas.{behind-cut, behind-step}, proofs.CutLemmas.{behind-there}}
+use Rattle.std.proofs.Common.{◌≡◌, ℕ, zero, suc, ◌+◌, ◌-◌, ◌<◌, true, false, List, [], ◌∷◌, ◌++◌, length, drop, slice_get, refl, ◌∙◌, ap, subst, arith, Some}
+use Rattle.pmf_event.{specs.declared.event.Event.{Event}, specs.Store.{event_at}, specs.LineBytes.{is_undurable}, proofs.EventLemmas.{last-none}, proofs.TransactionLemmas.{depth-start, scope-start, outside-from, unscoped-from}}
+use Rattle.pmf_cut.{specs.declared.part.Part.{Part}, specs.Alike.{IsCut}, specs.Parts.{Stands, Follows, BeginsWith, Renews, part_of, IsPartOf, GoesOnWith, BeginsAt}, proofs.StepLemmas.{undurable-stored_to}, proofs.BehindLemmas.{behind-cut, behind-step}, proofs.CutLemmas.{behind-there}}
 
 get-behind : {X : Type 0} (xs ys : List X) (k : ℕ) → slice_get (xs ++ ys) (length xs + k) ≡ slice_get ys k
 get-behind [] ys k = ap (slice_get ys) (omega arith)
@@ -30,12 +30,7 @@ whole-cut : (es : List Event) → IsCut es 0 es 0
 whole-cut es = grind (arith, outside-from, depth-start, unscoped-from, scope-start, last-none)
 
 pub part-first : (part : Part) → ((fs : List Event) → Stands part fs 0) → (es : List Event) → IsPartOf part es 0 [] 0
-part-first part stands es = record {
-  cut = whole-cut es;
-  within = omega arith;
-  behind = behind-there es 0 0 0 es 0 0 (0 + (0 - 0)) refl (omega arith) (behind-cut es 0 es 0 (whole-cut es));
-  stands = subst (Stands part es) (let none : 0 ≡ 0 + (0 - 0) = omega arith in none) (stands es);
-}
+part-first part stands es = search (arith, whole-cut, behind-there, behind-cut)
 
 pub part-next : (old new : Part) (e : Event) → Follows old new e → GoesOnWith old new e
 part-next old new e follows es p head n here is =

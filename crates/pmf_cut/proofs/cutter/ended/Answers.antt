@@ -1,6 +1,6 @@
-use Rattle.std.proofs.{Common.{◌≡◌, ℕ, ◌+◌, List, [], ◌∷◌, length, drop, true, subst, arith, length-drop}, lemmas.List.{get_or-drop}}
+use Rattle.std.proofs.{Common.{◌≡◌, ℕ, ◌+◌, List, [], ◌∷◌, length, drop, arith, length-drop}, lemmas.List.{get_or-drop}}
 use Rattle.memchr.specs.Find.{Nowhere, Passes, is_byte3}
-use Rattle.pmf_storelog.{specs.Separators.{is_separator, parts_of}, proofs.SplitLemmas.{split_none}}
+use Rattle.pmf_storelog.{specs.Separators.{parts_of}, proofs.SplitLemmas.{split_none}}
 use Rattle.pmf_cut.proofs.cutter.ended.Goals as goal
 
 -- with no separator from there on there is one part

@@ -1,5 +1,4 @@
-use Rattle.std.proofs.{Common.{◌≡◌, suc, length, refl, ◌∙◌, subst, arith, add-one, Some}, lemmas.Option.{slice_get_read}}
-use Rattle.pmf_event.specs.Store.{event_at}
+use Rattle.std.proofs.{Common.{subst, arith, add-one}, lemmas.Option.{slice_get_read}}
 use Rattle.pmf_cut.specs.Parts.{Stands}
 use Rattle.pmf_cut.proofs.renewing.part_of.Goals as goal
 

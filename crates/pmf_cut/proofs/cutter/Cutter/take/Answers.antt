@@ -1,4 +1,4 @@
-use Rattle.std.proofs.Common.{◌≡◌, ◌++◌, take, ap, ◌∙◌, append-nil, arith, drop, take_all, length-drop}
+use Rattle.std.proofs.Common.{◌++◌, take, ap, ◌∙◌, append-nil, arith, drop, take_all, length-drop}
 use Rattle.pmf_cut.{specs.Cutting.{HasRead}, proofs.CuttingLemmas.{reads-piece}, proofs.cutter.Cutter.take.Goals.{then-end-gt0+in_ok-copy_ended, else-end-gt0}}
 use Rattle.pmf_cut.proofs.cutter.Cutter.take.Goals as goal
 

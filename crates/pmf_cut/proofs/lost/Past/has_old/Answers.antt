@@ -1,5 +1,5 @@
-use Rattle.std.proofs.Common.{◌+◌, sym, ◌∙◌, subst, arith}
-use Rattle.pmf_cut.{specs.Lost.{NoneOld}, proofs.LostLemmas.{none-old-rest, none-old-run}}
+use Rattle.std.proofs.Common.{sym, ◌∙◌, arith}
+use Rattle.pmf_cut.{proofs.LostLemmas.{none-old-run}}
 use Rattle.pmf_cut.proofs.lost.Past.has_old.Goals as goal
 
 pub loop-byte-preserved : goal.loop-byte-preserved

@@ -1,4 +1,4 @@
-use Rattle.std.proofs.{Common.{◌≡◌, length, arith, refl}, lemmas.Grind.{common_steps}}
+use Rattle.std.proofs.{Common.{arith, refl}, lemmas.Grind.{common_steps}}
 use Rattle.pmf_cut.proofs.OutputLemmas.{drained-push, drained-empty, hands-out}
 use Rattle.pmf_cut.proofs.output.Outputs.drain.Goals as goal
 
