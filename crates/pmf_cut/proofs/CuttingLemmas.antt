@@ -2,8 +2,7 @@
 use Rattle.std.{proofs.Common.{◌≡◌, ◌≢◌, ◌⊎◌, inl, inr, ⊎_elim, ℕ, zero, suc, ◌+◌, ◌-◌, ◌<◌, ◌≤◌, Bool, true, false, cond, List, [], ◌∷◌, ◌++◌, length, take, drop, set, slice_get, Option, Some, None, Ok, refl, sym, ap, subst, ◌∙◌, arith, length-drop, append_assoc, append-nil, take_all, eq-eqb, ne_eqb, ◌==◌, add-one}, proofs.lemmas.Bool.{cases_eq}, proofs.lemmas.List.{drop-take, take-append-drop, take-take, take-append-le, drop-append-le, drop_all, length_push}, proofs.lemmas.Option.{slice_get_within}, proofs.Math.Path.{fun_ext}, specs.BTreeMap.{get}, specs.Ordering.{nat_cmp}}
 use Rattle.pmf_event.specs.{declared.event.Event.{Event}, Store.{event_at}}
 use Rattle.pmf_storelog.{specs.declared.record.Saying.TheVariants.{Happens, Enters}, specs.Records.{record_of}, specs.Separators.{ended_parts, parts_of, records_in, records_of}, specs.LogText.{events_in, current_of, number_after}, proofs.PartLemmas.{ended_is, parts_of-append, parts_of-nil}, proofs.TallyLemmas.{current_of-nil, events_in-nil}, proofs.SplitLemmas.{joined, joined_at}, proofs.LogLemmas.{events_in-event, events_in-enter, events_in-nothing, current_of-push}}
-use Rattle.pmf_cut.specs.{declared.section.Cutting.{Cutting}, declared.part.Part.{Part}, declared.output.Outputs.{Outputs}, declared.output.Text.{Text}, declared.cutter.Cutter.{Cutter}, Alike.{IsCut}, Parts.{IsPartOf, part_of}, Deferred.{Begins, BeginsBehind}, Written.{WrittenPart, IsWritten, AreUpTo, AreNumbered, AreOf, IsAmong, NoneNamed, IsCutInto, said_in}, Outputs.{AllOpen, AllWait, HandsOut, Holds, IsNew, IsOpen, bytes_for, IsSaid, Says, current_in, said, text_of, waiting_in}, Cutting.{GoesOnAs, IsKept, HasPart, TakesEvent, HasSection, IsCurrent, IsPlaced, HasCut, IsNamed, MoreFiles, SayNothing, Cuts, CutsPart, CutsParts, CutsTo, Drains, HasCutAll, HasRead, handed_with}}
-use Rattle.pmf_cut.proofs.OutputLemmas.{holds-ended, holds-open, nothing_behind, set-other}
+use Rattle.pmf_cut.{specs.{declared.section.Cutting.{Cutting}, declared.part.Part.{Part}, declared.output.Outputs.{Outputs}, declared.output.Text.{Text}, declared.cutter.Cutter.{Cutter}, Alike.{IsCut}, Parts.{IsPartOf, part_of}, Deferred.{Begins, BeginsBehind}, Written.{WrittenPart, IsWritten, AreUpTo, AreNumbered, AreOf, IsAmong, NoneNamed, IsCutInto, said_in}, Outputs.{AllOpen, AllWait, HandsOut, Holds, IsNew, IsOpen, bytes_for, IsSaid, Says, current_in, said, text_of, waiting_in}, Cutting.{GoesOnAs, IsKept, HasPart, TakesEvent, HasSection, IsCurrent, IsPlaced, HasCut, IsNamed, MoreFiles, SayNothing, Cuts, CutsPart, CutsParts, CutsTo, Drains, HasCutAll, HasRead, handed_with}}, proofs.DeferredLemmas.{last-is}, proofs.OutputLemmas.{holds-ended, holds-open, nothing_behind, set-other}}
 
 none_is_some : {X : Type 0} {x : X} → None ≡ Some x → ⊥
 none_is_some same = cc
@@ -265,10 +264,6 @@ pub some_apart : {X : Type 0} (x y : X) → Some x ≡ Some y → x ≡ y
 some_apart x y same = cc
 
 -- the elements of a list with one more, and with another one at a place
-get-push : (xs : List Cutting) (x : Cutting) → slice_get (xs ++ x ∷ []) (length xs) ≡ Some x
-get-push [] x = refl
-get-push (y ∷ xs) x = get-push xs x
-
 get-front : (xs more : List Cutting) (k : ℕ) (x : Cutting) → slice_get xs k ≡ Some x → slice_get (xs ++ more) k ≡ Some x
 get-front [] more k x at = absurd (none_is_some at)
 get-front (y ∷ xs) more zero x at = at
@@ -374,7 +369,7 @@ module _ (step : ℕ) (records : List (List ℕ)) (handed : ℕ → List ℕ) (c
         has =
             subst (λ es. HasSection (said handed then-outputs) (length then-outputs.files.items) step es (record { first = 0; head = []; file = file; number = number } ∷ []) section) (sym (has.absent number none).0)
             (section-begins (said handed then-outputs) (length then-outputs.files.items) step number file section begins whole started part (λ other. more-says handed outputs then-outputs more other number ∙ has.nothing_else number named.free other) there);
-        here = λ place at. subst (λ k. slice_get (sections ++ section ∷ []) k ≡ Some section) (some_apart _ _ (sym here ∙ at)) (get-push sections section);
+        here = λ place at. subst (λ k. slice_get (sections ++ section ∷ []) k ≡ Some section) (some_apart _ _ (sym here ∙ at)) (last-is sections section);
         there = λ other place apart at. (sym (others other apart) ∙ at, λ s is. get-front sections (section ∷ []) place s is);
         current_is = current-kept then-places (λ other place is. others other (λ same. none_is_some (sym none ∙ ap places (sym same) ∙ is)) ∙ is) current has.current_is;
         found = grind arith;
@@ -526,8 +521,8 @@ module _ (step : ℕ) (records : List (List ℕ)) (handed : ℕ → List ℕ) (c
       is-said = says handed (section-at (current_of records) place section at is).there has.opened
 
 -- what is current, where a place was told, and where none was
-pub current-at : (places : ℕ → Option ℕ) (number place : ℕ) (current : Option ℕ) → current ≡ Some place → IsCurrent places number current → places number ≡ Some place
-current-at places number place current is at = subst (IsCurrent places number) is at
+pub current_at : (places : ℕ → Option ℕ) (number place : ℕ) (current : Option ℕ) → current ≡ Some place → IsCurrent places number current → places number ≡ Some place
+current_at places number place current is at = subst (IsCurrent places number) is at
 
 pub current-none : (places : ℕ → Option ℕ) (number : ℕ) (current : Option ℕ) → current ≡ None → IsCurrent places number current → number ≡ 0
 current-none places number current is at = subst (IsCurrent places number) is at

@@ -4,7 +4,7 @@ use Rattle.pmf_event.specs.{declared.event.Event.{Event}, Store.{event_at}}
 use Rattle.pmf_shadow.proofs.SameLemmas.{slice_get-front}
 use Rattle.pmf_cut.specs.{declared.deferred.Deferred.{Deferred}, declared.part.Part.{Part}, Parts.{IsPartOf, GoesOnWith, BeginsAt}, Deferred.{Begins, GoesOnUpTo, CatchesUp, TakesFirst, BeginsBehind}}
 
-last-is : (xs : List Event) (e : Event) → slice_get (xs ++ e ∷ []) (length xs) ≡ Some e
+pub last-is : {X : Type 0} (xs : List X) (e : X) → slice_get (xs ++ e ∷ []) (length xs) ≡ Some e
 last-is [] e = refl
 last-is (x ∷ xs) e = last-is xs e
 

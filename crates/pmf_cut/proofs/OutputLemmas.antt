@@ -1,9 +1,7 @@
 -- What the files say when records are put into them, and what is handed out of them.
-use Rattle.std.proofs.{Common.{◌≡◌, ◌≢◌, inl, inr, ℕ, zero, suc, ◌+◌, ◌-◌, ◌^◌, ◌==◌, if◌then◌else◌, ◌<◌, ◌≤◌, Bool, true, false, List, [], ◌∷◌, ◌++◌, length, take, get_or, set, Contains, Some, Ok, slice_get, nat_eq, codes, refl, sym, ap, subst, ◌∙◌, arith, rules, append_assoc, append-nil, length-append, length-set}, lemmas.Bool.{cases_eq, eq-eqb, ne_eqb, cases_lt}, lemmas.Option.{slice_get_read}, lemmas.List.{get_or-set_same, take_at, take_more, get_or_default, nil_from_length}, lemmas.List.Elements.{All-from_recursion}, lemmas.List.Splits.{slice_split_at}, lemmas.Fmt.{decimal_is_IsNumeral, length-decimal-le}}
-use Rattle.std.specs.{Fmt.{decimal}, Str.Parse.{AllDigits}, List.{starts_with}}
+use Rattle.std.{proofs.{Common.{◌≡◌, ◌≢◌, inl, inr, ℕ, zero, suc, ◌+◌, ◌-◌, ◌^◌, ◌==◌, if◌then◌else◌, ◌<◌, ◌≤◌, Bool, true, false, List, [], ◌∷◌, ◌++◌, length, take, get_or, set, Contains, Some, Ok, slice_get, nat_eq, codes, refl, sym, ap, subst, ◌∙◌, arith, rules, append_assoc, append-nil, length-append, length-set}, lemmas.Bool.{cases_eq, eq-eqb, ne_eqb, cases_lt}, lemmas.Option.{slice_get_read}, lemmas.List.{get_or-set_same, take_at, take_more, get_or_default, nil_from_length}, lemmas.List.Elements.{All-from_recursion}, lemmas.List.Splits.{slice_split_at}, lemmas.Fmt.{decimal_is_IsNumeral, length-decimal-le}}, specs.{Fmt.{decimal}, Str.Parse.{AllDigits}, List.{starts_with}}}
 use Rattle.pmf_event.specs.declared.event.Event.{Event}
-use Rattle.pmf_storelog.specs.{declared.record.Saying.{Saying}, declared.record.Saying.TheVariants.{Happens, Enters}, Records.{record_of, saying_of_fields, section_of_fields, section_of_number, saying_of}, Numbers.{number_of}, Separators.{is_separator, is_blank, without_front_blanks, without_end_blanks, records_in, parts_of, ended_parts, records_of}, LogText.{events_in, current_of}, Spelling.{AllValid}}
-use Rattle.pmf_storelog.proofs.{PartLemmas.{parts_of-append, parts_of-ended, records_in-append}, SplitLemmas.{joined_at}, LogLemmas.{events_in-event, events_in-enter, events_in-nothing, current_of-push}, CanonicalLemmas.{numeral_of-digits, each-digits, each-append, no_field_end, fields_of-more, fields_of-last}, PlainLemmas.{text_of_event, text_of_event-plain, no_separator, no_blank}, PlainRecordLemmas.{IsPlain, records_in-plain}, SpellingLemmas.{record_of-event}}
+use Rattle.pmf_storelog.{specs.{declared.record.Saying.{Saying}, declared.record.Saying.TheVariants.{Happens, Enters}, Records.{record_of, saying_of_fields, section_of_fields, section_of_number, saying_of}, Numbers.{number_of}, Separators.{is_separator, is_blank, without_front_blanks, without_end_blanks, records_in, parts_of, ended_parts, records_of}, LogText.{events_in, current_of}, Spelling.{AllValid}}, proofs.{PartLemmas.{parts_of-append, parts_of-ended, records_in-append}, SplitLemmas.{joined_at}, LogLemmas.{events_in-event, events_in-enter, events_in-nothing, current_of-push}, CanonicalLemmas.{numeral_of-digits, each-digits, each-append, no_field_end, fields_of-more, fields_of-last}, PlainLemmas.{text_of_event, text_of_event-plain, no_separator, no_blank}, PlainRecordLemmas.{IsPlain, records_in-plain}, SpellingLemmas.{record_of-event}}}
 use Rattle.pmf_cut.specs.{declared.output.Output.{Output}, declared.output.Outputs.{Outputs}, declared.output.Text.{Text}, Cutting.{SayNothing}, Outputs.{waiting_in, current_in, AllWait, Puts, behind_part, Holds, Spells, text_of, said, IsSaid, Says, bytes_for, HandsOut}}
 
 -- a line that is a record, and what it says, with a separator behind it
@@ -189,8 +187,8 @@ module _ (old mid new : Outputs) (names : List ℕ) (done name : ℕ) (texts : L
   pub drained-push : (text : Text) → text.file ≡ name → text.bytes.items ≡ bytes → Drained old names (done + 1) (texts ++ text ∷ []) new
   drained-push text file_is bytes_is = drained-step (texts ++ text ∷ []) (λ file. bytes_for-push texts text file ∙ rw (file_is, bytes_is, append-nil (if name == file then bytes else [])) refl)
 
-  pub drained-empty : length bytes ≡ 0 → Drained old names (done + 1) texts new
-  drained-empty empty = grind (arith, drained-step, nil_from_length, append-nil)
+  pub drained_empty : length bytes ≡ 0 → Drained old names (done + 1) texts new
+  drained_empty empty = grind (arith, drained-step, nil_from_length, append-nil)
 
 -- all of them
 pub hands-out : (old new : Outputs) (names : List ℕ) (done : ℕ) (texts : List Text) → names ≡ old.waiting.items → length names ≤ done → Drained old names done texts new → HandsOut old texts new

@@ -66,8 +66,8 @@ module _ (fs : List Event) (m : ℕ) where
 abbrev pub HasList : Shadow → ℕ → Type 0
 HasList shadow events = (fs : List Event) × (length fs ≡ events) × StandsFor shadow (λ k. k) fs events
 
-pub list-none : (shadow : Shadow) → ((told : ℕ → ℕ) (es : List Event) → StandsFor shadow told es 0) → ∥ HasList shadow 0 ∥₁
-list-none shadow stands = ∣ ([], refl, stands (λ k. k) []) ∣₁
+pub list_none : (shadow : Shadow) → ((told : ℕ → ℕ) (es : List Event) → StandsFor shadow told es 0) → ∥ HasList shadow 0 ∥₁
+list_none shadow stands = ∣ ([], refl, stands (λ k. k) []) ∣₁
 
 pub room_from : (shadow : Shadow) (events : ℕ) → ∥ HasList shadow events ∥₁ → events < EVENT_LIMIT → shadow.fences < EVENT_LIMIT
 room_from shadow events some below = ∥∥₁_elim some (hlevel props) (λ it. let few = stands-fences shadow (λ k. k) it.0 events it.2 in omega arith)

@@ -1,16 +1,12 @@
 -- A part of a whole goes on with it, and another one begins where it is cut.
-use Rattle.std.proofs.Common.{◌≡◌, ℕ, zero, suc, ◌+◌, ◌-◌, ◌<◌, true, false, List, [], ◌∷◌, ◌++◌, length, drop, slice_get, refl, ◌∙◌, ap, subst, arith, Some}
+use Rattle.std.proofs.Common.{◌≡◌, ℕ, zero, suc, ◌+◌, ◌-◌, true, false, List, [], ◌∷◌, ◌++◌, length, drop, slice_get, refl, ◌∙◌, ap, subst, arith, Some}
 use Rattle.pmf_event.{specs.declared.event.Event.{Event}, specs.Store.{event_at}, specs.LineBytes.{is_undurable}, proofs.EventLemmas.{last-none}, proofs.TransactionLemmas.{depth-start, scope-start, outside-from, unscoped-from}}
+use Rattle.pmf_shadow.proofs.SameLemmas.{slice_get-front}
 use Rattle.pmf_cut.{specs.declared.part.Part.{Part}, specs.Alike.{IsCut}, specs.Parts.{Stands, Follows, BeginsWith, Renews, part_of, IsPartOf, GoesOnWith, BeginsAt}, proofs.StepLemmas.{undurable-stored_to}, proofs.BehindLemmas.{behind-cut, behind-step}, proofs.CutLemmas.{behind-there}}
 
 get-behind : {X : Type 0} (xs ys : List X) (k : ℕ) → slice_get (xs ++ ys) (length xs + k) ≡ slice_get ys k
 get-behind [] ys k = ap (slice_get ys) (omega arith)
 get-behind (x ∷ xs) ys k = ap (slice_get (x ∷ xs ++ ys)) (let more : length (x ∷ xs) + k ≡ suc (length xs + k) = omega arith in more) ∙ get-behind xs ys k
-
-get-front : {X : Type 0} (xs ys : List X) (k : ℕ) → k < length xs → slice_get (xs ++ ys) k ≡ slice_get xs k
-get-front [] ys k within = absurd (omega arith)
-get-front (x ∷ xs) ys zero within = refl
-get-front (x ∷ xs) ys (suc k) within = get-front xs ys k (omega arith)
 
 get-dropped : {X : Type 0} (p : ℕ) (xs : List X) (k : ℕ) → slice_get (drop p xs) k ≡ slice_get xs (p + k)
 get-dropped zero xs k = ap (slice_get xs) (omega arith)
@@ -24,7 +20,7 @@ part-event es p head k = get-behind head (drop p es) k ∙ get-dropped p es k
 
 part-begins : (es : List Event) (p : ℕ) (head : List Event) → BeginsWith (part_of es p head) head
 unfolding event_at
-part-begins es p head k within = get-front head (drop p es) k within
+part-begins es p head k within = slice_get-front head (drop p es) k within
 
 whole-cut : (es : List Event) → IsCut es 0 es 0
 whole-cut es = grind (arith, outside-from, depth-start, unscoped-from, scope-start, last-none)

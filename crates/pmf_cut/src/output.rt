@@ -195,6 +195,7 @@ impl Outputs {
     }
 
     /// What is to be written, which is handed out once.
+    #[tactic(auto, using(crate::proofs::OutputLemmas::drained_empty))]
     pub(crate) fn drain(&mut self) -> Result<Vec<Text>, AllocError>
         ensures { IfOk result (λ texts. HandsOut self.old texts.items self.new) }
     {

@@ -1,5 +1,4 @@
-use Rattle.std.proofs.{Common.{◌≡◌, ◌+◌, nat_cmp, refl, sym, ap, ◌∙◌, subst, arith, set, slice_get}, lemmas.Option.{slice_get_read}}
-use Rattle.std.specs.BTreeMap.{get}
+use Rattle.std.{proofs.{Common.{◌≡◌, ◌+◌, nat_cmp, refl, sym, ap, ◌∙◌, subst, arith, set, slice_get}, lemmas.Option.{slice_get_read}}, specs.BTreeMap.{get}}
 use Rattle.pmf_cut.{specs.declared.section.Cutting.{Cutting}, specs.Cutting.{IsNamed}, proofs.CuttingLemmas.{cut_as, renewed, some_apart}}
 use Rattle.pmf_cut.proofs.cutter.Cutter.cut.Goals as goal
 

@@ -1,6 +1,5 @@
 use Rattle.pmf_cut.proofs.CuttingLemmas.{more_files, cut_as}
-use Rattle.std.proofs.Common.{nat_cmp, ap, ◌∙◌}
-use Rattle.std.specs.BTreeMap.{get}
+use Rattle.std.{proofs.Common.{nat_cmp, ap, ◌∙◌}, specs.BTreeMap.{get}}
 use Rattle.pmf_cut.proofs.cutter.Cutter.take_part.Goals as goal
 
 pub returns-in_ok-begin_file : goal.returns-in_ok-begin_file

@@ -1,6 +1,5 @@
 use Rattle.std.proofs.Common.{◌<◌, sym, subst, arith}
-use Rattle.pmf_cut.specs.Lost.{KnowsByte}
-use Rattle.pmf_cut.proofs.LostLemmas.{none-member, member-lies, member-within, none-known, none-past}
+use Rattle.pmf_cut.{specs.Lost.{KnowsByte}, proofs.LostLemmas.{none-member, member-lies, member-within, none-known, none-past}}
 use Rattle.pmf_cut.proofs.lost.Past.first_past.Goals as goal
 
 pub returns-in-None-clause-lies : goal.returns-in-None-clause-lies
