@@ -1,24 +1,18 @@
 -- Behind a cut the part goes on as the whole does: it does so at the cut, and after each event more.
-use Rattle.std.proofs.{Common.{◌≡◌, ℕ, suc, ◌-◌, ◌<◌, ◌≤◌, true, false, not, ◌&&◌, nat_lt, if◌then◌else◌, List, refl, sym, ◌∙◌, ap, arith, Some, lt-ltb, le-ltb, ltb-false}, lemmas.Bool.{false_from_ne_true}}
-use Rattle.pmf_event.{specs.declared.event.Event.{Event}, specs.declared.event.Event.TheVariants.{TxBegin, TxEnd}, specs.Line.{line_of_byte}, specs.Places.{greatest}, specs.Store.{event_at, stores, flushes, is_fence, last, last_store}, specs.Interval.{interval_at, closing_fence}, specs.Exclusion.{excludes, marks}, specs.Order.{precedes, share_line, is_stored_before}, specs.LineBytes.{is_undurable, is_unwritten}, specs.Transactions.{begins, ends, depth_at, in_transaction, is_outside, adds, is_backed, opens_scope, closes_scope, in_scope, is_scoped}, proofs.EventLemmas.{at-is, last-other, last-here, not_fence_and_store}, proofs.LineBytesLemmas.{lacks-parts, lacks-not}, proofs.TransactionLemmas.{depth-begun, depth-ended, depth-kept, inside-kept, outside-here, backed-added, backed-kept, scope-some, scope-none, unscoped-from, scoped-from, scope-stays, scope-opened, scope-kept, scope-closed, in_scope-same, scoped-opened, scoped-kept, scoped-stored, not_scoped}, proofs.WriteBackLemmas.{last-bound}}
-use Rattle.pmf_cut.{specs.Alike.{IsCut}, specs.Behind.{SameBytes, SamePairs, SameTransactions, IsBehind}, proofs.StepLemmas.{undurable-stored_to, excluded-step, undurable-stored, undurable-kept, undurable-fenced, unwritten-stored, unwritten-kept, unwritten-flushed, precedes-parts, precedes-reopened, precedes-stored, precedes-kept}}
+use Rattle.std.proofs.{Common.{◌≡◌, ℕ, suc, ◌<◌, ◌≤◌, true, false, not, ◌&&◌, nat_lt, if◌then◌else◌, List, refl, sym, ◌∙◌, ap, arith, Some, lt-ltb, le-ltb, ltb-false}, lemmas.Bool.{false_from_ne_true}}
+use Rattle.pmf_event.{specs.declared.event.Event.{Event}, specs.Line.{line_of_byte}, specs.Store.{event_at, stores, is_fence, last_store}, specs.Interval.{interval_at, closing_fence}, specs.Exclusion.{excludes, marks}, specs.Order.{precedes, is_stored_before}, specs.LineBytes.{is_undurable, is_unwritten}, specs.Transactions.{begins, ends, depth_at, in_transaction, adds, is_backed, closes_scope, in_scope, is_scoped}, proofs.EventLemmas.{at-is, last-other, last-here, not_fence_and_store}, proofs.LineBytesLemmas.{lacks-not}, proofs.TransactionLemmas.{depth-begun, depth-ended, depth-kept, inside-kept, outside-here, backed-added, backed-kept, scope-some, scope-none, unscoped-from, scoped-from, scope-stays, scope-opened, scope-kept, scope-closed, in_scope-same, scoped-opened, scoped-kept, scoped-stored, not_scoped}, proofs.WriteBackLemmas.{last-bound}}
+use Rattle.pmf_cut.{specs.Alike.{IsCut}, specs.Behind.{SameBytes, SamePairs, SameTransactions, IsBehind}, proofs.StepLemmas.{undurable-stored_to, excluded-step, undurable-stored, undurable-kept, undurable-fenced, unwritten-stored, unwritten-kept, unwritten-flushed, precedes-reopened, precedes-stored, precedes-kept}}
 
 -- ---- at the cut
 
 -- what is undurable is durable before nothing
 undurable-precedes : (es : List Event) (p x y : ℕ) → is_undurable es p x ≡ true → precedes (interval_at es p x) (interval_at es p y) ≡ false
 unfolding is_undurable
-undurable-precedes es p x y is = false_from_ne_true _ (λ before.
-    let b = precedes-parts es p x y before in
-    let none = (lacks-parts (last_store es p x) (closing_fence (stores x) (line_of_byte x) es p) is).1 in
-    let closed = b.closed in omega arith)
+undurable-precedes es p x y is = grind arith
 
 backed-outside : (es : List Event) (p b : ℕ) → in_transaction es p ≡ false → is_backed es p b ≡ false
 unfolding is_backed
-backed-outside es p b outside =
-    let here = outside-here es p outside in
-    let bound = last-bound (adds b) es p in
-    le-ltb (greatest (is_outside es) p) (last (adds b) es p - 1) (omega arith)
+backed-outside es p b outside = grind (arith, outside-here, last-bound, le-ltb)
 
 depth-outside : (es : List Event) (p : ℕ) → in_transaction es p ≡ false → depth_at es p ≡ 0
 unfolding in_transaction
@@ -29,44 +23,21 @@ unfolding in_transaction
 inside-by es fs n m same = ap (λ d. nat_lt 0 d) same
 
 pub behind-cut : (es : List Event) (p : ℕ) (fs : List Event) (q : ℕ) → IsCut es p fs q → IsBehind es p p fs q q
-behind-cut es p fs q cut =
-    let alike = cut.alike in
-    let undurable = λ (b : ℕ) (known : 0 < last_store fs q b). sym (alike.undurable b) ∙ cut.fresh b known in record {
-      bytes = record { excluded = alike.excluded; undurable = alike.undurable; unwritten = alike.unwritten };
-      pairs = record {
-        known = λ b known. undurable-stored_to es p b (undurable b known);
-        fresh = λ b behind. let bound = last-bound (stores b) es p in absurd (omega arith);
-        late = λ b behind. let bound = last-bound (stores b) fs q in absurd (omega arith);
-        durable = λ x y one other. undurable-precedes fs q x y (cut.fresh x one) ∙ sym (undurable-precedes es p x y (undurable x one));
-        order = λ x y same one other. alike.order x y same (undurable x one) (undurable y other);
-        old = λ x y unknown stored behind. let bound = last-bound (stores y) es p in absurd (omega arith);
-      };
-      transactions = record {
-        shift = omega arith;
-        depth = depth-outside fs q cut.part.transaction ∙ sym (depth-outside es p cut.whole.transaction);
-        backed = λ b. backed-outside fs q b cut.part.transaction ∙ sym (backed-outside es p b cut.whole.transaction);
-        scope = cut.part.scope ∙ sym cut.whole.scope;
-        opened = λ is. let bad : false ≡ true = sym cut.whole.scope ∙ is in cc;
-        scoped = λ b. not_scoped fs q b cut.part.scope ∙ sym (not_scoped es p b cut.whole.scope);
-      };
-    }
+behind-cut es p fs q cut = grind (arith, undurable-stored_to, last-bound, undurable-precedes, depth-outside, backed-outside, not_scoped)
 
 -- ---- one event more
 
 begins_or_ends : (e : Event) → begins e ≡ true → ends e ≡ false
 unfolding begins ends
-begins_or_ends TxBegin is = refl
-begins_or_ends _ is = let bad : false ≡ true = is in cc
+begins_or_ends v0 is = grind arith
 
 adds_or_begins : (b : ℕ) (e : Event) → adds b e ≡ true → begins e ≡ false
 unfolding adds begins
-adds_or_begins b TxBegin is = let bad : false ≡ true = is in cc
-adds_or_begins b _ is = refl
+adds_or_begins b v1 is = grind arith
 
 adds_or_ends : (b : ℕ) (e : Event) → adds b e ≡ true → ends e ≡ false
 unfolding adds ends
-adds_or_ends b TxEnd is = let bad : false ≡ true = is in cc
-adds_or_ends b _ is = refl
+adds_or_ends b v1 is = grind arith
 
 module _ (es fs : List Event) (n m : ℕ) (e : Event) (here : event_at es (suc n) ≡ Some e) (there : event_at fs (suc m) ≡ Some e) where
   no_fence : (b : ℕ) → stores b e ≡ true → is_fence e ≡ false
@@ -77,17 +48,11 @@ module _ (es fs : List Event) (n m : ℕ) (e : Event) (here : event_at es (suc n
     excluded = λ b. excluded-step fs m b e there ∙ ap (λ v. if marks b e then excludes b e else v) (same.excluded b) ∙ sym (excluded-step es n b e here);
     undurable = λ b. elim (stores b e) as (λ v. stores b e ≡ v → is_undurable fs (suc m) b ≡ is_undurable es (suc n) b) [
       | true ↦ λ is. undurable-stored fs m b e there is ∙ sym (undurable-stored es n b e here is)
-      | false ↦ λ other. elim (is_fence e) as (λ v. is_fence e ≡ v → is_undurable fs (suc m) b ≡ is_undurable es (suc n) b) [
-        | true ↦ λ fence. undurable-fenced fs m b e there other fence ∙ same.unwritten b ∙ sym (undurable-fenced es n b e here other fence)
-        | false ↦ λ none. undurable-kept fs m b e there other none ∙ same.undurable b ∙ sym (undurable-kept es n b e here other none)
-      ] refl
+      | false ↦ grind (arith, undurable-fenced, undurable-kept)
     ] refl;
     unwritten = λ b. elim (stores b e) as (λ v. stores b e ≡ v → is_unwritten fs (suc m) b ≡ is_unwritten es (suc n) b) [
       | true ↦ λ is. unwritten-stored fs m b e there is ∙ sym (unwritten-stored es n b e here is)
-      | false ↦ λ other. elim (flushes (line_of_byte b) e) as (λ v. flushes (line_of_byte b) e ≡ v → is_unwritten fs (suc m) b ≡ is_unwritten es (suc n) b) [
-        | true ↦ λ flush. unwritten-flushed fs m b e there other flush ∙ sym (unwritten-flushed es n b e here other flush)
-        | false ↦ λ none. unwritten-kept fs m b e there other none ∙ same.unwritten b ∙ sym (unwritten-kept es n b e here other none)
-      ] refl
+      | false ↦ grind (arith, unwritten-flushed, unwritten-kept)
     ] refl;
   }
 
@@ -95,52 +60,11 @@ module _ (es fs : List Event) (n m : ℕ) (e : Event) (here : event_at es (suc n
   known-before : (b : ℕ) → stores b e ≡ false → 0 < last_store fs (suc m) b → 0 < last_store fs m b
   known-before b other known = let same = last-other (stores b) fs m e there other in omega arith
 
-  precedes-step : SameBytes es n fs m → (p q : ℕ) → SamePairs es p n fs q m → (x y : ℕ) → 0 < last_store fs (suc m) x → 0 < last_store fs (suc m) y →
-      precedes (interval_at fs (suc m) x) (interval_at fs (suc m) y) ≡ precedes (interval_at es (suc n) x) (interval_at es (suc n) y)
-  precedes-step same p q pairs x y one other =
-      elim (stores x e) as (λ v. stores x e ≡ v → precedes (interval_at fs (suc m) x) (interval_at fs (suc m) y) ≡ precedes (interval_at es (suc n) x) (interval_at es (suc n) y)) [
-        | true ↦ λ is. precedes-reopened fs m x y e there is ∙ sym (precedes-reopened es n x y e here is)
-        | false ↦ λ x_other. elim (stores y e) as (λ v. stores y e ≡ v → precedes (interval_at fs (suc m) x) (interval_at fs (suc m) y) ≡ precedes (interval_at es (suc n) x) (interval_at es (suc n) y)) [
-          | true ↦ λ is.
-              let known = known-before x x_other one in
-              precedes-stored fs m x y e there x_other is (no_fence y is) known
-              ∙ ap not (same.undurable x)
-              ∙ sym (precedes-stored es n x y e here x_other is (no_fence y is) (pairs.known x known))
-          | false ↦ λ y_other.
-              precedes-kept fs m x y e there x_other y_other
-              ∙ pairs.durable x y (known-before x x_other one) (known-before y y_other other)
-              ∙ sym (precedes-kept es n x y e here x_other y_other)
-        ] refl
-      ] refl
-
   -- which of two bytes was stored to first, after one event more
   before-step : (gs : List Event) (k x y : ℕ) → event_at gs (suc k) ≡ Some e →
       is_stored_before gs (suc k) x y ≡ (if stores y e then not (stores x e) else (if stores x e then false else is_stored_before gs k x y))
   unfolding is_stored_before
-  before-step gs k x y now =
-      elim (stores y e) as (λ v. stores y e ≡ v → nat_lt (last_store gs (suc k) x) (last_store gs (suc k) y) ≡ (if v then not (stores x e) else (if stores x e then false else nat_lt (last_store gs k x) (last_store gs k y)))) [
-        | true ↦ λ y_is. elim (stores x e) as (λ v. stores x e ≡ v → nat_lt (last_store gs (suc k) x) (last_store gs (suc k) y) ≡ not v) [
-          | true ↦ λ x_is. let one = last-here (stores x) gs k e now x_is in let other = last-here (stores y) gs k e now y_is in le-ltb _ _ (omega arith)
-          | false ↦ λ x_other. let one = last-other (stores x) gs k e now x_other in let bound = last-bound (stores x) gs k in let other = last-here (stores y) gs k e now y_is in lt-ltb _ _ (omega arith)
-        ] refl
-        | false ↦ λ y_other. elim (stores x e) as (λ v. stores x e ≡ v → nat_lt (last_store gs (suc k) x) (last_store gs (suc k) y) ≡ (if v then false else nat_lt (last_store gs k x) (last_store gs k y))) [
-          | true ↦ λ x_is. let one = last-here (stores x) gs k e now x_is in let other = last-other (stores y) gs k e now y_other in let bound = last-bound (stores y) gs k in le-ltb _ _ (omega arith)
-          | false ↦ λ x_other. ap (λ l. nat_lt l (last_store gs (suc k) y)) (last-other (stores x) gs k e now x_other) ∙ ap (λ l. nat_lt (last_store gs k x) l) (last-other (stores y) gs k e now y_other)
-        ] refl
-      ] refl
-
-  order-step : (p q : ℕ) → SamePairs es p n fs q m → (x y : ℕ) → share_line x y ≡ true → 0 < last_store fs (suc m) x → 0 < last_store fs (suc m) y →
-      is_stored_before fs (suc m) x y ≡ is_stored_before es (suc n) x y
-  order-step p q pairs x y line one other =
-      before-step fs m x y there
-      ∙ elim (stores y e) as (λ v. stores y e ≡ v → (if v then not (stores x e) else (if stores x e then false else is_stored_before fs m x y)) ≡ (if v then not (stores x e) else (if stores x e then false else is_stored_before es n x y))) [
-        | true ↦ λ is. refl
-        | false ↦ λ y_other. elim (stores x e) as (λ v. stores x e ≡ v → (if v then false else is_stored_before fs m x y) ≡ (if v then false else is_stored_before es n x y)) [
-          | true ↦ λ is. refl
-          | false ↦ λ x_other. pairs.order x y line (known-before x x_other one) (known-before y y_other other)
-        ] refl
-      ] refl
-      ∙ sym (before-step es n x y here)
+  before-step gs k x y now = grind (arith, nat_lt, last-here, le-ltb, last-other, last-bound, lt-ltb)
 
   -- what the part does not know a store of is durable
   durable : (b : ℕ) → last_store fs m b ≡ 0 → is_undurable fs m b ≡ false
@@ -149,55 +73,13 @@ module _ (es fs : List Event) (n m : ℕ) (e : Event) (here : event_at es (suc n
 
   old-step : SameBytes es n fs m → (p q : ℕ) → p ≤ n → SamePairs es p n fs q m → (x y : ℕ) → last_store fs (suc m) x ≡ 0 → 0 < last_store es (suc n) x → p < last_store es (suc n) y →
       precedes (interval_at es (suc n) x) (interval_at es (suc n) y) ≡ true
-  old-step same p q within pairs x y unknown stored behind =
-      elim (stores x e) as (λ v. stores x e ≡ v → precedes (interval_at es (suc n) x) (interval_at es (suc n) y) ≡ true) [
-        | true ↦ λ is. let now = last-here (stores x) fs m e there is in absurd (omega arith)
-        | false ↦ λ x_other.
-            let x_before = last-other (stores x) fs m e there x_other in
-            let x_then = last-other (stores x) es n e here x_other in
-            elim (stores y e) as (λ v. stores y e ≡ v → precedes (interval_at es (suc n) x) (interval_at es (suc n) y) ≡ true) [
-              | true ↦ λ is.
-                  precedes-stored es n x y e here x_other is (no_fence y is) (omega arith)
-                  ∙ ap not (sym (same.undurable x) ∙ durable x (omega arith))
-              | false ↦ λ y_other.
-                  let y_before = last-other (stores y) es n e here y_other in
-                  precedes-kept es n x y e here x_other y_other ∙ pairs.old x y (omega arith) (omega arith) (omega arith)
-            ] refl
-      ] refl
+  old-step same p q within pairs x y unknown stored behind = grind (arith, last-here, last-other, precedes-stored, no_fence, durable, precedes-kept)
 
   pairs-step : SameBytes es n fs m → (p q : ℕ) → p ≤ n → SamePairs es p n fs q m → SamePairs es p (suc n) fs q (suc m)
-  pairs-step same p q within pairs = record {
-    known = λ b known. elim (stores b e) as (λ v. stores b e ≡ v → 0 < last_store es (suc n) b) [
-      | true ↦ λ is. let now = last-here (stores b) es n e here is in omega arith
-      | false ↦ λ other. let before = pairs.known b (known-before b other known) in let kept = last-other (stores b) es n e here other in omega arith
-    ] refl;
-    fresh = λ b behind. elim (stores b e) as (λ v. stores b e ≡ v → 0 < last_store fs (suc m) b) [
-      | true ↦ λ is. let now = last-here (stores b) fs m e there is in omega arith
-      | false ↦ λ other.
-          let kept = last-other (stores b) es n e here other in
-          let before = pairs.fresh b (omega arith) in
-          let kept_there = last-other (stores b) fs m e there other in omega arith
-    ] refl;
-    late = λ b behind. elim (stores b e) as (λ v. stores b e ≡ v → p < last_store es (suc n) b) [
-      | true ↦ λ is. let now = last-here (stores b) es n e here is in omega arith
-      | false ↦ λ other.
-          let kept = last-other (stores b) fs m e there other in
-          let before = pairs.late b (omega arith) in
-          let kept_here = last-other (stores b) es n e here other in omega arith
-    ] refl;
-    durable = precedes-step same p q pairs;
-    order = order-step p q pairs;
-    old = old-step same p q within pairs;
-  }
+  pairs-step same p q within pairs = grind (arith, last-here, known-before, last-other, durable, old-step, precedes-reopened, precedes-stored, no_fence, precedes-kept, before-step)
 
   depth-step : depth_at fs m ≡ depth_at es n → depth_at fs (suc m) ≡ depth_at es (suc n)
-  depth-step same = elim (begins e) as (λ v. begins e ≡ v → depth_at fs (suc m) ≡ depth_at es (suc n)) [
-    | true ↦ λ is. depth-begun fs m e there is (begins_or_ends e is) ∙ ap (λ d. suc d) same ∙ sym (depth-begun es n e here is (begins_or_ends e is))
-    | false ↦ λ no_begin. elim (ends e) as (λ v. ends e ≡ v → depth_at fs (suc m) ≡ depth_at es (suc n)) [
-      | true ↦ λ is. depth-ended fs m e there no_begin is ∙ ap (λ d. d - 1) same ∙ sym (depth-ended es n e here no_begin is)
-      | false ↦ λ no_end. depth-kept fs m e there no_begin no_end ∙ same ∙ sym (depth-kept es n e here no_begin no_end)
-    ] refl
-  ] refl
+  depth-step same = grind (arith, depth-begun, begins_or_ends, depth-ended, depth-kept)
 
   backed-step : depth_at fs m ≡ depth_at es n → (b : ℕ) → is_backed fs m b ≡ is_backed es n b → is_backed fs (suc m) b ≡ is_backed es (suc n) b
   backed-step same b backed =
@@ -205,9 +87,7 @@ module _ (es fs : List Event) (n m : ℕ) (e : Event) (here : event_at es (suc n
       elim (in_transaction es (suc n)) as (λ v. in_transaction es (suc n) ≡ v → is_backed fs (suc m) b ≡ is_backed es (suc n) b) [
         | false ↦ λ outside. backed-outside fs (suc m) b (inside ∙ outside) ∙ sym (backed-outside es (suc n) b outside)
         | true ↦ λ runs. elim (adds b e) as (λ v. adds b e ≡ v → is_backed fs (suc m) b ≡ is_backed es (suc n) b) [
-          | true ↦ λ is.
-              let before = sym (inside-kept es n e here (adds_or_begins b e is) (adds_or_ends b e is)) ∙ runs in
-              backed-added fs m e there b (inside-by es fs n m same ∙ before) (inside ∙ runs) is ∙ sym (backed-added es n e here b before runs is)
+          | true ↦ grind (arith, inside-kept, adds_or_begins, adds_or_ends, backed-added, inside-by)
           | false ↦ λ other. backed-kept fs m e there b (inside ∙ runs) other ∙ backed ∙ sym (backed-kept es n e here b runs other)
         ] refl
       ] refl
@@ -220,16 +100,7 @@ module _ (es fs : List Event) (n m : ℕ) (e : Event) (here : event_at es (suc n
       let inside = inside-by es fs (suc n) (suc m) depth in
       let backed = λ (b : ℕ). backed-step same.depth b (same.backed b) in
       elim (closes_scope e) as (λ v. closes_scope e ≡ v → SameTransactions es p (suc n) fs q (suc m)) [
-        | true ↦ λ is.
-            let none = unscoped-from es (suc n) (scope-closed es n e here is) in
-            let none_there = unscoped-from fs (suc m) (scope-closed fs m e there is) in record {
-              shift = omega arith;
-              depth = depth;
-              backed = backed;
-              scope = none_there ∙ sym none;
-              opened = λ some. let bad : false ≡ true = sym none ∙ some in cc;
-              scoped = λ b. not_scoped fs (suc m) b none_there ∙ sym (not_scoped es (suc n) b none);
-            }
+        | true ↦ grind (arith, unscoped-from, scope-closed, not_scoped)
         | false ↦ λ other. elim (in_scope es n) as (λ v. in_scope es n ≡ v → SameTransactions es p (suc n) fs q (suc m)) [
           | true ↦ λ some.
               let stays = scope-stays es n e here other (scope-some es n some) in
@@ -245,37 +116,9 @@ module _ (es fs : List Event) (n m : ℕ) (e : Event) (here : event_at es (suc n
                   | false ↦ λ is. scoped-kept fs m e there b stays_there (ap (λ v. stores b e && v) inside ∙ is) ∙ same.scoped b ∙ sym (scoped-kept es n e here b stays is)
                 ] refl;
               }
-          | false ↦ λ none.
-              let zero_is = scope-none es n none in
-              let zero_there = scope-none fs m (same.scope ∙ none) in
-              elim (opens_scope e) as (λ v. opens_scope e ≡ v → SameTransactions es p (suc n) fs q (suc m)) [
-                | true ↦ λ is.
-                    let now = scope-opened es n e here other is zero_is in
-                    let now_there = scope-opened fs m e there other is zero_there in record {
-                      shift = omega arith;
-                      depth = depth;
-                      backed = backed;
-                      scope = scoped-from fs (suc m) (omega arith) ∙ sym (scoped-from es (suc n) (omega arith));
-                      opened = λ some. omega arith;
-                      scoped = λ b. scoped-opened fs (suc m) b now_there ∙ sym (scoped-opened es (suc n) b now);
-                    }
-                | false ↦ λ no_start.
-                    let kept = unscoped-from es (suc n) (scope-kept es n e here other no_start ∙ zero_is) in
-                    let kept_there = unscoped-from fs (suc m) (scope-kept fs m e there other no_start ∙ zero_there) in record {
-                      shift = omega arith;
-                      depth = depth;
-                      backed = backed;
-                      scope = kept_there ∙ sym kept;
-                      opened = λ some. let bad : false ≡ true = sym kept ∙ some in cc;
-                      scoped = λ b. not_scoped fs (suc m) b kept_there ∙ sym (not_scoped es (suc n) b kept);
-                    }
-              ] refl
+          | false ↦ grind (arith, scope-none, scope-opened, scoped-from, scoped-opened, unscoped-from, scope-kept, not_scoped)
         ] refl
       ] refl
 
   pub behind-step : (p q : ℕ) → p ≤ n → IsBehind es p n fs q m → IsBehind es p (suc n) fs q (suc m)
-  behind-step p q within behind = record {
-    bytes = bytes-step behind.bytes;
-    pairs = pairs-step behind.bytes p q within behind.pairs;
-    transactions = transactions-step p q behind.transactions;
-  }
+  behind-step p q within behind = search (arith, bytes-step, pairs-step, transactions-step)

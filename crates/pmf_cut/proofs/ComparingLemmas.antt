@@ -1,8 +1,8 @@
 -- A comparison goes on from run to run.
-use Rattle.std.{proofs.Common.{◌≡◌, ℕ, ◌-◌, ◌/◌, ◌%◌, ◌<◌, ◌≤◌, true, false, not, ◌&&◌, ◌||◌, ◌==◌, nat_lt, if◌then◌else◌, List, [], ◌∷◌, ◌++◌, refl, sym, ◌∙◌, ap, arith, inl, inr, Some, None, is_some, is_none, le-ltb, ne_eqb}, specs.Cmp.{booleans_Decides}, proofs.Math.Bool.{beq}, proofs.lemmas.Bool.{cases_lt, cases_eq, and_parts, and_from}, proofs.lemmas.Bool.Decides.{Decides-eqb}}
-use Rattle.pmf_event.{specs.declared.event.Event.{Event}, specs.declared.span.TheConstants.{LINE_SIZE}, specs.Line.{line_of_byte}, specs.Store.{last_store}, specs.Order.{is_stored_before}, specs.LineBytes.{is_undurable}, proofs.LineLemmas.{line-bounds, line-unique}}
+use Rattle.std.{proofs.Common.{◌≡◌, ℕ, ◌-◌, ◌/◌, ◌%◌, ◌<◌, ◌≤◌, true, false, not, ◌&&◌, ◌||◌, ◌==◌, nat_lt, List, [], ◌∷◌, ◌++◌, refl, sym, ◌∙◌, ap, arith, inl, inr, Some, None, is_some, is_none}, specs.Cmp.{booleans_Decides}, proofs.Math.Bool.{beq}, proofs.lemmas.Bool.{cases_lt, and_parts, and_from}, proofs.lemmas.Bool.Decides.{Decides-eqb}}
+use Rattle.pmf_event.{specs.declared.event.Event.{Event}, specs.declared.span.TheConstants.{LINE_SIZE}, specs.Line.{line_of_byte}, specs.Store.{last_store}, specs.Order.{is_stored_before}, specs.LineBytes.{is_undurable}}
 use Rattle.pmf_shadow.specs.{declared.standing.Standing.{Standing}, Standing.{place_as_told, AllLeaveOpen, AllStandSo}}
-use Rattle.pmf_cut.specs.Comparing.{is_same_order, agrees, SameByte, standings_agree, both_places, places_of, seen_at, seen_behind, Extends, Compared}
+use Rattle.pmf_cut.specs.Comparing.{is_same_order, agrees, SameByte, standings_agree, places_of, seen_at, seen_behind, Extends, Compared}
 
 agrees-front : (xs : List (ℕ × ℕ)) (pair : ℕ × ℕ) (u v : ℕ) → agrees (xs ++ pair ∷ []) u v ≡ true → agrees xs u v ≡ true
 unfolding agrees
@@ -22,16 +22,10 @@ behind-same : (a b u v : ℕ) → is_same_order a b u v ≡ true → nat_lt v b 
 behind-same a b u v is = sym ((booleans_Decides (nat_lt u a) (nat_lt v b)).0 (and_parts (beq (nat_lt a u) (nat_lt b v)) (beq (nat_lt u a) (nat_lt v b)) is).1)
 
 pub place-is : (n x : ℕ) → Some x ≡ place_as_told (λ k. k) n → n ≡ x
-place-is n x is = elim (cases_eq n 0) [
-  | inl none ↦ let bad : Some x ≡ None = is ∙ ap (λ v. if v then None else Some n) ((Decides-eqb n 0).1 none) in cc
-  | inr some ↦ let same : Some x ≡ Some n = is ∙ ap (λ v. if v then None else Some n) (ne_eqb n 0 some) in cc
-]
+place-is n x is = grind arith
 
 pub place-none : (n : ℕ) → None ≡ place_as_told (λ k. k) n → n ≡ 0
-place-none n is = elim (cases_eq n 0) [
-  | inl none ↦ none
-  | inr some ↦ let bad : None ≡ Some n = is ∙ ap (λ v. if v then None else Some n) (ne_eqb n 0 some) in cc
-]
+place-none n is = grind arith
 
 -- ---- lines
 
@@ -41,59 +35,13 @@ record Within (x at y : ℕ) : Type 0 where
   behind : line_of_byte (at - 1) ≡ line_of_byte x
   number : at / LINE_SIZE ≡ y / LINE_SIZE
 
-within-line : (x at y : ℕ) → x < at → at ≤ y → line_of_byte x ≡ line_of_byte y → Within x at y
-within-line x at y before from same =
-    let own = line-bounds x in
-    let other = line-bounds y in
-    let low = own.0 in
-    let high = other.1 in
-    record {
-      inner = ne_eqb (at % LINE_SIZE) 0 (λ aligned. let here = line-unique y at aligned from (omega arith) in omega arith);
-      behind = line-unique (at - 1) (line_of_byte x) own.2 (omega arith) (omega arith);
-      number = let aligned = own.2 in omega arith;
-    }
-
 module _ (fs : List Event) (m : ℕ) (gs : List Event) (q : ℕ) where
   module _ (a b : Standing) (at end : ℕ) (one : AllLeaveOpen (λ k. k) fs m at end a) (other : AllStandSo (λ k. k) gs q at end b) (agree : standings_agree a b ≡ true) where
-    part-excluded : a.excluded ≡ b.excluded
-    part-excluded = (booleans_Decides a.excluded b.excluded).0 (and_parts (beq a.excluded b.excluded) _ agree).0
-
     rest-undurable : (beq a.undurable b.undurable && (beq a.unwritten b.unwritten && ((b.undurable || is_none b.last) && (not a.undurable || (is_some a.last && is_some b.last))))) ≡ true
     rest-undurable = (and_parts (beq a.excluded b.excluded) _ agree).1
 
-    part-undurable : a.undurable ≡ b.undurable
-    part-undurable = (booleans_Decides a.undurable b.undurable).0 (and_parts (beq a.undurable b.undurable) _ rest-undurable).0
-
-    rest-unwritten : (beq a.unwritten b.unwritten && ((b.undurable || is_none b.last) && (not a.undurable || (is_some a.last && is_some b.last)))) ≡ true
-    rest-unwritten = (and_parts (beq a.undurable b.undurable) _ rest-undurable).1
-
-    part-unwritten : a.unwritten ≡ b.unwritten
-    part-unwritten = (booleans_Decides a.unwritten b.unwritten).0 (and_parts (beq a.unwritten b.unwritten) _ rest-unwritten).0
-
-    rest-last : ((b.undurable || is_none b.last) && (not a.undurable || (is_some a.last && is_some b.last))) ≡ true
-    rest-last = (and_parts (beq a.unwritten b.unwritten) _ rest-unwritten).1
-
-    part-fresh : (z : ℕ) → at ≤ z → z < end → 0 < last_store gs q z → is_undurable gs q z ≡ true
-    part-fresh z low high some =
-        let here = other z low high in
-        let fresh = (and_parts (b.undurable || is_none b.last) _ rest-last).0 in
-        elim b.undurable as (λ v. b.undurable ≡ v → (v || is_none b.last) ≡ true → is_undurable gs q z ≡ true) [
-          | true ↦ λ is fresh. sym here.undurable ∙ is
-          | false ↦ λ is fresh. elim b.last as (λ o. b.last ≡ o → is_none o ≡ true → is_undurable gs q z ≡ true) [
-            | None ↦ λ none so. let zero_is = place-none (last_store gs q z) (sym none ∙ here.last) in absurd (omega arith)
-            | Some k ↦ λ there so. let bad : false ≡ true = so in cc
-          ] refl fresh
-        ] refl fresh
-
     byte-same : (z : ℕ) → at ≤ z → z < end → SameByte fs m gs q z
-    byte-same z low high =
-        let here = one z low high in
-        let there = other z low high in record {
-          excluded = sym there.excluded ∙ sym part-excluded ∙ here.excluded;
-          undurable = sym there.undurable ∙ sym part-undurable ∙ here.undurable;
-          unwritten = sym there.unwritten ∙ sym part-unwritten ∙ here.unwritten;
-          fresh = part-fresh z low high;
-        }
+    byte-same z low high = grind arith
 
     -- the places of an undurable run, in both
     record Places (z : ℕ) (x y : ℕ) : Type 0 where
@@ -101,54 +49,21 @@ module _ (fs : List Event) (m : ℕ) (gs : List Event) (q : ℕ) where
       part : last_store gs q z ≡ y
 
     places-of : (x y : ℕ) → a.undurable ≡ true → a.last ≡ Some x → b.last ≡ Some y → (z : ℕ) → at ≤ z → z < end → Places z x y
-    places-of x y is x_is y_is z low high = record {
-      whole = place-is (last_store fs m z) x (sym x_is ∙ (one z low high).last is);
-      part = place-is (last_store gs q z) y (sym y_is ∙ (other z low high).last);
-    }
-
-    undurable-run : (z : ℕ) → at ≤ z → z < end → is_undurable fs m z ≡ true → a.undurable ≡ true
-    undurable-run z low high is = (one z low high).undurable ∙ is
+    places-of x y is x_is y_is z low high = grind arith
 
     module _ (seen new : List (ℕ × ℕ)) (some : at < end) (before : Compared fs m gs q seen at) where
       bytes-below : (z : ℕ) → z < end → SameByte fs m gs q z
-      bytes-below z below = elim (cases_lt z at) [
-        | inl early ↦ before.below.bytes z early
-        | inr late ↦ byte-same z late below
-      ]
+      bytes-below z below = grind (arith, cases_lt, byte-same)
 
       -- what agrees with what is kept of the bytes before agrees with each on the line of the last byte
       seen-before : (u v : ℕ) → agrees (seen_behind seen at end) u v ≡ true → (x : ℕ) → x < at → line_of_byte x ≡ line_of_byte (end - 1) → is_undurable fs m x ≡ true →
           is_same_order (last_store fs m x) (last_store gs q x) u v ≡ true
-      seen-before u v agreed x early home is =
-          let within = within-line x at (end - 1) early (omega arith) home in
-          let kept : seen_behind seen at end ≡ seen = ap (λ v. if v then seen_at seen at else []) ((Decides-eqb ((end - 1) / LINE_SIZE) (at / LINE_SIZE)).1 (sym within.number)) ∙ ap (λ v. if v then [] else seen) within.inner in
-          before.line (omega arith) u v (ap (λ s. agrees s u v) (sym kept) ∙ agreed) x early (sym within.behind) is
-
-      -- a run that is not undurable
-      compared-durable : a.undurable ≡ false → new ≡ seen_behind seen at end → Compared fs m gs q new end
-      compared-durable durable new_is = record {
-        below = record {
-          bytes = bytes-below;
-          order = λ x y x_below y_below line x_is y_is. elim (cases_lt x at) [
-            | inr late ↦ let bad : false ≡ true = sym durable ∙ undurable-run x late x_below x_is in cc
-            | inl x_early ↦ elim (cases_lt y at) [
-              | inr late ↦ let bad : false ≡ true = sym durable ∙ undurable-run y late y_below y_is in cc
-              | inl y_early ↦ before.below.order x y x_early y_early line x_is y_is
-            ]
-          ];
-        };
-        line = λ positive u v agreed x below home is. elim (cases_lt x at) [
-          | inr late ↦ let bad : false ≡ true = sym durable ∙ undurable-run x late below is in cc
-          | inl early ↦ seen-before u v (ap (λ s. agrees s u v) (sym new_is) ∙ agreed) x early home is
-        ];
-      }
+      seen-before u v agreed x early home is = grind arith
 
       -- a byte that comes before the run on its line stands to the run in one order
       order-before : (x y : ℕ) → agrees (seen_at seen at) x y ≡ true → (z w : ℕ) → z < at → at ≤ w → line_of_byte z ≡ line_of_byte w → is_undurable fs m z ≡ true →
           is_same_order (last_store fs m z) (last_store gs q z) x y ≡ true
-      order-before x y agreed z w early late line is =
-          let within = within-line z at w early late line in
-          before.line (omega arith) x y (ap (λ v. agrees (if v then [] else seen) x y) (sym within.inner) ∙ agreed) z early (sym within.behind) is
+      order-before x y agreed z w early late line is = grind arith
 
       -- an undurable run with these places
       compared-undurable : (x y : ℕ) → a.undurable ≡ true → a.last ≡ Some x → b.last ≡ Some y → agrees (seen_at seen at) x y ≡ true → new ≡ seen_behind seen at end ++ (x, y) ∷ [] → Compared fs m gs q new end
@@ -170,33 +85,12 @@ module _ (fs : List Event) (m : ℕ) (gs : List Event) (q : ℕ) where
                   | inl w_early ↦
                       let alike = order-before x y agreed w z w_early z_late (sym ((Decides-eqb (line_of_byte z) (line_of_byte w)).0 line)) w_open in
                       ap (λ k. nat_lt k (last_store gs q w)) here.part ∙ behind-same (last_store fs m w) (last_store gs q w) x y alike ∙ sym (ap (λ k. nat_lt k (last_store fs m w)) here.whole)
-                  | inr w_late ↦
-                      let there = places-of x y is x_is y_is w w_late w_below in
-                      le-ltb (last_store gs q z) (last_store gs q w) (let one_is = here.part in let other_is = there.part in omega arith)
-                      ∙ sym (le-ltb (last_store fs m z) (last_store fs m w) (let one_is = here.whole in let other_is = there.whole in omega arith))
+                  | inr w_late ↦ grind arith
                 ]
           ];
         };
-        line = λ positive u v so z below home opened.
-            let both = ap (λ s. agrees s u v) (sym new_is) ∙ so in
-            elim (cases_lt z at) [
-              | inl early ↦ seen-before u v (agrees-front (seen_behind seen at end) (x, y) u v both) z early home opened
-              | inr late ↦
-                  let here = places-of x y is x_is y_is z late below in
-                  ap (λ k. is_same_order k (last_store gs q z) u v) here.whole ∙ ap (λ k. is_same_order x k u v) here.part ∙ agrees-last (seen_behind seen at end) (x, y) u v both
-            ];
+        line = grind (arith, cases_lt, seen-before, agrees-front, places-of, agrees-last);
       }
 
       pub compared-more : Extends seen new (places_of a b) at end → Compared fs m gs q new end
-      compared-more extends =
-          let lasts = (and_parts (b.undurable || is_none b.last) _ rest-last).1 in
-          elim a.undurable as (λ v. a.undurable ≡ v → (not v || (is_some a.last && is_some b.last)) ≡ true → Extends seen new (if v then both_places a.last b.last else None) at end → Compared fs m gs q new end) [
-            | false ↦ λ durable so extends. compared-durable durable extends
-            | true ↦ λ is so extends. elim a.last as (λ o. a.last ≡ o → (is_some o && is_some b.last) ≡ true → Extends seen new (both_places o b.last) at end → Compared fs m gs q new end) [
-              | None ↦ λ none so extends. let bad : false ≡ true = so in cc
-              | Some x ↦ λ x_is so extends. elim b.last as (λ o. b.last ≡ o → is_some o ≡ true → Extends seen new (both_places (Some x) o) at end → Compared fs m gs q new end) [
-                | None ↦ λ none so extends. let bad : false ≡ true = so in cc
-                | Some y ↦ λ y_is so extends. compared-undurable x y is x_is y_is extends.0 extends.1
-              ] refl so extends
-            ] refl so extends
-          ] refl lasts extends
+      compared-more extends = grind (arith, and_parts, is_none, is_some, compared-undurable)

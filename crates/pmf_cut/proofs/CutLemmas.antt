@@ -1,6 +1,6 @@
 -- Each finding behind a cut, from what holds of the whole and of its part there.
-use Rattle.std.{proofs.Common.{◌≡◌, ℕ, zero, suc, ◌+◌, ◌-◌, ◌*◌, ◌%◌, ◌≤◌, Bool, true, false, not, ◌&&◌, if◌then◌else◌, List, [], ◌∷◌, ◌++◌, slice_get, refl, sym, ◌∙◌, ap, subst, arith, inl, inr, Option, Some, None}, specs.Cmp.{both_ways}, proofs.lemmas.Option.{slice_get_past, slice_get_cases}}
-use Rattle.pmf_event.{specs.declared.event.Event.{Event}, specs.declared.event.Event.TheVariants.{Store, Flush, Fence, Persist, Ordered, Exclude, Include, TxBegin, TxAdd, TxEnd, CheckStart, CheckEnd}, specs.declared.finding.Finding.TheVariants.{Unmatched, Outside, Nested, Unopened, TxStillOpen, Unclosed}, specs.declared.profile.Profile.{Profile}, specs.declared.span.TheConstants.{ADDRESS_LIMIT, LINE_SIZE}, specs.Span.{Extent}, specs.Ranges.{first_from, count_from, first_byte}, specs.Store.{event_at}, specs.Interval.{interval_at, is_open}, specs.Exclusion.{is_excluded, is_included}, specs.Persist.{is_exposed}, specs.FlushWarnings.{is_clean, is_pending, numbered, first_line, line_count, lines_from, lines_where, doubled_finding, needless_finding, if_any, flush_findings}, specs.LineBytes.{is_undurable, is_unwritten, HasBytes}, specs.Transactions.{in_transaction, is_outside, in_scope, is_scoped, is_backed, depth_at, lacks_backup, store_finding, duplog_with, nobackup_with, add_finding, end_finding, start_finding, is_left_open, scope_passes_unless, check_finding, scope_at, close_finding}, proofs.LineBytesLemmas.{lines_follow_from_their_bytes}, proofs.RangeLemmas.{first_from-same, count_from-same}, proofs.TransactionLemmas.{left_open-exposed}}
+use Rattle.std.{proofs.Common.{◌≡◌, ℕ, zero, suc, ◌+◌, ◌-◌, ◌*◌, ◌%◌, ◌≤◌, Bool, true, false, ◌&&◌, if◌then◌else◌, List, ◌++◌, slice_get, refl, sym, ◌∙◌, ap, subst, arith, inl, inr, Option, Some, None}, specs.Cmp.{both_ways}, proofs.lemmas.Option.{slice_get_past, slice_get_cases}}
+use Rattle.pmf_event.{specs.declared.event.Event.{Event}, specs.declared.finding.Finding.TheVariants.{Unmatched, Nested}, specs.declared.profile.Profile.{Profile}, specs.declared.span.TheConstants.{LINE_SIZE}, specs.Span.{Extent}, specs.Store.{event_at}, specs.Interval.{interval_at, is_open}, specs.Exclusion.{is_included}, specs.FlushWarnings.{is_clean, is_pending, numbered, lines_where, doubled_finding, needless_finding, if_any, flush_findings}, specs.LineBytes.{is_undurable, is_unwritten, HasBytes}, specs.Transactions.{in_transaction, is_outside, is_scoped, lacks_backup, store_finding, add_finding, end_finding, start_finding, is_left_open, check_finding, close_finding}, proofs.LineBytesLemmas.{lines_follow_from_their_bytes}, proofs.RangeLemmas.{first_from-same}, proofs.TransactionLemmas.{left_open-exposed}}
 use Rattle.pmf_verdict.specs.Rows.{findings_of}
 use Rattle.pmf_cut.{specs.Alike.{IsCut, GoesOn}, specs.Behind.{SameBytes, IsBehind}, specs.Laws.{Stays, FindingsStay, IsSameEnd, EndsStay}, proofs.BehindLemmas.{inside-by, behind-cut, behind-step}, proofs.RowLemmas.{exposed-is, persist-stays, ordered-stays}}
 
@@ -9,9 +9,7 @@ use Rattle.pmf_cut.{specs.Alike.{IsCut, GoesOn}, specs.Behind.{SameBytes, IsBehi
 -- one way between lists with the same bytes
 clean-from : (es : List Event) (n : ℕ) (fs : List Event) (m line : ℕ) → line % LINE_SIZE ≡ 0 → HasBytes es n → HasBytes fs m → ((b : ℕ) → is_undurable fs m b ≡ is_undurable es n b) →
     is_clean es n line ≡ true → is_clean fs m line ≡ true
-clean-from es n fs m line aligned sized sized_too same is =
-    let none = (lines_follow_from_their_bytes es n line aligned sized).0.0 is in
-    (lines_follow_from_their_bytes fs m line aligned sized_too).0.1 (λ b low high. same b ∙ none b low high)
+clean-from es n fs m line aligned sized sized_too same is = grind (arith, lines_follow_from_their_bytes)
 
 pending-from : (es : List Event) (n : ℕ) (fs : List Event) (m line : ℕ) → line % LINE_SIZE ≡ 0 → HasBytes es n → HasBytes fs m →
     ((b : ℕ) → is_undurable fs m b ≡ is_undurable es n b) → ((b : ℕ) → is_unwritten fs m b ≡ is_unwritten es n b) →
@@ -26,11 +24,7 @@ aligned-number n = omega arith
 
 lines-same : (s t : ℕ → Bool) (span : Extent) → ((n : ℕ) → s (n * LINE_SIZE) ≡ t (n * LINE_SIZE)) → lines_where s span ≡ lines_where t span
 unfolding lines_where numbered
-lines-same s t span same =
-    ap (λ o. lines_from o (count_from (λ n. s (n * LINE_SIZE)) (first_line span) (line_count span)))
-    (first_from-same (λ n. s (n * LINE_SIZE)) (λ n. t (n * LINE_SIZE)) (first_line span) (line_count span) (λ n low high. same n))
-    ∙ ap (lines_from (first_from (λ n. t (n * LINE_SIZE)) (first_line span) (line_count span)))
-    (count_from-same (λ n. s (n * LINE_SIZE)) (λ n. t (n * LINE_SIZE)) (first_line span) (line_count span) (λ n low high. same n))
+lines-same s t span same = grind arith
 
 flush-stays : (es : List Event) (n : ℕ) (fs : List Event) (m : ℕ) (span : Extent) → HasBytes es n → HasBytes fs m → SameBytes es n fs m →
     flush_findings fs m span ≡ flush_findings es n span
@@ -57,20 +51,11 @@ module _ (es : List Event) (p n : ℕ) (fs : List Event) (q m : ℕ) (behind : I
 
   store-stays : (s : Extent) → store_finding fs m s ≡ store_finding es n s
   unfolding store_finding lacks_backup is_included
-  store-stays s =
-      let lacks = first_from-same (λ b. not (is_excluded fs (suc m) b) && not (is_backed fs m b)) (λ b. not (is_excluded es (suc n) b) && not (is_backed es n b)) s.first s.size
-      (λ b low high. ap (λ v. not v && not (is_backed fs m b)) (after.bytes.excluded b) ∙ ap (λ v. not (is_excluded es (suc n) b) && not v) (behind.transactions.backed b)) in
-      ap (λ v. if v && in_scope fs m then nobackup_with (first_byte (λ b. not (is_excluded fs (suc m) b) && not (is_backed fs m b)) s) else None) inside
-      ∙ ap (λ v. if in_transaction es n && v then nobackup_with (first_byte (λ b. not (is_excluded fs (suc m) b) && not (is_backed fs m b)) s) else None) behind.transactions.scope
-      ∙ ap (λ o. if in_transaction es n && in_scope es n then nobackup_with o else None) lacks
+  store-stays s = grind (arith, first_from-same, inside)
 
   add-stays : (s : Extent) → add_finding fs m s ≡ add_finding es n s
   unfolding add_finding is_outside
-  add-stays s =
-      let backed = first_from-same (is_backed fs m) (is_backed es n) s.first s.size (λ b low high. behind.transactions.backed b) in
-      ap (λ v. if not v then Some Outside else (if in_scope fs m then duplog_with (first_byte (is_backed fs m) s) else None)) inside
-      ∙ ap (λ v. if not (in_transaction es n) then Some Outside else (if v then duplog_with (first_byte (is_backed fs m) s) else None)) behind.transactions.scope
-      ∙ ap (λ o. if not (in_transaction es n) then Some Outside else (if in_scope es n then duplog_with o else None)) backed
+  add-stays s = grind (arith, first_from-same, inside)
 
   end-stays : end_finding fs m ≡ end_finding es n
   unfolding end_finding
@@ -80,25 +65,9 @@ module _ (es : List Event) (p n : ℕ) (fs : List Event) (q m : ℕ) (behind : I
   unfolding start_finding
   start-stays = ap (λ v. if v then Some Nested else None) behind.transactions.scope
 
-  exposed-after : (b : ℕ) → is_exposed fs (suc m) b ≡ is_exposed es (suc n) b
-  exposed-after b =
-      exposed-is fs (suc m) b ∙ ap (λ v. v && not (is_excluded fs (suc m) b)) (after.bytes.undurable b)
-      ∙ ap (λ v. is_undurable es (suc n) b && not v) (after.bytes.excluded b) ∙ sym (exposed-is es (suc n) b)
-
-  left_open-same : (b : ℕ) → is_left_open fs m b ≡ is_left_open es n b
-  left_open-same b = elim (is_scoped es n b) as (λ v. is_scoped es n b ≡ v → is_left_open fs m b ≡ is_left_open es n b) [
-    | true ↦ λ is. left_open-exposed fs m b (behind.transactions.scoped b ∙ is) ∙ exposed-after b ∙ sym (left_open-exposed es n b is)
-    | false ↦ λ none. left_open-none fs m b (behind.transactions.scoped b ∙ none) ∙ sym (left_open-none es n b none)
-  ] refl
-
   check-stays : check_finding fs m ≡ check_finding es n
   unfolding check_finding
-  check-stays =
-      let open_bytes = first_from-same (is_left_open fs m) (is_left_open es n) 0 ADDRESS_LIMIT (λ b low high. left_open-same b) in
-      ap (λ v. if not v then Unopened else (if in_transaction fs m then TxStillOpen (depth_at fs m) else scope_passes_unless (first_from (is_left_open fs m) 0 ADDRESS_LIMIT))) behind.transactions.scope
-      ∙ ap (λ v. if not (in_scope es n) then Unopened else (if v then TxStillOpen (depth_at fs m) else scope_passes_unless (first_from (is_left_open fs m) 0 ADDRESS_LIMIT))) inside
-      ∙ ap (λ d. if not (in_scope es n) then Unopened else (if in_transaction es n then TxStillOpen d else scope_passes_unless (first_from (is_left_open fs m) 0 ADDRESS_LIMIT))) behind.transactions.depth
-      ∙ ap (λ o. if not (in_scope es n) then Unopened else (if in_transaction es n then TxStillOpen (depth_at es n) else scope_passes_unless o)) open_bytes
+  check-stays = grind (arith, first_from-same, inside, left_open-exposed, left_open-none, exposed-is)
 
 -- ---- all of them
 
@@ -108,25 +77,7 @@ one-less n = omega arith
 stays-one : (profile : Profile) (es : List Event) (p n : ℕ) (fs : List Event) (q m : ℕ) → HasBytes es n → HasBytes fs m → IsBehind es p n fs q m → IsBehind es p (suc n) fs q (suc m) →
     (o : Option Event) → Stays profile es p (suc n) fs (suc m) o
 unfolding findings_of
-stays-one profile es p n fs q m sized sized_too behind after None = refl
-stays-one profile es p n fs q m sized sized_too behind after (Some (Store s)) =
-    ap (λ k. if_any (store_finding fs k s)) (one-less m) ∙ ap if_any (store-stays es p n fs q m behind after s) ∙ sym (ap (λ k. if_any (store_finding es k s)) (one-less n))
-stays-one profile es p n fs q m sized sized_too behind after (Some (Flush s)) =
-    ap (λ k. flush_findings fs k s) (one-less m) ∙ flush-stays es n fs m s sized sized_too behind.bytes ∙ sym (ap (λ k. flush_findings es k s) (one-less n))
-stays-one profile es p n fs q m sized sized_too behind after (Some (Persist s)) = persist-stays es p (suc n) fs q (suc m) after s
-stays-one profile es p n fs q m sized sized_too behind after (Some (Ordered a b)) = λ knows. ordered-stays profile es p (suc n) fs q (suc m) after a b knows
-stays-one profile es p n fs q m sized sized_too behind after (Some (TxAdd s)) =
-    ap (λ k. if_any (add_finding fs k s)) (one-less m) ∙ ap if_any (add-stays es p n fs q m behind after s) ∙ sym (ap (λ k. if_any (add_finding es k s)) (one-less n))
-stays-one profile es p n fs q m sized sized_too behind after (Some TxEnd) =
-    ap (λ k. if_any (end_finding fs k)) (one-less m) ∙ ap if_any (end-stays es p n fs q m behind after) ∙ sym (ap (λ k. if_any (end_finding es k)) (one-less n))
-stays-one profile es p n fs q m sized sized_too behind after (Some CheckStart) =
-    ap (λ k. if_any (start_finding fs k)) (one-less m) ∙ ap if_any (start-stays es p n fs q m behind after) ∙ sym (ap (λ k. if_any (start_finding es k)) (one-less n))
-stays-one profile es p n fs q m sized sized_too behind after (Some CheckEnd) =
-    ap (λ k. check_finding fs k ∷ []) (one-less m) ∙ ap (λ f. f ∷ []) (check-stays es p n fs q m behind after) ∙ sym (ap (λ k. check_finding es k ∷ []) (one-less n))
-stays-one profile es p n fs q m sized sized_too behind after (Some Fence) = refl
-stays-one profile es p n fs q m sized sized_too behind after (Some (Exclude s)) = refl
-stays-one profile es p n fs q m sized sized_too behind after (Some (Include s)) = refl
-stays-one profile es p n fs q m sized sized_too behind after (Some TxBegin) = refl
+stays-one profile es p n fs q m sized sized_too behind after v11 = grind (arith, one-less, store-stays, flush-stays, persist-stays, ordered-stays, add-stays, end-stays, start-stays, check-stays)
 
 -- where an event stands at a place, one stands at each place before it
 event-before : (es : List Event) (k j : ℕ) (e : Event) → event_at es (suc k) ≡ Some e → j ≤ k → (f : Event) × (event_at es (suc j) ≡ Some f)
@@ -162,11 +113,7 @@ findings-stay profile es p fs q n sized sized_too cut goes = stays-at profile es
 
 end-by : (es : List Event) (p n : ℕ) (fs : List Event) (q m : ℕ) → IsBehind es p n fs q m → IsSameEnd p q (close_finding es n) (close_finding fs m)
 unfolding close_finding
-end-by es p n fs q m behind = elim (in_scope es n) as (λ v. in_scope es n ≡ v →
-    IsSameEnd p q (if v then Some (Unclosed (scope_at es n)) else None) (if in_scope fs m then Some (Unclosed (scope_at fs m)) else None)) [
-      | true ↦ λ is. (scope_at fs m, ap (λ v. if v then Some (Unclosed (scope_at fs m)) else None) (behind.transactions.scope ∙ is), behind.transactions.opened is)
-      | false ↦ λ none. ap (λ v. if v then Some (Unclosed (scope_at fs m)) else None) (behind.transactions.scope ∙ none)
-    ] refl
+end-by es p n fs q m behind = grind arith
 
 last-event : (es : List Event) (k : ℕ) (e : Event) → slice_get es k ≡ Some e → event_at es (suc k) ≡ Some e
 unfolding event_at

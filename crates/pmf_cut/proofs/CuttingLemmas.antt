@@ -2,22 +2,17 @@
 use Rattle.std.{proofs.Common.{◌≡◌, ◌≢◌, ◌⊎◌, inl, inr, ⊎_elim, ℕ, zero, suc, ◌+◌, ◌-◌, ◌<◌, ◌≤◌, Bool, true, false, cond, List, [], ◌∷◌, ◌++◌, length, take, drop, set, slice_get, Option, Some, None, Ok, refl, sym, ap, subst, ◌∙◌, arith, length-drop, append_assoc, append-nil, take_all, eq-eqb, ne_eqb, ◌==◌, add-one}, proofs.lemmas.Bool.{cases_eq}, proofs.lemmas.List.{drop-take, take-append-drop, take-take, take-append-le, drop-append-le, drop_all, length_push}, proofs.lemmas.Option.{slice_get_within}, proofs.Math.Path.{fun_ext}, specs.BTreeMap.{get}, specs.Ordering.{nat_cmp}}
 use Rattle.pmf_event.specs.{declared.event.Event.{Event}, Store.{event_at}}
 use Rattle.pmf_storelog.{specs.declared.record.Saying.TheVariants.{Happens, Enters}, specs.Records.{record_of}, specs.Separators.{ended_parts, parts_of, records_in, records_of}, specs.LogText.{events_in, current_of, number_after}, proofs.PartLemmas.{ended_is, parts_of-append, parts_of-nil}, proofs.TallyLemmas.{current_of-nil, events_in-nil}, proofs.SplitLemmas.{joined, joined_at}, proofs.LogLemmas.{events_in-event, events_in-enter, events_in-nothing, current_of-push}}
-use Rattle.pmf_cut.specs.{declared.section.Cutting.{Cutting}, declared.part.Part.{Part}, declared.output.Outputs.{Outputs}, declared.output.Text.{Text}, declared.cutter.Cutter.{Cutter}, Alike.{IsCut}, Parts.{IsPartOf, part_of}, Deferred.{IsUpTo, Begins, BeginsBehind}, Written.{WrittenPart, IsWritten, AreUpTo, AreNumbered, AreOf, IsAmong, NoneNamed, IsCutInto, said_in}, Outputs.{AllOpen, AllWait, HandsOut, Holds, IsNew, IsOpen, bytes_for, IsSaid, Says, current_in, said, text_of, waiting_in}, Cutting.{GoesOnAs, IsKept, HasPart, TakesEvent, HasSection, IsCurrent, IsPlaced, HasCut, IsNamed, MoreFiles, SayNothing, Cuts, CutsPart, CutsParts, CutsTo, Drains, HasCutAll, HasRead, handed_with}}
-use Rattle.pmf_cut.proofs.OutputLemmas.{holds-ended, holds-open, nothing_behind, set-other}
+use Rattle.pmf_cut.{specs.{declared.section.Cutting.{Cutting}, declared.part.Part.{Part}, declared.output.Outputs.{Outputs}, declared.output.Text.{Text}, declared.cutter.Cutter.{Cutter}, Alike.{IsCut}, Parts.{IsPartOf, part_of}, Deferred.{Begins, BeginsBehind}, Written.{WrittenPart, IsWritten, AreUpTo, AreNumbered, AreOf, IsAmong, NoneNamed, IsCutInto, said_in}, Outputs.{AllOpen, AllWait, HandsOut, Holds, IsNew, IsOpen, bytes_for, IsSaid, Says, current_in, said, text_of, waiting_in}, Cutting.{GoesOnAs, IsKept, HasPart, TakesEvent, HasSection, IsCurrent, IsPlaced, HasCut, IsNamed, MoreFiles, SayNothing, Cuts, CutsPart, CutsParts, CutsTo, Drains, HasCutAll, HasRead, handed_with}}, proofs.DeferredLemmas.{last-is}, proofs.OutputLemmas.{holds-ended, holds-open, nothing_behind, set-other}}
 
 none_is_some : {X : Type 0} {x : X} → None ≡ Some x → ⊥
 none_is_some same = cc
 
 -- the events behind the first ones, up to a last one, where more follow
 up_to-push : (first last : ℕ) (es more : List Event) → first ≤ last → last ≤ length es → take (last - first) (drop first (es ++ more)) ≡ take (last - first) (drop first es)
-up_to-push first last es more begins within =
-    ap (take (last - first)) (drop-append-le first es more (omega arith)) ∙ take-append-le (last - first) (drop first es) more (omega (arith, length-drop first es))
+up_to-push first last es more begins within = grind (arith, drop-append-le, take-append-le, length-drop)
 
 all-push : (first : ℕ) (es : List Event) (e : Event) → first ≤ length es → take (length (es ++ e ∷ []) - first) (drop first (es ++ e ∷ [])) ≡ take (length es - first) (drop first es) ++ e ∷ []
-all-push first es e within =
-    take_all _ (drop first (es ++ e ∷ [])) (omega (arith, length-drop first (es ++ e ∷ [])))
-    ∙ drop-append-le first es (e ∷ []) within
-    ∙ ap (λ xs. xs ++ e ∷ []) (sym (take_all (length es - first) (drop first es) (omega (arith, length-drop first es))))
+all-push first es e within = grind (arith, take_all, length-drop, drop-append-le)
 
 none-behind : (es : List Event) (n : ℕ) → n ≡ length es → take (length es - n) (drop n es) ≡ []
 none-behind es n is = take_all (length es - n) (drop n es) (omega (arith, length-drop n es)) ∙ drop_all n es (omega arith)
@@ -54,8 +49,7 @@ of-kept names names' number kept (part ∷ before) of_it = (kept part.number of_
 -- what was cut whatever follows is cut with one event more
 cut-more : (es more : List Event) (first : ℕ) (head : List Event) → ((rest : List Event) → IsCut (es ++ rest) first (part_of (es ++ rest) first head) (length head)) →
     (rest : List Event) → IsCut ((es ++ more) ++ rest) first (part_of ((es ++ more) ++ rest) first head) (length head)
-cut-more es more first head cut rest =
-    subst (λ (all : List Event). IsCut all first (part_of all first head) (length head)) (sym (append_assoc es more rest)) (cut (more ++ rest))
+cut-more es more first head cut rest = grind (arith, append_assoc)
 
 -- the parts of a section, where the same is said of them, or more events follow
 up_to-same : (says says' : ℕ → ℕ → List Event) (es : List Event) (parts : List WrittenPart) (last : ℕ) → SameAt says says' parts → AreUpTo says es parts last → AreUpTo says' es parts last
@@ -86,33 +80,11 @@ up_to-more says es more (part ∷ before) last within up_to =
 -- a section to which nothing happens
 section-stays : (says says' : ℕ → ℕ → List Event) (files files' step : ℕ) (es : List Event) (parts : List WrittenPart) (section : Cutting) →
     SameAt says says' parts → files ≤ files' → HasSection says files step es parts section → HasSection says' files' step es parts section
-section-stays says says' files files' step es parts section same more has = record {
-  last = has.last;
-  before = has.before;
-  parts_are = has.parts_are;
-  name_is = has.name_is;
-  file_is = has.file_is;
-  there = let there = has.there in omega arith;
-  once = has.once;
-  numbered = has.numbered;
-  up_to = up_to-same says says' es (has.last ∷ has.before) (length es) (subst (SameAt says says') has.parts_are same) has.up_to;
-  goes_on = has.goes_on;
-}
+section-stays says says' files files' step es parts section same more has = grind (arith, up_to-same)
 
 -- a section that is as it was, but for when a cut is looked for, and which events wait
 section-same : (says : ℕ → ℕ → List Event) (files step : ℕ) (es : List Event) (parts : List WrittenPart) (old new : Cutting) → IsKept old new → HasSection says files step es parts old → HasSection says files step es parts new
-section-same says files step es parts old new kept has = record {
-  last = has.last;
-  before = has.before;
-  parts_are = has.parts_are;
-  name_is = has.name_is ∙ sym kept.same.name_is;
-  file_is = has.file_is ∙ sym kept.same.file_is;
-  there = let there = has.there in let file = kept.same.file_is in omega arith;
-  once = subst (λ (n : ℕ). NoneNamed n has.before) (sym kept.same.name_is) has.once;
-  numbered = subst (λ (n : ℕ). AreNumbered step n (has.last ∷ has.before)) (sym kept.same.number_is) has.numbered;
-  up_to = has.up_to;
-  goes_on = λ rest. kept.stays (es ++ rest) has.last.first has.last.head (length es) (has.goes_on rest);
-}
+section-same says files step es parts old new kept has = grind arith
 
 -- a section that has one event more
 section-grows : (says says' : ℕ → ℕ → List Event) (files files' step : ℕ) (es : List Event) (parts : List WrittenPart) (old new : Cutting) (e : Event) → TakesEvent old new e →
@@ -130,19 +102,14 @@ section-grows says says' files files' step es parts old new e takes here others 
   up_to = (
     record {
       within = omega (arith, length_push es e);
-      here =
-          ap (λ file. says' file last.number) has.file_is ∙ ap (says' old.file) has.name_is ∙ here ∙ ap (λ events. events ++ e ∷ []) (ap (says old.file) (sym has.name_is) ∙ ap (λ file. says file last.number) (sym has.file_is) ∙ written.here)
-          ∙ append_assoc last.head _ (e ∷ []) ∙ ap (λ events. last.head ++ events) (sym (all-push last.first es e begins));
+      here = grind (arith, append_assoc, all-push);
       elsewhere = λ file other. others file last.number (inl (λ same. other (same ∙ sym has.file_is))) ∙ written.elsewhere file other;
       cut = cut-more es (e ∷ []) last.first last.head written.cut;
     },
     up_to-more says' es (e ∷ []) has.before last.first begins
         (up_to-same says says' es has.before last.first (same-but old.name says says' (λ other apart file. others file other (inr apart)) has.before has.once) has.up_to.1),
   );
-  goes_on = λ rest.
-      let on = takes.goes_on (es ++ e ∷ rest) last.first last.head (length es) (event-behind es e rest) (has.goes_on (e ∷ rest)) in
-      subst (λ (all : List Event). IsUpTo new.part all last.first last.head (length (es ++ e ∷ []))) (sym (append_assoc es (e ∷ []) rest))
-      (subst (IsUpTo new.part (es ++ e ∷ rest) last.first last.head) (sym (length_push es e ∙ add-one (length es))) on);
+  goes_on = grind (arith, event-behind, append_assoc, length_push, add-one);
 }
   where
     last : WrittenPart
@@ -241,22 +208,13 @@ module _ (ends : Bool) (step : ℕ) (records then-records : List (List ℕ)) (ha
   parts-there other apart = rw (ne_eqb other number apart) refl
 
   of_it-then : (other : ℕ) → AreOf then-names other (then-parts other)
-  of_it-then other = ⊎_elim
-      (λ is. subst (AreOf then-names other) (sym (parts-here other is)) (subst (λ n. AreOf then-names n changes.own) (sym is) changes.of_it))
-      (λ apart. subst (AreOf then-names other) (sym (parts-there other apart)) (of-kept names then-names other (λ name. changes.kept name other) (has.parts other) (has.of_it other)))
-      (cases_eq other number)
+  of_it-then other = grind (arith, ⊎_elim, parts-here, parts-there, of-kept, cases_eq)
 
   among-then : (name other : ℕ) → then-names name ≡ Some other → IsAmong name (then-parts other)
-  among-then name other named = ⊎_elim
-      (λ is. subst (IsAmong name) (sym (parts-here other is)) (changes.among name (named ∙ ap (λ n. Some n) is)))
-      (λ apart. subst (IsAmong name) (sym (parts-there other apart)) (has.among name other (changes.new name other apart named)))
-      (cases_eq other number)
+  among-then name other named = grind (arith, ⊎_elim, parts-here, parts-there, cases_eq)
 
   absent-then : (other : ℕ) → then-places other ≡ None → (events_in then-records other ≡ []) × (then-parts other ≡ [])
-  absent-then other none =
-      let found = changes.found other none in
-      let was = has.absent other found.1 in
-      (changes.events other found.0 ∙ was.0, parts-there other found.0 ∙ was.1)
+  absent-then other none = grind (arith, parts-there)
 
   PlacedAt : ℕ → ℕ → Type 0
   PlacedAt other place = IsPlaced (said handed then-outputs) (length then-outputs.files.items) step then-sections other place (events_in then-records other) (then-parts other)
@@ -286,10 +244,7 @@ module _ (ends : Bool) (step : ℕ) (records then-records : List (List ℕ)) (ha
       }
 
   placed-then : (other place : ℕ) → then-places other ≡ Some place → PlacedAt other place
-  placed-then other place at = ⊎_elim
-      (λ is. subst (λ n. PlacedAt n place) (sym is) (placed-here place (ap then-places (sym is) ∙ at)))
-      (λ apart. placed-there other place apart at)
-      (cases_eq other number)
+  placed-then other place at = grind (arith, ⊎_elim, placed-here, placed-there, cases_eq)
 
   pub changed : HasCut ends step then-records handed current then-places then-names then-sections then-outputs
   unfolding PlacedAt
@@ -309,34 +264,25 @@ pub some_apart : {X : Type 0} (x y : X) → Some x ≡ Some y → x ≡ y
 some_apart x y same = cc
 
 -- the elements of a list with one more, and with another one at a place
-get-push : (xs : List Cutting) (x : Cutting) → slice_get (xs ++ x ∷ []) (length xs) ≡ Some x
-get-push [] x = refl
-get-push (y ∷ xs) x = get-push xs x
-
 get-front : (xs more : List Cutting) (k : ℕ) (x : Cutting) → slice_get xs k ≡ Some x → slice_get (xs ++ more) k ≡ Some x
 get-front [] more k x at = absurd (none_is_some at)
 get-front (y ∷ xs) more zero x at = at
 get-front (y ∷ xs) more (suc k) x at = get-front xs more k x at
 
-pub get-set : (xs : List Cutting) (k : ℕ) (x y : Cutting) → slice_get xs k ≡ Some x → slice_get (set xs k y) k ≡ Some y
-get-set [] k x y at = absurd (none_is_some at)
-get-set (z ∷ xs) zero x y at = refl
-get-set (z ∷ xs) (suc k) x y at = get-set xs k x y at
+pub get_set : (xs : List Cutting) (k : ℕ) (x y : Cutting) → slice_get xs k ≡ Some x → slice_get (set xs k y) k ≡ Some y
+get_set [] k x y at = absurd (none_is_some at)
+get_set (z ∷ xs) zero x y at = refl
+get_set (z ∷ xs) (suc k) x y at = get_set xs k x y at
 
 module _ (names then-names : ℕ → Option ℕ) (name number : ℕ) (named : IsNamed names then-names name number) where
   named-kept : (other k : ℕ) → names other ≡ Some k → then-names other ≡ Some k
   named-kept other k is = named.others other (λ same. none_is_some (sym named.free ∙ ap names (sym same) ∙ is)) ∙ is
 
   named-new : (other k : ℕ) → then-names other ≡ Some k → ((other ≡ name) × (k ≡ number)) ⊎ (names other ≡ Some k)
-  named-new other k is = ⊎_elim
-      (λ same. inl (same, some_apart k number (sym is ∙ ap then-names same ∙ named.here)))
-      (λ apart. inr (sym (named.others other apart) ∙ is))
-      (cases_eq other name)
+  named-new other k is = grind arith
 
   named-none : (other : ℕ) → then-names other ≡ None → (other ≢ name) × (names other ≡ None)
-  named-none other none =
-      let apart : other ≢ name = λ same. none_is_some (sym none ∙ ap then-names same ∙ named.here) in
-      (apart, sym (named.others other apart) ∙ none)
+  named-none other none = grind arith
 
   named-by : (other k : ℕ) → k ≢ number → then-names other ≡ Some k → names other ≡ Some k
   named-by other k apart is = ⊎_elim (λ both. absurd (apart both.1)) (λ was. was) (named-new other k is)
@@ -346,9 +292,7 @@ more-says : (handed : ℕ → List ℕ) (outputs then-outputs : Outputs) → Mor
 more-says handed outputs then-outputs more file name = ap (λ text. said_in (handed file ++ text) name) (more.texts.texts file)
 
 more-open : (ends : Bool) (handed : ℕ → List ℕ) (outputs then-outputs : Outputs) → MoreFiles outputs then-outputs → AllOpen ends handed outputs → AllOpen ends handed then-outputs
-more-open ends handed outputs then-outputs more opened file =
-    subst (IsOpen ends (text_of handed then-outputs file)) (sym (more.texts.currents file))
-    (subst (λ text. IsOpen ends (handed file ++ text) (current_in outputs file)) (sym (more.texts.texts file)) (opened file))
+more-open ends handed outputs then-outputs more opened file = grind arith
 
 module _ (ends : Bool) (step : ℕ) (records : List (List ℕ)) (handed : ℕ → List ℕ) (current : Option ℕ) (places names : ℕ → Option ℕ) (sections : List Cutting) (outputs : Outputs)
     (has : HasCut ends step records handed current places names sections outputs) where
@@ -379,9 +323,8 @@ module _ (ends : Bool) (step : ℕ) (records : List (List ℕ)) (handed : ℕ �
   }
 
   -- files began
-  pub more-files : (then-outputs : Outputs) → MoreFiles outputs then-outputs → HasCut ends step records handed current places names sections then-outputs
-  more-files then-outputs more =
-      passed ends records handed current then-outputs (λ number. refl) has.current_is (more-says handed outputs then-outputs more) more.count (more-open ends handed outputs then-outputs more has.opened) (more.texts.waits has.waits)
+  pub more_files : (then-outputs : Outputs) → MoreFiles outputs then-outputs → HasCut ends step records handed current places names sections then-outputs
+  more_files then-outputs more = grind (arith, passed, more-says, more-open)
 
   -- the log that has these records is cut into what was handed out and waits
   whole-at : (number : ℕ) (place : Option ℕ) → places number ≡ place → AreUpTo (said handed outputs) (events_in records number) (has.parts number) (length (events_in records number))
@@ -411,8 +354,7 @@ module _ (ends : Bool) (step : ℕ) (records : List (List ℕ)) (handed : ℕ �
 module _ (step : ℕ) (records : List (List ℕ)) (handed : ℕ → List ℕ) (current : Option ℕ) (places names : ℕ → Option ℕ) (sections : List Cutting) (outputs : Outputs)
     (has : HasCut true step records handed current places names sections outputs) where
   current-kept : (then-places : ℕ → Option ℕ) → ((other place : ℕ) → places other ≡ Some place → then-places other ≡ Some place) → (at : Option ℕ) → IsCurrent places (current_of records) at → IsCurrent then-places (current_of records) at
-  current-kept then-places kept None is = is
-  current-kept then-places kept (Some place) is = kept _ place is
+  current-kept then-places kept v2 is = grind arith
 
   -- a section begins
   pub begun : (then-places then-names : ℕ → Option ℕ) (then-outputs : Outputs) (number file : ℕ) (section : Cutting) → places number ≡ None → IsNamed names then-names number number →
@@ -427,20 +369,15 @@ module _ (step : ℕ) (records : List (List ℕ)) (handed : ℕ → List ℕ) (c
         has =
             subst (λ es. HasSection (said handed then-outputs) (length then-outputs.files.items) step es (record { first = 0; head = []; file = file; number = number } ∷ []) section) (sym (has.absent number none).0)
             (section-begins (said handed then-outputs) (length then-outputs.files.items) step number file section begins whole started part (λ other. more-says handed outputs then-outputs more other number ∙ has.nothing_else number named.free other) there);
-        here = λ place at. subst (λ k. slice_get (sections ++ section ∷ []) k ≡ Some section) (some_apart _ _ (sym here ∙ at)) (get-push sections section);
+        here = λ place at. subst (λ k. slice_get (sections ++ section ∷ []) k ≡ Some section) (some_apart _ _ (sym here ∙ at)) (last-is sections section);
         there = λ other place apart at. (sym (others other apart) ∙ at, λ s is. get-front sections (section ∷ []) place s is);
         current_is = current-kept then-places (λ other place is. others other (λ same. none_is_some (sym none ∙ ap places (sym same) ∙ is)) ∙ is) current has.current_is;
-        found = λ other at.
-            let apart : other ≢ number = λ same. none_is_some (sym at ∙ ap then-places same ∙ here) in
-            (apart, sym (others other apart) ∙ at);
+        found = grind arith;
         events = λ other apart. refl;
         kept = named-kept names then-names number number named;
         new = named-by names then-names number number named;
         of_it = (named.here, tt);
-        among = λ name is. ⊎_elim
-            (λ both. inl (sym both.0))
-            (λ was. absurd (subst (IsAmong name) (has.absent number none).1 (has.among name number was)))
-            (named-new names then-names number number named name number is);
+        among = grind arith;
         says = λ name other apart is file. more-says handed outputs then-outputs more file name;
         nothing_else = λ name is file. more-says handed outputs then-outputs more file name ∙ has.nothing_else name (named-none names then-names number number named name is).1 file;
         count = more.count;
@@ -477,7 +414,7 @@ module _ (step : ℕ) (records : List (List ℕ)) (handed : ℕ → List ℕ) (c
             ∙ number_of_it
 
     here-then : (new : Cutting) (there : ℕ) → places number ≡ Some there → slice_get (set sections place new) there ≡ Some new
-    here-then new there stands = subst (λ k. slice_get (set sections place new) k ≡ Some new) (some_apart place there (sym at ∙ stands)) (get-set sections place section new is)
+    here-then new there stands = subst (λ k. slice_get (set sections place new) k ≡ Some new) (some_apart place there (sym at ∙ stands)) (get_set sections place section new is)
 
     not_it : (other : ℕ) → places other ≡ None → other ≢ number
     not_it other none same = none_is_some (sym none ∙ ap places same ∙ at)
@@ -529,9 +466,7 @@ module _ (step : ℕ) (records : List (List ℕ)) (handed : ℕ → List ℕ) (c
           of_it = (named.here, of-kept names then-names number (λ other. named-kept names then-names name number named other number) (has.parts number) (has.of_it number));
           among = λ other is-named. ⊎_elim (λ both. inl (sym both.0)) (λ was. inr (has.among other number was)) (named-new names then-names name number named other number is-named);
           says = λ other k apart is-named its-file. is-said.others its-file other (inr (λ same. none_is_some (sym named.free ∙ ap names (sym same) ∙ is-named))) ∙ before its-file other;
-          nothing_else = λ other none its-file.
-              let free = named-none names then-names name number named other none in
-              is-said.others its-file other (inr free.0) ∙ before its-file other ∙ has.nothing_else other free.1 its-file;
+          nothing_else = grind arith;
           count = let count = is-said.count in let longer = more.count in omega arith;
           opened = is-said.opened;
           waits = is-said.waits (more.texts.waits has.waits);
@@ -586,8 +521,8 @@ module _ (step : ℕ) (records : List (List ℕ)) (handed : ℕ → List ℕ) (c
       is-said = says handed (section-at (current_of records) place section at is).there has.opened
 
 -- what is current, where a place was told, and where none was
-pub current-at : (places : ℕ → Option ℕ) (number place : ℕ) (current : Option ℕ) → current ≡ Some place → IsCurrent places number current → places number ≡ Some place
-current-at places number place current is at = subst (IsCurrent places number) is at
+pub current_at : (places : ℕ → Option ℕ) (number place : ℕ) (current : Option ℕ) → current ≡ Some place → IsCurrent places number current → places number ≡ Some place
+current_at places number place current is at = subst (IsCurrent places number) is at
 
 pub current-none : (places : ℕ → Option ℕ) (number : ℕ) (current : Option ℕ) → current ≡ None → IsCurrent places number current → number ≡ 0
 current-none places number current is at = subst (IsCurrent places number) is at
@@ -600,27 +535,10 @@ pub record IsQuiet (ends : Bool) (handed : ℕ → List ℕ) (old new : Outputs)
   pub waits : AllWait old → AllWait new
 
 pub quiet-said : (ends : Bool) (handed : ℕ → List ℕ) (file number : ℕ) (old new : Outputs) → IsSaid ends handed file number [] old new → IsQuiet ends handed old new
-quiet-said ends handed file number old new is = record {
-  says = λ other name. ⊎_elim
-      (λ same-file. ⊎_elim
-      (λ same-name.
-      ap (λ f. said handed new f name) same-file ∙ ap (said handed new file) same-name ∙ is.here ∙ append-nil _ ∙ ap (said handed old file) (sym same-name) ∙ ap (λ f. said handed old f name) (sym same-file))
-      (λ apart. is.others other name (inr apart))
-      (cases_eq name number))
-      (λ apart. is.others other name (inl apart))
-      (cases_eq other file);
-  count = let count = is.count in omega arith;
-  opened = is.opened;
-  waits = is.waits;
-}
+quiet-said ends handed file number old new is = grind (arith, ⊎_elim, append-nil, cases_eq)
 
 pub quiet-same : (ends : Bool) (handed : ℕ → List ℕ) (outputs : Outputs) → AllOpen true handed outputs → IsQuiet ends handed outputs outputs
-quiet-same ends handed outputs opened = record {
-  says = λ file name. refl;
-  count = omega arith;
-  opened = λ file. record { ended = λ is. (opened file).ended refl; current_is = (opened file).current_is };
-  waits = λ waits. waits;
-}
+quiet-same ends handed outputs opened = grind arith
 
 module _ (step : ℕ) (records : List (List ℕ)) (handed : ℕ → List ℕ) (current : Option ℕ) (places names : ℕ → Option ℕ) (sections : List Cutting) (outputs : Outputs)
     (has : HasCut true step records handed current places names sections outputs) where
@@ -630,8 +548,7 @@ module _ (step : ℕ) (records : List (List ℕ)) (handed : ℕ → List ℕ) (c
 
   -- the place that is current is told
   pub current-told : (place : ℕ) → places (current_of records) ≡ Some place → HasCut true step records handed (Some place) places names sections outputs
-  current-told place at =
-      passed true step records handed current places names sections outputs has true records handed (Some place) outputs (λ number. refl) at (λ file name. refl) (omega arith) has.opened has.waits
+  current-told place at = grind arith
 
   -- a marker makes a section current
   pub marked : (ends : Bool) (then-outputs : Outputs) (text : List ℕ) (number place : ℕ) → record_of text ≡ Ok (Enters number) → places number ≡ Some place → IsQuiet ends handed outputs then-outputs →
@@ -643,21 +560,13 @@ module _ (step : ℕ) (records : List (List ℕ)) (handed : ℕ → List ℕ) (c
   -- what says nothing
   pub silent : (ends : Bool) (then-outputs : Outputs) (more : List (List ℕ)) → SayNothing more → IsQuiet ends handed outputs then-outputs →
       HasCut ends step (records ++ more) handed current places names sections then-outputs
-  silent ends then-outputs [] says quiet =
-      subst (λ rs. HasCut ends step rs handed current places names sections then-outputs) (sym (append-nil records))
-      (passed true step records handed current places names sections outputs has ends records handed current then-outputs (λ number. refl) has.current_is quiet.says quiet.count quiet.opened (quiet.waits has.waits))
-  silent ends then-outputs (text ∷ rest) says quiet =
-      subst (λ rs. HasCut ends step (records ++ text ∷ rs) handed current places names sections then-outputs) (sym says.1)
-      (passed true step records handed current places names sections outputs has ends (records ++ text ∷ []) handed current then-outputs (events_in-nothing records text says.0)
-      (subst (λ n. IsCurrent places n current) (sym (current_of-push records text ∙ ap (λ reading. number_after reading (current_of records)) says.0)) has.current_is)
-      quiet.says quiet.count quiet.opened (quiet.waits has.waits))
+  silent ends then-outputs v2 says quiet = grind (arith, append-nil, passed, events_in-nothing, current_of-push)
 
 -- the same of equals
-pub cut-as : (ends : Bool) (step : ℕ) (records : List (List ℕ)) (handed : ℕ → List ℕ) (current then-current : Option ℕ) (places then-places names then-names : ℕ → Option ℕ) (sections then-sections : List Cutting) (outputs : Outputs) →
+pub cut_as : (ends : Bool) (step : ℕ) (records : List (List ℕ)) (handed : ℕ → List ℕ) (current then-current : Option ℕ) (places then-places names then-names : ℕ → Option ℕ) (sections then-sections : List Cutting) (outputs : Outputs) →
     then-current ≡ current → then-places ≡ places → then-names ≡ names → then-sections ≡ sections → HasCut ends step records handed current places names sections outputs →
     HasCut ends step records handed then-current then-places then-names then-sections outputs
-cut-as ends step records handed current then-current places then-places names then-names sections then-sections outputs same-current same-places same-names same-sections has =
-    rw (same-current, same-places, same-names, same-sections) has
+cut_as ends step records handed current then-current places then-places names then-names sections then-sections outputs same-current same-places same-names same-sections has = grind arith
 
 -- what is handed out is no longer to be written
 handed-same : (handed : ℕ → List ℕ) (old new : Outputs) (texts : List Text) → HandsOut old texts new → (file : ℕ) → text_of (handed_with handed texts) new file ≡ text_of handed old file
@@ -690,9 +599,9 @@ take-further start len text =
     ∙ take-append-drop start (take (start + len + 1) text)
 
 -- a part of the text more
-pub cuts-part : (step : ℕ) (done text : List ℕ) (handed : ℕ → List ℕ) (mid new : Cutter) (start len : ℕ) → CutsTo step done text handed mid start →
+pub cuts_part : (step : ℕ) (done text : List ℕ) (handed : ℕ → List ℕ) (mid new : Cutter) (start len : ℕ) → CutsTo step done text handed mid start →
     parts_of (take (len + 1) (drop start text)) ≡ take len (drop start text) ∷ [] ∷ [] → CutsPart mid new (take len (drop start text)) (take (len + 1) (drop start text)) → CutsTo step done text handed new (start + len + 1)
-cuts-part step done text handed mid new start len so_far parts cuts =
+cuts_part step done text handed mid new start len so_far parts cuts =
     let before = done ++ take start text in
     let bytes = take (len + 1) (drop start text) in
     let more = records_in (take len (drop start text) ∷ []) in
@@ -721,17 +630,15 @@ reads-on step log bytes text handed old mid new end text_is waiting unended cuts
     let cut = cuts step read.done handed read.ended read.cuts in
     record {
       done = read.done ++ take end text;
-      whole =
-          ap (λ front. front ++ bytes) read.whole ∙ append_assoc read.done old.waiting.items bytes
-          ∙ ap (λ all. read.done ++ all) (sym text_is ∙ sym (take-append-drop end text) ∙ ap (λ rest. take end text ++ rest) (sym waiting)) ∙ sym (append_assoc read.done (take end text) new.waiting.items);
+      whole = grind (arith, append_assoc, take-append-drop);
       ended = cut.ended;
       unended = rw waiting unended;
       cuts = same _ cut.cuts;
     }
 
 -- the end of the log
-pub ends-log : (step : ℕ) (log : List ℕ) (handed : ℕ → List ℕ) (old new : Cutter) → CutsPart old new old.waiting.items old.waiting.items → HasRead step log handed old → HasCutAll step log handed new
-ends-log step log handed old new cuts read =
+pub ends_log : (step : ℕ) (log : List ℕ) (handed : ℕ → List ℕ) (old new : Cutter) → CutsPart old new old.waiting.items old.waiting.items → HasRead step log handed old → HasCutAll step log handed new
+ends_log step log handed old new cuts read =
     let rest = old.waiting.items in
     let cut = cuts false step _ handed read.cuts read.unended in
     let holds : Holds false rest (records_in (rest ∷ [])) = record { part = rest; parts = read.unended; records_are = refl } in

@@ -4,18 +4,13 @@ use Rattle.pmf_event.specs.{declared.event.Event.{Event}, Store.{event_at}}
 use Rattle.pmf_shadow.proofs.SameLemmas.{slice_get-front}
 use Rattle.pmf_cut.specs.{declared.deferred.Deferred.{Deferred}, declared.part.Part.{Part}, Parts.{IsPartOf, GoesOnWith, BeginsAt}, Deferred.{Begins, GoesOnUpTo, CatchesUp, TakesFirst, BeginsBehind}}
 
-last-is : (xs : List Event) (e : Event) → slice_get (xs ++ e ∷ []) (length xs) ≡ Some e
+pub last-is : {X : Type 0} (xs : List X) (e : X) → slice_get (xs ++ e ∷ []) (length xs) ≡ Some e
 last-is [] e = refl
 last-is (x ∷ xs) e = last-is xs e
 
 -- a part for which nothing waits
 pub begins : (part : Part) (new : Deferred) → new.part ≡ part → new.waiting.items ≡ [] → Begins part new
-begins part new same none es p head n is = record {
-  had = n;
-  all = omega (arith, ap length none);
-  part = subst (λ (q : Part). IsPartOf q es p head n) (sym same) is;
-  next = λ k below. absurd (omega (arith, below, ap length none));
-}
+begins part new same none es p head n is = grind arith
 
 -- one event more waits
 pub waits_more : (old new : Deferred) (e : Event) → new.part ≡ old.part → new.waiting.items ≡ old.waiting.items ++ e ∷ [] → GoesOnUpTo old new e
@@ -36,25 +31,11 @@ waits_more old new e same more es p head n here is =
 
 -- all that waited were taken
 pub caught_up : (old new : Deferred) → TakesFirst old.part new.part old.waiting.items (length old.waiting.items) → new.waiting.items ≡ [] → CatchesUp old new
-caught_up old new takes none = record {
-  stays = λ es p head n is. record {
-    had = n;
-    all = omega (arith, ap length none);
-    part = subst (IsPartOf new.part es p head) is.all (takes es p head is.had is.next is.part);
-    next = λ k below. absurd (omega (arith, below, ap length none));
-  };
-  none = none;
-}
+caught_up old new takes none = grind arith
 
 -- what begins behind a part that has caught up
-pub begins-behind : (deferred : Deferred) (part : Part) (head : List Event) → deferred.waiting.items ≡ [] → BeginsAt deferred.part part head → BeginsBehind deferred part head
-begins-behind deferred part head none begins es p before n is =
-    let all = is.all in let here : is.had ≡ n = omega (arith, ap length none) in
-    begins es p before n (subst (IsPartOf deferred.part es p before) here is.part)
-
--- a part goes on with events, one after another
-pub goes-on-none : (part : Part) (events : List Event) → TakesFirst part part events 0
-goes-on-none part events es p head n next is = subst (IsPartOf part es p head) (omega arith) is
+pub begins_behind : (deferred : Deferred) (part : Part) (head : List Event) → deferred.waiting.items ≡ [] → BeginsAt deferred.part part head → BeginsBehind deferred part head
+begins_behind deferred part head none begins es p before n is = search arith
 
 pub goes-on-next : (old mid new : Part) (events : List Event) (i : ℕ) (e : Event) → i < length events → slice_get events i ≡ Some e → TakesFirst old mid events i → GoesOnWith mid new e → TakesFirst old new events (i + 1)
 goes-on-next old mid new events i e within at takes on es p head n next is =

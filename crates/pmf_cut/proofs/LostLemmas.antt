@@ -1,7 +1,7 @@
 -- What is asked of the past of a part, run by run.
-use Rattle.std.proofs.{Common.{◌≡◌, ℕ, ◌+◌, ◌-◌, ◌<◌, ◌≤◌, Bool, true, false, not, ◌&&◌, nat_le, if◌then◌else◌, List, refl, sym, ◌∙◌, ap, subst, arith, inl, inr, Option, Some, None, IfSome, unwrap_or, is_some, is_none, le-leb, lt-ltb}, lemmas.Bool.{cases_lt, and_from}}
+use Rattle.std.proofs.{Common.{◌≡◌, ℕ, ◌+◌, ◌-◌, ◌<◌, ◌≤◌, Bool, true, false, not, ◌&&◌, nat_le, if◌then◌else◌, List, refl, sym, ◌∙◌, ap, arith, inl, inr, Option, Some, None, IfSome, unwrap_or, is_some, is_none, le-leb, lt-ltb}, lemmas.Bool.{cases_lt, and_from}}
 use Rattle.pmf_event.{specs.declared.event.Event.{Event}, specs.Span.{Extent, covers_byte}, specs.Ranges.{first_from, first_byte}, specs.Store.{last_store}, specs.Exclusion.{is_excluded}, specs.Persist.{is_checked}, proofs.LineLemmas.{covers-bounds}, proofs.RangeLemmas.{none-from, none-passes, first-passes}}
-use Rattle.pmf_shadow.specs.{declared.shadow.Shadow.{Shadow}, declared.standing.Standing.{Standing}, Shadow.{StandsFor, ForEachList}, Standing.{place_as_told, AllStandSo, NoneStored}}
+use Rattle.pmf_shadow.specs.{declared.shadow.Shadow.{Shadow}, declared.standing.Standing.{Standing}, Shadow.{StandsFor, ForEachList}, Standing.{AllStandSo, NoneStored}}
 use Rattle.pmf_runs.specs.Runs.{state_at, passing, is_between, ChangesBetween}
 use Rattle.pmf_cut.{specs.declared.lost.Past.{Past}, specs.declared.part.Part.{Part}, specs.Behind.{SameBytes}, specs.Lost.{Adds, HasOld, IsPast, KnowsByte, NoneOld, Puts, NoneTold, Knows, is_unknown, is_within, is_told_again}, proofs.ComparingLemmas.{place-is, place-none}, proofs.RowLemmas.{checked-parts, checked-from}}
 
@@ -14,12 +14,10 @@ none-member past first end (Some k) is b low high = (first-passes (λ b. state_a
 
 pub member-lies : (past : Past) (first end : ℕ) (o : Option ℕ) → o ≡ first_from (passing (λ (v : Bool). v) past.bytes) first (end - first) → IfSome o (λ k. (first ≤ k) × (k < end))
 unfolding passing
-member-lies past first end None is = tt
-member-lies past first end (Some k) is = let found = first-passes (λ b. state_at past.bytes b) first (end - first) k (sym is) in let from = found.from in let within = found.within in (from, omega arith)
+member-lies past first end v3 is = grind (arith, first-passes)
 
 pub member-within : (o : Option ℕ) (first end : ℕ) → IfSome o (λ k. (first ≤ k) × (k < end)) → unwrap_or o end ≤ end
-member-within None first end lies = omega arith
-member-within (Some k) first end lies = let high = lies.1 in omega arith
+member-within v0 first end lies = grind arith
 
 -- nor one that a part knows a store of, where its shadow has none
 pub none-known : (part : Part) (first until : ℕ) → ForEachList part.shadow (λ told es p. NoneStored es p first until) → (b : ℕ) → first ≤ b → b < until → KnowsByte (Some part) b → ⊥
@@ -28,8 +26,7 @@ none-known part first until none b low high known =
 
 pub none-past : (past : Past) (first until : ℕ) → ((b : ℕ) → first ≤ b → b < until → state_at past.bytes b ≡ false) →
     ((b : ℕ) → first ≤ b → b < until → KnowsByte past.last b → ⊥) → (b : ℕ) → first ≤ b → b < until → IsPast past b → ⊥
-none-past past first until none unknown b low high (inl is) = let bad : false ≡ true = sym (none b low high) ∙ is in cc
-none-past past first until none unknown b low high (inr is) = unknown b low high is
+none-past past first until none unknown b low high v8 = grind arith
 
 -- a member stays one where a range is put in, and the range's bytes are members
 pub put-kept : (old new : Past) (first end : ℕ) → ChangesBetween first end (λ v. true) old.bytes new.bytes → (b : ℕ) → state_at old.bytes b ≡ true → state_at new.bytes b ≡ true
@@ -43,23 +40,15 @@ put-new old new first end changes b low high = changes.states b ∙ ap (λ v. if
 abbrev HasSame : Past → Past → Type 0
 HasSame old new = (b : ℕ) → state_at new.bytes b ≡ state_at old.bytes b
 
-pub add-first : (old new : Past) (part : Part) → old.last ≡ None → HasSame old new → new.last ≡ Some part → Adds old new part
-add-first old new part none same last fs m stands b (inl (inl member)) = inl (same b ∙ member)
-add-first old new part none same last fs m stands b (inl (inr known)) = absurd (subst (λ o. KnowsByte o b) none known)
-add-first old new part none same last fs m stands b (inr some) = inr (subst (λ o. KnowsByte o b) (sym last) (fs, m, stands, some))
+pub add_first : (old new : Past) (part : Part) → old.last ≡ None → HasSame old new → new.last ≡ Some part → Adds old new part
+add_first old new part none same last fs m stands b v10 = grind arith
 
-pub add-next : (old mid new : Past) (ended part : Part) → old.last ≡ Some ended → HasSame old mid → mid.last ≡ Some part → Puts mid new ended → Adds old new part
-add-next old mid new ended part was same last puts fs m stands b (inl (inl member)) = inl (puts.kept b (same b ∙ member))
-add-next old mid new ended part was same last puts fs m stands b (inl (inr known)) =
-    let by : KnowsByte (Some ended) b = subst (λ o. KnowsByte o b) was known in inl (puts.bytes by.0 by.1 by.2 b (inr by.3))
-add-next old mid new ended part was same last puts fs m stands b (inr some) = inr (subst (λ o. KnowsByte o b) (sym (puts.last ∙ last)) (fs, m, stands, some))
+pub add_next : (old mid new : Past) (ended part : Part) → old.last ≡ Some ended → HasSame old mid → mid.last ≡ Some part → Puts mid new ended → Adds old new part
+add_next old mid new ended part was same last puts fs m stands b v13 = grind arith
 
 -- no byte is old from a place on where none is a member
 pub none-old-rest : (past : Past) (shadow : Shadow) (first at end : ℕ) → at ≤ end → ((b : ℕ) → at ≤ b → b < end → IsPast past b → ⊥) → NoneOld past shadow first at → NoneOld past shadow first end
-none-old-rest past shadow first at end within none before fs m stands b low high old = elim (cases_lt b at) [
-  | inl early ↦ before fs m stands b low early old
-  | inr late ↦ absurd (none b late high old.member)
-]
+none-old-rest past shadow first at end within none before fs m stands b low high old = grind arith
 
 -- nor where a run of members is known or excluded
 pub none-old-run : (past : Past) (shadow : Shadow) (first at byte until : ℕ) (s : Standing) → ((b : ℕ) → at ≤ b → b < byte → IsPast past b → ⊥) →
@@ -72,21 +61,14 @@ none-old-run past shadow first at byte until s between stands not_old before fs 
         let so = stands (λ k. k) fs m is b inside high in
         elim s.excluded as (λ v. s.excluded ≡ v → (is_none s.last && not v) ≡ false → is_excluded fs m b ≡ true) [
           | true ↦ λ out any. sym so.excluded ∙ out
-          | false ↦ λ kept any. elim s.last as (λ o. s.last ≡ o → (is_none o && true) ≡ false → is_excluded fs m b ≡ true) [
-            | None ↦ λ none bad. let no : true ≡ false = bad in cc
-            | Some k ↦ λ there fine.
-                let bad : Some k ≡ None = sym there ∙ so.last ∙ ap (place_as_told (λ k. k)) old.unknown in cc
-          ] refl any
+          | false ↦ grind arith
         ] refl not_old
   ]
 ]
 
 -- a place that is not one of the first lies behind them
 late-from : (head k : ℕ) (s : Standing) → s.excluded ≡ false → (nat_le k head && not s.excluded) ≡ false → head < k
-late-from head k s kept not_told = elim (cases_lt head k) [
-  | inl late ↦ late
-  | inr early ↦ let bad : true ≡ false = sym (and_from _ _ (le-leb k head early) (ap not kept)) ∙ not_told in cc
-]
+late-from head k s kept not_told = grind arith
 
 -- a run that was stored to behind the head, or that is excluded
 pub none-told-run : (shadow : Shadow) (head first at until : ℕ) (s : Standing) → ForEachList shadow (λ told es p. AllStandSo told es p at until s) →
@@ -110,28 +92,16 @@ none-checked shadow fs m s none b inside =
 -- a checked byte of a span without old ones is known
 known-from : (past : Past) (shadow : Shadow) (es : List Event) (n : ℕ) (fs : List Event) (m : ℕ) (s : Extent) → SameBytes es n fs m → HasOld past es n fs m → StandsFor shadow (λ k. k) fs m →
     NoneOld past shadow s.first (s.first + s.size) → (b : ℕ) → covers_byte s b ≡ true → is_checked es n b ≡ true → 0 < last_store fs m b
-known-from past shadow es n fs m s same has stands none b inside is =
-    let parts = checked-parts es n b is in
-    let bounds = covers-bounds s b inside in
-    elim (cases_lt 0 (last_store fs m b)) [
-      | inl known ↦ known
-      | inr unknown ↦
-          let zero_is : last_store fs m b ≡ 0 = omega arith in
-          let out = none fs m stands b bounds.0 bounds.1 (record { member = has b parts.0 zero_is; unknown = zero_is }) in
-          let bad : false ≡ true = sym (same.excluded b ∙ parts.1) ∙ out in cc
-    ]
+known-from past shadow es n fs m s same has stands none b inside is = grind (arith, checked-parts, covers-bounds, cases_lt)
 
 -- nothing is checked in a span of which the part checks nothing and none is old
 knows-none : (past : Past) (shadow : Shadow) (es : List Event) (n : ℕ) (fs : List Event) (m : ℕ) (s : Extent) → SameBytes es n fs m → HasOld past es n fs m → StandsFor shadow (λ k. k) fs m →
     NoneOld past shadow s.first (s.first + s.size) → is_some (first_byte (is_checked fs m) s) ≡ false → (b : ℕ) → covers_byte s b ≡ true → is_checked es n b ≡ true → ⊥
-knows-none past shadow es n fs m s same has stands none unchecked b inside is =
-    let known = known-from past shadow es n fs m s same has stands none b inside is in
-    let bad : false ≡ true = sym (none-checked shadow fs m s unchecked b inside) ∙ checked-from fs m b known (same.excluded b ∙ (checked-parts es n b is).1) in cc
+knows-none past shadow es n fs m s same has stands none unchecked b inside is = grind (arith, known-from, none-checked, checked-from, checked-parts)
 
 pub knows-unchecked : (past : Past) (shadow : Shadow) (head : ℕ) (before after : Extent) → ForEachList shadow (λ told es p. is_some (first_byte (is_checked es p) before) ≡ false) →
     NoneOld past shadow before.first (before.first + before.size) → Knows past shadow head before after
-knows-unchecked past shadow head before after unchecked none es p n fs m same pairs has stands x y one other x_is y_is =
-    absurd (knows-none past shadow es n fs m before same has stands none (unchecked (λ k. k) fs m stands) x one x_is)
+knows-unchecked past shadow head before after unchecked none es p n fs m same pairs has stands x y one other x_is y_is = search (arith, knows-none)
 
 pub knows-all : (past : Past) (shadow : Shadow) (head : ℕ) (before after : Extent) → NoneOld past shadow before.first (before.first + before.size) →
     NoneOld past shadow after.first (after.first + after.size) → Knows past shadow head before after
@@ -140,7 +110,4 @@ knows-all past shadow head before after none none_too es p n fs m same pairs has
 
 pub knows-late : (past : Past) (shadow : Shadow) (head : ℕ) (before after : Extent) → NoneOld past shadow after.first (after.first + after.size) →
     NoneTold shadow head after.first (after.first + after.size) → Knows past shadow head before after
-knows-late past shadow head before after none told es p n fs m same pairs has stands x y one other x_is y_is =
-    let known = known-from past shadow es n fs m after same has stands none y other y_is in
-    let bounds = covers-bounds after y other in
-    inr (pairs.late y (told fs m stands y bounds.0 bounds.1 (same.excluded y ∙ (checked-parts es n y y_is).1) known))
+knows-late past shadow head before after none told es p n fs m same pairs has stands x y one other x_is y_is = grind (arith, known-from, covers-bounds, checked-parts)

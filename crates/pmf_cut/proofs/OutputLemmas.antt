@@ -1,34 +1,21 @@
 -- What the files say when records are put into them, and what is handed out of them.
-use Rattle.std.proofs.{Common.{◌≡◌, ◌≢◌, inl, inr, ℕ, zero, suc, ◌+◌, ◌-◌, ◌^◌, ◌==◌, if◌then◌else◌, ◌<◌, ◌≤◌, Bool, true, false, List, [], ◌∷◌, ◌++◌, length, take, get_or, set, Contains, Some, Ok, slice_get, nat_eq, codes, refl, sym, ap, subst, ◌∙◌, arith, rules, append_assoc, append-nil, length-append, length-set}, lemmas.Bool.{cases_eq, eq-eqb, ne_eqb, cases_lt}, lemmas.Option.{slice_get_read}, lemmas.List.{get_or-set_same, take_at, take_more, get_or_default, nil_from_length}, lemmas.List.Elements.{All-from_recursion}, lemmas.List.Splits.{slice_split_at}, lemmas.Fmt.{decimal_is_IsNumeral, length-decimal-le}}
-use Rattle.std.specs.{Fmt.{decimal}, Char.{digit_value}, Str.Parse.{AllDigits}, List.{starts_with}}
+use Rattle.std.{proofs.{Common.{◌≡◌, ◌≢◌, inl, inr, ℕ, zero, suc, ◌+◌, ◌-◌, ◌^◌, ◌==◌, if◌then◌else◌, ◌<◌, ◌≤◌, Bool, true, false, List, [], ◌∷◌, ◌++◌, length, take, get_or, set, Contains, Some, Ok, slice_get, nat_eq, codes, refl, sym, ap, subst, ◌∙◌, arith, rules, append_assoc, append-nil, length-append, length-set}, lemmas.Bool.{cases_eq, eq-eqb, ne_eqb, cases_lt}, lemmas.Option.{slice_get_read}, lemmas.List.{get_or-set_same, take_at, take_more, get_or_default, nil_from_length}, lemmas.List.Elements.{All-from_recursion}, lemmas.List.Splits.{slice_split_at}, lemmas.Fmt.{decimal_is_IsNumeral, length-decimal-le}}, specs.{Fmt.{decimal}, Str.Parse.{AllDigits}, List.{starts_with}}}
 use Rattle.pmf_event.specs.declared.event.Event.{Event}
-use Rattle.pmf_storelog.specs.{declared.record.Saying.{Saying}, declared.record.Saying.TheVariants.{Happens, Enters}, Records.{record_of, saying_of_fields, section_of_fields, section_of_number, saying_of}, Numbers.{number_of}, Separators.{is_separator, is_blank, without_front_blanks, without_end_blanks, records_in, parts_of, ended_parts, records_of}, LogText.{events_in, current_of}, Spelling.{AllValid}}
-use Rattle.pmf_storelog.proofs.{PartLemmas.{parts_of-append, parts_of-ended, records_in-append}, SplitLemmas.{joined_at}, LogLemmas.{events_in-event, events_in-enter, events_in-nothing, current_of-push}, CanonicalLemmas.{numeral_of-digits, each-digits, each-append, no_field_end, fields_of-more, fields_of-last}, PlainLemmas.{text_of_event, text_of_event-plain, no_separator, no_blank}, PlainRecordLemmas.{IsPlain, records_in-plain}, SpellingLemmas.{record_of-event}}
-use Rattle.pmf_cut.specs.{declared.output.Output.{Output}, declared.output.Outputs.{Outputs}, declared.output.Text.{Text}, Cutting.{SayNothing}, Outputs.{text_of_output, current_of_output, waiting_in, current_in, AllWait, Puts, behind_part, Holds, Spells, text_of, said, IsSaid, Says, bytes_for, HandsOut}}
+use Rattle.pmf_storelog.{specs.{declared.record.Saying.{Saying}, declared.record.Saying.TheVariants.{Happens, Enters}, Records.{record_of, saying_of_fields, section_of_fields, section_of_number, saying_of}, Numbers.{number_of}, Separators.{is_separator, is_blank, without_front_blanks, without_end_blanks, records_in, parts_of, ended_parts, records_of}, LogText.{events_in, current_of}, Spelling.{AllValid}}, proofs.{PartLemmas.{parts_of-append, parts_of-ended, records_in-append}, SplitLemmas.{joined_at}, LogLemmas.{events_in-event, events_in-enter, events_in-nothing, current_of-push}, CanonicalLemmas.{numeral_of-digits, each-digits, each-append, no_field_end, fields_of-more, fields_of-last}, PlainLemmas.{text_of_event, text_of_event-plain, no_separator, no_blank}, PlainRecordLemmas.{IsPlain, records_in-plain}, SpellingLemmas.{record_of-event}}}
+use Rattle.pmf_cut.specs.{declared.output.Output.{Output}, declared.output.Outputs.{Outputs}, declared.output.Text.{Text}, Cutting.{SayNothing}, Outputs.{waiting_in, current_in, AllWait, Puts, behind_part, Holds, Spells, text_of, said, IsSaid, Says, bytes_for, HandsOut}}
 
 -- a line that is a record, and what it says, with a separator behind it
 spells-plain : (text : List ℕ) (saying : Saying) → IsPlain text → record_of text ≡ Ok saying → Spells (text ++ 124 ∷ []) saying
 unfolding parts_of
-spells-plain text saying plain says = record {
-  text = text;
-  holds = record { part = text; parts = slice_split_at is_separator text 124 [] plain.whole refl; records_are = records_in-plain text plain };
-  says = says;
-}
+spells-plain text saying plain says = search (arith, slice_split_at, records_in-plain)
 
-pub spells-event : (event : Event) (line text bytes : List ℕ) (n : ℕ) → AllValid event → line ≡ text_of_event event ++ codes "\n" → n ≡ length line → text ≡ take (n - 1) line → bytes ≡ text ++ 124 ∷ [] →
+pub spells_event : (event : Event) (line text bytes : List ℕ) (n : ℕ) → AllValid event → line ≡ text_of_event event ++ codes "\n" → n ≡ length line → text ≡ take (n - 1) line → bytes ≡ text ++ 124 ∷ [] →
     Spells bytes (Happens event)
-spells-event event line text bytes n valid line_is n_is text_is is =
-    let length_is : length (text_of_event event) ≡ n - 1 = omega (arith, ap length line_is, length-append (text_of_event event) (codes "\n")) in
-    let same : text ≡ text_of_event event = text_is ∙ ap (take (n - 1)) line_is ∙ take_at (text_of_event event) (codes "\n") (n - 1) length_is in
-    rw (is, same) (spells-plain (text_of_event event) (Happens event) (text_of_event-plain event valid) (record_of-event event valid))
+spells_event event line text bytes n valid line_is n_is text_is is = grind (arith, text_of_event, length-append, take_at, spells-plain, text_of_event-plain, record_of-event)
 
 -- digits are not `0x`
 digits-front : (ds : List ℕ) → AllDigits 10 ds → starts_with nat_eq ds (codes "0x") ≡ false
-digits-front [] each = refl
-digits-front (d ∷ []) each = elim (cases_eq 48 d) [ inl same ↦ rw (← same) refl | inr other ↦ rw (ne_eqb 48 d other) refl ]
-digits-front (d ∷ e ∷ ds) each =
-    let other : (120 ≡ e) → ⊥ = λ same. let digit : digit_value e ≡ 33 = sym (ap digit_value same) in omega (arith, each.1.0) in
-    elim (cases_eq 48 d) [ inl same ↦ rw (← same, ne_eqb 120 e other) refl | inr apart ↦ rw (ne_eqb 48 d apart) refl ]
+digits-front v0 each = grind arith
 
 -- a decimal number reads as itself
 number_of-decimal : (n : ℕ) → n < 2 ^ 64 → number_of (decimal n) ≡ Some n
@@ -59,14 +46,13 @@ record_of-marker n small =
     ∙ ap (λ fs. codes "PMT.SECTION" ∷ fs) (fields_of-last (decimal n) (each-digits _ 10 (λ c small. no_field_end c (omega (arith, small))) (decimal n) digits)))
     ∙ ap section_of_number (number_of-decimal n small)
 
-pub spells-marker : (n : ℕ) (bytes : List ℕ) → n < 2 ^ 64 → bytes ≡ marker_text n ++ 124 ∷ [] → Spells bytes (Enters n)
-spells-marker n bytes small is = rw is (spells-plain (marker_text n) (Enters n) (marker-plain n small) (record_of-marker n small))
+pub spells_marker : (n : ℕ) (bytes : List ℕ) → n < 2 ^ 64 → bytes ≡ marker_text n ++ 124 ∷ [] → Spells bytes (Enters n)
+spells_marker n bytes small is = rw is (spells-plain (marker_text n) (Enters n) (marker-plain n small) (record_of-marker n small))
 
 -- records behind a text that a separator ends
 pub nothing_behind : (ends : Bool) → records_in (behind_part ends) ≡ []
 unfolding records_in without_front_blanks without_end_blanks
-nothing_behind true = refl
-nothing_behind false = refl
+nothing_behind v0 = grind arith
 
 pub holds-open : (ends : Bool) (text bytes : List ℕ) (more : List (List ℕ)) → parts_of text ≡ ended_parts text ++ [] ∷ [] → Holds ends bytes more → records_of (text ++ bytes) ≡ records_of text ++ more
 holds-open ends text bytes more ended holds =
@@ -77,8 +63,7 @@ holds-open ends text bytes more ended holds =
     ap records_in is ∙ records_in-append front (holds.part ∷ behind_part ends) ∙ rw (last, before) refl
 
 pub holds-ended : (ends : Bool) (text bytes : List ℕ) (more : List (List ℕ)) → ends ≡ true → parts_of text ≡ ended_parts text ++ [] ∷ [] → Holds ends bytes more → parts_of (text ++ bytes) ≡ ended_parts (text ++ bytes) ++ [] ∷ []
-holds-ended true text bytes more is ended holds = parts_of-ended text bytes [] holds.part ended holds.parts
-holds-ended false text bytes more is ended holds = absurd (cc)
+holds-ended v0 text bytes more is ended holds = grind (arith, parts_of-ended)
 
 -- what more records say: these events of the number, which is current behind them, and none of any other
 record Adds (records more : List (List ℕ)) (number : ℕ) (events : List Event) : Type 0 where
@@ -94,23 +79,10 @@ adds-event records text number event says is = record {
 }
 
 adds-marker : (records : List (List ℕ)) (text : List ℕ) (number : ℕ) → record_of text ≡ Ok (Enters number) → Adds records (text ∷ []) number []
-adds-marker records text number says = record {
-  here = events_in-enter records text number says number ∙ sym (append-nil (events_in records number));
-  others = λ name other. events_in-enter records text number says name;
-  current_is = current_of-push records text ∙ rw says refl;
-}
+adds-marker records text number says = grind (arith, events_in-enter, append-nil, current_of-push)
 
 adds-nothing : (records more : List (List ℕ)) (number : ℕ) → SayNothing more → current_of records ≡ number → Adds records more number []
-adds-nothing records [] number says is = record {
-  here = ap (λ r. events_in r number) (append-nil records) ∙ sym (append-nil (events_in records number));
-  others = λ name other. ap (λ r. events_in r name) (append-nil records);
-  current_is = ap current_of (append-nil records) ∙ is;
-}
-adds-nothing records (text ∷ more) number says is = rw says.1 (record {
-  here = events_in-nothing records text says.0 number ∙ sym (append-nil (events_in records number));
-  others = λ name other. events_in-nothing records text says.0 name;
-  current_is = current_of-push records text ∙ rw says.0 is;
-})
+adds-nothing records v1 number says is = grind (arith, append-nil, events_in-nothing, current_of-push)
 
 -- bytes that are such records are put into a file
 puts-adds : (ends : Bool) (old new : Outputs) (file number : ℕ) (bytes : List ℕ) (more : List (List ℕ)) (events : List Event) → Puts old new file bytes number → Holds ends bytes more →
@@ -128,19 +100,10 @@ puts-adds ends old new file number bytes more events puts holds adds = λ handed
           ended = λ is. rw text (holds-ended ends (text_of handed old file) bytes more is ended holds);
           current_is = ap current_of records ∙ is.current_is ∙ sym put.its;
         })
-        | inr apart ↦ record {
-          ended = λ is. rw (same other apart) ((opened other).ended refl);
-          current_is = ap (λ t. current_of (records_of t)) (same other apart) ∙ (opened other).current_is ∙ sym (put.others other apart).1;
-        }
+        | inr apart ↦ grind arith
       ];
       here = ap (λ r. events_in r number) records ∙ is.here;
-      others = λ other name which. elim (cases_eq other file) [
-        | inl here ↦ elim which [
-          | inl apart ↦ absurd (apart here)
-          | inr another ↦ rw here (ap (λ r. events_in r name) records ∙ is.others name another)
-        ]
-        | inr apart ↦ ap (λ t. events_in (records_of t) name) (same other apart)
-      ];
+      others = grind arith;
       current_is = put.its;
       count = put.count;
       waits = put.waits;
@@ -171,11 +134,6 @@ said-more ends handed file number xs ys old mid new first next = record {
   waits = λ all. next.waits (first.waits all);
 }
 
-pub says-more : (ends : Bool) (file number : ℕ) (xs ys : List Event) (old mid new : Outputs) → Says true file number xs old mid → Says ends file number ys mid new → Says ends file number (xs ++ ys) old new
-says-more ends file number xs ys old mid new first next = λ handed there opened.
-    let one = first handed there opened in
-    said-more ends handed file number xs ys old mid new one (next handed (omega (arith, one.count)) one.opened)
-
 -- one event more, behind those that the file says of the number
 pub says-event : (ends : Bool) (file number : ℕ) (xs : List Event) (old mid new : Outputs) (bytes text : List ℕ) (event : Event) → Says true file number xs old mid → Puts mid new file bytes number →
     Holds ends bytes (text ∷ []) → record_of text ≡ Ok (Happens event) → Says ends file number (xs ++ event ∷ []) old new
@@ -202,22 +160,10 @@ set-here : (outputs : List Output) (i : ℕ) (output : Output) → i < length ou
 set-here outputs i output within = slice_get_read (set outputs i output) (length outputs) i output (sym (length-set outputs i output)) within (sym (get_or-set_same outputs i output output within))
 
 -- the bytes go to a file that waits
-pub puts-set : (old new : Outputs) (file : ℕ) (bytes : List ℕ) (before after : Output) → before ≡ get_or old.files.items file before → new.files.items ≡ set old.files.items file after →
+pub puts_set : (old new : Outputs) (file : ℕ) (bytes : List ℕ) (before after : Output) → before ≡ get_or old.files.items file before → new.files.items ≡ set old.files.items file after →
     after.text.items ≡ before.text.items ++ bytes → (AllWait old → (other : ℕ) → 0 < length (waiting_in old other) → Contains new.waiting.items other) →
     (AllWait old → file < length old.files.items → Contains new.waiting.items file) → Puts old new file bytes after.current
-puts-set old new file bytes before after at is text waits has = λ there.
-    let here : slice_get new.files.items file ≡ Some after = ap (λ files. slice_get files file) is ∙ set-here old.files.items file after there in
-    let others : (other : ℕ) → other ≢ file → slice_get new.files.items other ≡ slice_get old.files.items other = λ other apart. ap (λ files. slice_get files other) is ∙ set-other old.files.items file other after apart in
-    record {
-      here = ap text_of_output here ∙ text ∙ ap (λ t. t ++ bytes) (sym (ap text_of_output (slice_get_read old.files.items (length old.files.items) file before refl there at)));
-      its = ap current_of_output here;
-      others = λ other apart. (ap text_of_output (others other apart), ap current_of_output (others other apart));
-      count = ap length is ∙ length-set old.files.items file after;
-      waits = λ all other some. elim (cases_eq other file) [
-        | inl same ↦ rw same (has all there)
-        | inr apart ↦ waits all other (rw (ap text_of_output (others other apart)) at some)
-      ];
-    }
+puts_set old new file bytes before after at is text waits has = grind (arith, set-here, set-other, slice_get_read, length-set, cases_eq)
 
 -- the texts with one more
 bytes_for-push : (texts : List Text) (text : Text) (file : ℕ) → bytes_for (texts ++ text ∷ []) file ≡ bytes_for texts file ++ bytes_for (text ∷ []) file
@@ -235,45 +181,15 @@ pub record Drained (old : Outputs) (names : List ℕ) (done : ℕ) (texts : List
 module _ (old mid new : Outputs) (names : List ℕ) (done name : ℕ) (texts : List Text) (bytes : List ℕ) (name_is : name ≡ get_or names done 0) (so_far : Drained old names done texts mid) (taken : bytes ≡ waiting_in mid name)
     (none_left : waiting_in new name ≡ []) (others : (other : ℕ) → other ≢ name → waiting_in new other ≡ waiting_in mid other) (currents : (other : ℕ) → current_in new other ≡ current_in mid other)
     (count : length new.files.items ≡ length mid.files.items) where
-  still_gone : (k : ℕ) → k < done + 1 → waiting_in new (get_or names k 0) ≡ []
-  still_gone k within = elim (cases_eq (get_or names k 0) name) [
-    | inl same ↦ rw same none_left
-    | inr apart ↦ elim (cases_lt k done) [
-      | inl before ↦ others (get_or names k 0) apart ∙ so_far.gone k before
-      | inr late ↦ let last : k ≡ done = omega arith in absurd (apart (ap (λ n. get_or names n 0) last ∙ sym name_is))
-    ]
-  ]
-
   drained-step : (more : List Text) → ((file : ℕ) → bytes_for more file ≡ bytes_for texts file ++ (if name == file then bytes else [])) → Drained old names (done + 1) more new
-  drained-step more is = record {
-    kept = λ file. elim (cases_eq file name) [
-      | inl same ↦ let all = so_far.kept name in rw (same, is name, eq-eqb name name refl, none_left, append-nil (bytes_for texts name ++ bytes), taken) all
-      | inr apart ↦ rw (is file, ne_eqb name file (λ same. apart (sym same)), append-nil (bytes_for texts file), others file apart) (so_far.kept file)
-    ];
-    gone = still_gone;
-    currents = λ file. currents file ∙ so_far.currents file;
-    count = count ∙ so_far.count;
-  }
+  drained-step more is = grind (arith, cases_eq, eq-eqb, append-nil, ne_eqb)
 
   pub drained-push : (text : Text) → text.file ≡ name → text.bytes.items ≡ bytes → Drained old names (done + 1) (texts ++ text ∷ []) new
   drained-push text file_is bytes_is = drained-step (texts ++ text ∷ []) (λ file. bytes_for-push texts text file ∙ rw (file_is, bytes_is, append-nil (if name == file then bytes else [])) refl)
 
-  pub drained-empty : length bytes ≡ 0 → Drained old names (done + 1) texts new
-  drained-empty empty = drained-step texts (λ file. elim (name == file) as (λ b. bytes_for texts file ≡ bytes_for texts file ++ (if b then bytes else [])) [
-    | true ↦ rw (nil_from_length bytes empty) (sym (append-nil (bytes_for texts file)))
-    | false ↦ sym (append-nil (bytes_for texts file))
-  ])
+  pub drained_empty : length bytes ≡ 0 → Drained old names (done + 1) texts new
+  drained_empty empty = grind (arith, drained-step, nil_from_length, append-nil)
 
 -- all of them
 pub hands-out : (old new : Outputs) (names : List ℕ) (done : ℕ) (texts : List Text) → names ≡ old.waiting.items → length names ≤ done → Drained old names done texts new → HandsOut old texts new
-hands-out old new names done texts is all so_far = record {
-  kept = so_far.kept;
-  none_left = λ waits file. elim (cases_lt 0 (length (waiting_in old file))) [
-    | inl some ↦
-        let at = rw (← is) at (waits file some) in
-        rw (sym at.2 ∙ get_or_default names at.0 file 0 at.1) (so_far.gone at.0 (omega (arith, at.1)))
-    | inr none ↦ nil_from_length (waiting_in new file) (omega (arith, ap length (so_far.kept file), length-append (bytes_for texts file) (waiting_in new file)))
-  ];
-  currents = so_far.currents;
-  count = so_far.count;
-}
+hands-out old new names done texts is all so_far = grind (arith, cases_lt, get_or_default, nil_from_length, length-append)

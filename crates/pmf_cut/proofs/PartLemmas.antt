@@ -1,23 +1,17 @@
 -- A part takes one event more.
 use mathlib.Core.Logic.{∥∥₁_elim, ∥∥₁_map}
-use Rattle.std.proofs.{Props.{props}, Common.{length-append, ◌≡◌, ℕ, suc, ◌+◌, ◌-◌, ◌<◌, ◌≤◌, true, false, ◌&&◌, nat_le, if◌then◌else◌, List, [], ◌∷◌, ◌++◌, length, refl, sym, ◌∙◌, ap, subst, arith, inl, inr, Some, le-ltb}, Math.Bool.{and-false}, lemmas.Bool.{cases_lt}}
-use Rattle.pmf_event.{specs.declared.event.Event.{Event}, specs.declared.event.Event.TheVariants.{Store, Exclude, Include, TxBegin, TxEnd, CheckStart, CheckEnd}, specs.declared.section.TheConstants.{EVENT_LIMIT}, specs.declared.span.TheConstants.{ADDRESS_LIMIT}, specs.Span.{Extent, IsValidExtent, covers_byte}, specs.Section.{IsValidEvent}, specs.Line.{line_of_byte}, specs.Store.{event_at, at, stores, last_store}, specs.Interval.{first_write_back, closing_fence}, specs.LineBytes.{is_undurable, is_unwritten}, specs.Exclusion.{excludes, marks, is_excluded}, specs.Transactions.{begins, ends, opens_scope, closes_scope, depth_at, in_scope}, proofs.EventLemmas.{last-none, last-other}, proofs.LineBytesLemmas.{lacks-not}, proofs.TransactionLemmas.{outside-from, depth-start, scope-start as first-scope, depth-begun, depth-ended, depth-kept, scope-some, scope-none, scoped-from, unscoped-from, scope-stays, scope-opened, scope-kept, scope-closed, in_scope-same, begins-other, ends-other, opens-other, closes-other}}
+use Rattle.std.proofs.{Props.{props}, Common.{length-append, ◌≡◌, ℕ, suc, ◌+◌, ◌-◌, ◌<◌, ◌≤◌, true, false, if◌then◌else◌, List, [], ◌∷◌, ◌++◌, length, refl, sym, ◌∙◌, ap, subst, arith, inl, inr, Some}, lemmas.Bool.{cases_lt}}
+use Rattle.pmf_event.{specs.declared.event.Event.{Event}, specs.declared.event.Event.TheVariants.{TxBegin, TxEnd, CheckStart, CheckEnd}, specs.declared.section.TheConstants.{EVENT_LIMIT}, specs.declared.span.TheConstants.{ADDRESS_LIMIT}, specs.Section.{IsValidEvent}, specs.Line.{line_of_byte}, specs.Store.{event_at, at, stores, last_store}, specs.Interval.{first_write_back, closing_fence}, specs.LineBytes.{is_undurable, is_unwritten}, specs.Exclusion.{excludes, marks, is_excluded}, specs.Transactions.{begins, ends, opens_scope, closes_scope, depth_at, in_scope}, proofs.EventLemmas.{last-none, last-other}, proofs.LineBytesLemmas.{lacks-not}, proofs.TransactionLemmas.{outside-from, depth-start, scope-start as first-scope, depth-begun, depth-ended, depth-kept, scope-some, scope-none, scoped-from, unscoped-from, scope-stays, scope-opened, scope-kept, scope-closed, in_scope-same, begins-other, ends-other, opens-other, closes-other}}
 use Rattle.pmf_shadow.{specs.declared.shadow.Shadow.{Shadow}, specs.Shadow.{FollowsAt, StandsFor, Keeps}, proofs.StandsLemmas.{follows-within, stands-fences}}
 use Rattle.pmf_cut.{specs.declared.part.Part.{Part}, specs.Alike.{IsAlike}, specs.Comparing.{IsAlikeBelow}, specs.Parts.{LiesLow, Stands, Follows, BeginsWith, Renews}, proofs.StepLemmas.{excluded-step}}
 
-high-uncovered : (s : Extent) (b : ℕ) → IsValidExtent s.first s.size → ADDRESS_LIMIT ≤ b → covers_byte s b ≡ false
-high-uncovered s b valid high = let ends = valid.ends in ap (λ v. nat_le s.first b && v) (le-ltb b (s.first + s.size) (omega arith)) ∙ and-false (nat_le s.first b)
-
 high-unstored : (e : Event) (b : ℕ) → IsValidEvent e → ADDRESS_LIMIT ≤ b → stores b e ≡ false
 unfolding stores
-high-unstored (Store s) b valid high = high-uncovered s b valid high
-high-unstored _ b valid high = refl
+high-unstored v0 b valid high = grind arith
 
 high-unmarked : (e : Event) (b : ℕ) → IsValidEvent e → ADDRESS_LIMIT ≤ b → marks b e ≡ false
 unfolding marks
-high-unmarked (Exclude s) b valid high = high-uncovered s b valid high
-high-unmarked (Include s) b valid high = high-uncovered s b valid high
-high-unmarked _ b valid high = refl
+high-unmarked v0 b valid high = grind arith
 
 low-step : (fs : List Event) (m : ℕ) (e : Event) → event_at fs (suc m) ≡ Some e → IsValidEvent e → LiesLow fs m → LiesLow fs (suc m)
 low-step fs m e here valid low b high = (
@@ -39,13 +33,7 @@ follows-part old new e valid follows longer depth scope = λ fs m here stands.
 
 pub stands-none : (part : Part) (fs : List Event) → part.events ≡ 0 → part.depth ≡ 0 → part.is_scoped ≡ false → StandsFor part.shadow (λ k. k) fs 0 → Stands part fs 0
 unfolding is_excluded at event_at
-stands-none part fs events depth scope shadow = record {
-  shadow = shadow;
-  events = events;
-  depth = depth ∙ sym (depth-start fs);
-  scope = scope ∙ sym (unscoped-from fs 0 (first-scope fs));
-  low = λ b high. (last-none (stores b) fs, ap (at (excludes b) fs) (last-none (marks b) fs));
-}
+stands-none part fs events depth scope shadow = grind (arith, depth-start, unscoped-from, first-scope, last-none)
 
 -- ---- depth and scope
 
@@ -63,10 +51,7 @@ module _ (fs : List Event) (m : ℕ) where
 
   pub scope_start : event_at fs (suc m) ≡ Some CheckStart → in_scope fs (suc m) ≡ true
   unfolding opens_scope closes_scope
-  scope_start here = elim (in_scope fs m) as (λ v. in_scope fs m ≡ v → in_scope fs (suc m) ≡ true) [
-    | true ↦ λ is. in_scope-same fs m (suc m) (scope-stays fs m CheckStart here refl (scope-some fs m is)) ∙ is
-    | false ↦ λ none. scoped-from fs (suc m) (let now = scope-opened fs m CheckStart here refl refl (scope-none fs m none) in omega arith)
-  ] refl
+  scope_start here = grind (arith, in_scope-same, scope-stays, scope-some, scoped-from, scope-opened, scope-none)
 
   pub scope_end : event_at fs (suc m) ≡ Some CheckEnd → in_scope fs (suc m) ≡ false
   unfolding closes_scope
@@ -81,8 +66,8 @@ module _ (fs : List Event) (m : ℕ) where
 abbrev pub HasList : Shadow → ℕ → Type 0
 HasList shadow events = (fs : List Event) × (length fs ≡ events) × StandsFor shadow (λ k. k) fs events
 
-pub list-none : (shadow : Shadow) → ((told : ℕ → ℕ) (es : List Event) → StandsFor shadow told es 0) → ∥ HasList shadow 0 ∥₁
-list-none shadow stands = ∣ ([], refl, stands (λ k. k) []) ∣₁
+pub list_none : (shadow : Shadow) → ((told : ℕ → ℕ) (es : List Event) → StandsFor shadow told es 0) → ∥ HasList shadow 0 ∥₁
+list_none shadow stands = ∣ ([], refl, stands (λ k. k) []) ∣₁
 
 pub room_from : (shadow : Shadow) (events : ℕ) → ∥ HasList shadow events ∥₁ → events < EVENT_LIMIT → shadow.fences < EVENT_LIMIT
 room_from shadow events some below = ∥∥₁_elim some (hlevel props) (λ it. let few = stands-fences shadow (λ k. k) it.0 events it.2 in omega arith)
@@ -106,29 +91,8 @@ low-unwritten : (fs : List Event) (m b : ℕ) → last_store fs m b ≡ 0 → is
 unfolding is_unwritten
 low-unwritten fs m b none = lacks-not (last_store fs m b) (first_write_back (stores b) (line_of_byte b) fs m) (λ some. absurd (omega arith))
 
--- an undurable byte lies below the limit of addresses
-undurable-low : (fs : List Event) (m : ℕ) → LiesLow fs m → (b : ℕ) → is_undurable fs m b ≡ true → b < ADDRESS_LIMIT
-undurable-low fs m low b is = elim (cases_lt b ADDRESS_LIMIT) [
-  | inl below ↦ below
-  | inr high ↦ let bad : false ≡ true = sym (low-undurable fs m b (low b high).0) ∙ is in cc
-]
-
 alike-everywhere : (fs : List Event) (m : ℕ) (gs : List Event) (q : ℕ) → LiesLow fs m → LiesLow gs q → IsAlikeBelow fs m gs q ADDRESS_LIMIT → IsAlike fs m gs q
-alike-everywhere fs m gs q low low_too below = record {
-  excluded = λ b. elim (cases_lt b ADDRESS_LIMIT) [
-    | inl inside ↦ (below.bytes b inside).excluded
-    | inr high ↦ (low_too b high).1 ∙ sym (low b high).1
-  ];
-  undurable = λ b. elim (cases_lt b ADDRESS_LIMIT) [
-    | inl inside ↦ (below.bytes b inside).undurable
-    | inr high ↦ low-undurable gs q b (low_too b high).0 ∙ sym (low-undurable fs m b (low b high).0)
-  ];
-  unwritten = λ b. elim (cases_lt b ADDRESS_LIMIT) [
-    | inl inside ↦ (below.bytes b inside).unwritten
-    | inr high ↦ low-unwritten gs q b (low_too b high).0 ∙ sym (low-unwritten fs m b (low b high).0)
-  ];
-  order = λ x y line x_is y_is. below.order x y (undurable-low fs m low x x_is) (undurable-low fs m low y y_is) line x_is y_is;
-}
+alike-everywhere fs m gs q low low_too below = grind (arith, cases_lt, low-undurable, low-unwritten)
 
 pub renews-by : (old new : Part) (head : List Event) → ((gs : List Event) → BeginsWith gs head → Stands new gs (length head)) → new.depth ≡ 0 → new.is_scoped ≡ false →
     ((fs : List Event) (m : ℕ) (gs : List Event) (q : ℕ) → StandsFor old.shadow (λ k. k) fs m → StandsFor new.shadow (λ k. k) gs q → IsAlikeBelow fs m gs q ADDRESS_LIMIT) → Renews old new head
@@ -143,9 +107,5 @@ renews-by old new head stands flat unscoped alike = record {
         | inl inside ↦ ((alike fs m gs (length head) one.shadow other.shadow).bytes b inside).fresh some
         | inr high ↦ let none = (other.low b high).0 in absurd (omega arith)
       ];
-  outside = λ gs begins.
-      let other = stands gs begins in record {
-        transaction = outside-from gs (length head) (sym other.depth ∙ flat);
-        scope = sym other.scope ∙ unscoped;
-      };
+  outside = grind (arith, outside-from);
 }

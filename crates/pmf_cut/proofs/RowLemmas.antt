@@ -1,31 +1,15 @@
 -- What is found behind a cut: of the part as of the whole.
-use Rattle.std.{proofs.Common.{◌≡◌, ◌⊎◌, ℕ, ◌<◌, Bool, true, false, not, ◌&&◌, ◌||◌, ◌==◌, nat_lt, if◌then◌else◌, List, refl, sym, ◌∙◌, ap, subst, arith, inl, inr, Option, Some, None, is_some, is_none, lt-ltb, le-ltb, ne_eqb}, specs.Cmp.{both_ways}, proofs.lemmas.Bool.{cases_lt, ltb-true, and_parts, and_from, not-true, not_from_false, false_from_ne_true}, proofs.lemmas.Bool.Decides.{Decides-eqb}}
-use Rattle.pmf_event.{specs.declared.event.Event.{Event}, specs.declared.finding.Finding.{Finding}, specs.declared.finding.Finding.TheVariants.{PersistEmpty, OrderedPass, OrderedEmpty}, specs.declared.profile.Profile.{Profile}, specs.declared.profile.Profile.TheVariants.{One, Two}, specs.Span.{Extent, covers_byte}, specs.Line.{line_of_byte}, specs.Ranges.{first_byte}, specs.Store.{stores, last_store}, specs.Interval.{closing_fence, interval_at, is_open}, specs.Exclusion.{is_excluded}, specs.Persist.{is_checked, is_exposed, pass_unless, persist_finding}, specs.Order.{precedes, share_line, is_stored_before, is_ordered, is_unordered, is_certified, has_partner, paired, with_partner, least_pair, finding_of_pairs, ordered_finding}, specs.LineBytes.{is_undurable}, proofs.IntervalLemmas.{is_open-interval_at}, proofs.LineLemmas.{covers-bounds, bounds-cover}, proofs.RangeLemmas.{some-or-none, first_from-same, first_from-none, none-passes, first-passes}}
+use Rattle.std.{proofs.Common.{◌≡◌, ◌⊎◌, ℕ, ◌<◌, Bool, true, false, not, ◌&&◌, ◌||◌, nat_lt, if◌then◌else◌, List, refl, sym, ◌∙◌, ap, subst, arith, inl, inr, Option, Some, None, is_some, is_none, lt-ltb}, specs.Cmp.{both_ways}, proofs.lemmas.Bool.{cases_lt, ltb-true, and_parts, and_from, not-true, not_from_false, false_from_ne_true}}
+use Rattle.pmf_event.{specs.declared.event.Event.{Event}, specs.declared.finding.Finding.{Finding}, specs.declared.finding.Finding.TheVariants.{PersistEmpty}, specs.declared.profile.Profile.{Profile}, specs.Span.{Extent, covers_byte}, specs.Ranges.{first_byte}, specs.Store.{last_store}, specs.Interval.{interval_at, is_open}, specs.Exclusion.{is_excluded}, specs.Persist.{is_checked, is_exposed, pass_unless, persist_finding}, specs.Order.{precedes, share_line, is_stored_before, is_ordered, is_unordered, is_certified, has_partner, least_pair, finding_of_pairs, ordered_finding}, specs.LineBytes.{is_undurable}, proofs.LineLemmas.{covers-bounds, bounds-cover}, proofs.RangeLemmas.{some-or-none, first_from-same, first_from-none, none-passes, first-passes}}
 use Rattle.pmf_verdict.proofs.KeptLemmas.{persist-empty, ordered-empty as ordered-none}
 use Rattle.pmf_cut.specs.{Behind.{IsBehind}, Laws.{IsSameOrEmpty, IsSameOrder, KnowsPairs}}
 
 -- ---- persist assertions
 
-exposed-cases : (written out unclosed : Bool) → ((written && not out) && (written && unclosed)) ≡ ((written && unclosed) && not out)
-exposed-cases true true true = refl
-exposed-cases true true false = refl
-exposed-cases true false true = refl
-exposed-cases true false false = refl
-exposed-cases false out unclosed = refl
-
-not-zero : (n : ℕ) → not (n == 0) ≡ nat_lt 0 n
-not-zero n = elim (cases_lt 0 n) [
-  | inl some ↦ not_from_false (n == 0) (ne_eqb n 0 (λ zero_is. omega arith)) ∙ sym (lt-ltb 0 n some)
-  | inr none ↦ ap not ((Decides-eqb n 0).1 (omega arith)) ∙ sym (le-ltb 0 n none)
-]
-
 -- a byte is exposed where it is undurable and not excluded
 pub exposed-is : (es : List Event) (p b : ℕ) → is_exposed es p b ≡ (is_undurable es p b && not (is_excluded es p b))
 unfolding is_exposed is_checked is_undurable
-exposed-is es p b =
-    ap (λ v. (nat_lt 0 (last_store es p b) && not (is_excluded es p b)) && v)
-    (is_open-interval_at es p b ∙ ap (λ v. v && closing_fence (stores b) (line_of_byte b) es p == 0) (not-zero (last_store es p b)))
-    ∙ exposed-cases (nat_lt 0 (last_store es p b)) (is_excluded es p b) (closing_fence (stores b) (line_of_byte b) es p == 0)
+exposed-is es p b = grind arith
 
 pub checked-parts : (es : List Event) (p b : ℕ) → is_checked es p b ≡ true → (0 < last_store es p b) × (is_excluded es p b ≡ false)
 unfolding is_checked
@@ -46,10 +30,7 @@ narrower-none few many s narrower none =
 
 -- where one passes, one passes a wider test
 wider-some : (few many : ℕ → Bool) (s : Extent) (k : ℕ) → ((b : ℕ) → few b ≡ true → many b ≡ true) → first_byte few s ≡ Some k → is_none (first_byte many s) ≡ false
-wider-some few many s k wider is = elim (some-or-none (first_byte many s)) [
-  | inl found ↦ ap (λ (o : Option ℕ). is_none o) found.1
-  | inr none ↦ let bad : None ≡ Some k = sym (narrower-none few many s wider none) ∙ is in cc
-]
+wider-some few many s k wider is = grind (arith, some-or-none, is_none, narrower-none)
 
 persist-checked : (es : List Event) (p : ℕ) (s : Extent) → is_none (first_byte (is_checked es p) s) ≡ false → persist_finding es p s ≡ pass_unless (first_byte (is_exposed es p) s)
 unfolding persist_finding
@@ -57,54 +38,29 @@ persist-checked es p s some = ap (λ v. if v then PersistEmpty else pass_unless 
 
 module _ (es : List Event) (p n : ℕ) (fs : List Event) (q m : ℕ) (behind : IsBehind es p n fs q m) where
   exposed-same : (b : ℕ) → is_exposed fs m b ≡ is_exposed es n b
-  exposed-same b =
-      exposed-is fs m b
-      ∙ ap (λ v. v && not (is_excluded fs m b)) (behind.bytes.undurable b)
-      ∙ ap (λ v. is_undurable es n b && not v) (behind.bytes.excluded b)
-      ∙ sym (exposed-is es n b)
+  exposed-same b = grind (arith, exposed-is)
 
   checked-known : (b : ℕ) → is_checked fs m b ≡ true → is_checked es n b ≡ true
   checked-known b is = let parts = checked-parts fs m b is in checked-from es n b (behind.pairs.known b parts.0) (sym (behind.bytes.excluded b) ∙ parts.1)
 
   pub persist-stays : (s : Extent) → IsSameOrEmpty (persist_finding es n s) (persist_finding fs m s)
-  persist-stays s =
-      let same = first_from-same (is_exposed fs m) (is_exposed es n) s.first s.size (λ b low high. exposed-same b) in
-      elim (some-or-none (first_byte (is_checked fs m) s)) [
-        | inl found ↦ inl (persist-checked fs m s (ap (λ (o : Option ℕ). is_none o) found.1)
-            ∙ ap pass_unless same
-            ∙ sym (persist-checked es n s (wider-some (is_checked fs m) (is_checked es n) s found.0 checked-known found.1)))
-        | inr none ↦ elim (some-or-none (first_byte (is_checked es n) s)) [
-          | inr none_too ↦ inl (persist-empty fs m s none ∙ sym (persist-empty es n s none_too))
-          | inl found ↦ inr (
-            persist-checked es n s (ap (λ (o : Option ℕ). is_none o) found.1) ∙ ap pass_unless (sym same ∙ narrower-none (is_exposed fs m) (is_checked fs m) s (exposed-checked fs m) none),
-            persist-empty fs m s none,
-          )
-        ]
-      ]
+  persist-stays s = grind (arith, first_from-same, exposed-same, some-or-none, persist-checked, is_none, wider-some, checked-known, persist-empty, narrower-none, exposed-checked)
 
 -- ---- order assertions
-
-share-other_way : (x y : ℕ) → share_line x y ≡ true → share_line y x ≡ true
-share-other_way x y is = (Decides-eqb (line_of_byte y) (line_of_byte x)).1 (sym ((Decides-eqb (line_of_byte x) (line_of_byte y)).0 is))
 
 unordered-parts : (profile : Profile) (es : List Event) (p x y : ℕ) → is_unordered profile es p x y ≡ true →
     (is_checked es p x ≡ true) × (is_checked es p y ≡ true) × (is_ordered profile es p x y ≡ false)
 unfolding is_unordered
-unordered-parts profile es p x y is =
-    let outer = and_parts (is_checked es p x && is_checked es p y) (not (is_ordered profile es p x y)) is in
-    let inner = and_parts (is_checked es p x) (is_checked es p y) outer.0 in
-    (inner.0, inner.1, not-true (is_ordered profile es p x y) outer.1)
+unordered-parts profile es p x y is = grind arith
 
 unordered-from : (profile : Profile) (es : List Event) (p x y : ℕ) → is_checked es p x ≡ true → is_checked es p y ≡ true → is_ordered profile es p x y ≡ false →
     is_unordered profile es p x y ≡ true
 unfolding is_unordered
-unordered-from profile es p x y one other free =
-    and_from _ _ (and_from _ _ one other) (not_from_false (is_ordered profile es p x y) free)
+unordered-from profile es p x y one other free = grind arith
 
 ordered-by_interval : (profile : Profile) (es : List Event) (p x y : ℕ) → precedes (interval_at es p x) (interval_at es p y) ≡ true → is_ordered profile es p x y ≡ true
 unfolding is_ordered
-ordered-by_interval One es p x y is = is
-ordered-by_interval Two es p x y is = ap (λ v. v || (share_line x y && is_stored_before es p x y)) is
+ordered-by_interval v0 es p x y is = grind arith
 
 certified-is : (profile : Profile) (es : List Event) (p x y : ℕ) → is_certified profile es p x y ≡ (is_unordered profile es p x y && (not (share_line x y) || is_stored_before es p y x))
 unfolding is_certified
@@ -112,39 +68,17 @@ certified-is profile es p x y = refl
 
 least_pair-within : (s t : ℕ → ℕ → Bool) (a b : Extent) → ((x y : ℕ) → covers_byte a x ≡ true → covers_byte b y ≡ true → s x y ≡ t x y) → least_pair s a b ≡ least_pair t a b
 unfolding least_pair has_partner
-least_pair-within s t a b same =
-    let partner : (x : ℕ) → covers_byte a x ≡ true → first_byte (s x) b ≡ first_byte (t x) b =
-    λ x inside. first_from-same (s x) (t x) b.first b.size (λ y low high. same x y inside (bounds-cover b y low high)) in
-    let found = first_from-same (λ x. is_some (first_byte (s x) b)) (λ x. is_some (first_byte (t x) b)) a.first a.size
-    (λ x low high. ap (λ (o : Option ℕ). is_some o) (partner x (bounds-cover a x low high))) in
-    ap (with_partner s b) found ∙ elim (some-or-none (first_byte (λ x. is_some (first_byte (t x) b)) a)) [
-      | inr none ↦ ap (with_partner s b) none ∙ sym (ap (with_partner t b) none)
-      | inl is ↦
-          let first = first-passes (λ x. is_some (first_byte (t x) b)) a.first a.size is.0 is.1 in
-          ap (with_partner s b) is.1 ∙ ap (paired is.0) (partner is.0 (bounds-cover a is.0 first.from first.within)) ∙ sym (ap (with_partner t b) is.1)
-    ]
-
--- where a byte of the one span or of the other is never checked, no pair passes
-no-pair : (test : ℕ → ℕ → Bool) (a b : Extent) → ((x y : ℕ) → covers_byte a x ≡ true → covers_byte b y ≡ true → test x y ≡ false) → least_pair test a b ≡ None
-unfolding least_pair has_partner
-no-pair test a b never =
-    ap (with_partner test b) (first_from-none (λ x. is_some (first_byte (test x) b)) a.first a.size (λ x low high.
-    ap (λ (o : Option ℕ). is_some o) (first_from-none (test x) b.first b.size (λ y from to. never x y (bounds-cover a x low high) (bounds-cover b y from to)))))
+least_pair-within s t a b same = grind (arith, first_from-same, bounds-cover, is_some, some-or-none, first-passes)
 
 ordered-some : (profile : Profile) (es : List Event) (p : ℕ) (a b : Extent) → is_none (first_byte (is_checked es p) a) ≡ false → is_none (first_byte (is_checked es p) b) ≡ false →
     ordered_finding profile es p a b ≡ finding_of_pairs es p (least_pair (is_certified profile es p) a b) (least_pair (is_unordered profile es p) a b)
 unfolding ordered_finding
-ordered-some profile es p a b one other =
-    let pairs = finding_of_pairs es p (least_pair (is_certified profile es p) a b) (least_pair (is_unordered profile es p) a b) in
-    ap (λ v. if v then OrderedEmpty else (if is_none (first_byte (is_checked es p) b) then OrderedEmpty else pairs)) one
-    ∙ ap (λ v. if v then OrderedEmpty else pairs) other
+ordered-some profile es p a b one other = grind arith
 
 -- the findings of equal pairs
 finding-stays : (es : List Event) (n : ℕ) (fs : List Event) (m : ℕ) (certified unordered : Option (ℕ × ℕ)) →
     IsSameOrder (finding_of_pairs es n certified unordered) (finding_of_pairs fs m certified unordered)
-finding-stays es n fs m (Some (x, y)) unordered = (last_store fs m y, refl)
-finding-stays es n fs m None (Some (x, y)) = inl refl
-finding-stays es n fs m None None = inl refl
+finding-stays es n fs m v4 unordered = grind arith
 
 order-by : (whole other : Finding) (part another : Finding) → whole ≡ other → part ≡ another → IsSameOrder other another → IsSameOrder whole part
 order-by whole other part another is is_too stays = subst (λ w. IsSameOrder w part) (sym is) (subst (λ f. IsSameOrder other f) (sym is_too) stays)
@@ -153,18 +87,7 @@ module _ (profile : Profile) (es : List Event) (p n : ℕ) (fs : List Event) (q 
   ordered-alike : (kind : Profile) (x y : ℕ) → precedes (interval_at fs m x) (interval_at fs m y) ≡ precedes (interval_at es n x) (interval_at es n y) →
       (share_line x y && is_stored_before fs m x y) ≡ (share_line x y && is_stored_before es n x y) → is_ordered kind fs m x y ≡ is_ordered kind es n x y
   unfolding is_ordered
-  ordered-alike One x y intervals order = intervals
-  ordered-alike Two x y intervals order =
-      ap (λ v. v || (share_line x y && is_stored_before fs m x y)) intervals ∙ ap (λ v. precedes (interval_at es n x) (interval_at es n y) || v) order
-
-  -- pairs that the part knows are ordered alike
-  ordered-same : (x y : ℕ) → 0 < last_store fs m x → 0 < last_store fs m y → is_ordered profile fs m x y ≡ is_ordered profile es n x y
-  ordered-same x y one other =
-      ordered-alike profile x y (behind.pairs.durable x y one other)
-      (elim (share_line x y) as (λ v. share_line x y ≡ v → (v && is_stored_before fs m x y) ≡ (v && is_stored_before es n x y)) [
-        | true ↦ λ is. behind.pairs.order x y is one other
-        | false ↦ λ is. refl
-      ] refl)
+  ordered-alike v0 x y intervals order = grind arith
 
   checked-same : (b : ℕ) → 0 < last_store fs m b → is_checked es n b ≡ true → is_checked fs m b ≡ true
   checked-same b known is = checked-from fs m b known (behind.bytes.excluded b ∙ (checked-parts es n b is).1)
@@ -176,39 +99,14 @@ module _ (profile : Profile) (es : List Event) (p n : ℕ) (fs : List Event) (q 
         let parts = unordered-parts profile es n x y is in
         elim (knows x y one other parts.0 parts.1) [
           | inl both ↦ both
-          | inr behind_cut ↦ elim (cases_lt 0 (last_store fs m x)) [
-            | inl known ↦ (known, behind.pairs.fresh y behind_cut)
-            | inr unknown ↦
-                let ordered = ordered-by_interval profile es n x y (behind.pairs.old x y (omega arith) (checked-parts es n x parts.0).0 behind_cut) in
-                let bad : false ≡ true = sym parts.2 ∙ ordered in cc
-          ]
+          | inr behind_cut ↦ grind (arith, cases_lt, ordered-by_interval, checked-parts)
         ]
 
     unordered-same : (x y : ℕ) → covers_byte a x ≡ true → covers_byte b y ≡ true → is_unordered profile fs m x y ≡ is_unordered profile es n x y
-    unordered-same x y one other = both_ways _ _
-        (λ is.
-        let parts = unordered-parts profile fs m x y is in
-        let free = sym (ordered-same x y (checked-parts fs m x parts.0).0 (checked-parts fs m y parts.1).0) ∙ parts.2 in
-        unordered-from profile es n x y (checked-known es p n fs q m behind x parts.0) (checked-known es p n fs q m behind y parts.1) free)
-        (λ is.
-        let parts = unordered-parts profile es n x y is in
-        let known = known-pair x y one other is in
-        unordered-from profile fs m x y (checked-same x known.0 parts.0) (checked-same y known.1 parts.1) (ordered-same x y known.0 known.1 ∙ parts.2))
+    unordered-same x y one other = grind (arith, both_ways, unordered-parts, checked-parts, unordered-from, checked-known, known-pair, checked-same, ordered-alike)
 
     certified-same : (x y : ℕ) → covers_byte a x ≡ true → covers_byte b y ≡ true → is_certified profile fs m x y ≡ is_certified profile es n x y
-    certified-same x y one other =
-        certified-is profile fs m x y
-        ∙ ap (λ v. v && (not (share_line x y) || is_stored_before fs m y x)) (unordered-same x y one other)
-        ∙ elim (is_unordered profile es n x y) as (λ v. is_unordered profile es n x y ≡ v → (v && (not (share_line x y) || is_stored_before fs m y x)) ≡ (v && (not (share_line x y) || is_stored_before es n y x))) [
-          | false ↦ λ is. refl
-          | true ↦ λ is.
-              let known = known-pair x y one other is in
-              elim (share_line x y) as (λ v. share_line x y ≡ v → (not v || is_stored_before fs m y x) ≡ (not v || is_stored_before es n y x)) [
-                | false ↦ λ apart. refl
-                | true ↦ λ shared. behind.pairs.order y x (share-other_way x y shared) known.1 known.0
-              ] refl
-        ] refl
-        ∙ sym (certified-is profile es n x y)
+    certified-same x y one other = grind (arith, certified-is, unordered-same, known-pair)
 
     -- where the part checks nothing of a span, no pair of the whole is unordered
     none-unordered : (first_byte (is_checked fs m) a ≡ None) ⊎ (first_byte (is_checked fs m) b ≡ None) → (x y : ℕ) → covers_byte a x ≡ true → covers_byte b y ≡ true → is_unordered profile es n x y ≡ false
@@ -222,21 +120,8 @@ module _ (profile : Profile) (es : List Event) (p n : ℕ) (fs : List Event) (q 
         ])
 
     ordered-empty : (first_byte (is_checked fs m) a ≡ None) ⊎ (first_byte (is_checked fs m) b ≡ None) → IsSameOrder (ordered_finding profile es n a b) (ordered_finding profile fs m a b)
-    ordered-empty none =
-        let empty = ordered-none profile fs m a b none in
-        let free = none-unordered none in
-        let no_unordered = no-pair (is_unordered profile es n) a b free in
-        let no_certified = no-pair (is_certified profile es n) a b (λ x y one other. certified-is profile es n x y ∙ ap (λ v. v && (not (share_line x y) || is_stored_before es n y x)) (free x y one other)) in
-        elim (some-or-none (first_byte (is_checked es n) a)) [
-          | inr none_a ↦ order-by _ OrderedEmpty _ OrderedEmpty (ordered-none profile es n a b (inl none_a)) empty (inl refl)
-          | inl some_a ↦ elim (some-or-none (first_byte (is_checked es n) b)) [
-            | inr none_b ↦ order-by _ OrderedEmpty _ OrderedEmpty (ordered-none profile es n a b (inr none_b)) empty (inl refl)
-            | inl some_b ↦ order-by _ OrderedPass _ OrderedEmpty
-                (ordered-some profile es n a b (ap (λ (o : Option ℕ). is_none o) some_a.1) (ap (λ (o : Option ℕ). is_none o) some_b.1)
-                ∙ ap (λ c. finding_of_pairs es n c (least_pair (is_unordered profile es n) a b)) no_certified ∙ ap (finding_of_pairs es n None) no_unordered)
-                empty (inr (refl, refl))
-          ]
-        ]
+    unfolding least_pair has_partner
+    ordered-empty none = grind (arith, ordered-none, none-unordered, certified-is, some-or-none, order-by, ordered-some, is_none, first_from-none, is_some, bounds-cover)
 
     pub ordered-stays : IsSameOrder (ordered_finding profile es n a b) (ordered_finding profile fs m a b)
     ordered-stays = elim (some-or-none (first_byte (is_checked fs m) a)) [

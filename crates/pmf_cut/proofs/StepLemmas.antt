@@ -1,5 +1,5 @@
 -- One more event: which bytes are excluded, undurable and unwritten after it, and which pairs are ordered.
-use Rattle.std.{proofs.Common.{◌≡◌, ℕ, suc, ◌+◌, ◌-◌, ◌<◌, ◌≤◌, Bool, true, false, not, ◌&&◌, ◌==◌, nat_lt, nat_le, if◌then◌else◌, List, refl, sym, ◌∙◌, ap, arith, inl, inr, Option, Some, None, lt-ltb, le-ltb, le-leb, ne_eqb}, specs.Cmp.{both_ways}, proofs.lemmas.Bool.{cases_lt, ltb-true, leb-true, and_parts, and_from, false_from_ne_true}, proofs.lemmas.Bool.Decides.{Decides-eqb}}
+use Rattle.std.{proofs.Common.{◌≡◌, ℕ, suc, ◌+◌, ◌-◌, ◌<◌, ◌≤◌, true, false, not, ◌&&◌, ◌==◌, nat_lt, nat_le, if◌then◌else◌, List, refl, sym, ◌∙◌, ap, arith, inl, inr, Option, Some, None, lt-ltb, le-ltb, le-leb, ne_eqb}, specs.Cmp.{both_ways}, proofs.lemmas.Bool.{cases_lt, ltb-true, leb-true, and_parts, and_from, false_from_ne_true}}
 use Rattle.pmf_event.{specs.declared.event.Event.{Event}, specs.declared.interval.Interval.{Interval}, specs.Line.{line_of_byte}, specs.Places.{greatest, least, some_between}, specs.Store.{event_at, at, stores, flushes, is_fence, last, last_store, epoch_of}, specs.Interval.{writes_back, first_write_back, closes, closing_fence, epoch_after, interval_at}, specs.Exclusion.{excludes, marks, is_excluded}, specs.Order.{precedes, is_closed_by}, specs.LineBytes.{is_undurable, is_unwritten}, proofs.PlacesLemmas.{greatest-above, greatest-bound, greatest-passes, least-step, least-bound, least-passes, least-none_behind, least-below, count-mono, count-here, some_between-found}, proofs.EventLemmas.{at-is, last-step, last-other, last-here}, proofs.IntervalLemmas.{Closing-found, write_back-from_Closing}, proofs.LineBytesLemmas.{lacks-parts, lacks-from, lacks-not}, proofs.WriteBackLemmas.{or-zero, last-bound, epoch_after-none, epoch_after-some, first_write_back-next}}
 
 -- a write-back follows a place where the last write-back does
@@ -47,15 +47,7 @@ module _ (es : List Event) (p b : ℕ) (e : Event) (here : event_at es (suc p) �
       ≡ (if nat_lt 0 (closing_fence (stores b) (line_of_byte b) es p) then closing_fence (stores b) (line_of_byte b) es p
       else (if is_fence e && nat_lt (last_store es p b) (greatest (at (flushes (line_of_byte b)) es) p) then suc p else 0))
   unfolding closing_fence closes some_between
-  closing-step other =
-      let line = line_of_byte b in
-      let k = last_store es p b in
-      let test = closes es line k in
-      let fence = λ (v : Bool). v && nat_lt k (greatest (at (flushes line) es) p) in
-      ap (λ l. least (closes es line l) (suc p)) (last-other (stores b) es p e here other)
-      ∙ least-step test p
-      ∙ ap (λ v. if nat_lt 0 (least test p) then least test p else (if v then suc p else 0))
-      (ap (λ n. at is_fence es (suc p) && nat_lt k (greatest (at (flushes line) es) n)) (let one : suc p - 1 ≡ p = omega arith in one) ∙ ap fence (at-is is_fence es (suc p) (Some e) here))
+  closing-step other = grind (arith, nat_lt, last-other, least-step, at-is)
 
   closing-stored : stores b e ≡ true → closing_fence (stores b) (line_of_byte b) es (suc p) ≡ 0
   unfolding closing_fence closes
@@ -68,30 +60,16 @@ module _ (es : List Event) (p b : ℕ) (e : Event) (here : event_at es (suc p) �
       ap (λ l. least (closes es line l) (suc p)) (last-here (stores b) es p e here is) ∙ none
 
   closing-kept : stores b e ≡ false → is_fence e ≡ false → closing_fence (stores b) (line_of_byte b) es (suc p) ≡ closing_fence (stores b) (line_of_byte b) es p
-  closing-kept other no_fence =
-      let f = closing_fence (stores b) (line_of_byte b) es p in
-      closing-step other
-      ∙ ap (λ v. if nat_lt 0 f then f else (if v && nat_lt (last_store es p b) (greatest (at (flushes (line_of_byte b)) es) p) then suc p else 0)) no_fence
-      ∙ or-zero f
+  closing-kept other no_fence = grind (arith, closing-step, nat_lt, or-zero)
 
   -- one that has closed stays, and one that closes now is here
   closing-same : stores b e ≡ false → 0 < closing_fence (stores b) (line_of_byte b) es p →
       closing_fence (stores b) (line_of_byte b) es (suc p) ≡ closing_fence (stores b) (line_of_byte b) es p
-  closing-same other closed =
-      let f = closing_fence (stores b) (line_of_byte b) es p in
-      closing-step other ∙ ap (λ v. if v then f else (if is_fence e && nat_lt (last_store es p b) (greatest (at (flushes (line_of_byte b)) es) p) then suc p else 0)) (lt-ltb 0 f closed)
+  closing-same other closed = grind (arith, closing-step, nat_lt, lt-ltb)
 
   closing-late : stores b e ≡ false → closing_fence (stores b) (line_of_byte b) es p ≡ 0 → 0 < closing_fence (stores b) (line_of_byte b) es (suc p) →
       closing_fence (stores b) (line_of_byte b) es (suc p) ≡ suc p
-  closing-late other unclosed some =
-      let f = closing_fence (stores b) (line_of_byte b) es p in
-      let test = is_fence e && nat_lt (last_store es p b) (greatest (at (flushes (line_of_byte b)) es) p) in
-      let now : closing_fence (stores b) (line_of_byte b) es (suc p) ≡ (if test then suc p else 0) =
-      closing-step other ∙ ap (λ v. if v then f else (if test then suc p else 0)) (le-ltb 0 f (omega arith)) in
-      elim test as (λ v. closing_fence (stores b) (line_of_byte b) es (suc p) ≡ (if v then suc p else 0) → closing_fence (stores b) (line_of_byte b) es (suc p) ≡ suc p) [
-        | true ↦ λ is. is
-        | false ↦ λ is. absurd (omega arith)
-      ] now
+  closing-late other unclosed some = grind (arith, nat_lt, closing-step, le-ltb)
 
   pub undurable-stored : stores b e ≡ true → is_undurable es (suc p) b ≡ true
   unfolding is_undurable
@@ -99,9 +77,7 @@ module _ (es : List Event) (p b : ℕ) (e : Event) (here : event_at es (suc p) �
 
   pub undurable-kept : stores b e ≡ false → is_fence e ≡ false → is_undurable es (suc p) b ≡ is_undurable es p b
   unfolding is_undurable
-  undurable-kept other no_fence =
-      ap (λ k. nat_lt 0 k && closing_fence (stores b) (line_of_byte b) es (suc p) == 0) (last-other (stores b) es p e here other)
-      ∙ ap (λ f. nat_lt 0 (last_store es p b) && f == 0) (closing-kept other no_fence)
+  undurable-kept other no_fence = grind (arith, nat_lt, last-other, closing-kept)
 
   -- (the closing fence is the first that closes)
   first-closed : 0 < closing_fence (stores b) (line_of_byte b) es p → 0 < least (writes_back es (line_of_byte b) (last_store es p b)) p
@@ -123,29 +99,13 @@ module _ (es : List Event) (p b : ℕ) (e : Event) (here : event_at es (suc p) �
       ap (λ l. nat_lt 0 l && closing_fence (stores b) line es (suc p) == 0) (last-other (stores b) es p e here other)
       ∙ ap (λ c. nat_lt 0 k && c == 0) now
       ∙ elim (cases_lt 0 w) [
-        | inl some ↦ lacks-not k (if nat_lt 0 f then f else (if nat_lt 0 w then suc p else 0)) (λ positive. elim (cases_lt 0 f) [
-          | inl closed ↦ let is : (if nat_lt 0 f then f else (if nat_lt 0 w then suc p else 0)) ≡ f = ap (λ v. if v then f else (if nat_lt 0 w then suc p else 0)) (lt-ltb 0 f closed) in omega arith
-          | inr unclosed ↦ let is : (if nat_lt 0 f then f else (if nat_lt 0 w then suc p else 0)) ≡ suc p =
-              ap (λ v. if v then f else (if nat_lt 0 w then suc p else 0)) (le-ltb 0 f unclosed) ∙ ap (λ v. if v then suc p else 0) (lt-ltb 0 w some) in omega arith
-        ]) ∙ sym (lacks-not k w (λ positive. some))
-        | inr none ↦
-            let unclosed : f ≤ 0 = elim (cases_lt 0 f) [
-              | inl closed ↦ let more = first-closed closed in absurd (omega arith)
-              | inr small ↦ small
-            ] in
-            let is : (if nat_lt 0 f then f else (if nat_lt 0 w then suc p else 0)) ≡ 0 =
-            ap (λ v. if v then f else (if nat_lt 0 w then suc p else 0)) (le-ltb 0 f unclosed) ∙ ap (λ v. if v then suc p else 0) (le-ltb 0 w none) in
-            ap (λ c. nat_lt 0 k && c == 0) is ∙ ap (λ c. nat_lt 0 k && c == 0) (let zero_is : 0 ≡ w = omega arith in zero_is)
+        | inl some ↦ grind arith
+        | inr none ↦ grind (arith, cases_lt, first-closed, nat_lt, le-ltb)
       ]
 
   pub unwritten-stored : stores b e ≡ true → is_unwritten es (suc p) b ≡ true
   unfolding is_unwritten first_write_back writes_back
-  unwritten-stored is =
-      let line = line_of_byte b in
-      let now = last-here (stores b) es p e here is in
-      let none = least-none_behind (writes_back es line (suc p)) (suc p) (λ k behind. ltb-true (suc p) k (and_parts (nat_lt (suc p) k) (at (flushes line) es k) behind).0) in
-      lacks-from (last_store es (suc p) b) (least (writes_back es line (last_store es (suc p) b)) (suc p)) (omega arith)
-      (ap (λ l. least (writes_back es line l) (suc p)) now ∙ none)
+  unwritten-stored is = grind (arith, last-here, least-none_behind, ltb-true, and_parts, nat_lt, lacks-from)
 
   pub unwritten-kept : stores b e ≡ false → flushes (line_of_byte b) e ≡ false → is_unwritten es (suc p) b ≡ is_unwritten es p b
   unfolding is_unwritten
@@ -180,56 +140,20 @@ interval_of-some : (l opens : ℕ) (closes : Option ℕ) → 0 < l → interval_
 unfolding interval_of
 interval_of-some l opens closes some = ap (λ v. if v then None else Some (record { last = l; opens = opens; closes = closes })) (ne_eqb l 0 (λ zero_is. omega arith))
 
-interval_of-none : (l opens : ℕ) (closes : Option ℕ) → l ≡ 0 → interval_of l opens closes ≡ None
-unfolding interval_of
-interval_of-none l opens closes none = ap (λ v. if v then None else Some (record { last = l; opens = opens; closes = closes })) ((Decides-eqb l 0).1 none)
-
 -- the one byte was stored to, and closed by a fence before the last store of the other
 pub record IsBefore (es : List Event) (p x y : ℕ) : Type 0 where
   pub stored : 0 < last_store es p x
   pub closed : 0 < closing_fence (stores x) (line_of_byte x) es p
   pub before : closing_fence (stores x) (line_of_byte x) es p < last_store es p y
 
-nothing-precedes : (o : Option Interval) → precedes o None ≡ false
-nothing-precedes None = refl
-nothing-precedes (Some i) = refl
-
 module _ (es : List Event) (p x y : ℕ) where
   closing-fences : 0 < closing_fence (stores x) (line_of_byte x) es p → at is_fence es (closing_fence (stores x) (line_of_byte x) es p) ≡ true
   unfolding closing_fence closes
-  closing-fences some =
-      let line = line_of_byte x in
-      let test = closes es line (last_store es p x) in
-      (and_parts (at is_fence es (least test p)) (some_between (at (flushes line) es) (last_store es p x) (least test p)) (least-passes test p some)).0
+  closing-fences some = grind (arith, and_parts, least-passes)
 
   pub precedes-parts : precedes (interval_at es p x) (interval_at es p y) ≡ true → IsBefore es p x y
   unfolding epoch_of
-  precedes-parts is =
-      let lx = last_store es p x in
-      let ly = last_store es p y in
-      let f = closing_fence (stores x) (line_of_byte x) es p in
-      let c = epoch_after es f in
-      let d = epoch_after es (closing_fence (stores y) (line_of_byte y) es p) in
-      elim (cases_lt 0 lx) [
-        | inr none ↦ let bad : false ≡ true = ap (λ o. precedes o (interval_at es p y)) (sym (interval-is es p x ∙ interval_of-none lx (epoch_of es lx) c (omega arith))) ∙ is in cc
-        | inl some ↦ elim (cases_lt 0 ly) [
-          | inr none ↦ let bad : false ≡ true = sym (ap (precedes (interval_at es p x)) (interval-is es p y ∙ interval_of-none ly (epoch_of es ly) d (omega arith)) ∙ nothing-precedes (interval_at es p x)) ∙ is in cc
-          | inl more ↦
-              let closed : is_closed_by c (epoch_of es ly) ≡ true =
-              sym (ap (λ o. precedes o (interval_at es p y)) (interval-is es p x ∙ interval_of-some lx (epoch_of es lx) c some)
-              ∙ ap (precedes (Some (record { last = lx; opens = epoch_of es lx; closes = c }))) (interval-is es p y ∙ interval_of-some ly (epoch_of es ly) d more)) ∙ is in
-              elim (cases_lt 0 f) [
-                | inr unclosed ↦ let bad : false ≡ true = ap (λ o. is_closed_by o (epoch_of es ly)) (sym (epoch_after-none es f (omega arith))) ∙ closed in cc
-                | inl shut ↦
-                    let low : nat_le (epoch_of es f + 1) (epoch_of es ly) ≡ true = ap (λ o. is_closed_by o (epoch_of es ly)) (sym (epoch_after-some es f shut)) ∙ closed in
-                    let early = leb-true (epoch_of es f + 1) (epoch_of es ly) low in
-                    elim (cases_lt f ly) [
-                      | inl before ↦ record { stored = some; closed = shut; before = before }
-                      | inr behind ↦ let up = count-mono (at is_fence es) (ly - 1) (f - 1) (omega arith) in absurd (omega arith)
-                    ]
-              ]
-        ]
-      ]
+  precedes-parts is = grind (arith, cases_lt, interval-is, interval_of-some, epoch_after-none, nat_le, epoch_after-some, leb-true, count-mono)
 
   pub precedes-from : IsBefore es p x y → precedes (interval_at es p x) (interval_at es p y) ≡ true
   unfolding epoch_of
@@ -256,20 +180,7 @@ module _ (es : List Event) (p x y : ℕ) (e : Event) (here : event_at es (suc p)
   pub precedes-stored : stores x e ≡ false → stores y e ≡ true → is_fence e ≡ false → 0 < last_store es p x →
       precedes (interval_at es (suc p) x) (interval_at es (suc p) y) ≡ not (is_undurable es p x)
   unfolding is_undurable
-  precedes-stored other is no_fence some =
-      let f = closing_fence (stores x) (line_of_byte x) es p in
-      let kept = closing-kept es p x e here other no_fence in
-      let last_x = last-other (stores x) es p e here other in
-      let last_y = last-here (stores y) es p e here is in
-      elim (cases_lt 0 f) [
-        | inl closed ↦
-            let bound = closing-bound es p x in
-            precedes-from es (suc p) x y (record { stored = omega arith; closed = omega arith; before = omega arith })
-            ∙ ap not (sym (lacks-not (last_store es p x) f (λ positive. closed)))
-        | inr unclosed ↦
-            false_from_ne_true _ (λ before. let b = precedes-parts es (suc p) x y before in let closed = b.closed in omega arith)
-            ∙ ap not (sym (lacks-from (last_store es p x) f some (omega arith)))
-      ]
+  precedes-stored other is no_fence some = grind (arith, closing-kept, last-other, last-here, cases_lt, closing-bound, precedes-from, lacks-not, false_from_ne_true, precedes-parts, lacks-from)
 
   pub precedes-kept : stores x e ≡ false → stores y e ≡ false → precedes (interval_at es (suc p) x) (interval_at es (suc p) y) ≡ precedes (interval_at es p x) (interval_at es p y)
   precedes-kept other no_store =

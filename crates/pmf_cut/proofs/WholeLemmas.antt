@@ -1,16 +1,12 @@
 -- A part of a whole goes on with it, and another one begins where it is cut.
-use Rattle.std.proofs.Common.{◌≡◌, ℕ, zero, suc, ◌+◌, ◌-◌, ◌<◌, true, false, List, [], ◌∷◌, ◌++◌, length, drop, slice_get, refl, sym, ◌∙◌, ap, subst, arith, Some}
-use Rattle.pmf_event.{specs.declared.event.Event.{Event}, specs.Store.{event_at, stores}, specs.LineBytes.{is_undurable}, proofs.EventLemmas.{last-none}, proofs.TransactionLemmas.{depth-start, scope-start, outside-from, unscoped-from}}
-use Rattle.pmf_cut.{specs.declared.part.Part.{Part}, specs.Alike.{IsOutside, IsCut}, specs.Parts.{Stands, Follows, BeginsWith, Renews, part_of, IsPartOf, GoesOnWith, BeginsAt}, proofs.StepLemmas.{undurable-stored_to}, proofs.BehindLemmas.{behind-cut, behind-step}, proofs.CutLemmas.{behind-there}}
+use Rattle.std.proofs.Common.{◌≡◌, ℕ, zero, suc, ◌+◌, ◌-◌, true, false, List, [], ◌∷◌, ◌++◌, length, drop, slice_get, refl, ◌∙◌, ap, subst, arith, Some}
+use Rattle.pmf_event.{specs.declared.event.Event.{Event}, specs.Store.{event_at}, specs.LineBytes.{is_undurable}, proofs.EventLemmas.{last-none}, proofs.TransactionLemmas.{depth-start, scope-start, outside-from, unscoped-from}}
+use Rattle.pmf_shadow.proofs.SameLemmas.{slice_get-front}
+use Rattle.pmf_cut.{specs.declared.part.Part.{Part}, specs.Alike.{IsCut}, specs.Parts.{Stands, Follows, BeginsWith, Renews, part_of, IsPartOf, GoesOnWith, BeginsAt}, proofs.StepLemmas.{undurable-stored_to}, proofs.BehindLemmas.{behind-cut, behind-step}, proofs.CutLemmas.{behind-there}}
 
 get-behind : {X : Type 0} (xs ys : List X) (k : ℕ) → slice_get (xs ++ ys) (length xs + k) ≡ slice_get ys k
 get-behind [] ys k = ap (slice_get ys) (omega arith)
 get-behind (x ∷ xs) ys k = ap (slice_get (x ∷ xs ++ ys)) (let more : length (x ∷ xs) + k ≡ suc (length xs + k) = omega arith in more) ∙ get-behind xs ys k
-
-get-front : {X : Type 0} (xs ys : List X) (k : ℕ) → k < length xs → slice_get (xs ++ ys) k ≡ slice_get xs k
-get-front [] ys k within = absurd (omega arith)
-get-front (x ∷ xs) ys zero within = refl
-get-front (x ∷ xs) ys (suc k) within = get-front xs ys k (omega arith)
 
 get-dropped : {X : Type 0} (p : ℕ) (xs : List X) (k : ℕ) → slice_get (drop p xs) k ≡ slice_get xs (p + k)
 get-dropped zero xs k = ap (slice_get xs) (omega arith)
@@ -24,24 +20,13 @@ part-event es p head k = get-behind head (drop p es) k ∙ get-dropped p es k
 
 part-begins : (es : List Event) (p : ℕ) (head : List Event) → BeginsWith (part_of es p head) head
 unfolding event_at
-part-begins es p head k within = get-front head (drop p es) k within
+part-begins es p head k within = slice_get-front head (drop p es) k within
 
 whole-cut : (es : List Event) → IsCut es 0 es 0
-whole-cut es =
-    let outside : IsOutside es 0 = record { transaction = outside-from es 0 (depth-start es); scope = unscoped-from es 0 (scope-start es) } in record {
-      alike = record { excluded = λ b. refl; undurable = λ b. refl; unwritten = λ b. refl; order = λ x y line x_is y_is. refl };
-      fresh = λ b some. let none = last-none (stores b) es in absurd (omega arith);
-      whole = outside;
-      part = outside;
-    }
+whole-cut es = grind (arith, outside-from, depth-start, unscoped-from, scope-start, last-none)
 
 pub part-first : (part : Part) → ((fs : List Event) → Stands part fs 0) → (es : List Event) → IsPartOf part es 0 [] 0
-part-first part stands es = record {
-  cut = whole-cut es;
-  within = omega arith;
-  behind = behind-there es 0 0 0 es 0 0 (0 + (0 - 0)) refl (omega arith) (behind-cut es 0 es 0 (whole-cut es));
-  stands = subst (Stands part es) (let none : 0 ≡ 0 + (0 - 0) = omega arith in none) (stands es);
-}
+part-first part stands es = search (arith, whole-cut, behind-there, behind-cut)
 
 pub part-next : (old new : Part) (e : Event) → Follows old new e → GoesOnWith old new e
 part-next old new e follows es p head n here is =
@@ -67,21 +52,9 @@ part-cut old new head renews flat unscoped es p before n is =
     let bytes = is.behind.bytes in
     let undurable_there = λ (b : ℕ) (open_there : is_undurable es n b ≡ true). bytes.undurable b ∙ open_there in
     let cut : IsCut es n gs q = record {
-      alike = record {
-        excluded = λ b. alike.excluded b ∙ bytes.excluded b;
-        undurable = λ b. alike.undurable b ∙ bytes.undurable b;
-        unwritten = λ b. alike.unwritten b ∙ bytes.unwritten b;
-        order = λ x y line x_is y_is.
-            let x_there = undurable_there x x_is in
-            let y_there = undurable_there y y_is in
-            alike.order x y line x_there y_there
-            ∙ is.behind.pairs.order x y line (undurable-stored_to fs m x x_there) (undurable-stored_to fs m y y_there);
-      };
+      alike = grind (arith, undurable-stored_to);
       fresh = renews.fresh fs m gs is.stands begins;
-      whole = record {
-        transaction = outside-from es n (sym is.behind.transactions.depth ∙ sym is.stands.depth ∙ flat);
-        scope = sym is.behind.transactions.scope ∙ sym is.stands.scope ∙ unscoped;
-      };
+      whole = grind (arith, outside-from);
       part = renews.outside gs begins;
     } in record {
       cut = cut;

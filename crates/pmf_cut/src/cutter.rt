@@ -102,6 +102,7 @@ impl Cutter {
     }
 
     /// What is to be written of what was read since the last call, for each file once: it is handed out once.
+    #[tactic(auto, using(crate::proofs::CuttingLemmas::drained))]
     pub fn drain(&mut self) -> Result<Vec<Text>, CutFault>
         ensures { IfOk result (λ texts. Drains self.old texts.items self.new) }
     {
@@ -245,6 +246,7 @@ impl Cutter {
     }
 
     // Where the section stands that is current.
+    #[tactic(auto, using(crate::proofs::CuttingLemmas::current_at))]
     fn current_place(&mut self) -> Result<usize, CutFault>
         ensures { IfOk result (FindsCurrent self.old self.new) }
     {
@@ -379,6 +381,7 @@ impl Cutter {
     }
 
     // The section's part begins in the newest file.
+    #[tactic(auto, using(std::proofs::lemmas::Option::slice_get_within))]
     fn begin(&mut self, place: usize, name: u64, next: NextPart) -> Result<(), AllocError>
         ensures { OnOk result ((section : Cutting) → slice_get self.old.sections.items place ≡ Some section → BeginsPart self.old self.new place name next section) }
     {

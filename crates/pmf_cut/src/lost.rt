@@ -32,6 +32,7 @@ impl Past {
     }
 
     /// Takes a part that has ended.
+    #[tactic(auto, using(crate::proofs::LostLemmas::add_first, crate::proofs::LostLemmas::add_next))]
     pub(crate) fn add(&mut self, part: Part) -> Result<(), AllocError>
         ensures { OnOk result (Adds self.old self.new part) }
     {

@@ -113,6 +113,7 @@ impl Outputs {
     }
 
     /// These bytes go to the file, too, where this number is current then.
+    #[tactic(auto, using(crate::proofs::OutputLemmas::puts_set))]
     pub(crate) fn push(&mut self, file: usize, bytes: &[u8], current: u64) -> Result<(), AllocError>
         ensures { OnOk result (Puts self.old self.new file bytes.now current) }
     {
@@ -194,6 +195,7 @@ impl Outputs {
     }
 
     /// What is to be written, which is handed out once.
+    #[tactic(auto, using(crate::proofs::OutputLemmas::drained_empty))]
     pub(crate) fn drain(&mut self) -> Result<Vec<Text>, AllocError>
         ensures { IfOk result (λ texts. HandsOut self.old texts.items self.new) }
     {

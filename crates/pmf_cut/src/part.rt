@@ -51,6 +51,7 @@ impl Part {
     ghost use Rattle.pmf_cut.specs.Parts.{Follows, GoesOnWith, IsPartOf, Stands};
 
     /// The part of no events. Takes no memory.
+    #[tactic(auto, using(crate::proofs::PartLemmas::list_none))]
     pub fn new(alloc: Global) -> Part
         ensures stands { (fs : List Event) → Stands result fs 0 }
         ensures part { (es : List Event) → IsPartOf result es 0 [] 0 }

@@ -9,6 +9,7 @@ use pmf_storelog::push_event;
 use std::alloc::{AllocError, Global};
 
 /// A record that says the event.
+#[tactic(auto, using(crate::proofs::OutputLemmas::spells_event))]
 pub(crate) fn event_record(alloc: Global, event: &Event) -> Result<Vec<u8>, AllocError>
     ensures { IfOk result (λ bytes. Spells bytes.items (Happens event.now)) }
 {
@@ -21,6 +22,7 @@ pub(crate) fn event_record(alloc: Global, event: &Event) -> Result<Vec<u8>, Allo
 }
 
 /// A marker of the section with this number.
+#[tactic(auto, using(crate::proofs::OutputLemmas::spells_marker))]
 pub(crate) fn marker(alloc: Global, number: u64) -> Result<Vec<u8>, AllocError>
     ensures { IfOk result (λ bytes. Spells bytes.items (Enters number)) }
 {

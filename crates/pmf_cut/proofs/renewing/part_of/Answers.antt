@@ -1,5 +1,4 @@
-use Rattle.std.proofs.{Common.{◌≡◌, suc, length, refl, ◌∙◌, subst, arith, add-one, Some}, lemmas.Option.{slice_get_read}}
-use Rattle.pmf_event.specs.Store.{event_at}
+use Rattle.std.proofs.{Common.{subst, arith, add-one}, lemmas.Option.{slice_get_read}}
 use Rattle.pmf_cut.specs.Parts.{Stands}
 use Rattle.pmf_cut.proofs.renewing.part_of.Goals as goal
 
@@ -7,11 +6,7 @@ pub loop-event-init : goal.loop-event-init
 loop-event-init c = λ gs begins. c.new-part.ensures.stands gs
 
 pub loop-event-preserved : goal.loop-event-preserved
-loop-event-preserved c = λ gs begins.
-    let es = c.args.events.now in
-    let i = c.loop-event.event-index in
-    let here : event_at gs (suc i) ≡ Some c.event-item.result = begins i (omega arith) ∙ slice_get_read es (length es) i c.event-item.result refl (omega arith) c.event-item.is in
-    rw add-one (c.in-Ok.ensures.follows gs i here (c.loop-event.invariant gs begins))
+loop-event-preserved c = grind (arith, slice_get_read, add-one)
 
 pub returns : goal.returns
 returns c = λ gs begins. subst (Stands c.loop-event.part gs) (omega arith) (c.loop-event.invariant gs begins)

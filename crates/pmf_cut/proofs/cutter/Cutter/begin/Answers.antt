@@ -1,4 +1,4 @@
-use Rattle.std.proofs.{Common.{◌≡◌, refl, sym, ◌∙◌, subst, arith}, lemmas.Option.{slice_get_read, slice_get_within}}
+use Rattle.std.proofs.{Common.{◌≡◌, refl, sym, ◌∙◌, subst, arith}, lemmas.Option.{slice_get_read}}
 use Rattle.pmf_cut.{specs.declared.section.Cutting.{Cutting}, specs.Cutting.{GoesOnAs}, proofs.CuttingLemmas.{some_apart}}
 use Rattle.pmf_cut.proofs.cutter.Cutter.begin.Goals as goal
 
@@ -18,6 +18,3 @@ returns-in_ok-go_on c = λ section is.
       current_is = refl;
       step_is = refl;
     }
-
-pub returns-else-place-len : goal.returns-else-place-len
-returns-else-place-len c = λ section is. absurd (omega (arith, slice_get_within c.args.self.now.sections.items c.args.place section is, c.if-place-len.false, c.len.ensures))

@@ -1,6 +1,6 @@
 use Rattle.std.proofs.Common.{◌≡◌, ◌+◌, ◌-◌, List, ℕ, [], ◌∷◌, take, drop, length, subst, arith, length-drop, take_all}
 use Rattle.pmf_storelog.specs.Separators.{parts_of}
-use Rattle.pmf_cut.proofs.CuttingLemmas.{cuts-part}
+use Rattle.pmf_cut.proofs.CuttingLemmas.{cuts_part}
 use Rattle.pmf_cut.proofs.cutter.Cutter.copy.Goals as goal
 
 pub loop-len-preserved : goal.loop-len-preserved
@@ -11,5 +11,5 @@ loop-len-preserved c = (
       let parts = subst (λ (xs : List ℕ). parts_of (take (c.in-Some.len + 1) xs) ≡ take c.in-Some.len xs ∷ [] ∷ []) rest c.in-Some.ensures.cases in
       let n : c.loop-len.start + c.in-Some.len - c.loop-len.start ≡ c.in-Some.len = omega arith in
       let all : c.loop-len.start + c.in-Some.len + 1 - c.loop-len.start ≡ c.in-Some.len + 1 = omega arith in
-      cuts-part step done c.args.text.now handed c.loop-len.self c.take_part.new.self c.loop-len.start c.in-Some.len (c.loop-len.invariant.1 step done handed ended cuts) parts (rw (n, all) at c.in_ok-take_part.ensures),
+      cuts_part step done c.args.text.now handed c.loop-len.self c.take_part.new.self c.loop-len.start c.in-Some.len (c.loop-len.invariant.1 step done handed ended cuts) parts (rw (n, all) at c.in_ok-take_part.ensures),
 )

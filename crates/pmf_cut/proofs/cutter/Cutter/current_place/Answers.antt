@@ -1,11 +1,7 @@
-use Rattle.std.proofs.Common.{nat_cmp, ap, ◌∙◌}
-use Rattle.std.specs.BTreeMap.{get}
+use Rattle.std.{proofs.Common.{nat_cmp, ap, ◌∙◌}, specs.BTreeMap.{get}}
 use Rattle.pmf_storelog.specs.LogText.{current_of}
-use Rattle.pmf_cut.proofs.CuttingLemmas.{current-at, current-none, current-told}
+use Rattle.pmf_cut.proofs.CuttingLemmas.{current-none, current-told}
 use Rattle.pmf_cut.proofs.cutter.Cutter.current_place.Goals as goal
-
-pub returns-in-Some : goal.returns-in-Some
-returns-in-Some c = λ step records handed cuts. (cuts, current-at (get nat_cmp c.args.self.now.places) (current_of records) _ _ c.in-Some.is cuts.has.current_is)
 
 pub returns-in_ok-place-in-None : goal.returns-in_ok-place-in-None
 returns-in_ok-place-in-None c = λ step records handed cuts.

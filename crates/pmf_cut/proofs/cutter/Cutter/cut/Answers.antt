@@ -1,6 +1,5 @@
-use Rattle.std.proofs.{Common.{◌≡◌, ◌+◌, nat_cmp, refl, sym, ap, ◌∙◌, subst, arith, set, slice_get}, lemmas.Option.{slice_get_read}}
-use Rattle.std.specs.BTreeMap.{get}
-use Rattle.pmf_cut.{specs.declared.section.Cutting.{Cutting}, specs.Cutting.{IsNamed}, proofs.CuttingLemmas.{cut-as, renewed, some_apart}}
+use Rattle.std.{proofs.{Common.{◌≡◌, ◌+◌, nat_cmp, refl, sym, ap, ◌∙◌, subst, arith, set, slice_get}, lemmas.Option.{slice_get_read}}, specs.BTreeMap.{get}}
+use Rattle.pmf_cut.{specs.declared.section.Cutting.{Cutting}, specs.Cutting.{IsNamed}, proofs.CuttingLemmas.{cut_as, renewed, some_apart}}
 use Rattle.pmf_cut.proofs.cutter.Cutter.cut.Goals as goal
 
 pub returns : goal.returns
@@ -13,7 +12,7 @@ returns c = λ section is begins step records handed number at cuts.
       record {
         step_is = part.step_is ∙ named.same.step_is ∙ cuts.step_is;
         has =
-            cut-as _ step records handed _ _ _ _ _ _ _ _ _ (part.current_is ∙ named.same.current_is) (ap (get nat_cmp) (part.places ∙ named.same.places)) (ap (get nat_cmp) part.names) (part.sections ∙ ap (λ list. set list.items c.args.place part.renewed) named.same.sections)
+            cut_as _ step records handed _ _ _ _ _ _ _ _ _ (part.current_is ∙ named.same.current_is) (ap (get nat_cmp) (part.places ∙ named.same.places)) (ap (get nat_cmp) part.names) (part.sections ∙ ap (λ list. set list.items c.args.place part.renewed) named.same.sections)
             (renewed step records handed _ _ _ _ _ cuts.has number c.args.place section at is c.name.new.self.outputs _ _ c.in-Some.name part.file part.renewed c.args.next.part c.args.next.head.items
             (subst (λ (s : Cutting). IsNamed (get nat_cmp c.args.self.now.names) (get nat_cmp c.name.new.self.names) c.in-Some.name s.number) its named.named) above begins part.has named.more part.there part.says);
       },

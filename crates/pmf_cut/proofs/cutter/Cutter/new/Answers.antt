@@ -1,5 +1,4 @@
-use Rattle.std.proofs.Common.{nat_cmp, [], ◌∷◌, ◌++◌, refl, sym, ap, ◌∙◌}
-use Rattle.std.specs.{BTreeMap.{get, is_at}, Map.{lookup}}
+use Rattle.std.{proofs.Common.{nat_cmp, [], ◌∷◌, ◌++◌, refl, sym, ap, ◌∙◌}, specs.{BTreeMap.{get, is_at}, Map.{lookup}}}
 use Rattle.pmf_storelog.proofs.PartLemmas.{ended_is, parts_of-nil}
 use Rattle.pmf_cut.proofs.CuttingLemmas.{cut-none}
 use Rattle.pmf_cut.proofs.cutter.Cutter.new.Goals as goal

@@ -1,15 +1,12 @@
 use Rattle.std.proofs.Common.{◌<◌, sym, subst, arith}
-use Rattle.pmf_cut.specs.Lost.{KnowsByte}
-use Rattle.pmf_cut.proofs.LostLemmas.{none-member, member-lies, member-within, none-known, none-past}
+use Rattle.pmf_cut.{specs.Lost.{KnowsByte}, proofs.LostLemmas.{none-member, member-lies, member-within, none-known, none-past}}
 use Rattle.pmf_cut.proofs.lost.Past.first_past.Goals as goal
 
 pub returns-in-None-clause-lies : goal.returns-in-None-clause-lies
 returns-in-None-clause-lies c = member-lies c.args.self.now c.args.first c.args.end c.first_where-member.result c.first_where-member.ensures
 
 pub returns-in-None-clause-before : goal.returns-in-None-clause-before
-returns-in-None-clause-before c =
-    none-past c.args.self.now c.args.first _ (none-member c.args.self.now c.args.first c.args.end c.first_where-member.result c.first_where-member.ensures)
-    (λ b low high known. subst (λ o. KnowsByte o b) c.in-None.is known)
+returns-in-None-clause-before c = grind (arith, none-past, none-member)
 
 pub returns-in-None-stored_from-clause-lies : goal.returns-in-None-stored_from-clause-lies
 returns-in-None-stored_from-clause-lies c = member-lies c.args.self.now c.args.first c.args.end c.first_where-member.result c.first_where-member.ensures

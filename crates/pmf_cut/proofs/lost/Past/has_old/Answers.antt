@@ -1,5 +1,5 @@
-use Rattle.std.proofs.Common.{◌+◌, sym, ◌∙◌, subst, arith}
-use Rattle.pmf_cut.{specs.Lost.{NoneOld}, proofs.LostLemmas.{none-old-rest, none-old-run}}
+use Rattle.std.proofs.Common.{sym, ◌∙◌, arith}
+use Rattle.pmf_cut.{proofs.LostLemmas.{none-old-run}}
 use Rattle.pmf_cut.proofs.lost.Past.has_old.Goals as goal
 
 pub loop-byte-preserved : goal.loop-byte-preserved
@@ -13,7 +13,4 @@ loop-byte-preserved c =
     )
 
 pub returns : goal.returns
-returns c = λ yes.
-    let none = none-old-rest c.args.self.now c.args.shadow.now c.first-first.result c.loop-byte.first c.end-end.result c.loop-byte.invariant.0 c.in_default.ensures.before c.loop-byte.invariant.2 in
-    subst (λ f. NoneOld c.args.self.now c.args.shadow.now f (c.args.span.first + c.args.span.size)) c.first-first.ensures.value
-    (subst (NoneOld c.args.self.now c.args.shadow.now c.first-first.result) c.end-end.ensures.value none)
+returns c = grind arith

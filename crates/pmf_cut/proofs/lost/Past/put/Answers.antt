@@ -1,7 +1,6 @@
 use Rattle.std.proofs.{Common.{arith, inl, inr}, lemmas.Bool.{cases_lt}}
 use Rattle.pmf_event.specs.declared.span.TheConstants.{ADDRESS_LIMIT}
-use Rattle.pmf_cut.specs.declared.lost.Past.{Past}
-use Rattle.pmf_cut.proofs.LostLemmas.{put-kept, put-new}
+use Rattle.pmf_cut.{specs.declared.lost.Past.{Past}, proofs.LostLemmas.{put-kept, put-new}}
 use Rattle.pmf_cut.proofs.lost.Past.put.Goals as goal
 
 pub loop-start-preserved : goal.loop-start-preserved

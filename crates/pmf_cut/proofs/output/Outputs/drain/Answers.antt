@@ -1,15 +1,6 @@
-use Rattle.std.proofs.{Common.{◌≡◌, length, arith, refl}, lemmas.Grind.{common_steps}}
-use Rattle.pmf_cut.proofs.OutputLemmas.{drained-push, drained-empty, hands-out}
+use Rattle.std.proofs.{Common.{refl}}
+use Rattle.pmf_cut.proofs.OutputLemmas.{drained-push, hands-out}
 use Rattle.pmf_cut.proofs.output.Outputs.drain.Goals as goal
-
-pub loop-file-init : goal.loop-file-init
-loop-file-init c = record { kept = λ file. rw c.new-texts.ensures.items refl; gone = λ k within. absurd (omega arith); currents = λ file. refl; count = refl }
-
-pub loop-file-preserved-then-is_empty : goal.loop-file-preserved-then-is_empty
-loop-file-preserved-then-is_empty c =
-    let none : length c.take_text-bytes.result.items ≡ 0 = grind (arith, common_steps) in
-    let took = c.take_text-bytes.ensures in
-    drained-empty _ c.loop-file.self _ _ c.loop-file.file-index _ _ _ refl c.loop-file.invariant took.taken took.none_left took.others took.currents took.count none
 
 pub loop-file-preserved : goal.loop-file-preserved
 loop-file-preserved c =
