@@ -84,9 +84,7 @@ head_of-line : (name : Name) (events rows : ℕ) → name.run < 2 ^ 64 → name.
     head_of (head_line name events rows) ≡ Some (head_told name events rows)
 unfolding head_of head_line head_told
 head_of-line name events rows run number few short =
-    let last = decimal rows ++ [] in
-    let third = decimal events ++ (codes " rows=" ++ last) in
-    let second = decimal name.number ++ (codes " events=" ++ third) in
+    let last = decimal rows ++ [] in let third = decimal events ++ (codes " rows=" ++ last) in let second = decimal name.number ++ (codes " events=" ++ third) in
     ap head_of (regroup (codes "section ") (decimal name.run) (codes ".") (decimal name.number) (codes " events=") (decimal events) (codes " rows=") (decimal rows))
     ∙ ap head_of_run (number_behind-word (codes "section ") name.run (codes "." ++ second) run refl)
     ∙ ap (head_of_number name.run) (number_behind-word (codes ".") name.number (codes " events=" ++ third) number refl)
@@ -100,8 +98,7 @@ head_of-end blocks = refl
 end_of-line : (blocks : ℕ) → blocks < 2 ^ 64 → end_of (end_line blocks) ≡ Some blocks
 unfolding end_of end_line
 end_of-line blocks small =
-    ap (λ digits. end_of (codes "end verdicts=" ++ digits)) (sym (append-nil (decimal blocks)))
-    ∙ ap alone (number_behind-word (codes "end verdicts=") blocks [] small tt)
+    ap (λ digits. end_of (codes "end verdicts=" ++ digits)) (sym (append-nil (decimal blocks))) ∙ ap alone (number_behind-word (codes "end verdicts=") blocks [] small tt)
 
 -- the reading after more text lines
 lines-after : (r : Reading) (n : ℕ) (xs ys : List (List ℕ)) → after_lines r n (xs ++ ys) ≡ after_lines (after_lines r n xs) (n + length xs) ys
@@ -145,8 +142,7 @@ events-at r stage section (suc more) told = refl
 row-step : (r : Reading) (section : Trace) (row : Row) (rows : List Row) (n : ℕ) → after_line (with_rows r section (row ∷ rows)) n (text_without_end row) ≡ with_rows r section rows
 unfolding with_rows after_row after_line_at
 row-step r section row rows n =
-    let here = at r (AtRows section (row ∷ rows)) in
-    line-at here n (text_without_end row) (AtRows section (row ∷ rows)) refl
+    let here = at r (AtRows section (row ∷ rows)) in line-at here n (text_without_end row) (AtRows section (row ∷ rows)) refl
     ∙ ap (λ same. if same then with_rows here section rows else at here (AtFault (FalseRows section.name))) ((bytes_eq-Decides (text_of_row row) (text_of_row row)).1 refl)
     ∙ rows-at r (AtRows section (row ∷ rows)) section rows
 
@@ -163,14 +159,10 @@ module _ (r : Reading) (name : Name) (told : ℕ) where
       after_line (with_events r (of_events done) (length (event ∷ left)) told) n (text_of_event event) ≡ with_events r (of_events (done ++ event ∷ [])) (length left) told
   unfolding with_events of_events after_line_at
   event-step done left event n valid few =
-      let stage = AtEvents (of_events done) (length (event ∷ left)) told in
-      let here = at r stage in
-      let one_less : length (event ∷ left) - 1 ≡ length left = omega arith in
-      line-at here n (text_of_event event) stage refl
-      ∙ ap (after_event here n (of_events done) (length (event ∷ left)) told) (event_of_line-event event valid)
+      let stage = AtEvents (of_events done) (length (event ∷ left)) told in let here = at r stage in let one_less : length (event ∷ left) - 1 ≡ length left = omega arith in
+      line-at here n (text_of_event event) stage refl ∙ ap (after_event here n (of_events done) (length (event ∷ left)) told) (event_of_line-event event valid)
       ∙ event-added here n (of_events done) (length (event ∷ left)) told event (λ full. omega (arith, full, few))
-      ∙ events-at r stage (of_events (done ++ event ∷ [])) (length (event ∷ left) - 1) told
-      ∙ ap (λ k. with_events r (of_events (done ++ event ∷ [])) k told) one_less
+      ∙ events-at r stage (of_events (done ++ event ∷ [])) (length (event ∷ left) - 1) told ∙ ap (λ k. with_events r (of_events (done ++ event ∷ [])) k told) one_less
 
   leads-events : (done left : List Event) → AllByRecursion AllValid left → length done + length left ≤ EVENT_LIMIT →
       Leads (with_events r (of_events done) (length left) told) (map text_of_event left) (with_section r (of_events (done ++ left)) told)
@@ -196,8 +188,7 @@ module _ (profile : Profile) (blocks : List Trace) (section : Trace) (spelled : 
   head-step : (n : ℕ) → after_line r n (head_line section.name (length section.events) (length rows)) ≡ with_events r (record { name = section.name; events = [] }) (length section.events) (length rows)
   unfolding after_blocks head_told after_line_at
   head-step n =
-      let text = head_line section.name (length section.events) (length rows) in
-      line-at r n text AtBlock refl
+      let text = head_line section.name (length section.events) (length rows) in line-at r n text AtBlock refl
       ∙ ap (after_head r n text) (head_of-line section.name (length section.events) (length rows) spelled.run spelled.number (let few = spelled.few in omega (arith, few)) short)
 
   leads-block : Leads r (block_lines (checked_by profile section)) (after_blocks profile (blocks ++ section ∷ []))
@@ -225,10 +216,8 @@ leads-blocks : (profile : Profile) (done : List Trace) (sections : List Checked)
 unfolding AllBy
 leads-blocks profile done [] by spelled few = rw (append-nil done) (leads-none (after_blocks profile done))
 leads-blocks profile done (s ∷ sections) by spelled few =
-    let long = length-append (block_lines s) (flat_map block_lines sections) in
-    let less = rows-few s in
-    let is : s ≡ checked_by profile s.section = ap (λ own. checked_by own s.section) by.0 in
-    let short : length (rows_in s) < 2 ^ 64 = omega (arith, few, long, less) in
+    let long = length-append (block_lines s) (flat_map block_lines sections) in let less = rows-few s in
+    let is : s ≡ checked_by profile s.section = ap (λ own. checked_by own s.section) by.0 in let short : length (rows_in s) < 2 ^ 64 = omega (arith, few, long, less) in
     let block = subst (λ c. Leads (after_blocks profile done) (block_lines c) (after_blocks profile (done ++ s.section ∷ []))) (sym is)
     (leads-block profile done s.section (subst IsSpelled is spelled.0) (subst (λ c. length (rows_in c) < 2 ^ 64) is short)) in
     let rest = leads-blocks profile (done ++ s.section ∷ []) sections by.1 spelled.1 (omega (arith, few, long)) in
@@ -239,10 +228,7 @@ leads-blocks profile done (s ∷ sections) by spelled few =
 sections-few : (sections : List Checked) → length sections ≤ length (flat_map block_lines sections)
 sections-few [] = omega arith
 sections-few (s ∷ sections) =
-    let long = length-append (block_lines s) (flat_map block_lines sections) in
-    let less = rows-few s in
-    let rest = sections-few sections in
-    omega (arith, long, less, rest)
+    let long = length-append (block_lines s) (flat_map block_lines sections) in let less = rows-few s in let rest = sections-few sections in omega (arith, long, less, rest)
 
 lines-long : (lines : List (List ℕ)) → length lines ≤ length (text_of_lines lines)
 lines-long [] = omega arith
@@ -279,13 +265,9 @@ module _ (l : LedgerValue) (rises : Rises l.sections) (checked : All (λ (c : Ch
   end-step : (n : ℕ) → after_line (after_blocks l.profile (traces l.sections)) n (end_line (length l.sections)) ≡ whole
   unfolding whole after_blocks after_line_at
   end-step n =
-      let r = after_blocks l.profile (traces l.sections) in
-      let few = sections-few l.sections in
-      let small : length l.sections < 2 ^ 64 = omega (arith, few, few_lines) in
-      line-at r n (end_line (length l.sections)) AtBlock refl
-      ∙ ap (after_head r n (end_line (length l.sections))) (head_of-end (length l.sections))
-      ∙ ap (after_end r n) (end_of-line (length l.sections) small)
-      ∙ end-here r n (length l.sections) (length l.sections) (sym (length-map l.sections (λ (s : Checked). s.section))) refl
+      let r = after_blocks l.profile (traces l.sections) in let few = sections-few l.sections in let small : length l.sections < 2 ^ 64 = omega (arith, few, few_lines) in
+      line-at r n (end_line (length l.sections)) AtBlock refl ∙ ap (after_head r n (end_line (length l.sections))) (head_of-end (length l.sections))
+      ∙ ap (after_end r n) (end_of-line (length l.sections) small) ∙ end-here r n (length l.sections) (length l.sections) (sym (length-map l.sections (λ (s : Checked). s.section))) refl
 
   version-step : (n : ℕ) → after_line unread n (version_of l.profile) ≡ after_blocks l.profile []
   unfolding after_blocks after_line_at
