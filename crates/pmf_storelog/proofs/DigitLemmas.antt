@@ -20,6 +20,4 @@ unfolding tabulate
 table_is_rule = refl
 
 pub table_value : (c : ℕ) → c < 256 → get_or digits_table c 0 ≡ digit_value c
-table_value c within =
-    let same : 0 + c ≡ c = omega arith in
-    ap (λ (l : List ℕ). get_or l c 0) table_is_rule ∙ tabulate_at digit_value 0 256 c within ∙ ap digit_value same
+table_value c within = let same : 0 + c ≡ c = omega arith in ap (λ (l : List ℕ). get_or l c 0) table_is_rule ∙ tabulate_at digit_value 0 256 c within ∙ ap digit_value same

@@ -22,8 +22,7 @@ digits-front radix (d ∷ ds) rest each none =
 
 numeral_of-decimal : (n : ℕ) → n < 2 ^ 64 → numeral_of 10 20 (decimal n) ≡ Some n
 numeral_of-decimal n small =
-    let numeral = decimal_is_IsNumeral n small in
-    numeral_of-digits 10 20 (decimal n) n numeral.0.0 (length-decimal-le 20 n (omega arith) (omega arith) small) numeral.0.1 numeral.1 small
+    let numeral = decimal_is_IsNumeral n small in numeral_of-digits 10 20 (decimal n) n numeral.0.0 (length-decimal-le 20 n (omega arith) (omega arith) small) numeral.0.1 numeral.1 small
 
 front : (ds rest : List ℕ) → digits_in_front (ds ++ rest) ≡ length ds → number_in_front (ds ++ rest) ≡ number_before rest (numeral_of 10 20 ds)
 unfolding number_in_front
@@ -32,5 +31,4 @@ front ds rest count = rw (count, take_at ds rest (length ds) refl, drop_at ds re
 -- what is written of a number reads as the number, whatever follows it that begins with no digit
 pub number_in_front-decimal : (n : ℕ) (rest : List ℕ) → n < 2 ^ 64 → BeginsWithNoDigit rest → number_in_front (decimal n ++ rest) ≡ Some (n, rest)
 number_in_front-decimal n rest small none =
-    let numeral = decimal_is_IsNumeral n small in
-    front (decimal n) rest (digits-front 10 (decimal n) rest numeral.0.1 none) ∙ ap (number_before rest) (numeral_of-decimal n small)
+    let numeral = decimal_is_IsNumeral n small in front (decimal n) rest (digits-front 10 (decimal n) rest numeral.0.1 none) ∙ ap (number_before rest) (numeral_of-decimal n small)

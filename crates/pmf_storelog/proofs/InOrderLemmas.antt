@@ -38,10 +38,7 @@ rising-insert n (x ∷ xs) rising = elim (order_of n x) [
 
 pub has-insert : (n : ℕ) (xs : List ℕ) → Has n (insert_key nat_cmp xs n)
 has-insert n [] = inl refl
-has-insert n (x ∷ xs) = elim (order_of n x) [
-  | inl low ↦ rw low.0 (inl refl)
-  | inr rest ↦ elim rest [ inl same ↦ rw same.0 (inl same.1) | inr high ↦ rw high.0 (inr (has-insert n xs)) ]
-]
+has-insert n (x ∷ xs) = elim (order_of n x) [ inl low ↦ rw low.0 (inl refl) | inr rest ↦ elim rest [ inl same ↦ rw same.0 (inl same.1) | inr high ↦ rw high.0 (inr (has-insert n xs)) ] ]
 
 pub insert-present : (n : ℕ) (xs : List ℕ) → Rises xs → Has n xs → insert_key nat_cmp xs n ≡ xs
 insert-present n [] rising has = absurd has
@@ -58,10 +55,7 @@ has-kept : (k n : ℕ) (xs : List ℕ) → Has k xs → Has k (insert_key nat_cm
 has-kept k n [] has = absurd has
 has-kept k n (x ∷ xs) has = elim (order_of n x) [
   | inl low ↦ rw low.0 (inr has)
-  | inr rest ↦ elim rest [
-    | inl same ↦ rw same.0 has
-    | inr high ↦ rw high.0 (elim has [ inl is ↦ inl is | inr later ↦ inr (has-kept k n xs later) ])
-  ]
+  | inr rest ↦ elim rest [ inl same ↦ rw same.0 has | inr high ↦ rw high.0 (elim has [ inl is ↦ inl is | inr later ↦ inr (has-kept k n xs later) ]) ]
 ]
 
 has-either : (k n : ℕ) (xs : List ℕ) → Has k (insert_key nat_cmp xs n) → (k ≡ n) ⊎ Has k xs
@@ -99,10 +93,7 @@ contains-has n (x ∷ xs) (suc k) within is = inr (contains-has n xs k (omega (a
 
 has-contains : (n : ℕ) (xs : List ℕ) → Has n xs → Contains xs n
 has-contains n [] has = absurd has
-has-contains n (x ∷ xs) has = elim has [
-  | inl is ↦ (0, omega arith, sym is)
-  | inr later ↦ let there = has-contains n xs later in (suc there.0, omega (arith, there.1), there.2)
-]
+has-contains n (x ∷ xs) has = elim has [ inl is ↦ (0, omega arith, sym is) | inr later ↦ let there = has-contains n xs later in (suc there.0, omega (arith, there.1), there.2) ]
 
 pub the_set_in_order : InOrderIsTheSetInOrder
 the_set_in_order ns = (
@@ -115,13 +106,9 @@ the_set_in_order ns = (
 
 -- it is the same which of two numbers comes first
 low_first : (m n : ℕ) (xs : List ℕ) → m < n → with_number (with_number xs m) n ≡ with_number (with_number xs n) m
-low_first m n [] less =
-    let up : nat_cmp m n ≡ Less = sym (nat_cmp_is m n Less less) in
-    let down : nat_cmp n m ≡ Greater = sym (nat_cmp_is n m Greater less) in
-    rw (up, down) refl
+low_first m n [] less = let up : nat_cmp m n ≡ Less = sym (nat_cmp_is m n Less less) in let down : nat_cmp n m ≡ Greater = sym (nat_cmp_is n m Greater less) in rw (up, down) refl
 low_first m n (x ∷ xs) less =
-    let up : nat_cmp m n ≡ Less = sym (nat_cmp_is m n Less less) in
-    let down : nat_cmp n m ≡ Greater = sym (nat_cmp_is n m Greater less) in
+    let up : nat_cmp m n ≡ Less = sym (nat_cmp_is m n Less less) in let down : nat_cmp n m ≡ Greater = sym (nat_cmp_is n m Greater less) in
     elim (order_of m x) [
       | inl low ↦ elim (order_of n x) [
         | inl both ↦ rw (low.0, both.0, up, down) refl
@@ -129,10 +116,7 @@ low_first m n (x ∷ xs) less =
       ]
       | inr rest ↦
           let above : nat_cmp n x ≡ Greater = sym (nat_cmp_is n x Greater (elim rest [ inl same ↦ (let s = same.1 in omega (arith, s, less)) | inr high ↦ (let h = high.1 in omega (arith, h, less)) ])) in
-          elim rest [
-            | inl same ↦ rw (same.0, above, same.0) refl
-            | inr high ↦ rw (high.0, above, high.0) (ap (λ ys. x ∷ ys) (low_first m n xs less))
-          ]
+          elim rest [ inl same ↦ rw (same.0, above, same.0) refl | inr high ↦ rw (high.0, above, high.0) (ap (λ ys. x ∷ ys) (low_first m n xs less)) ]
     ]
 
 either_first : (m n : ℕ) (xs : List ℕ) → with_number (with_number xs m) n ≡ with_number (with_number xs n) m

@@ -39,14 +39,12 @@ module _ (records more : List (List ℕ)) where
   pub numbered_among-append : (k : ℕ) → k ≤ length records → numbered_among (records ++ more) k ≡ numbered_among records k
   unfolding numbered_among
   numbered_among-append zero le = refl
-  numbered_among-append (suc k) le =
-      rw (reading_at-append k (omega arith), current_at-append k (omega arith), numbered_among-append k (omega arith)) refl
+  numbered_among-append (suc k) le = rw (reading_at-append k (omega arith), current_at-append k (omega arith), numbered_among-append k (omega arith)) refl
 
   pub entered_among-append : (k : ℕ) → k ≤ length records → entered_among (records ++ more) k ≡ entered_among records k
   unfolding entered_among
   entered_among-append zero le = refl
-  entered_among-append (suc k) le =
-      rw (reading_at-append k (omega arith), current_at-append k (omega arith), entered_among-append k (omega arith)) refl
+  entered_among-append (suc k) le = rw (reading_at-append k (omega arith), current_at-append k (omega arith), entered_among-append k (omega arith)) refl
 
   refusal_at-append : (k : ℕ) → k < length records → refusal_at (records ++ more) k ≡ refusal_at records k
   unfolding refusal_at
@@ -68,9 +66,7 @@ module _ (records : List (List ℕ)) (text : List ℕ) where
 
   pub current_of-push : current_of (records ++ text ∷ []) ≡ number_after (record_of text) (current_of records)
   unfolding current_of current_at
-  current_of-push =
-      ap (current_at (records ++ text ∷ [])) one_more
-      ∙ rw (reading_at-last, current_at-append records (text ∷ []) (length records) (omega arith)) refl
+  current_of-push = ap (current_at (records ++ text ∷ [])) one_more ∙ rw (reading_at-last, current_at-append records (text ∷ []) (length records) (omega arith)) refl
 
   pub numbered_events-push : numbered_events (records ++ text ∷ []) ≡ numbered_events records ++ numbered (current_of records) (record_of text)
   unfolding numbered_events numbered_among current_of
@@ -96,9 +92,7 @@ module _ (records : List (List ℕ)) (text : List ℕ) where
   -- the first fault with one more record
   pub first_fault-push : first_fault (records ++ text ∷ []) ≡ or_else (first_fault records) (refusal_after records (record_of text))
   unfolding first_fault first_fault_among
-  first_fault-push =
-      ap (first_fault_among (records ++ text ∷ [])) one_more
-      ∙ rw (first_fault_among-append records (text ∷ []) (length records) (omega arith), refusal_at-last) refl
+  first_fault-push = ap (first_fault_among (records ++ text ∷ [])) one_more ∙ rw (first_fault_among-append records (text ∷ []) (length records) (omega arith), refusal_at-last) refl
 
   -- the events of each section, by what the record says
   pub events_in-push : (number : ℕ) → events_in (records ++ text ∷ []) number ≡ events_in records number ++ in_section number (numbered (current_of records) (record_of text))
@@ -116,13 +110,11 @@ module _ (records : List (List ℕ)) (text : List ℕ) where
 
   pub events_in-enter : (entered : ℕ) → record_of text ≡ Ok (Enters entered) → (number : ℕ) → events_in (records ++ text ∷ []) number ≡ events_in records number
   events_in-enter entered says number =
-      events_in-push number ∙ ap (λ reading. events_in records number ++ in_section number (numbered (current_of records) reading)) says
-      ∙ append-nil (events_in records number)
+      events_in-push number ∙ ap (λ reading. events_in records number ++ in_section number (numbered (current_of records) reading)) says ∙ append-nil (events_in records number)
 
   pub events_in-nothing : record_of text ≡ Ok Skipped → (number : ℕ) → events_in (records ++ text ∷ []) number ≡ events_in records number
   events_in-nothing says number =
-      events_in-push number ∙ ap (λ reading. events_in records number ++ in_section number (numbered (current_of records) reading)) says
-      ∙ append-nil (events_in records number)
+      events_in-push number ∙ ap (λ reading. events_in records number ++ in_section number (numbered (current_of records) reading)) says ∙ append-nil (events_in records number)
 
   pub skipped_of-event : (event : Event) → record_of text ≡ Ok (Happens event) → skipped_of (records ++ text ∷ []) ≡ skipped_of records
   unfolding skipped_of is_skipped
@@ -140,20 +132,15 @@ module _ (records : List (List ℕ)) (text : List ℕ) where
 pub first_fault-more : (records more : List (List ℕ)) (fault : LogFault) → first_fault records ≡ Some fault → first_fault (records ++ more) ≡ Some fault
 first_fault-more records [] fault is = rw (append-nil records) is
 first_fault-more records (text ∷ more) fault is =
-    ap first_fault (sym (append_assoc records (text ∷ []) more))
-    ∙ first_fault-more (records ++ text ∷ []) more fault (rw (first_fault-push records text, is) refl)
+    ap first_fault (sym (append_assoc records (text ∷ []) more)) ∙ first_fault-more (records ++ text ∷ []) more fault (rw (first_fault-push records text, is) refl)
 
 -- what bytes show stays, whatever follows
 pub first_fault-ended : (xs ys : List ℕ) (fault : LogFault) → first_fault (ended_records xs) ≡ Some fault → first_fault (ended_records (xs ++ ys)) ≡ Some fault
-first_fault-ended xs ys fault is =
-    let more = ended_records-more xs ys in
-    ap first_fault more.1 ∙ first_fault-more (ended_records xs) more.0 fault is
+first_fault-ended xs ys fault is = let more = ended_records-more xs ys in ap first_fault more.1 ∙ first_fault-more (ended_records xs) more.0 fault is
 
 pub first_fault-records : (xs ys : List ℕ) (fault : LogFault) → first_fault (ended_records xs) ≡ Some fault → first_fault (records_of (xs ++ ys)) ≡ Some fault
 first_fault-records xs ys fault is =
-    let open_end = unfinished (xs ++ ys) in
-    ap first_fault (records_of-unfinished (xs ++ ys) open_end.0 open_end.1)
-    ∙ first_fault-more _ _ fault (first_fault-ended xs ys fault is)
+    let open_end = unfinished (xs ++ ys) in ap first_fault (records_of-unfinished (xs ++ ys) open_end.0 open_end.1) ∙ first_fault-more _ _ fault (first_fault-ended xs ys fault is)
 
 or_else-none : (first : Option LogFault) → or_else first None ≡ first
 or_else-none (Some fault) = refl
@@ -199,13 +186,10 @@ module _ (limit : ℕ) (bytes rest : List ℕ) (fault : LogFault) (shown : shown
   by_record : first_fault (ended_records (take limit bytes)) ≡ Some fault → fault_within limit (bytes ++ rest) ≡ Some fault
   by_record is = ⊎_elim
       (λ long.
-      let more = take_more_of limit bytes rest in
-      fault_within-long limit (bytes ++ rest) long
-      ∙ shown_within-early limit (bytes ++ rest) fault
+      let more = take_more_of limit bytes rest in fault_within-long limit (bytes ++ rest) long ∙ shown_within-early limit (bytes ++ rest) fault
       (ap (λ front. first_fault (ended_records front)) more.1 ∙ first_fault-ended (take limit bytes) more.0 fault is))
       (λ short.
-      let all : take limit bytes ≡ bytes = take_all limit bytes (omega (arith, length-append bytes rest)) in
-      fault_within-short limit (bytes ++ rest) short
+      let all : take limit bytes ≡ bytes = take_all limit bytes (omega (arith, length-append bytes rest)) in fault_within-short limit (bytes ++ rest) short
       ∙ first_fault-records bytes rest fault (ap (λ front. first_fault (ended_records front)) (sym all) ∙ is))
       (cases_lt limit (length (bytes ++ rest)))
 
@@ -215,8 +199,7 @@ module _ (limit : ℕ) (bytes rest : List ℕ) (fault : LogFault) (shown : shown
       let longer : limit < length (bytes ++ rest) = omega (arith, length-append bytes rest) in
       let again : first_fault (ended_records (take limit (bytes ++ rest))) ≡ None = ap (λ front. first_fault (ended_records front)) same ∙ none in
       fault_within-long limit (bytes ++ rest) longer ∙ shown_within-long limit (bytes ++ rest) longer again
-      ∙ ap (λ front. Some (record { at = length (ended_records front) + 1; cause = TooLong })) same
-      ∙ sym (shown_within-long limit bytes long none) ∙ shown
+      ∙ ap (λ front. Some (record { at = length (ended_records front) + 1; cause = TooLong })) same ∙ sym (shown_within-long limit bytes long none) ∙ shown
 
   pub shown_within-all : fault_within limit (bytes ++ rest) ≡ Some fault
   shown_within-all = by_first (first_fault (ended_records (take limit bytes))) refl

@@ -4,8 +4,7 @@ use Rattle.pmf_storelog.specs.Numbers.{is_digit_in, is_numeral, numeral_of}
 
 -- what digits give after a value
 unfoldable pub numeral_from : ℕ → ℕ → List ℕ → Option ℕ
-numeral_from radix value text =
-    cond (list_all (is_digit_in radix) text && nat_lt (digits_value_after radix value text) (2 ^ 64)) (Some (digits_value_after radix value text)) None
+numeral_from radix value text = cond (list_all (is_digit_in radix) text && nat_lt (digits_value_after radix value text) (2 ^ 64)) (Some (digits_value_after radix value text)) None
 
 pub numeral_of-empty : (radix most : ℕ) (text : List ℕ) → length text ≡ 0 → numeral_of radix most text ≡ None
 unfolding numeral_of is_numeral
@@ -54,14 +53,10 @@ module _ (radix most value i : ℕ) (text : List ℕ) (filled : 0 < length text)
       ∙ numeral_from-other radix value (get_or text i 0) (drop (i + 1) text) other)
 
   pub at_digit : i < length text → digit_value (get_or text i 0) < radix → numeral_from radix (value * radix + digit_value (get_or text i 0)) (drop (i + 1) text) ≡ numeral_from radix 0 text
-  at_digit within digit =
-      sym (sym left ∙ ap (numeral_from radix value) (drop_more text i 0 within)
-      ∙ numeral_from-digit radix value (get_or text i 0) (drop (i + 1) text) digit)
+  at_digit within digit = sym (sym left ∙ ap (numeral_from radix value) (drop_more text i 0 within) ∙ numeral_from-digit radix value (get_or text i 0) (drop (i + 1) text) digit)
 
   pub at_large : 0 < radix → i < length text → digit_value (get_or text i 0) < radix → 2 ^ 64 ≤ value * radix + digit_value (get_or text i 0) → None ≡ numeral_of radix most text
-  at_large some within digit large =
-      sym (numeral_of-from radix most text filled short ∙ sym (at_digit within digit) ∙ numeral_from-large radix _ (drop (i + 1) text) some large)
+  at_large some within digit large = sym (numeral_of-from radix most text filled short ∙ sym (at_digit within digit) ∙ numeral_from-large radix _ (drop (i + 1) text) some large)
 
   pub at_end : length text ≤ i → value < 2 ^ 64 → Some value ≡ numeral_of radix most text
-  at_end past small =
-      sym (numeral_of-from radix most text filled short ∙ sym left ∙ ap (numeral_from radix value) (drop_all i text past) ∙ numeral_from-end radix value small)
+  at_end past small = sym (numeral_of-from radix most text filled short ∙ sym left ∙ ap (numeral_from radix value) (drop_all i text past) ∙ numeral_from-end radix value small)

@@ -10,8 +10,7 @@ pub record IsPlain (line : List ℕ) : Type 0 where
 
 front_kept : (line : List ℕ) → All (λ c. is_blank c ≡ false) line → without_front_blanks line ≡ line
 unfolding without_front_blanks
-front_kept line close =
-    ap (λ n. drop n line) (prefix_len_is is_blank line 0 0 (omega arith) (λ k l. absurd (omega arith)) (λ l. close 0 0 l))
+front_kept line close = ap (λ n. drop n line) (prefix_len_is is_blank line 0 0 (omega arith) (λ k l. absurd (omega arith)) (λ l. close 0 0 l))
 
 end_kept : (line : List ℕ) → 0 < length line → All (λ c. is_blank c ≡ false) line → without_end_blanks line ≡ line
 unfolding without_end_blanks
@@ -30,8 +29,7 @@ records_in-plain line plain = rw (trimmed-plain line plain, lt-ltb 0 (length lin
 records_of-line : (line rest : List ℕ) → IsPlain line → records_of (line ++ 10 ∷ rest) ≡ line ∷ records_of rest
 unfolding parts_of
 records_of-line line rest plain =
-    ap records_in (slice_split_at is_separator line 10 rest plain.whole refl)
-    ∙ records_in-append (line ∷ []) (parts_of rest)
+    ap records_in (slice_split_at is_separator line 10 rest plain.whole refl) ∙ records_in-append (line ∷ []) (parts_of rest)
     ∙ ap (λ records. records ++ records_of rest) (records_in-plain line plain)
 
 -- the text of some lines
@@ -43,6 +41,5 @@ pub records_of-lines : (lines : List (List ℕ)) → All IsPlain lines → recor
 unfolding parts_of records_in without_front_blanks without_end_blanks
 records_of-lines [] plain = refl
 records_of-lines (line ∷ lines) plain =
-    ap records_of (append_assoc line (10 ∷ []) (text_of_lines lines))
-    ∙ records_of-line line (text_of_lines lines) (plain 0 [] (omega arith))
+    ap records_of (append_assoc line (10 ∷ []) (text_of_lines lines)) ∙ records_of-line line (text_of_lines lines) (plain 0 [] (omega arith))
     ∙ ap (λ records. line ∷ records) (records_of-lines lines (λ k d l. plain (suc k) d (omega arith)))

@@ -36,8 +36,7 @@ module _ (run : ℕ) (bytes : List ℕ) (old : Progress) (parsed : HasParsed run
 pub shown_by_front : (bytes front piece rest : List ℕ) (fault : LogFault) → front ++ rest ≡ piece →
     IsShown fault (first_fault (ended_records (bytes ++ front))) → IsShown fault (first_fault (ended_records (bytes ++ piece)))
 shown_by_front bytes front piece rest fault whole shown = λ memory.
-    ap (λ all. first_fault (ended_records all)) (ap (λ all. bytes ++ all) (sym whole) ∙ sym (append_assoc bytes front rest))
-    ∙ first_fault-ended (bytes ++ front) rest fault (shown memory)
+    ap (λ all. first_fault (ended_records all)) (ap (λ all. bytes ++ all) (sym whole) ∙ sym (append_assoc bytes front rest)) ∙ first_fault-ended (bytes ++ front) rest fault (shown memory)
 
 -- with nothing kept, what `take_part` answers of the bytes before the separator is said of the piece
 module _ (run : ℕ) (bytes : List ℕ) (old : Progress) (parsed : HasParsed run bytes old) (piece end : List ℕ) where
@@ -45,24 +44,20 @@ module _ (run : ℕ) (bytes : List ℕ) (old : Progress) (parsed : HasParsed run
       OnOk r (HasTaken run (ended_records bytes ++ records_in (end ∷ [])) new.tally) → OnOk r (HasParsed run (bytes ++ piece) new)
   first_ended_ok new (Err fault) ends none empty taken = tt
   first_ended_ok new (Ok done) ends none empty taken =
-      let same : (old.carry.items ++ end) ≡ end = ap (λ (carry : List ℕ). carry ++ end) none in
-      parsed_ended run bytes old parsed piece end new ends (rw same taken) empty
+      let same : (old.carry.items ++ end) ≡ end = ap (λ (carry : List ℕ). carry ++ end) none in parsed_ended run bytes old parsed piece end new ends (rw same taken) empty
 
   pub first_ended_err : (r : Result (Unit {0}) LogFault) → parts_of piece ≡ end ∷ [] ∷ [] → old.carry.items ≡ [] →
       IfErr r (λ fault. IsShown fault (first_fault (ended_records bytes ++ records_in (end ∷ [])))) →
       IfErr r (λ fault. IsShown fault (first_fault (ended_records (bytes ++ piece))))
   first_ended_err (Ok done) ends none shown = tt
   first_ended_err (Err fault) ends none shown =
-      let same : (old.carry.items ++ end) ≡ end = ap (λ (carry : List ℕ). carry ++ end) none in
-      shown_ended run bytes old parsed piece end fault ends (rw same shown)
+      let same : (old.carry.items ++ end) ≡ end = ap (λ (carry : List ℕ). carry ++ end) none in shown_ended run bytes old parsed piece end fault ends (rw same shown)
 
 -- the next part, as the loop cuts it out
 pub next_part : (piece : List ℕ) (start len : ℕ) →
     parts_of (take (len + 1) (take (length piece - start) (drop start piece))) ≡ take len (take (length piece - start) (drop start piece)) ∷ [] ∷ [] →
     parts_of (take (len + 1) (drop start piece)) ≡ take (start + len - start) (drop start piece) ∷ [] ∷ []
-next_part piece start len ends =
-    let same : start + len - start ≡ len = omega arith in
-    rw same (rw (take_rest piece start) at ends)
+next_part piece start len ends = let same : start + len - start ≡ len = omega arith in rw same (rw (take_rest piece start) at ends)
 
 -- the loop over a piece: `start` bytes of it are taken, and `len` more stand before the next separator
 module _ (run : ℕ) (bytes piece : List ℕ) (start len : ℕ) where

@@ -6,10 +6,8 @@ use Rattle.pmf_event.specs.{declared.event.Event.{Event}, declared.event.Event.T
 -- fewer than 16 digits leave room for one more
 pub room_for_a_digit : (text : List ℕ) (count : ℕ) → count < 16 → count ≤ length text → AllDigits 16 (take count text) → digits_value 16 (take count text) < 1152921504606846976
 room_for_a_digit text count few within digits =
-    let below = digits_value-lt 16 (take count text) digits in
-    let short : length (take count text) ≤ 15 = omega (arith, length-take-le count text within) in
-    let top : 16 ^ length (take count text) ≤ 16 ^ 15 = pow-le-pow_right (omega arith) short in
-    omega arith
+    let below = digits_value-lt 16 (take count text) digits in let short : length (take count text) ≤ 15 = omega (arith, length-take-le count text within) in
+    let top : 16 ^ length (take count text) ≤ 16 ^ 15 = pow-le-pow_right (omega arith) short in omega arith
 
 pub begins_with_digits : (text : List ℕ) (value count : ℕ) → 0 < count → count ≤ 16 → count ≤ length text → value < 2 ^ 64 →
     AllDigits 16 (take count text) → value ≡ digits_value 16 (take count text) → BeginsWithDigits text value count
@@ -28,9 +26,7 @@ cut_at n xs = sym (ap (λ rest. take n xs ++ rest) (slice_tail n xs) ∙ take-ap
 
 -- a text that begins with another
 pub begins_with : (text front : List ℕ) → starts_with nat_eq text front ≡ true → text ≡ front ++ take (length text - length front) (drop (length front) text)
-begins_with text front starts =
-    (starts_is Decides-eqb text front (starts_with nat_eq text front) refl).0 starts
-    ∙ ap (λ rest. front ++ rest) (sym (slice_tail (length front) text))
+begins_with text front starts = (starts_is Decides-eqb text front (starts_with nat_eq text front) refl).0 starts ∙ ap (λ rest. front ++ rest) (sym (slice_tail (length front) text))
 
 -- letters and digits end no field, and are clean
 word-NoFieldEnd : (cs : List ℕ) → AllDigits 36 cs → NoFieldEnd cs
@@ -55,8 +51,7 @@ number_found text digits rest value count hex cut begins = record {
 
 -- a last field
 last_field : (text field rest : List ℕ) → text ≡ field ++ rest → AllDigits 36 field → HasFields text (field ∷ []) rest
-last_field text field rest whole word =
-    record { line = field; whole = whole; clean = word-IsClean field word; fields_are = fields_of-last field (word-NoFieldEnd field word) }
+last_field text field rest whole word = record { line = field; whole = whole; clean = word-IsClean field word; fields_are = fields_of-last field (word-NoFieldEnd field word) }
 
 -- a field before others
 next_field : (text field more : List ℕ) (fields : List (List ℕ)) (rest : List ℕ) → text ≡ field ++ 59 ∷ more → AllDigits 36 field → HasFields more fields rest → HasFields text (field ∷ fields) rest
@@ -87,8 +82,7 @@ fields_found read text rest fields value begins spells = record {
 module _ (text more last : List ℕ) (first size : ℕ) (span : Extent) (a : BeginsWithNumber text first (59 ∷ more)) (valid : extent_of first size ≡ Ok span) where
   pub span_found : BeginsWithNumber more size last → BeginsWithFields span_of_fields text span (length text - length last)
   unfolding span_of_fields span_of_texts
-  span_found b =
-      fields_found span_of_fields text last _ span (next_number text first more last _ a (last_number more size last b)) (rw (a.value_is, b.value_is, valid) refl)
+  span_found b = fields_found span_of_fields text last _ span (next_number text first more last _ a (last_number more size last b)) (rw (a.value_is, b.value_is, valid) refl)
 
   pub stored_found : (rest : List ℕ) → BeginsWithField more rest → BeginsWithNumber rest size last → BeginsWithFields stored_span text span (length text - length last)
   unfolding stored_span span_of_texts
@@ -111,8 +105,7 @@ pub event_found : (name text : List ℕ) {A : Type 0} (read : List (List ℕ) �
     ((fields : List (List ℕ)) → read fields ≡ Ok value → saying_of name fields ≡ Ok (Happens event)) → BeginsWithEvent text event (length name + 1 + len)
 unfolding record_of
 event_found name text read value len event filled clean one starts found means =
-    let begins = found.begins in
-    let rest = take (length text - (length name + 1)) (drop (length name + 1) text) in
+    let begins = found.begins in let rest = take (length text - (length name + 1)) (drop (length name + 1) text) in
     let size : length (name ++ 59 ∷ []) ≡ length name + 1 = length-append name (59 ∷ []) in
     let is : text ≡ name ++ 59 ∷ rest = rw size at (begins_with text (name ++ 59 ∷ []) starts) ∙ append_assoc name (59 ∷ []) rest in
     record {
@@ -141,8 +134,7 @@ fence_found text rest is = record {
 part_of : (line more : List ℕ) (c : ℕ) (event : Event) → IsPlain line → is_separator c ≡ true → record_of line ≡ Ok (Happens event) → BeginsWithPart (line ++ c ∷ more) event (length line)
 unfolding parts_of
 part_of line more c event plain ends says =
-    let same : take (length line) (line ++ c ∷ more) ≡ line = take_at line (c ∷ more) _ refl in
-    let one : take (length line + 1) (line ++ c ∷ more) ≡ line ++ c ∷ [] =
+    let same : take (length line) (line ++ c ∷ more) ≡ line = take_at line (c ∷ more) _ refl in let one : take (length line + 1) (line ++ c ∷ more) ≡ line ++ c ∷ [] =
     ap (take (length line + 1)) (sym (append_assoc line (c ∷ []) more)) ∙ take_at (line ++ c ∷ []) more (length line + 1) (omega (arith, length-append line (c ∷ []))) in
     record {
       within = omega (arith, length-append line (c ∷ more));
@@ -156,21 +148,18 @@ part_found text event len found within ends =
     let plain : IsPlain found.line = record { filled = found.filled; whole = λ k d l. (each k d l).0; close = λ k d l. (each k d l).1 } in
     let rest : found.rest ≡ get_or text len 0 ∷ drop (len + 1) text =
     sym (drop_at found.line found.rest len (sym found.long)) ∙ ap (drop len) (sym found.whole) ∙ drop_more text len 0 within in
-    let whole : text ≡ found.line ++ get_or text len 0 ∷ drop (len + 1) text = found.whole ∙ ap (λ l. found.line ++ l) rest in
-    subst (λ t. BeginsWithPart t event len) (sym whole)
+    let whole : text ≡ found.line ++ get_or text len 0 ∷ drop (len + 1) text = found.whole ∙ ap (λ l. found.line ++ l) rest in subst (λ t. BeginsWithPart t event len) (sym whole)
     (subst (λ n. BeginsWithPart (found.line ++ get_or text len 0 ∷ drop (len + 1) text) event n) (sym found.long)
     (part_of found.line (drop (len + 1) text) (get_or text len 0) event plain ends found.says))
 
 -- what a text doesn't begin with, its first field doesn't either, and is not
 module _ (text name rest : List ℕ) (whole : text ≡ name ++ rest) (front : List ℕ) (other : starts_with nat_eq text front ≡ false) where
   never_begins : (more : List ℕ) → text ≡ front ++ more → ⊥
-  never_begins more is =
-      let both : true ≡ false = sym ((starts_is Decides-eqb text front (starts_with nat_eq text front) refl).1 more is) ∙ other in cc
+  never_begins more is = let both : true ≡ false = sym ((starts_is Decides-eqb text front (starts_with nat_eq text front) refl).1 more is) ∙ other in cc
 
   not_named : (more : List ℕ) → bytes_eq name (front ++ more) ≡ false
   not_named more = false_from_ne_true _ (λ is.
-      let same : name ≡ front ++ more = (bytes_eq-Decides name (front ++ more)).0 is in
-      never_begins (more ++ rest) (whole ∙ ap (λ l. l ++ rest) same ∙ append_assoc front more rest))
+      let same : name ≡ front ++ more = (bytes_eq-Decides name (front ++ more)).0 is in never_begins (more ++ rest) (whole ∙ ap (λ l. l ++ rest) same ∙ append_assoc front more rest))
 
   not_begun : starts_with nat_eq name front ≡ false
   not_begun = false_from_ne_true _ (λ is.
@@ -195,5 +184,4 @@ record_of-other text store flush fence marker = by_fields (slice_split is_field_
     by_fields : (fields : List (List ℕ)) → join_with_byte 59 fields ≡ text → saying_of_fields fields ≡ Ok Skipped
     by_fields [] whole = refl
     by_fields (name ∷ []) whole = saying_of-other text name [] [] (sym (append-nil name ∙ whole)) store flush fence marker
-    by_fields (name ∷ next ∷ others) whole =
-        saying_of-other text name (59 ∷ join_with_byte 59 (next ∷ others)) (next ∷ others) (sym whole) store flush fence marker
+    by_fields (name ∷ next ∷ others) whole = saying_of-other text name (59 ∷ join_with_byte 59 (next ∷ others)) (next ∷ others) (sym whole) store flush fence marker

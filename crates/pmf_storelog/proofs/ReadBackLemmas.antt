@@ -52,8 +52,7 @@ module _ (n : ℕ) (events : List Event) (records : List (List ℕ)) (has : Says
 
 says-events : (n : ℕ) (done left : List Event) (records : List (List ℕ)) → Says n done records → EachValid left → length done + length left ≤ EVENT_LIMIT →
     Says n (done ++ left) (records ++ map text_of_event left)
-says-events n done [] records has valid few =
-    rw (append-nil done, append-nil records) has
+says-events n done [] records has valid few = rw (append-nil done, append-nil records) has
 says-events n done (event ∷ left) records has valid few =
     let next = says-event n done records has event (text_of_event event) (record_of-event event valid.0) (omega arith) in
     let all = says-events n (done ++ event ∷ []) left (records ++ text_of_event event ∷ []) next valid.1 (omega (arith, length_push done event)) in
@@ -72,15 +71,13 @@ module _ (section : Trace) (small : section.name.number < 2 ^ 64) (valid : EachV
   no_fault_in_text : fault_of (canonical_text section) ≡ None
   unfolding fault_of
   no_fault_in_text =
-      fault_within-short LOG_LIMIT (canonical_text section) (omega (arith, canonical-length section small valid (omega (arith, few))))
-      ∙ ap first_fault records_are
+      fault_within-short LOG_LIMIT (canonical_text section) (omega (arith, canonical-length section small valid (omega (arith, few)))) ∙ ap first_fault records_are
       ∙ (says-section section small valid few).no_fault
 
   sections_are : sections_of section.name.run (canonical_records section) ≡ section ∷ []
   unfolding sections_of
   sections_are =
-      let has = says-section section small valid few in
-      ap (map (λ number. section_named section.name.run number (events_in (canonical_records section) number))) has.numbers
+      let has = says-section section small valid few in ap (map (λ number. section_named section.name.run number (events_in (canonical_records section) number))) has.numbers
       ∙ ap (λ events. section_named section.name.run section.name.number events ∷ []) has.events_are
 
   value_is : value_of section.name.run (canonical_text section) ≡ record { sections = section ∷ []; skipped = 0 }
@@ -102,8 +99,7 @@ each_valid (event ∷ events) valid = (valid 0 event (omega arith), each_valid e
 
 pub reads_back : (section : Trace) (text : List ℕ) → text ≡ canonical_text section → section.name.number < 2 ^ 64 → length section.events ≤ EVENT_LIMIT → All AllValid section.events →
     log_of section.name.run text ≡ Ok (record { sections = section ∷ []; skipped = 0 })
-reads_back section text is small few valid =
-    ap (log_of section.name.run) is ∙ log_of-canonical section small (each_valid section.events valid) few
+reads_back section text is small few valid = ap (log_of section.name.run) is ∙ log_of-canonical section small (each_valid section.events valid) few
 
 -- all lines are written
 pub read_back : (section : Trace) (items : List Event) (i : ℕ) (text : List ℕ) → items ≡ section.events → length items ≤ i →

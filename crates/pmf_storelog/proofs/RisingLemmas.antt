@@ -49,17 +49,14 @@ module _ (records : List (List ℕ)) where
   entered_before : (k : ℕ) → k ≤ length records → entered_of (take k records) ≡ entered_among records k
   unfolding entered_of
   entered_before k within =
-      let long : length (take k records) ≡ k = length-take-le k records within in
-      ap (entered_among (take k records)) long
-      ∙ sym (entered_among-append (take k records) (drop k records) k (omega (arith, long)))
-      ∙ ap (λ rs. entered_among rs k) (take-append-drop k records)
+      let long : length (take k records) ≡ k = length-take-le k records within in ap (entered_among (take k records)) long
+      ∙ sym (entered_among-append (take k records) (drop k records) k (omega (arith, long))) ∙ ap (λ rs. entered_among rs k) (take-append-drop k records)
 
   opens : (k : ℕ) → k ≤ length records → first_fault_among records k ≡ None → IsOpen (in_order (entered_among records k)) (current_at records k)
   unfolding entered_among current_at first_fault_among refusal_at refusal_after
   opens zero within is = record { few = omega arith; here = inl (refl, refl) }
   opens (suc k) within is =
-      let both = no_fault (first_fault_among records k) (refusal_at records k) is in
-      let before = opens k (omega (arith, within)) both.0 in
+      let both = no_fault (first_fault_among records k) (refusal_at records k) is in let before = opens k (omega (arith, within)) both.0 in
       let same = entered_before k (omega (arith, within)) in
       open-step (reading_at records k) (entered_among records k) (current_at records k) (length (events_in (take k records) (current_of (take k records)))) (length (take k records) + 1)
       (subst (λ ns. fault_at (length (take k records) + 1) (cause_after ns (length (events_in (take k records) (current_of (take k records)))) (reading_at records k)) ≡ None) same both.1)
@@ -96,14 +93,12 @@ pub numbers_rise : (run : ℕ) (bytes : List ℕ) (log : LogValue) → log_of ru
     (numbers : List ℕ) × Rises numbers × (length numbers ≤ SECTION_LIMIT) × (map (λ (s : Trace). s.name) log.sections ≡ map (name_in run) numbers)
 unfolding log_of value_of sections_of numbers_of entered_of first_fault
 numbers_rise run bytes log is =
-    let records = records_of bytes in
-    let value = value_from (fault_of bytes) (value_of run bytes) log is in
+    let records = records_of bytes in let value = value_from (fault_of bytes) (value_of run bytes) log is in
     let opened = opens records (length records) (omega arith) (faultless bytes value.0) in
     (numbers_of records, in_order-rises (entered_of records), opened.few, ap (λ (v : LogValue). map (λ (s : Trace). s.name) v.sections) (sym value.1) ∙ map-map (λ (s : Trace). s.name) (λ n. section_named run n (events_in records n)) (numbers_of records))
 
 pub sections_rise : SectionNumbersRise
 sections_rise run bytes log is =
-    let named = numbers_rise run bytes log is in
-    let numbers : map (λ (s : Trace). s.name.number) log.sections ≡ named.0 =
+    let named = numbers_rise run bytes log is in let numbers : map (λ (s : Trace). s.name.number) log.sections ≡ named.0 =
     sym (map-map (λ (n : Name). n.number) (λ (s : Trace). s.name) log.sections) ∙ ap (map (λ (n : Name). n.number)) named.3 ∙ map-map (λ (n : Name). n.number) (name_in run) named.0 ∙ map-id named.0 in
     subst Rises (sym numbers) named.1

@@ -33,8 +33,7 @@ plain_section section small fit (suc k) d l = plain_events section.events fit k 
 
 -- what is written reads as these records
 pub records_of-canonical : (section : Trace) → section.name.number < 2 ^ 64 → EachValid section.events → records_of (canonical_text section) ≡ canonical_records section
-records_of-canonical section small fit =
-    ap records_of (canonical_lines section) ∙ records_of-lines (canonical_records section) (plain_section section small fit)
+records_of-canonical section small fit = ap records_of (canonical_lines section) ∙ records_of-lines (canonical_records section) (plain_section section small fit)
 
 -- the length of what is written
 field-length : (n : ℕ) → n < 2 ^ 64 → length (field_of n) ≤ 19
@@ -64,8 +63,7 @@ line-length event fit =
 
 lines-length : (events : List Event) → EachValid events → length (flat_map line_of_event events) ≤ 91 * length events
 lines-length [] fit = omega arith
-lines-length (event ∷ events) fit =
-    omega (arith, line-length event fit.0, lines-length events fit.1, length-append (line_of_event event) (flat_map line_of_event events))
+lines-length (event ∷ events) fit = omega (arith, line-length event fit.0, lines-length events fit.1, length-append (line_of_event event) (flat_map line_of_event events))
 
 -- a section that keeps to its limit is a log that keeps to its own
 pub canonical-length : (section : Trace) → section.name.number < 2 ^ 64 → EachValid section.events → length section.events ≤ 1048576 → length (canonical_text section) ≤ 268435456

@@ -25,13 +25,11 @@ some_is_none same = cc
 present : (number : ℕ) (entries : List (ℕ × ℕ)) (place : ℕ) → IsStrictlySortedBy nat_cmp (keys_of entries) → lookup (is_at (nat_cmp number)) entries ≡ Some place →
     insert_key nat_cmp (keys_of entries) number ≡ keys_of entries
 present number [] place sorted is = absurd (some_is_none is)
-present number (e ∷ entries) place sorted is =
-    by_order (present number entries place (sorted_tail nat_cmp e.0 (keys_of entries) sorted)) (nat_cmp number e.0) refl
+present number (e ∷ entries) place sorted is = by_order (present number entries place (sorted_tail nat_cmp e.0 (keys_of entries) sorted)) (nat_cmp number e.0) refl
   where
     by_order : (lookup (is_at (nat_cmp number)) entries ≡ Some place → insert_key nat_cmp (keys_of entries) number ≡ keys_of entries) →
         (o : Ordering) → nat_cmp number e.0 ≡ o → insert_key nat_cmp (keys_of (e ∷ entries)) number ≡ keys_of (e ∷ entries)
-    by_order later Less order =
-        absurd (some_is_none (sym (lookup-none (is_at (nat_cmp number)) (e ∷ entries) (none_below_head nat_cmp_total number e entries sorted order)) ∙ is))
+    by_order later Less order = absurd (some_is_none (sym (lookup-none (is_at (nat_cmp number)) (e ∷ entries) (none_below_head nat_cmp_total number e entries sorted order)) ∙ is))
     by_order later Equal order = rw order refl
     by_order later Greater order = rw order (ap (λ rest. e.0 ∷ rest) (later (rw order at is)))
 
@@ -88,13 +86,11 @@ here_none opened none = rw none refl
 module _ (run : ℕ) (numbers : List ℕ) (events : ℕ → List Event) (current : ℕ) (old : OpenSections) (has : HasSections run numbers events current old) where
   -- the numbers with one that is there
   pub same_numbers : (number place : ℕ) → get nat_cmp old.places number ≡ Some place → with_number numbers number ≡ numbers
-  same_numbers number place is =
-      ap (λ ns. insert_key nat_cmp ns number) (sym has.numbers_are) ∙ present number old.places.entries place has.ordered is ∙ has.numbers_are
+  same_numbers number place is = ap (λ ns. insert_key nat_cmp ns number) (sym has.numbers_are) ∙ present number old.places.entries place has.ordered is ∙ has.numbers_are
 
   -- and those with one that isn't
   pub longer : (number : ℕ) → get nat_cmp old.places number ≡ None → length (with_number numbers number) ≡ suc (length numbers)
-  longer number none =
-      ap (λ ns. length (insert_key nat_cmp ns number)) (sym has.numbers_are) ∙ absent number old.places.entries none ∙ ap (λ ns. suc (length ns)) has.numbers_are
+  longer number none = ap (λ ns. length (insert_key nat_cmp ns number)) (sym has.numbers_are) ∙ absent number old.places.entries none ∙ ap (λ ns. suc (length ns)) has.numbers_are
 
   -- a section that begins is current, and has no events
   pub begun : (number : ℕ) (new : OpenSections) → get nat_cmp old.places number ≡ None → Opens number old new → HasSections run (with_number numbers number) events number new
@@ -122,9 +118,7 @@ module _ (run : ℕ) (numbers : List ℕ) (events : ℕ → List Event) (current
       found n place is = ⊎_elim
           (λ equal.
           let at_number : get nat_cmp new.places number ≡ Some place = ap (get nat_cmp new.places) equal ∙ is in
-          let places : Some (length old.sections.items) ≡ Some place = sym opens.updates.1 ∙ at_number in
-          let there : length old.sections.items ≡ place = cc in
-          rw (← equal, ← there) at_end)
+          let places : Some (length old.sections.items) ≡ Some place = sym opens.updates.1 ∙ at_number in let there : length old.sections.items ≡ place = cc in rw (← equal, ← there) at_end)
           (λ apart. rw opens.list (stays _ old.sections.items _ place (has.found n place (sym (opens.updates.2 n (apart_at number n apart)) ∙ is))))
           (cases_eq number n)
 
@@ -183,8 +177,7 @@ module _ (run : ℕ) (numbers : List ℕ) (events : ℕ → List Event) (current
       found n place at_n = ⊎_elim
           (λ equal.
           let at_current : get nat_cmp old.places current ≡ Some place = ap (λ m. get nat_cmp m current) (sym same_places) ∙ ap (get nat_cmp new.places) equal ∙ at_n in
-          let places : Some old.current ≡ Some place = sym current_at ∙ at_current in
-          let there : old.current ≡ place = cc in
+          let places : Some old.current ≡ Some place = sym current_at ∙ at_current in let there : old.current ≡ place = cc in
           let long : place < length new.sections.items = omega (arith, there, stands.0, ap length is, length-set old.sections.items old.current (section_named run current (events current ++ event ∷ []))) in
           rw (← equal, eq-eqb current current refl) (long, λ d. rw (is, ← there) (get_or-set_same old.sections.items old.current _ d stands.0)))
           (λ apart.
@@ -237,15 +230,13 @@ module _ (run : ℕ) (numbers : List ℕ) (events : ℕ → List Event) (current
   pub first_ok : (event : Event) (new : OpenSections) (r : Result (Unit {0}) Cause) → OnOk r (HasSections run (with_number (with_number numbers 0) 0) (with_event events 0 event) 0 new) →
       OnOk r (HasSections run (with_number numbers current) (with_event events current event) current new)
   first_ok event new (Err cause) holds = tt
-  first_ok event new (Ok done) holds =
-      sections_as run _ _ _ _ _ _ new first_numbers (λ n. ap (λ c. with_event events c event n) (has.before empty)) (sym (has.before empty)) holds
+  first_ok event new (Ok done) holds = sections_as run _ _ _ _ _ _ new first_numbers (λ n. ap (λ c. with_event events c event n) (has.before empty)) (sym (has.before empty)) holds
 
 -- a list by entries is a list by their numbers
 by_number : (entries : List (ℕ × ℕ)) (f : ℕ × ℕ → Trace) (g : ℕ → Trace) → ((k : ℕ) (d : ℕ × ℕ) → k < length entries → f (get_or entries k d) ≡ g (get_or entries k d).0) →
     map f entries ≡ map g (keys_of entries)
 by_number [] f g same = refl
-by_number (e ∷ entries) f g same =
-    rw (same 0 e (omega arith)) (ap (λ rest. g e.0 ∷ rest) (by_number entries f g (λ k d within. same (suc k) d (omega (arith, within)))))
+by_number (e ∷ entries) f g same = rw (same 0 e (omega arith)) (ap (λ rest. g e.0 ∷ rest) (by_number entries f g (λ k d within. same (suc k) d (omega (arith, within)))))
 
 -- what stands at the places, in order of the numbers
 pub listed : (run : ℕ) (numbers : List ℕ) (events : ℕ → List Event) (current : ℕ) (opened : OpenSections) → HasSections run numbers events current opened → (list shared : List Trace) →
@@ -265,8 +256,7 @@ listed_ok value (Ok list) run numbers events current opened has shared same is =
 pub next_listed : (of_entry : ℕ × ℕ → Trace) (list longer all : List Trace) (entry : ℕ × ℕ) (left rest : List (ℕ × ℕ)) → list ++ map of_entry left ≡ all → left ≡ entry ∷ rest →
     longer ≡ list ++ of_entry entry ∷ [] → longer ++ map of_entry rest ≡ all
 next_listed of_entry list longer all entry left rest so_far is next =
-    ap (λ (l : List Trace). l ++ map of_entry rest) next ∙ append_assoc list (of_entry entry ∷ []) (map of_entry rest)
-    ∙ ap (λ l. list ++ map of_entry l) (sym is) ∙ so_far
+    ap (λ (l : List Trace). l ++ map of_entry rest) next ∙ append_assoc list (of_entry entry ∷ []) (map of_entry rest) ∙ ap (λ l. list ++ map of_entry l) (sym is) ∙ so_far
 
 -- the end of the walk
 pub all_listed : (of_entry : ℕ × ℕ → Trace) (list all : List Trace) (left : List (ℕ × ℕ)) → list ++ map of_entry left ≡ all → left ≡ [] → list ≡ all

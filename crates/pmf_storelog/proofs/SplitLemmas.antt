@@ -5,9 +5,7 @@ use Rattle.memchr.specs.Find.{IsFirstByte}
 module _ (p : ℕ → Bool) where
   -- no byte passes
   pub none_pass : (xs : List ℕ) → IsFirstByte p xs None → All (λ c. p c ≡ false) xs
-  none_pass xs none =
-      let P = λ (c : ℕ). p c ≡ false in
-      All-from_get_or P xs 0 (λ i below. false_from_ne_true _ (none i (omega arith) below))
+  none_pass xs none = let P = λ (c : ℕ). p c ≡ false in All-from_get_or P xs 0 (λ i below. false_from_ne_true _ (none i (omega arith) below))
 
   -- with no byte that passes, there is one part
   pub split_none : (xs : List ℕ) → IsFirstByte p xs None → slice_split p xs ≡ xs ∷ []
@@ -16,8 +14,7 @@ module _ (p : ℕ → Bool) where
   -- the first part ends at the first byte that passes
   pub split_some : (xs : List ℕ) (k : ℕ) → IsFirstByte p xs (Some k) → slice_split p xs ≡ take k xs ∷ slice_split p (drop (k + 1) xs)
   split_some xs k found =
-      let first = found.0 in
-      let is : position_or_len p xs ≡ k =
+      let first = found.0 in let is : position_or_len p xs ≡ k =
       position_or_len_is p xs k 0 (omega (arith, first.high))
       (λ j below. false_from_ne_true _ (first.before j (omega arith) below))
       (λ _. found.1) in
@@ -36,9 +33,7 @@ module _ (p : ℕ → Bool) where
   -- with a byte that passes at the end alone, there is the part before it and an empty one
   pub split_upto : (xs : List ℕ) (k : ℕ) → IsFirstByte p xs (Some k) → slice_split p (take (k + 1) xs) ≡ take k xs ∷ [] ∷ []
   split_upto xs k found =
-      let first = found.0 in
-      let P = λ (c : ℕ). p c ≡ false in
-      let none : All P (take k xs) =
+      let first = found.0 in let P = λ (c : ℕ). p c ≡ false in let none : All P (take k xs) =
       All-from_get_or P (take k xs) 0
       (λ i below. subst P (sym (get_or-take k xs i 0 (omega (arith, length-take-le k xs (omega (arith, first.high))))))
       (false_from_ne_true _ (first.before i (omega arith) (omega (arith, length-take-le k xs (omega (arith, first.high))))))) in
@@ -73,8 +68,7 @@ slice_split-append p (x ∷ xs) ys =
     ∙ joined_step (p x) x (slice_split p xs) (slice_split p ys) (split_filled p xs) (split_filled p ys)
 
 -- where the last part of the first stands apart
-pub joined_at : (front : List (List ℕ)) (part next : List ℕ) (later : List (List ℕ)) →
-    joined (front ++ part ∷ []) (next ∷ later) ≡ front ++ (part ++ next) ∷ later
+pub joined_at : (front : List (List ℕ)) (part next : List ℕ) (later : List (List ℕ)) → joined (front ++ part ∷ []) (next ∷ later) ≡ front ++ (part ++ next) ∷ later
 unfolding joined
 joined_at [] part next later = refl
 joined_at (x ∷ []) part next later = refl

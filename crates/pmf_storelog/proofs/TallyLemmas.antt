@@ -58,8 +58,7 @@ module _ (run : ℕ) (records : List (List ℕ)) (text : List ℕ) (old : Tally)
     skipped = skipped ∙ taken.skipped ∙ sym (skipped_of-event records text event says);
   }
 
-  pub taken_enter : (number : ℕ) (new : Tally) → record_of text ≡ Ok (Enters number) →
-      HasSections run (with_number (numbers_of records) number) (events_in records) number new.sections →
+  pub taken_enter : (number : ℕ) (new : Tally) → record_of text ≡ Ok (Enters number) → HasSections run (with_number (numbers_of records) number) (events_in records) number new.sections →
       length (with_number (numbers_of records) number) ≤ SECTION_LIMIT → new.records ≡ old.records + 1 → new.skipped ≡ old.skipped → HasTaken run (records ++ text ∷ []) new
   taken_enter number new says sections room count skipped = record {
     faultless = rw (new_fault, says, le-ltb SECTION_LIMIT (length (in_order (number ∷ entered_of records))) (omega (arith, room, one_entered number))) refl;
@@ -88,15 +87,12 @@ module _ (run : ℕ) (records : List (List ℕ)) (text : List ℕ) (old : Tally)
   happened_ok event mid new added r says count skipped sections room adds = said_ok added r sections room adds (λ there few more.
       taken_event event new says (rw more.sections there) few (omega (arith, more.count, count)) (more.skipped ∙ skipped))
 
-  pub happened_err : (event : Event) (mid : Tally) (added : Result (Unit {0}) Cause) (r : Result (Unit {0}) LogFault) → record_of text ≡ Ok (Happens event) →
-      mid.records ≡ old.records →
+  pub happened_err : (event : Event) (mid : Tally) (added : Result (Unit {0}) Cause) (r : Result (Unit {0}) LogFault) → record_of text ≡ Ok (Happens event) → mid.records ≡ old.records →
       IfErr added (λ cause. cause ≢ OutOfMemory → (cause ≡ TooManyEvents) × (length (events_in records (current_of records)) ≡ EVENT_LIMIT)) →
       IfErr r (λ fault. fault ≢ out_of_memory → IsFaultFor added mid fault) → IfErr r (λ fault. IsShown fault (first_fault (records ++ text ∷ [])))
   happened_err event mid added (Ok done) says count full is = tt
   happened_err event mid (Ok took) (Err fault) says count full is = λ memory. absurd (is memory)
-  happened_err event mid (Err cause) (Err fault) says count full is = λ memory.
-      let why = full (is memory).0 in
-      rw (new_fault, says, eq-eqb _ _ why.1, (is memory).1, why.0, count) refl
+  happened_err event mid (Err cause) (Err fault) says count full is = λ memory. let why = full (is memory).0 in rw (new_fault, says, eq-eqb _ _ why.1, (is memory).1, why.0, count) refl
 
   -- what a marker's section answers
   pub entered_ok : (number : ℕ) (mid new : Tally) (entered : Result (Unit {0}) Cause) (r : Result (Unit {0}) LogFault) → record_of text ≡ Ok (Enters number) →
@@ -107,15 +103,13 @@ module _ (run : ℕ) (records : List (List ℕ)) (text : List ℕ) (old : Tally)
   entered_ok number mid new entered r says count skipped sections room adds = said_ok entered r sections room adds (λ there few more.
       taken_enter number new says (rw more.sections there) few (omega (arith, more.count, count)) (more.skipped ∙ skipped))
 
-  pub entered_err : (number : ℕ) (mid : Tally) (entered : Result (Unit {0}) Cause) (r : Result (Unit {0}) LogFault) → record_of text ≡ Ok (Enters number) →
-      mid.records ≡ old.records →
+  pub entered_err : (number : ℕ) (mid : Tally) (entered : Result (Unit {0}) Cause) (r : Result (Unit {0}) LogFault) → record_of text ≡ Ok (Enters number) → mid.records ≡ old.records →
       IfErr entered (λ cause. cause ≢ OutOfMemory → (cause ≡ TooManySections) × (SECTION_LIMIT < length (with_number (numbers_of records) number))) →
       IfErr r (λ fault. fault ≢ out_of_memory → IsFaultFor entered mid fault) → IfErr r (λ fault. IsShown fault (first_fault (records ++ text ∷ [])))
   entered_err number mid entered (Ok done) says count full is = tt
   entered_err number mid (Ok took) (Err fault) says count full is = λ memory. absurd (is memory)
   entered_err number mid (Err cause) (Err fault) says count full is = λ memory.
-      let why = full (is memory).0 in
-      let more : SECTION_LIMIT < length (in_order (number ∷ entered_of records)) = omega (arith, why.1, one_entered number) in
+      let why = full (is memory).0 in let more : SECTION_LIMIT < length (in_order (number ∷ entered_of records)) = omega (arith, why.1, one_entered number) in
       rw (new_fault, says, lt-ltb _ _ more, (is memory).1, why.0, count) refl
 
 -- a part is one record, or none

@@ -10,28 +10,24 @@ returns-then-is_empty c = elim c.then-is_empty.branch [
 
 pub returns-then-digit-radix : goal.returns-then-digit-radix
 returns-then-digit-radix c =
-    let filled : 0 < length c.args.text.now = grind (arith, common_steps) in
-    at_other c.args.radix c.args.most c.loop-byte.value c.loop-byte.byte-index c.args.text.now filled (omega arith)
+    let filled : 0 < length c.args.text.now = grind (arith, common_steps) in at_other c.args.radix c.args.most c.loop-byte.value c.loop-byte.byte-index c.args.text.now filled (omega arith)
     c.loop-byte.invariant.1 (omega arith) (omega (arith, c.digit_of-digit.ensures.value))
 
 pub returns-in_err-checked_mul : goal.returns-in_err-checked_mul
 returns-in_err-checked_mul c =
-    let filled : 0 < length c.args.text.now = grind (arith, common_steps) in
-    let read = c.digit_of-digit.ensures.value in
+    let filled : 0 < length c.args.text.now = grind (arith, common_steps) in let read = c.digit_of-digit.ensures.value in
     rw c.from_residual.ensures (at_large c.args.radix c.args.most c.loop-byte.value c.loop-byte.byte-index c.args.text.now filled (omega arith)
     c.loop-byte.invariant.1 c.requires (omega arith) (omega (arith, read)) (omega (arith, c.in_err-checked_mul.ensures)))
 
 pub returns-in_err-value : goal.returns-in_err-value
 returns-in_err-value c =
-    let filled : 0 < length c.args.text.now = grind (arith, common_steps) in
-    let read = c.digit_of-digit.ensures.value in
+    let filled : 0 < length c.args.text.now = grind (arith, common_steps) in let read = c.digit_of-digit.ensures.value in
     rw c.from_residual-in_err-value.ensures (at_large c.args.radix c.args.most c.loop-byte.value c.loop-byte.byte-index c.args.text.now filled (omega arith)
     c.loop-byte.invariant.1 c.requires (omega arith) (omega (arith, read)) (omega (arith, read, c.in_ok-checked_mul.ensures, c.in_err-value.ensures)))
 
 pub loop-byte-preserved : goal.loop-byte-preserved
 loop-byte-preserved c =
-    let filled : 0 < length c.args.text.now = grind (arith, common_steps) in
-    let read = c.digit_of-digit.ensures.value in
+    let filled : 0 < length c.args.text.now = grind (arith, common_steps) in let read = c.digit_of-digit.ensures.value in
     let step = at_digit c.args.radix c.args.most c.loop-byte.value c.loop-byte.byte-index c.args.text.now filled (omega arith)
     c.loop-byte.invariant.1 (omega arith) (omega (arith, read)) in
     let sum : c.in_ok-value.value ≡ c.loop-byte.value * c.args.radix + digit_value (get_or c.args.text.now c.loop-byte.byte-index 0) =
@@ -40,6 +36,5 @@ loop-byte-preserved c =
 
 pub returns : goal.returns
 returns c =
-    let filled : 0 < length c.args.text.now = grind (arith, common_steps) in
-    at_end c.args.radix c.args.most c.loop-byte.value c.loop-byte.byte-index c.args.text.now filled (omega arith)
+    let filled : 0 < length c.args.text.now = grind (arith, common_steps) in at_end c.args.radix c.args.most c.loop-byte.value c.loop-byte.byte-index c.args.text.now filled (omega arith)
     c.loop-byte.invariant.1 (omega arith) (omega arith)

@@ -4,8 +4,7 @@ use Rattle.pmf_storelog.proofs.tally.Tally.take_part.Goals as goal
 
 pub returns-then-is_empty-clause-ok : goal.returns-then-is_empty-clause-ok
 returns-then-is_empty-clause-ok c = λ run records taken.
-    let none : length c.trim-text.result.now ≡ 0 = grind (arith, common_steps) in
-    taken_blank run records c.args.part.now c.args.self.now (ap length (sym c.trim-text.ensures) ∙ none) taken
+    let none : length c.trim-text.result.now ≡ 0 = grind (arith, common_steps) in taken_blank run records c.args.part.now c.args.self.now (ap length (sym c.trim-text.ensures) ∙ none) taken
 
 pub returns-clause-ok : goal.returns-clause-ok
 returns-clause-ok c = λ run records taken.
