@@ -1,5 +1,5 @@
 -- The parts and the ended records of bytes that more bytes follow.
-use Rattle.std.proofs.{Common.{◌≡◌, ℕ, ◌+◌, ◌-◌, ◌<◌, List, [], ◌∷◌, ◌++◌, Option, Some, None, length, take, map, MatchOption, refl, sym, ap, ◌∙◌, arith, length-append, filter, append_assoc, append-nil, take_at}, lemmas.List.{map-append}, lemmas.List.Elements.{filter-append}}
+use Rattle.std.proofs.{Common.{◌≡◌, ℕ, ◌+◌, ◌-◌, ◌<◌, List, [], ◌∷◌, ◌++◌, Option, length, take, map, MatchOption, refl, sym, ap, ◌∙◌, arith, length-append, filter, append_assoc, append-nil, take_at}, lemmas.List.{map-append}, lemmas.List.Elements.{filter-append}, lemmas.Grind.{common_steps}}
 use Rattle.memchr.specs.Find.{IsFirstByte, is_byte3}
 use Rattle.pmf_storelog.{specs.Separators.{is_separator, is_filled, trimmed, records_in, parts_of, ended_parts, records_of, ended_records}, proofs.SplitLemmas.{split_none, split_upto, split_filled, slice_split-append, joined, joined_at}}
 
@@ -7,8 +7,7 @@ use Rattle.pmf_storelog.{specs.Separators.{is_separator, is_filled, trimmed, rec
 pub separator_found : (text : List ℕ) (r : Option ℕ) → IsFirstByte (is_byte3 124 10 13) text r →
     MatchOption r (parts_of text ≡ text ∷ []) (λ end. parts_of (take (end + 1) text) ≡ take end text ∷ [] ∷ [])
 unfolding parts_of
-separator_found text None found = split_none is_separator text found
-separator_found text (Some end) found = split_upto is_separator text end found
+separator_found text r found = grind (arith, common_steps, split_none, split_upto)
 
 pub parts_of-nil : parts_of [] ≡ [] ∷ []
 unfolding parts_of
@@ -55,9 +54,7 @@ module _ (bytes rest part : List ℕ) (kept : parts_of bytes ≡ ended_parts byt
 -- bytes with a separator at their end alone end it
 module _ (bytes piece part end : List ℕ) (kept : parts_of bytes ≡ ended_parts bytes ++ part ∷ []) (ends : parts_of piece ≡ end ∷ [] ∷ []) where
   ended : parts_of (bytes ++ piece) ≡ (ended_parts bytes ++ (part ++ end) ∷ []) ++ [] ∷ []
-  ended =
-      parts_of-append bytes piece ∙ ap (λ parts. joined parts (parts_of piece)) kept ∙ ap (joined (ended_parts bytes ++ part ∷ [])) ends
-      ∙ joined_at (ended_parts bytes) part end ([] ∷ []) ∙ sym (append_assoc (ended_parts bytes) ((part ++ end) ∷ []) ([] ∷ []))
+  ended = grind (arith, common_steps, parts_of-append, joined_at, append_assoc)
 
   pub ended_parts-ended : ended_parts (bytes ++ piece) ≡ ended_parts bytes ++ (part ++ end) ∷ []
   ended_parts-ended = ended_is (bytes ++ piece) _ [] ended

@@ -1,5 +1,5 @@
 -- What is kept of bytes that more bytes follow.
-use Rattle.std.proofs.{Common.{◌≡◌, ℕ, ◌+◌, ◌-◌, List, [], ◌∷◌, ◌++◌, Result, Ok, Err, OnOk, IfErr, length, take, drop, sym, ap, subst, ◌∙◌, arith, append_assoc, take-append-drop}, lemmas.List.{take_rest}, Math.Seq.{take-add}}
+use Rattle.std.proofs.{Common.{◌≡◌, ℕ, ◌+◌, ◌-◌, List, [], ◌∷◌, ◌++◌, Result, Ok, Err, OnOk, IfErr, length, take, drop, sym, ap, subst, ◌∙◌, arith, append_assoc, take-append-drop}, lemmas.List.{take_rest}, Math.Seq.{take-add}, lemmas.Grind.{common_steps}}
 use Rattle.pmf_storelog.{specs.declared.fault.LogFault.{LogFault}, specs.declared.progress.Progress.{Progress}, specs.Separators.{records_in, parts_of, ended_parts, ended_records}, specs.LogText.{first_fault}, specs.Answers.{IsShown}, specs.Tally.{HasTaken}, specs.Progress.{HasParsed}, proofs.PartLemmas.{parts_of-nil, ended_is, ended_parts-open, parts_of-open, parts_of-ended, ended_records-ended}, proofs.LogLemmas.{first_fault-ended}, proofs.TallyLemmas.{records_in-none}}
 
 -- no bytes have one part, which is empty
@@ -14,18 +14,12 @@ parsed_none run progress taken empty =
 module _ (run : ℕ) (bytes : List ℕ) (old : Progress) (parsed : HasParsed run bytes old) where
   -- bytes without a separator are kept
   pub parsed_open : (rest : List ℕ) (new : Progress) → parts_of rest ≡ rest ∷ [] → new.tally ≡ old.tally → new.carry.items ≡ old.carry.items ++ rest → HasParsed run (bytes ++ rest) new
-  parsed_open rest new open_end same carry = record {
-    taken = rw (same, ended_parts-open bytes rest old.carry.items parsed.parts open_end) parsed.taken;
-    parts = rw carry (parts_of-open bytes rest old.carry.items parsed.parts open_end);
-  }
+  parsed_open rest new open_end same carry = grind (arith, common_steps, ended_parts-open, parts_of-open)
 
   -- a separator at the end ends the part that was kept
   pub parsed_ended : (piece end : List ℕ) (new : Progress) → parts_of piece ≡ end ∷ [] ∷ [] →
       HasTaken run (ended_records bytes ++ records_in ((old.carry.items ++ end) ∷ [])) new.tally → new.carry.items ≡ [] → HasParsed run (bytes ++ piece) new
-  parsed_ended piece end new ends taken empty = record {
-    taken = rw (ended_records-ended bytes piece old.carry.items end parsed.parts ends) taken;
-    parts = rw empty (parts_of-ended bytes piece old.carry.items end parsed.parts ends);
-  }
+  parsed_ended piece end new ends taken empty = grind (arith, common_steps, ended_records-ended, parts_of-ended)
 
   -- and so its fault is shown
   pub shown_ended : (piece end : List ℕ) (fault : LogFault) → parts_of piece ≡ end ∷ [] ∷ [] →

@@ -1,5 +1,5 @@
 -- What a reader says of all bytes fed to it.
-use Rattle.std.proofs.{Common.{◌≡◌, ◌≢◌, ℕ, ◌+◌, ◌-◌, ◌<◌, ◌≤◌, min, List, [], ◌∷◌, ◌++◌, Some, None, Result, Ok, Err, IfOk, IfErr, length, length-append, take, refl, sym, ap, subst, ◌∙◌, arith, append_assoc, take_all}, lemmas.List.{take_min}, Math.Seq.{take-append-add}, Math.Nat.{min_comm}}
+use Rattle.std.proofs.{Common.{◌≡◌, ◌≢◌, ℕ, ◌+◌, ◌-◌, ◌<◌, ◌≤◌, min, List, [], ◌∷◌, ◌++◌, Some, None, Result, Ok, Err, IfOk, IfErr, length, length-append, take, refl, sym, ap, subst, ◌∙◌, arith, append_assoc, take_all}, lemmas.List.{take_min}, Math.Seq.{take-append-add}, Math.Nat.{min_comm}, lemmas.Grind.{common_steps}}
 use Rattle.pmf_storelog.{specs.declared.fault.TheConstants.{LOG_LIMIT}, specs.declared.fault.Cause.TheVariants.{TooLong}, specs.declared.fault.LogFault.{LogFault}, specs.declared.tally.Tally.{Tally}, specs.declared.progress.Progress.{Progress}, specs.Separators.{records_in, records_of, ended_records}, specs.LogValue.{LogValue}, specs.LogText.{skipped_of, sections_of, first_fault, shown_fault, fault_of, value_of, log_of, out_of_memory}, specs.Answers.{IsShown, Answers}, specs.Tally.{HasTaken}, specs.Progress.{HasParsed, HasParsedTo}, proofs.PartLemmas.{ended_parts-open, records_of-unfinished}, proofs.LogLemmas.{shown_within-short, shown_within-long, shown_within-early, fault_within-short}, proofs.ProgressLemmas.{parsed_open}}
 
 -- what lies within the limit
@@ -14,10 +14,7 @@ module _ (run : ℕ) (bytes piece rest : List ℕ) (progress : Progress) (reache
 
   -- the tally is that of the whole piece
   pub taken_to : HasTaken run (ended_records (bytes ++ piece)) progress.tally
-  taken_to =
-      let same : ended_records (bytes ++ piece) ≡ ended_records (bytes ++ reached.front) =
-      ap ended_records all_is ∙ ap records_in (ended_parts-open (bytes ++ reached.front) rest progress.carry.items reached.parsed.parts reached.open_end) in
-      rw same reached.parsed.taken
+  taken_to = grind (arith, common_steps, all_is, ended_parts-open)
 
   -- with the rest kept, the whole piece is read
   pub parsed_to : (new : Progress) → new.tally ≡ progress.tally → new.carry.items ≡ progress.carry.items ++ rest → HasParsed run (bytes ++ piece) new

@@ -1,7 +1,7 @@
 -- The numbers of a log's sections rise, and are at most as many as it may have.
-use Rattle.std.proofs.{Common.{◌≡◌, ℕ, zero, suc, ◌+◌, ◌<◌, ◌≤◌, List, [], ◌∷◌, ◌++◌, length, map, take, drop, refl, sym, ◌∙◌, ap, subst, arith, inl, inr, Option, Some, None, Result, Ok, Err, ◌⊎◌, length-take-le, take-append-drop, lt-ltb, le-ltb}, lemmas.Bool.{cases_lt}, lemmas.List.{map-id}, lemmas.Simd.{map-map}}
+use Rattle.std.proofs.{Common.{◌≡◌, ℕ, zero, suc, ◌+◌, ◌<◌, ◌≤◌, List, [], ◌∷◌, ◌++◌, length, map, take, drop, refl, sym, ◌∙◌, ap, subst, arith, inl, inr, Option, Some, None, Result, Ok, Err, ◌⊎◌, length-take-le, take-append-drop, lt-ltb, le-ltb}, lemmas.Bool.{cases_lt}, lemmas.List.{map-id}, lemmas.Simd.{map-map}, lemmas.Grind.{common_steps}}
 use Rattle.pmf_event.specs.{declared.name.Name.{Name}, Section.{Trace}}
-use Rattle.pmf_storelog.{specs.declared.fault.Cause.{Cause}, specs.declared.fault.LogFault.{LogFault}, specs.declared.fault.TheConstants.{LOG_LIMIT, SECTION_LIMIT}, specs.declared.record.Saying.{Saying}, specs.declared.record.Saying.TheVariants.{Happens, Enters, Skipped}, specs.LogText.{cause_after, current_at, current_of, entered, entered_among, entered_of, events_in, fault_at, fault_of, fault_within, first_fault, first_fault_among, log_of, number_after, numbers_of, or_else, reading_at, refusal_after, refusal_at, section_named, sections_of, shown_within, too_long, value_of, value_unless}, specs.LogValue.{LogValue}, specs.Separators.{records_of, ended_records}, specs.Rising.{Rises, with_number, in_order}, specs.Laws.{SectionNumbersRise}, proofs.InOrderLemmas.{Has, has-insert, insert-present, in_order-rises}, proofs.LogLemmas.{entered_among-append, in_order-entered, numbers_with}}
+use Rattle.pmf_storelog.{specs.declared.fault.Cause.{Cause}, specs.declared.fault.LogFault.{LogFault}, specs.declared.fault.TheConstants.{LOG_LIMIT, SECTION_LIMIT}, specs.declared.record.Saying.{Saying}, specs.declared.record.Saying.TheVariants.{Happens, Enters, Skipped}, specs.LogText.{cause_after, current_at, current_of, entered, entered_among, entered_of, events_in, fault_at, fault_of, fault_within, first_fault, first_fault_among, log_of, number_after, numbers_of, or_else, reading_at, refusal_after, refusal_at, section_named, sections_of, shown_within, too_long, value_of, value_unless}, specs.LogValue.{LogValue}, specs.Separators.{records_of}, specs.Rising.{Rises, with_number, in_order}, specs.Laws.{SectionNumbersRise}, proofs.InOrderLemmas.{Has, has-insert, insert-present, in_order-rises}, proofs.LogLemmas.{entered_among-append, in_order-entered, numbers_with}}
 
 -- at most as many numbers of sections as a log may have, and the current one among them if there is one
 record IsOpen (numbers : List ℕ) (current : ℕ) : Type 0 where
@@ -12,15 +12,11 @@ none_is_some : {X : Type 0} {x : X} → Some x ≡ None → ⊥
 none_is_some same = cc
 
 not_refused : (at : ℕ) (cause : Option Cause) → fault_at at cause ≡ None → cause ≡ None
-not_refused at None is = refl
-not_refused at (Some cause) is = absurd (none_is_some is)
+not_refused at cause is = grind (arith, common_steps)
 
 -- a marker that isn't refused leaves few sections
 few_after : (before : List ℕ) (events number : ℕ) → cause_after before events (Ok (Enters number)) ≡ None → length (in_order (number ∷ before)) ≤ SECTION_LIMIT
-few_after before events number is = elim (cases_lt SECTION_LIMIT (length (in_order (number ∷ before)))) [
-  | inl more ↦ absurd (none_is_some (rw (lt-ltb SECTION_LIMIT (length (in_order (number ∷ before))) more) at is))
-  | inr most ↦ most
-]
+few_after before events number is = grind (arith, common_steps, cases_lt, lt-ltb)
 
 open-with : (reading : Result Saying Cause) (before : List ℕ) (current events at : ℕ) → fault_at at (cause_after before events reading) ≡ None → IsOpen (in_order before) current →
     IsOpen (numbers_with reading current (in_order before)) (number_after reading current)
@@ -41,8 +37,7 @@ open-step reading before current events at is opened =
     subst (λ ns. IsOpen ns (number_after reading current)) (sym (in_order-entered reading current before)) (open-with reading before current events at is opened)
 
 no_fault : (first later : Option LogFault) → or_else first later ≡ None → (first ≡ None) × (later ≡ None)
-no_fault None later is = (refl, is)
-no_fault (Some fault) later is = absurd (none_is_some is)
+no_fault first later is = grind (arith, common_steps)
 
 module _ (records : List (List ℕ)) where
   -- the sections that the first k records are of are those of these records alone
@@ -68,25 +63,19 @@ name_in run number = record { run = run; number = number }
 
 too_long_is_one : (bytes : List ℕ) → LOG_LIMIT < length bytes → shown_within LOG_LIMIT bytes ≡ None → ⊥
 unfolding shown_within too_long
-too_long_is_one bytes more is =
-    let both = no_fault (first_fault (ended_records (take LOG_LIMIT bytes))) (too_long LOG_LIMIT bytes (ended_records (take LOG_LIMIT bytes))) is in
-    none_is_some (rw (lt-ltb LOG_LIMIT (length bytes) more) at both.1)
+too_long_is_one bytes more is = grind (arith, common_steps, no_fault, lt-ltb)
 
 -- no fault: within the limit, and none of any record
 faultless : (bytes : List ℕ) → fault_of bytes ≡ None → first_fault (records_of bytes) ≡ None
 unfolding fault_of fault_within
-faultless bytes is = elim (cases_lt LOG_LIMIT (length bytes)) [
-  | inl more ↦ absurd (too_long_is_one bytes more (rw (lt-ltb LOG_LIMIT (length bytes) more) at is))
-  | inr most ↦ rw (le-ltb LOG_LIMIT (length bytes) most) at is
-]
+faultless bytes is = grind (arith, common_steps, cases_lt, too_long_is_one, lt-ltb, le-ltb)
 
 ok_same : {X E : Type 0} (x y : X) → ◌≡◌ {A = Result X E} (Ok x) (Ok y) → x ≡ y
 ok_same x y same = cc
 
 -- a log without a fault is its value
 value_from : (fault : Option LogFault) (value log : LogValue) → value_unless fault value ≡ Ok log → (fault ≡ None) × (value ≡ log)
-value_from None value log is = (refl, ok_same value log is)
-value_from (Some fault) value log is = let never : ◌≡◌ {A = Result LogValue LogFault} (Err fault) (Ok log) = is in cc
+value_from fault value log is = grind (arith, common_steps)
 
 -- the sections of a log: numbers that rise, at most as many as a log may have
 pub numbers_rise : (run : ℕ) (bytes : List ℕ) (log : LogValue) → log_of run bytes ≡ Ok log →

@@ -1,5 +1,5 @@
 -- The open sections with one more event, and with another current one.
-use Rattle.std.{proofs.Common.{◌≡◌, ◌≢◌, ℕ, suc, ◌+◌, ◌<◌, ◌≤◌, Bool, true, false, cond, nat_lt, map, List, [], ◌∷◌, ◌++◌, Option, Some, None, length, set, get_or, length-append, Result, Ok, Err, OnOk, IfOk, IfErr, refl, sym, ap, subst, ◌∙◌, arith, ⊎_elim, nat_cmp, is_eq, Ordering, eq-eqb, ne_eqb, append_assoc, append-nil, get_or-set_same, get_or-set_other, length-set}, specs.Cmp.{nat_cmp_total}, proofs.lemmas.Bool.{cases_eq}, proofs.lemmas.List.{get_or_append_left, get_or_push, length_push}, specs.declared.cmp.Ordering.TheVariants.{Less, Equal, Greater}, specs.Map.{lookup, keys_of}, specs.BTreeMap.{get, is_at, insert_entry}, specs.BTreeSet.{insert_key}, specs.List.Sorted.{IsStrictlySortedBy}, proofs.lemmas.Map.{lookup-none}, proofs.lemmas.Map.Entries.{none_below_head}, proofs.lemmas.Map.Views.{All-found}, proofs.lemmas.Map.Keys.{sorted_tail}}
+use Rattle.std.{proofs.Common.{◌≡◌, ◌≢◌, ℕ, suc, ◌+◌, ◌<◌, ◌≤◌, Bool, false, cond, map, List, [], ◌∷◌, ◌++◌, Option, Some, None, length, set, get_or, length-append, Result, Ok, Err, OnOk, IfOk, IfErr, refl, sym, ap, ◌∙◌, arith, ⊎_elim, nat_cmp, Ordering, eq-eqb, ne_eqb, append_assoc, append-nil, get_or-set_same, get_or-set_other, length-set}, specs.Cmp.{nat_cmp_total}, proofs.lemmas.Bool.{cases_eq}, proofs.lemmas.List.{get_or_append_left, get_or_push, length_push}, specs.declared.cmp.Ordering.TheVariants.{Less, Equal, Greater}, specs.Map.{lookup, keys_of}, specs.BTreeMap.{get, is_at, insert_entry}, specs.BTreeSet.{insert_key}, specs.List.Sorted.{IsStrictlySortedBy}, proofs.lemmas.Map.{lookup-none}, proofs.lemmas.Map.Entries.{none_below_head}, proofs.lemmas.Map.Views.{All-found}, proofs.lemmas.Map.Keys.{sorted_tail}, proofs.lemmas.Grind.{common_steps}}
 use Rattle.pmf_event.specs.{declared.event.Event.{Event}, Section.{Trace}}
 use Rattle.pmf_storelog.specs.{declared.fault.Cause.{Cause}, declared.fault.Cause.TheVariants.{OutOfMemory, TooManySections}, declared.fault.TheConstants.{SECTION_LIMIT}, declared.sections.OpenSections.{OpenSections}, LogText.{section_named}, Rising.{with_number}, Sections.{HasSections, Opens, StandsAt, current_place, with_event}}
 
@@ -7,16 +7,7 @@ use Rattle.pmf_storelog.specs.{declared.fault.Cause.{Cause}, declared.fault.Caus
 pub sections_as : (run : ℕ) (numbers numbers' : List ℕ) (events events' : ℕ → List Event) (current current' : ℕ) (opened : OpenSections) →
     numbers ≡ numbers' → ((number : ℕ) → events' number ≡ events number) → current ≡ current' →
     HasSections run numbers events current opened → HasSections run numbers' events' current' opened
-sections_as run numbers numbers' events events' current current' opened same_numbers same_events same_current has = record {
-  run_is = has.run_is;
-  ordered = has.ordered;
-  numbers_are = has.numbers_are ∙ same_numbers;
-  count = has.count ∙ ap length same_numbers;
-  found = λ number place is. subst (λ (e : List Event). StandsAt (section_named run number e) opened.sections.items place) (sym (same_events number)) (has.found number place is);
-  others = λ number is. same_events number ∙ has.others number is;
-  here = subst (λ (c : ℕ). get nat_cmp opened.places c ≡ current_place opened) same_current has.here;
-  before = λ none. sym same_current ∙ has.before none;
-}
+sections_as run numbers numbers' events events' current current' opened same_numbers same_events same_current has = grind (arith, common_steps)
 
 some_is_none : {X : Type 0} {x : X} → None ≡ Some x → ⊥
 some_is_none same = cc
@@ -36,34 +27,18 @@ present number (e ∷ entries) place sorted is = by_order (present number entrie
 -- and one that isn't there makes them one more
 absent : (number : ℕ) (entries : List (ℕ × ℕ)) → lookup (is_at (nat_cmp number)) entries ≡ None → length (insert_key nat_cmp (keys_of entries) number) ≡ suc (length (keys_of entries))
 absent number [] is = refl
-absent number (e ∷ entries) is = by_order (absent number entries) (nat_cmp number e.0) refl
-  where
-    by_order : (lookup (is_at (nat_cmp number)) entries ≡ None → length (insert_key nat_cmp (keys_of entries) number) ≡ suc (length (keys_of entries))) →
-        (o : Ordering) → nat_cmp number e.0 ≡ o → length (insert_key nat_cmp (keys_of (e ∷ entries)) number) ≡ suc (length (keys_of (e ∷ entries)))
-    by_order later Less order = rw order refl
-    by_order later Equal order = absurd (some_is_none (sym (rw order at is)))
-    by_order later Greater order = rw order (ap suc (later (rw order at is)))
+absent number (e ∷ entries) is = grind (arith, common_steps, absent number entries)
 
 keys-insert : (number place : ℕ) (entries : List (ℕ × ℕ)) → keys_of (insert_entry nat_cmp entries number place) ≡ insert_key nat_cmp (keys_of entries) number
 keys-insert number place [] = refl
-keys-insert number place (e ∷ entries) = by_order (keys-insert number place entries) (nat_cmp number e.0) refl
-  where
-    by_order : keys_of (insert_entry nat_cmp entries number place) ≡ insert_key nat_cmp (keys_of entries) number →
-        (o : Ordering) → nat_cmp number e.0 ≡ o → keys_of (insert_entry nat_cmp (e ∷ entries) number place) ≡ insert_key nat_cmp (keys_of (e ∷ entries)) number
-    by_order later Less order = rw order refl
-    by_order later Equal order = rw order refl
-    by_order later Greater order = rw order (ap (λ rest. e.0 ∷ rest) later)
+keys-insert number place (e ∷ entries) = grind (arith, common_steps, keys-insert number place entries)
 
 apart_at : (k n : ℕ) → k ≢ n → is_at (nat_cmp k) n ≡ false
-apart_at k n apart = rw (ne_eqb k n apart) (either (nat_lt k n))
-  where
-    either : (less : Bool) → is_eq (cond less Less Greater) ≡ false
-    either true = refl
-    either false = refl
+apart_at k n apart = grind (arith, common_steps, ne_eqb)
 
 -- a section stays where it stands, whatever is added after it
 stays : (section : Trace) (list more : List Trace) (place : ℕ) → StandsAt section list place → StandsAt section (list ++ more) place
-stays section list more place stands = (omega (arith, stands.0, length-append list more), λ d. get_or_append_left list more d place stands.0 ∙ stands.1 d)
+stays section list more place stands = grind (arith, common_steps, length-append, get_or_append_left)
 
 abbrev pub blank : Trace
 blank = section_named 0 0 []
@@ -73,8 +48,7 @@ one_longer list new section is = ap length is ∙ length_push list section
 
 -- a place that an insertion leaves or puts is inside the list
 pub inside_either : (here : Bool) (put place bound : ℕ) (before : Option ℕ) → cond here (Some put) before ≡ Some place → put < bound → (before ≡ Some place → place < bound) → place < bound
-inside_either true put place bound before is inside kept = let same : put ≡ place = cc in omega (arith, same, inside)
-inside_either false put place bound before is inside kept = kept is
+inside_either here put place bound before is inside kept = grind (arith, common_steps)
 
 -- the current place, where there is a section
 here_is : (opened : OpenSections) → length opened.sections.items ≢ 0 → current_place opened ≡ Some opened.current
@@ -131,19 +105,7 @@ module _ (run : ℕ) (numbers : List ℕ) (events : ℕ → List Event) (current
   -- a section that comes again is current
   pub again : (number place : ℕ) (new : OpenSections) → get nat_cmp old.places number ≡ Some place → new.run ≡ old.run → new.places ≡ old.places → new.sections ≡ old.sections → new.current ≡ place →
       HasSections run (with_number numbers number) events number new
-  again number place new is same_run same_places same_sections there = record {
-    run_is = same_run ∙ has.run_is;
-    ordered = rw same_places has.ordered;
-    numbers_are = rw same_places (has.numbers_are ∙ sym (same_numbers number place is));
-    count = rw same_sections (has.count ∙ ap length (sym (same_numbers number place is)));
-    found = rw (same_places, same_sections) has.found;
-    others = rw same_places has.others;
-    here = rw same_places (is ∙ ap (λ p. Some p) (sym there) ∙ sym (here_is new some));
-    before = λ empty. absurd (some empty);
-  }
-    where
-      some : length new.sections.items ≢ 0
-      some empty = omega (arith, empty, ap (λ s. length s.items) same_sections, (has.found number place is).0)
+  again number place new is same_run same_places same_sections there = grind (arith, common_steps, same_numbers, here_is)
 
   -- before the first section nothing is there, and 0 is current
   pub none_yet : length old.sections.items ≡ 0 → get nat_cmp old.places 0 ≡ None
