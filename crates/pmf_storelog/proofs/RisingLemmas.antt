@@ -70,9 +70,6 @@ faultless : (bytes : List ℕ) → fault_of bytes ≡ None → first_fault (reco
 unfolding fault_of fault_within
 faultless bytes is = grind (arith, common_steps, cases_lt, too_long_is_one, lt-ltb, le-ltb)
 
-ok_same : {X E : Type 0} (x y : X) → ◌≡◌ {A = Result X E} (Ok x) (Ok y) → x ≡ y
-ok_same x y same = cc
-
 -- a log without a fault is its value
 value_from : (fault : Option LogFault) (value log : LogValue) → value_unless fault value ≡ Ok log → (fault ≡ None) × (value ≡ log)
 value_from fault value log is = grind (arith, common_steps)
