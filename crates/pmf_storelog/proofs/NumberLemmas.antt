@@ -48,15 +48,13 @@ numeral_from-end radix value small = rw (lt-ltb value (2 ^ 64) small) refl
 -- where the loop over the digits stands: the rest after the value is the whole
 module _ (radix most value i : ℕ) (text : List ℕ) (filled : 0 < length text) (short : length text ≤ most) (left : numeral_from radix value (drop i text) ≡ numeral_from radix 0 text) where
   pub at_other : i < length text → radix ≤ digit_value (get_or text i 0) → None ≡ numeral_of radix most text
-  at_other within other =
-      sym (numeral_of-from radix most text filled short ∙ sym left ∙ ap (numeral_from radix value) (drop_more text i 0 within)
-      ∙ numeral_from-other radix value (get_or text i 0) (drop (i + 1) text) other)
+  at_other within other = grind (arith, common_steps, numeral_of-from, drop_more, numeral_from-other)
 
   pub at_digit : i < length text → digit_value (get_or text i 0) < radix → numeral_from radix (value * radix + digit_value (get_or text i 0)) (drop (i + 1) text) ≡ numeral_from radix 0 text
   at_digit within digit = sym (sym left ∙ ap (numeral_from radix value) (drop_more text i 0 within) ∙ numeral_from-digit radix value (get_or text i 0) (drop (i + 1) text) digit)
 
   pub at_large : 0 < radix → i < length text → digit_value (get_or text i 0) < radix → 2 ^ 64 ≤ value * radix + digit_value (get_or text i 0) → None ≡ numeral_of radix most text
-  at_large some within digit large = sym (numeral_of-from radix most text filled short ∙ sym (at_digit within digit) ∙ numeral_from-large radix _ (drop (i + 1) text) some large)
+  at_large some within digit large = grind (arith, common_steps, numeral_of-from, at_digit, numeral_from-large)
 
   pub at_end : length text ≤ i → value < 2 ^ 64 → Some value ≡ numeral_of radix most text
   at_end past small = sym (numeral_of-from radix most text filled short ∙ sym left ∙ ap (numeral_from radix value) (drop_all i text past) ∙ numeral_from-end radix value small)

@@ -1,5 +1,5 @@
 -- What the text of an event reads as: the event.
-use Rattle.std.proofs.{Common.{List, Result, append-nil, ne_eqb, ◌≡◌, ℕ, ◌+◌, ◌^◌, ◌<◌, [], ◌∷◌, ◌++◌, refl, ap, ◌∙◌, arith, rules, append_assoc, codes, Ok, le-ltb}}
+use Rattle.std.proofs.{Common.{List, Result, append-nil, ne_eqb, ◌≡◌, ℕ, ◌+◌, ◌^◌, ◌<◌, [], ◌∷◌, ◌++◌, refl, ap, ◌∙◌, arith, rules, append_assoc, codes, Ok, le-ltb}, lemmas.Grind.{common_steps}}
 use Rattle.pmf_event.specs.{declared.event.Event.{Event}, declared.event.Event.TheVariants.{Store, Flush, Fence, Persist, Ordered, Exclude, Include, TxBegin, TxAdd, TxEnd, CheckStart, CheckEnd}, declared.span.TheConstants.{SPAN_LIMIT, ADDRESS_LIMIT}, Span.{Extent, IsValidExtent, extent_of}, Address.{address}}
 use Rattle.pmf_storelog.{specs.declared.record.Saying.{Saying}, specs.declared.record.Saying.TheVariants.{Happens, Enters}, specs.declared.fault.Cause.{Cause}, specs.Records.{record_of, saying_of, transaction_of, saying_of_fields, section_of_fields, section_of_number, event_over, span_of_fields, stored_span, order_of_fields, order_of_texts, fields_of}, specs.Canonical.{field_of, fields_of_span, fields_of_event, name_of}, proofs.CanonicalLemmas.{NoFieldEnd, fits_of, address-NoFieldEnd, fields_of-more, fields_of-last, fields_of-span, span_of_texts-address, number_of-address}, proofs.PlainLemmas.{text_of_event, text_of_marker}, specs.Spelling.{AllValid}}
 
@@ -14,9 +14,7 @@ record_of-name name saying none says = rw append-nil (ap saying_of_fields (field
 record_of-span : (name : List ℕ) (kind : Extent → Event) (s : Extent) → NoFieldEnd name → ((fields : List (List ℕ)) → saying_of name fields ≡ event_over kind (span_of_fields fields)) →
     IsValidExtent s.first s.size → record_of (name ++ fields_of_span s) ≡ Ok (Happens (kind s))
 unfolding record_of span_of_fields
-record_of-span name kind s none says valid =
-    let fits = fits_of s valid in ap saying_of_fields (fields_of-span name s none fits) ∙ says (address s.first ∷ address s.size ∷ [])
-    ∙ ap (event_over kind) (span_of_texts-address s fits (extent_of-valid s valid))
+record_of-span name kind s none says valid = grind (arith, common_steps, fields_of-span, fits_of, span_of_texts-address, extent_of-valid)
 
 module _ (s : Extent) (valid : IsValidExtent s.first s.size) where
   record_of-store : record_of (codes "STORE" ++ (field_of s.first ++ codes ";0x0" ++ field_of s.size)) ≡ Ok (Happens (Store s))
@@ -34,9 +32,7 @@ module _ (s : Extent) (valid : IsValidExtent s.first s.size) where
 order_of_texts-address : (a b : Extent) → IsValidExtent a.first a.size → IsValidExtent b.first b.size →
     order_of_texts (address a.first) (address a.size) (address b.first) (address b.size) ≡ Ok (Happens (Ordered a b))
 unfolding order_of_texts
-order_of_texts-address a b valid_a valid_b =
-    let fits_a = fits_of a valid_a in let fits_b = fits_of b valid_b in
-    rw (number_of-address a.first fits_a.first, number_of-address a.size fits_a.size, number_of-address b.first fits_b.first, number_of-address b.size fits_b.size, extent_of-valid a valid_a, extent_of-valid b valid_b) refl
+order_of_texts-address a b valid_a valid_b = grind (arith, common_steps, number_of-address, fits_of, extent_of-valid)
 
 record_of-ordered : (a b : Extent) → IsValidExtent a.first a.size → IsValidExtent b.first b.size →
     record_of (codes "PMT.ORDERED" ++ (fields_of_span a ++ fields_of_span b)) ≡ Ok (Happens (Ordered a b))

@@ -1,4 +1,4 @@
-use Rattle.std.proofs.Common.{◌≡◌, Ok, Err, Some, sym, ap, ◌∙◌, refl}
+use Rattle.std.proofs.{Common.{arith, ◌≡◌, Ok, refl}, lemmas.Grind.{common_steps}}
 use Rattle.pmf_storelog.{specs.declared.record.Saying.TheVariants.{Happens, Enters, Skipped}, specs.Records.{record_of}, proofs.TallyLemmas.{entered_ok, entered_err, taken_nothing, shown_cause}}
 use Rattle.pmf_storelog.proofs.tally.Tally.take_record.Goals as goal
 
@@ -23,6 +23,4 @@ returns-in-Ok-Skipped-clause-ok c = λ run records taken.
     let says : record_of c.args.text.now ≡ Ok Skipped = cc in taken_nothing run records c.args.text.now c.args.self.now taken c.skip.new.self says c.skip.ensures.skips
 
 pub returns-in-Err-clause-err : goal.returns-in-Err-clause-err
-returns-in-Err-clause-err c = λ run records taken memory.
-    let says : record_of c.args.text.now ≡ Err c.in-Err.cause = cc in
-    shown_cause run records c.args.text.now c.args.self.now taken c.in-Err.cause says ∙ ap (λ f. Some f) (sym c.fault.ensures)
+returns-in-Err-clause-err c = grind (arith, common_steps, shown_cause)
