@@ -1,6 +1,6 @@
 -- The text of a ledger loads as that ledger.
-use Rattle.std.{proofs.Common.{◌≡◌, ℕ, zero, suc, ◌+◌, ◌-◌, ◌^◌, ◌<◌, ◌≤◌, ◌==◌, List, [], ◌∷◌, ◌++◌, length, map, Some, None, refl, sym, ◌∙◌, ap, subst, arith, rules, append_assoc, length-append, codes, if◌then◌else◌, decimal, le-ltb, All, flat_map, append-nil, take_at, drop_at}, specs.List.{AllByRecursion}, proofs.lemmas.List.{length_push, length-map}, proofs.lemmas.List.Elements.{recursion_from_All, All-contains}, proofs.lemmas.Slice.Eq.{bytes_eq-Decides}, proofs.lemmas.Grind.{common_steps}}
-use Rattle.pmf_event.specs.{declared.event.Event.{Event}, declared.name.Name.{Name}, declared.profile.Profile.{Profile}, declared.profile.Profile.TheVariants.{One, Two}, declared.row.Row.{Row}, declared.section.TheConstants.{EVENT_LIMIT}, Section.{Trace}}
+use Rattle.std.{proofs.Common.{◌≡◌, ℕ, suc, ◌+◌, ◌-◌, ◌^◌, ◌<◌, ◌≤◌, List, [], ◌∷◌, ◌++◌, length, map, Some, None, refl, sym, ◌∙◌, ap, subst, arith, rules, append_assoc, length-append, codes, if◌then◌else◌, decimal, le-ltb, All, flat_map, append-nil, take_at, drop_at}, specs.List.{AllByRecursion}, proofs.lemmas.List.{length_push, length-map}, proofs.lemmas.List.Elements.{recursion_from_All, All-contains}, proofs.lemmas.Slice.Eq.{bytes_eq-Decides}, proofs.lemmas.Grind.{common_steps}}
+use Rattle.pmf_event.specs.{declared.event.Event.{Event}, declared.name.Name.{Name}, declared.profile.Profile.{Profile}, declared.row.Row.{Row}, declared.section.TheConstants.{EVENT_LIMIT}, Section.{Trace}}
 use Rattle.pmf_storelog.{specs.Canonical.{line_of_event}, specs.Spelling.{AllValid}, proofs.EventLineLemmas.{event_of_line-event}, proofs.FrontLemmas.{BeginsWithNoDigit, number_in_front-decimal}, proofs.PlainRecordLemmas.{text_of_lines}, proofs.PlainLemmas.{text_of_event}}
 use Rattle.pmf_verdict.specs.{Checked.{Checked, checked_by, rows_in}, Rows.{rows_of}, Text.{text_of_row, text_of_rows}}
 use Rattle.pmf_ledger.{specs.declared.head.Head.{Head}, specs.declared.loading.LedgerFault.TheVariants.{FalseRows}, specs.declared.loading.TheConstants.{LEDGER_LIMIT}, specs.Gathered.{IsLedgerOf}, specs.LedgerText.{IsSpelled, version_of, text_of_head, text_of_block, text_of_end, text_of_ledger}, specs.LedgerValue.{LedgerValue}, specs.Loading.{Reading, Stage, AtVersion, AtBlock, AtEvents, AtRows, AtEnd, AtFault, at, unread, alone, number_behind, profile_of, head_of, head_of_run, head_of_number, head_of_events, head_of_rows, end_of, after_version, after_head, after_end, after_event, after_row, after_line, after_line_at, after_lines, with_events, with_section, with_rows, lines_of, left_of, reading_of, fault_of, LoadsAs}, specs.Names.{Rises}, proofs.lemmas.AddingLemmas.{from_map}, proofs.lemmas.ReadingLemmas.{event-added, rows_told, end-here, line-at}, proofs.lemmas.SpelledLemmas.{OneLine, one-append, decimal-one, text_without_end, row-one, event-one, lines_of-lines, left_of-lines, lines-append, each-append}}
@@ -56,11 +56,10 @@ block-one s spelled = grind (arith, common_steps, each-append, events-one, recur
 
 blocks-one : (sections : List Checked) → AllByRecursion IsSpelled sections → AllByRecursion OneLine (flat_map block_lines sections)
 blocks-one [] spelled = tt
-blocks-one (s ∷ sections) spelled = each-append (block_lines s) (flat_map block_lines sections) (block-one s spelled.0) (blocks-one sections spelled.1)
+blocks-one (s ∷ sections) spelled = grind (arith, common_steps, each-append, block-one, blocks-one sections spelled.1)
 
 version-one : (profile : Profile) → OneLine (version_of profile)
-version-one One = search rules
-version-one Two = search rules
+version-one profile = grind (arith, common_steps)
 
 end-one : (blocks : ℕ) → OneLine (end_line blocks)
 unfolding end_line
@@ -103,7 +102,7 @@ end_of-line blocks small =
 -- the reading after more text lines
 lines-after : (r : Reading) (n : ℕ) (xs ys : List (List ℕ)) → after_lines r n (xs ++ ys) ≡ after_lines (after_lines r n xs) (n + length xs) ys
 unfolding after_lines
-lines-after r n [] ys = let e : n ≡ n + 0 = omega arith in ap (λ k. after_lines r k ys) e
+lines-after r n [] ys = grind (arith, common_steps)
 lines-after r n (x ∷ xs) ys = grind (arith, common_steps, lines-after (after_line r n x) (suc n) xs ys)
 
 -- the text lines lead from one reading to the other, wherever they stand
@@ -125,18 +124,15 @@ leads-append r e f xs ys first second = λ n. lines-after r n xs ys ∙ ap (λ o
 -- what comes next doesn't matter to a step
 rows-at : (r : Reading) (stage : Stage) (section : Trace) (rows : List Row) → with_rows (at r stage) section rows ≡ with_rows r section rows
 unfolding with_rows
-rows-at r stage section [] = refl
-rows-at r stage section (row ∷ rows) = refl
+rows-at r stage section rows = grind (arith, common_steps)
 
 section-at : (r : Reading) (stage : Stage) (section : Trace) (told : ℕ) → with_section (at r stage) section told ≡ with_section r section told
 unfolding with_section
-section-at r stage section told =
-    ap (λ o. if length (rows_of r.profile section.events) == told then o else at r (AtFault (FalseRows section.name))) (rows-at r stage section (rows_of r.profile section.events))
+section-at r stage section told = grind (arith, common_steps, rows-at)
 
 events-at : (r : Reading) (stage : Stage) (section : Trace) (more told : ℕ) → with_events (at r stage) section more told ≡ with_events r section more told
 unfolding with_events
-events-at r stage section zero told = section-at r stage section told
-events-at r stage section (suc more) told = refl
+events-at r stage section more told = grind (arith, common_steps, section-at)
 
 -- rows
 row-step : (r : Reading) (section : Trace) (row : Row) (rows : List Row) (n : ℕ) → after_line (with_rows r section (row ∷ rows)) n (text_without_end row) ≡ with_rows r section rows
@@ -168,11 +164,7 @@ module _ (r : Reading) (name : Name) (told : ℕ) where
       Leads (with_events r (of_events done) (length left) told) (map text_of_event left) (with_section r (of_events (done ++ left)) told)
   unfolding with_events
   leads-events done [] valid few = rw (append-nil done) (leads-none (with_section r (of_events done) told))
-  leads-events done (event ∷ left) valid few =
-      let more : length (done ++ event ∷ []) + length left ≤ EVENT_LIMIT = let long = length_push done event in omega (arith, long, few) in
-      let rest = subst (λ events. Leads (with_events r (of_events (done ++ event ∷ [])) (length left) told) (map text_of_event left) (with_section r (of_events events) told)) (append_assoc done (event ∷ []) left) (leads-events (done ++ event ∷ []) left valid.1 more) in
-      leads-cons (with_events r (of_events done) (length (event ∷ left)) told) (with_events r (of_events (done ++ event ∷ [])) (length left) told) (with_section r (of_events (done ++ event ∷ left)) told)
-      (text_of_event event) (map text_of_event left) (λ n. event-step done left event n valid.0 (omega (arith, few))) rest
+  leads-events done (event ∷ left) valid few = grind (arith, common_steps, length_push, append_assoc, leads-cons, event-step, leads-events (done ++ event ∷ []) left valid.1)
 
 -- a block
 after_blocks : Profile → List Trace → Reading
@@ -245,8 +237,7 @@ no_fault text is none = rw (none, is) refl
 
 profile_of-version : (profile : Profile) → profile_of (version_of profile) ≡ Some profile
 unfolding profile_of
-profile_of-version One = refl
-profile_of-version Two = refl
+profile_of-version profile = grind (arith, common_steps)
 
 module _ (l : LedgerValue) (rises : Rises l.sections) (checked : All (λ (c : Checked). c.profile ≡ l.profile) l.sections) (spelled : All IsSpelled l.sections) (short : length (text_of_ledger l) ≤ LEDGER_LIMIT) where
   by_profile : AllBy l.profile l.sections

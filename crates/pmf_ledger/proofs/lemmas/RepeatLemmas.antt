@@ -79,7 +79,7 @@ is_name-is : (name n : Name) → is_name name n ≡ true → n ≡ name
 is_name-is name n is = grind (arith, common_steps, and_parts, eqb-true)
 
 pub is_name-yes : (name n : Name) → n ≡ name → is_name name n ≡ true
-is_name-yes name n is = subst (λ m. is_name m n ≡ true) is (rw (eq-eqb n.run n.run refl, eq-eqb n.number n.number refl) refl)
+is_name-yes name n is = grind (arith, common_steps, eq-eqb)
 
 module _ (names : List Name) (d : Name) where
   -- a name that stands twice stands at two places
