@@ -6,13 +6,13 @@ use Rattle.pmf_storelog.specs.Numbers.{is_digit_in, is_numeral, numeral_of}
 unfoldable pub numeral_from : ℕ → ℕ → List ℕ → Option ℕ
 numeral_from radix value text = cond (list_all (is_digit_in radix) text && nat_lt (digits_value_after radix value text) (2 ^ 64)) (Some (digits_value_after radix value text)) None
 
-pub numeral_of-empty : (radix most : ℕ) (text : List ℕ) → length text ≡ 0 → numeral_of radix most text ≡ None
+pub numeral_of_empty : (radix most : ℕ) (text : List ℕ) → length text ≡ 0 → numeral_of radix most text ≡ None
 unfolding numeral_of is_numeral
-numeral_of-empty radix most text empty = rw empty refl
+numeral_of_empty radix most text empty = rw empty refl
 
-pub numeral_of-long : (radix most : ℕ) (text : List ℕ) → most < length text → numeral_of radix most text ≡ None
+pub numeral_of_long : (radix most : ℕ) (text : List ℕ) → most < length text → numeral_of radix most text ≡ None
 unfolding numeral_of is_numeral
-numeral_of-long radix most text long = rw (lt-ltb 0 (length text) (omega arith), lt-leb (length text) most long) refl
+numeral_of_long radix most text long = rw (lt-ltb 0 (length text) (omega arith), lt-leb (length text) most long) refl
 
 pub numeral_of-from : (radix most : ℕ) (text : List ℕ) → 0 < length text → length text ≤ most → numeral_of radix most text ≡ numeral_from radix 0 text
 unfolding numeral_of is_numeral numeral_from
