@@ -97,9 +97,9 @@ pub records_in-blank : (part : List ℕ) → length (trimmed part) ≡ 0 → rec
 unfolding records_in
 records_in-blank part blank = rw blank refl
 
-pub records_in_filled : (part : List ℕ) → 0 < length (trimmed part) → records_in (part ∷ []) ≡ trimmed part ∷ []
+pub records_in-filled : (part : List ℕ) → 0 < length (trimmed part) → records_in (part ∷ []) ≡ trimmed part ∷ []
 unfolding records_in
-records_in_filled part filled = rw (lt-ltb 0 (length (trimmed part)) filled) refl
+records_in-filled part filled = rw (lt-ltb 0 (length (trimmed part)) filled) refl
 
 pub taken_blank : (run : ℕ) (records : List (List ℕ)) (part : List ℕ) (tally : Tally) → length (trimmed part) ≡ 0 → HasTaken run records tally → HasTaken run (records ++ records_in (part ∷ [])) tally
 taken_blank run records part tally blank taken = rw (records_in-blank part blank, append-nil records) taken

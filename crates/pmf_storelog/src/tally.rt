@@ -39,7 +39,6 @@ impl Tally {
 
     /// Takes what stands between two separators: a record, or nothing but blanks.
     #[inline]
-    #[tactic(auto, using(std::proofs::lemmas::Grind::common_steps, crate::proofs::TallyLemmas::records_in_filled))]
     pub(crate) fn take_part(&mut self, part: &[u8]) -> Result<(), LogFault>
         requires { self.old.records + 1 < 2 ^ 64 }
         ensures grows { self.new.records ≤ self.old.records + 1 }

@@ -107,12 +107,6 @@ unfolding text_of_totals text_of_counts total_line counts_line
 report-text sections = grind (arith, common_steps, sections-text, lines-append)
 
 -- no line end stands in them
-more-one : (front word : List ℕ) (n : ℕ) → OneLine front → OneLine word → OneLine (front ++ word ++ decimal n)
-more-one front word n first second = one-append (front ++ word) (decimal n) (one-append front word first second) (decimal-one n)
-
-word-one : (word : List ℕ) (n : ℕ) → OneLine word → OneLine (word ++ decimal n)
-word-one word n first = one-append word (decimal n) first (decimal-one n)
-
 counts-one : (t : Totals) → OneLine (counts_line t)
 unfolding counts_line
 counts-one t = grind (arith, common_steps, one-append, decimal-one)
