@@ -48,6 +48,7 @@ pub fn joining_again_changes_nothing()
 
 /// Two gatherings by one profile, of sets with the same members, give one ledger, and the one is refused exactly
 /// where the other is: orders, repeats and joins leave no trace.
+#[tactic(auto, using(crate::proofs::lemmas::AlikeLemmas::set_counts))]
 pub fn only_the_set_counts()
     ensures { OnlyTheSetCounts }
 {}

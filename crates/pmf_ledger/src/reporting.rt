@@ -35,7 +35,7 @@ impl Ledger {
 
     /// The report, and the sums of its last text line. Looks through all rows once to count them, and once to write
     /// them. Takes memory for the text alone.
-    #[tactic(auto, using(std::proofs::lemmas::Grind::common_steps, crate::proofs::lemmas::ReportToldLemmas::reports_tell_totals))]
+    #[tactic(auto, using(std::proofs::lemmas::Grind::common_steps, crate::proofs::lemmas::ReportToldLemmas::reports_tell_totals, crate::proofs::lemmas::ReportToldLemmas::reports_tell_sections))]
     pub fn report(&self, alloc: Global) -> Result<(Vec<u8>, Totals), AllocError>
         ensures text { IfOk result (λ made. made.0.items ≡ report_of self.now.sections) }
         // Read line by line, it tells these sections, each with its own rows, and their sums.

@@ -1,7 +1,7 @@
 -- What is written of a number and of a span reads as itself.
-use Rattle.std.{proofs.Common.{◌≡◌, ℕ, zero, suc, ◌+◌, ◌*◌, ◌/◌, ◌%◌, ◌^◌, ◌<◌, ◌≤◌, true, false, ◌==◌, if◌then◌else◌, List, [], ◌∷◌, ◌++◌, Some, length, refl, ap, ◌∙◌, arith, inl, inr, Ok, lt-ltb, le-leb, ◌≢◌}, specs.Fmt.{digits_onto, digit_glyph, digits}, specs.Char.{digit_value}, specs.Str.Parse.{digits_value, AllDigits}, specs.List.{list_all, AllByRecursion}, proofs.lemmas.List.Elements.{All-from_recursion}, proofs.lemmas.Fmt.{digits_is_IsNumeral}, proofs.lemmas.Bool.{cases_eq, ne_eqb, eqb-false}, proofs.lemmas.List.Splits.{slice_split_none, slice_split_at}}
+use Rattle.std.{proofs.Common.{◌≡◌, ℕ, zero, suc, ◌+◌, ◌*◌, ◌/◌, ◌%◌, ◌^◌, ◌<◌, ◌≤◌, true, false, ◌==◌, if◌then◌else◌, List, [], ◌∷◌, ◌++◌, Some, length, refl, ap, ◌∙◌, arith, inl, inr, Ok, lt-ltb, le-leb, ◌≢◌}, specs.Fmt.{digits_onto, digit_glyph, digits}, specs.Char.{digit_value}, specs.Str.Parse.{digits_value, AllDigits}, specs.List.{list_all, AllByRecursion}, proofs.lemmas.List.Elements.{All-from_recursion}, proofs.lemmas.Fmt.{digits_is_IsNumeral}, proofs.lemmas.Bool.{cases_eq, ne_eqb, eqb-false}, proofs.lemmas.List.Splits.{slice_split_none, slice_split_at}, proofs.lemmas.Grind.{common_steps}}
 use Rattle.pmf_event.specs.{Span.{Extent, IsValidExtent, extent_of}, Address.{address}}
-use Rattle.pmf_storelog.specs.{Records.{is_field_end, fields_of, span_of_texts, span_of_numbers, span_or_cause}, Numbers.{is_digit_in, is_numeral, numeral_of, number_of}, Canonical.{field_of, fields_of_span}}
+use Rattle.pmf_storelog.specs.{Records.{is_field_end, fields_of, span_of_texts}, Numbers.{is_digit_in, is_numeral, numeral_of, number_of}, Canonical.{field_of, fields_of_span}}
 use native.Mathlib.Nat.{pow-suc}
 
 -- a number below 16 ^ m has at most m hexadecimal digits
@@ -12,9 +12,7 @@ onto-length (suc k) (suc m) n acc some small =
     elim (n / 16 == 0) as (λ v. (n / 16 == 0) ≡ v → length (if v then digit_glyph false (n % 16) ∷ acc else digits_onto k 16 false (n / 16) (digit_glyph false (n % 16) ∷ acc)) ≤ suc m + length acc) [
       | true ↦ λ is. omega arith
       | false ↦ λ is.
-          let step : n < 16 ^ m * 16 = rw (← pow-suc 16 m) small in
-          let some : n / 16 ≢ 0 = eqb-false (n / 16) 0 is in
-          let below : n / 16 < 16 ^ m = omega arith in
+          let step : n < 16 ^ m * 16 = rw (← pow-suc 16 m) small in let some : n / 16 ≢ 0 = eqb-false (n / 16) 0 is in let below : n / 16 < 16 ^ m = omega arith in
           elim (cases_eq m 0) [
             | inl none ↦ let one : 16 ^ m ≡ 1 = rw none refl in absurd (omega arith)
             | inr left ↦ let rest = onto-length k m (n / 16) (digit_glyph false (n % 16) ∷ acc) (omega arith) below in omega arith
@@ -31,15 +29,12 @@ all_digits radix (d ∷ ds) each = rw (lt-ltb (digit_value d) radix each.0) (all
 
 pub numeral_of-digits : (radix most : ℕ) (ds : List ℕ) (n : ℕ) → 0 < length ds → length ds ≤ most → AllDigits radix ds → digits_value radix ds ≡ n → n < 2 ^ 64 → numeral_of radix most ds ≡ Some n
 unfolding numeral_of is_numeral
-numeral_of-digits radix most ds n some few each value small =
-    rw (lt-ltb 0 (length ds) some, le-leb (length ds) most few, all_digits radix ds each, value, lt-ltb n (2 ^ 64) small) refl
+numeral_of-digits radix most ds n some few each value small = rw (lt-ltb 0 (length ds) some, le-leb (length ds) most few, all_digits radix ds each, value, lt-ltb n (2 ^ 64) small) refl
 
 -- what is written of a number reads as the number
 pub number_of-address : (n : ℕ) → n < 2 ^ 64 → number_of (address n) ≡ Some n
 unfolding number_of
-number_of-address n small =
-    let numeral = digits_is_IsNumeral 16 false (omega arith) (omega arith) n (omega arith) in
-    numeral_of-digits 16 16 (digits 16 false n) n numeral.0.0 (hex-length n small) numeral.0.1 numeral.1 small
+number_of-address n small = grind (arith, common_steps, digits_is_IsNumeral, numeral_of-digits, hex-length)
 
 -- no byte ends a field
 abbrev pub NoFieldEnd : List ℕ → Type 0
@@ -88,14 +83,10 @@ fits_of s valid = record { first = omega (arith, valid.ends); size = omega (arit
 pub fields_of-span : (name : List ℕ) (s : Extent) → NoFieldEnd name → Fits s → fields_of (name ++ fields_of_span s) ≡ name ∷ address s.first ∷ address s.size ∷ []
 unfolding fields_of_span field_of
 fields_of-span name s none fits =
-    fields_of-more name (address s.first ++ 59 ∷ address s.size) none
-    ∙ ap (λ fs. name ∷ fs) (fields_of-more (address s.first) (address s.size) (address-NoFieldEnd s.first fits.first))
+    fields_of-more name (address s.first ++ 59 ∷ address s.size) none ∙ ap (λ fs. name ∷ fs) (fields_of-more (address s.first) (address s.size) (address-NoFieldEnd s.first fits.first))
     ∙ ap (λ fs. name ∷ address s.first ∷ fs) (fields_of-last (address s.size) (address-NoFieldEnd s.size fits.size))
 
 -- the span that they spell
 pub span_of_texts-address : (s : Extent) → Fits s → extent_of s.first s.size ≡ Ok s → span_of_texts (address s.first) (address s.size) ≡ Ok s
 unfolding span_of_texts
-span_of_texts-address s fits valid =
-    ap (λ o. span_of_numbers o (number_of (address s.size))) (number_of-address s.first fits.first)
-    ∙ ap (λ o. span_of_numbers (Some s.first) o) (number_of-address s.size fits.size)
-    ∙ ap span_or_cause valid
+span_of_texts-address s fits valid = grind (arith, common_steps, number_of-address)

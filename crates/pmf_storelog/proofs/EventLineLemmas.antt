@@ -50,18 +50,15 @@ event_of_record-is event text says = rw (names-no_section event text says, says)
 
 event_of_line-plain : (event : Event) (line : List ℕ) → IsPlain line → length line ≤ LOG_LIMIT → record_of line ≡ Ok (Happens event) → event_of_line line ≡ Ok event
 unfolding event_of_line
-event_of_line-plain event line plain short says =
-    rw (one_record-plain line plain short, trimmed-plain line plain) (event_of_record-is event line says)
+event_of_line-plain event line plain short says = rw (one_record-plain line plain short, trimmed-plain line plain) (event_of_record-is event line says)
 
 -- an event's canonical text line, without its end
 pub text-short : (event : Event) → AllValid event → length (text_of_event event) ≤ 91
-text-short event valid =
-    omega (arith, line-length event valid, length-append (name_of event ++ fields_of_event event) (codes "\n"))
+text-short event valid = omega (arith, line-length event valid, length-append (name_of event ++ fields_of_event event) (codes "\n"))
 
 -- reads as the event
 pub event_of_line-event : (event : Event) → AllValid event → event_of_line (text_of_event event) ≡ Ok event
-event_of_line-event event valid =
-    event_of_line-plain event (text_of_event event) (text_of_event-plain event valid) (omega (arith, text-short event valid)) (record_of-event event valid)
+event_of_line-event event valid = event_of_line-plain event (text_of_event event) (text_of_event-plain event valid) (omega (arith, text-short event valid)) (record_of-event event valid)
 
 -- no separator stands in it
 pub text-one_line : (event : Event) → AllValid event → All (λ c. is_separator c ≡ false) (text_of_event event)

@@ -1,5 +1,5 @@
 -- The numbers of a list in order: they rise, are those of the list, and with one more are one insertion more.
-use Rattle.std.{proofs.Common.{◌≡◌, ℕ, zero, suc, ◌<◌, List, [], ◌∷◌, ◌++◌, length, get_or, refl, sym, ◌∙◌, ap, subst, arith, inl, inr, Less, Equal, Greater, ◌⊎◌, Contains, nat_cmp}, specs.Cmp.{nat_cmp_is}, proofs.lemmas.Bool.{cases_order}, specs.BTreeSet.{insert_key}}
+use Rattle.std.{proofs.Common.{◌≡◌, ℕ, zero, suc, ◌<◌, List, [], ◌∷◌, ◌++◌, length, get_or, refl, sym, ◌∙◌, ap, subst, arith, inl, inr, Less, Equal, Greater, ◌⊎◌, Contains, nat_cmp}, specs.Cmp.{nat_cmp_is}, proofs.lemmas.Bool.{cases_order}, specs.BTreeSet.{insert_key}, proofs.lemmas.Grind.{common_steps}}
 use Rattle.pmf_storelog.specs.{Rising.{IsBelow, Rises, with_number, in_order}, Laws.{InOrderIsTheSetInOrder}}
 
 -- the number is among them
@@ -24,57 +24,28 @@ order_of m n = elim (cases_order m n) [
 
 below-insert : (m n : ℕ) (xs : List ℕ) → m < n → IsBelow m xs → IsBelow m (insert_key nat_cmp xs n)
 below-insert m n [] less below = (less, tt)
-below-insert m n (x ∷ xs) less below = elim (order_of n x) [
-  | inl low ↦ rw low.0 (less, below)
-  | inr rest ↦ elim rest [ inl same ↦ rw same.0 below | inr high ↦ rw high.0 (below.0, below-insert m n xs less below.1) ]
-]
+below-insert m n (x ∷ xs) less below = grind (arith, common_steps, order_of, below-insert m n xs less)
 
 rising-insert : (n : ℕ) (xs : List ℕ) → Rises xs → Rises (insert_key nat_cmp xs n)
 rising-insert n [] rising = (tt, tt)
-rising-insert n (x ∷ xs) rising = elim (order_of n x) [
-  | inl low ↦ rw low.0 ((low.1, below-less n x xs low.1 rising.0), rising)
-  | inr rest ↦ elim rest [ inl same ↦ rw same.0 rising | inr high ↦ rw high.0 (below-insert x n xs high.1 rising.0, rising-insert n xs rising.1) ]
-]
+rising-insert n (x ∷ xs) rising = grind (arith, common_steps, order_of, below-less, below-insert, rising-insert n xs rising.1)
 
 pub has-insert : (n : ℕ) (xs : List ℕ) → Has n (insert_key nat_cmp xs n)
 has-insert n [] = inl refl
-has-insert n (x ∷ xs) = elim (order_of n x) [
-  | inl low ↦ rw low.0 (inl refl)
-  | inr rest ↦ elim rest [ inl same ↦ rw same.0 (inl same.1) | inr high ↦ rw high.0 (inr (has-insert n xs)) ]
-]
+has-insert n (x ∷ xs) = grind (arith, common_steps, order_of, has-insert n xs)
 
 pub insert-present : (n : ℕ) (xs : List ℕ) → Rises xs → Has n xs → insert_key nat_cmp xs n ≡ xs
 insert-present n [] rising has = absurd has
-insert-present n (x ∷ xs) rising has = elim (order_of n x) [
-  | inl low ↦ absurd (elim has [ inl is ↦ (let l = low.1 in omega (arith, is, l)) | inr later ↦ (let l = low.1 in let a = has-above x n xs rising.0 later in omega (arith, a, l)) ])
-  | inr rest ↦ elim rest [
-    | inl same ↦ rw same.0 refl
-    | inr high ↦ rw high.0 (ap (λ ys. x ∷ ys) (insert-present n xs rising.1 (elim has [ inl is ↦ absurd (let h = high.1 in omega (arith, is, h)) | inr later ↦ later ])))
-  ]
-]
+insert-present n (x ∷ xs) rising has = grind (arith, common_steps, order_of, has-above, insert-present n xs rising.1)
 
 -- the numbers with one more have those that were there, and that one
 has-kept : (k n : ℕ) (xs : List ℕ) → Has k xs → Has k (insert_key nat_cmp xs n)
 has-kept k n [] has = absurd has
-has-kept k n (x ∷ xs) has = elim (order_of n x) [
-  | inl low ↦ rw low.0 (inr has)
-  | inr rest ↦ elim rest [
-    | inl same ↦ rw same.0 has
-    | inr high ↦ rw high.0 (elim has [ inl is ↦ inl is | inr later ↦ inr (has-kept k n xs later) ])
-  ]
-]
+has-kept k n (x ∷ xs) has = grind (arith, common_steps, order_of, has-kept k n xs)
 
 has-either : (k n : ℕ) (xs : List ℕ) → Has k (insert_key nat_cmp xs n) → (k ≡ n) ⊎ Has k xs
 has-either k n [] has = has
-has-either k n (x ∷ xs) has = elim (order_of n x) [
-  | inl low ↦ rw low.0 at has
-  | inr rest ↦ elim rest [
-    | inl same ↦ inr (rw same.0 at has)
-    | inr high ↦
-        let found : (k ≡ x) ⊎ Has k (insert_key nat_cmp xs n) = rw high.0 at has in
-        elim found [ inl is ↦ inr (inl is) | inr later ↦ elim (has-either k n xs later) [ inl is ↦ inl is | inr there ↦ inr (inr there) ] ]
-  ]
-]
+has-either k n (x ∷ xs) has = grind (arith, common_steps, order_of, has-either k n xs)
 
 pub in_order-rises : (ns : List ℕ) → Rises (in_order ns)
 in_order-rises [] = tt
@@ -82,10 +53,7 @@ in_order-rises (n ∷ ns) = rising-insert n (in_order ns) (in_order-rises ns)
 
 has-in_order : (k : ℕ) (ns : List ℕ) → Has k ns → Has k (in_order ns)
 has-in_order k [] has = absurd has
-has-in_order k (n ∷ ns) has = elim has [
-  | inl is ↦ subst (λ m. Has m (in_order (n ∷ ns))) (sym is) (has-insert n (in_order ns))
-  | inr later ↦ has-kept k n (in_order ns) (has-in_order k ns later)
-]
+has-in_order k (n ∷ ns) has = grind (arith, common_steps, has-insert, has-kept, has-in_order k ns)
 
 in_order-has : (k : ℕ) (ns : List ℕ) → Has k (in_order ns) → Has k ns
 in_order-has k [] has = absurd has
@@ -99,10 +67,7 @@ contains-has n (x ∷ xs) (suc k) within is = inr (contains-has n xs k (omega (a
 
 has-contains : (n : ℕ) (xs : List ℕ) → Has n xs → Contains xs n
 has-contains n [] has = absurd has
-has-contains n (x ∷ xs) has = elim has [
-  | inl is ↦ (0, omega arith, sym is)
-  | inr later ↦ let there = has-contains n xs later in (suc there.0, omega (arith, there.1), there.2)
-]
+has-contains n (x ∷ xs) has = elim has [ inl is ↦ (0, omega arith, sym is) | inr later ↦ let there = has-contains n xs later in (suc there.0, omega (arith, there.1), there.2) ]
 
 pub the_set_in_order : InOrderIsTheSetInOrder
 the_set_in_order ns = (
@@ -115,31 +80,11 @@ the_set_in_order ns = (
 
 -- it is the same which of two numbers comes first
 low_first : (m n : ℕ) (xs : List ℕ) → m < n → with_number (with_number xs m) n ≡ with_number (with_number xs n) m
-low_first m n [] less =
-    let up : nat_cmp m n ≡ Less = sym (nat_cmp_is m n Less less) in
-    let down : nat_cmp n m ≡ Greater = sym (nat_cmp_is n m Greater less) in
-    rw (up, down) refl
-low_first m n (x ∷ xs) less =
-    let up : nat_cmp m n ≡ Less = sym (nat_cmp_is m n Less less) in
-    let down : nat_cmp n m ≡ Greater = sym (nat_cmp_is n m Greater less) in
-    elim (order_of m x) [
-      | inl low ↦ elim (order_of n x) [
-        | inl both ↦ rw (low.0, both.0, up, down) refl
-        | inr rest ↦ elim rest [ inl same ↦ rw (low.0, same.0, down, low.0) refl | inr high ↦ rw (low.0, high.0, down, low.0) refl ]
-      ]
-      | inr rest ↦
-          let above : nat_cmp n x ≡ Greater = sym (nat_cmp_is n x Greater (elim rest [ inl same ↦ (let s = same.1 in omega (arith, s, less)) | inr high ↦ (let h = high.1 in omega (arith, h, less)) ])) in
-          elim rest [
-            | inl same ↦ rw (same.0, above, same.0) refl
-            | inr high ↦ rw (high.0, above, high.0) (ap (λ ys. x ∷ ys) (low_first m n xs less))
-          ]
-    ]
+low_first m n [] less = grind (arith, common_steps, order_of)
+low_first m n (x ∷ xs) less = grind (arith, common_steps, order_of, low_first m n xs less)
 
 either_first : (m n : ℕ) (xs : List ℕ) → with_number (with_number xs m) n ≡ with_number (with_number xs n) m
-either_first m n xs = elim (order_of m n) [
-  | inl low ↦ low_first m n xs low.1
-  | inr rest ↦ elim rest [ inl same ↦ subst (λ k. with_number (with_number xs m) k ≡ with_number (with_number xs k) m) same.1 refl | inr high ↦ sym (low_first n m xs high.1) ]
-]
+either_first m n xs = grind (arith, common_steps, order_of, low_first)
 
 -- one number more at the end is one insertion more
 pub in_order-push : (ns : List ℕ) (n : ℕ) → in_order (ns ++ n ∷ []) ≡ with_number (in_order ns) n

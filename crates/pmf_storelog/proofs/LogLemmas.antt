@@ -1,5 +1,5 @@
 -- The sections, the skipped records and the first fault of a list of records that more records follow.
-use Rattle.std.proofs.{Common.{◌≡◌, ℕ, zero, suc, ◌+◌, ◌<◌, ◌≤◌, Bool, true, false, cond, map, List, [], ◌∷◌, ◌++◌, Option, Some, None, Result, Ok, Err, length, take, refl, sym, ap, ◌∙◌, arith, add-one, length-append, ⊎_elim, ◌==◌, filter, append_assoc, append-nil, take_at, take_all, lt-ltb, le-ltb}, lemmas.List.{map-append, take-append-le, get_or_append_left, get_or_at, length_push}, lemmas.List.Elements.{filter-append}, lemmas.List.Sums.{sum_by-append}, lemmas.Bool.{cases_lt}}
+use Rattle.std.proofs.{Common.{◌≡◌, ℕ, zero, suc, ◌+◌, ◌<◌, ◌≤◌, Bool, cond, map, List, [], ◌∷◌, ◌++◌, Option, Some, None, Result, Ok, Err, length, take, refl, sym, ap, ◌∙◌, arith, add-one, length-append, ⊎_elim, ◌==◌, filter, append_assoc, append-nil, take_at, take_all, lt-ltb, le-ltb}, lemmas.List.{map-append, take-append-le, get_or_append_left, get_or_at, length_push}, lemmas.List.Elements.{filter-append}, lemmas.List.Sums.{sum_by-append}, lemmas.Bool.{cases_lt}, lemmas.Grind.{common_steps}}
 use Rattle.pmf_event.specs.declared.event.Event.{Event}
 use Rattle.pmf_storelog.{specs.declared.fault.TheConstants.{LOG_LIMIT}, specs.declared.fault.Cause.{Cause}, specs.declared.fault.Cause.TheVariants.{TooLong}, specs.declared.fault.LogFault.{LogFault}, specs.declared.record.Saying.{Saying}, specs.declared.record.Saying.TheVariants.{Happens, Enters, Skipped}, specs.Records.{record_of}, specs.Sections.{with_event}, specs.Separators.{records_of, ended_records}, specs.LogText.{reading_at, number_after, current_at, current_of, numbered, numbered_among, numbered_events, events_in, entered, entered_among, entered_of, numbers_of, is_skipped, skipped_of, refusal_after, refusal_at, or_else, first_fault_among, first_fault, too_long, shown_within, fault_within, shown_fault, fault_of, IsFaultOfAll}, specs.Rising.{with_number, in_order}, proofs.InOrderLemmas.{in_order-push}, proofs.PartLemmas.{ended_records-more, records_of-unfinished, unfinished}}
 
@@ -9,8 +9,7 @@ in_section number entries = map (λ entry. entry.1) (filter (λ entry. entry.0 =
 
 one_event : (here : Bool) (number : ℕ) (events : List Event) (event : Event) →
     events ++ map (λ (entry : ℕ × Event). entry.1) (cond here ((number, event) ∷ []) []) ≡ cond here (events ++ event ∷ []) events
-one_event true number events event = refl
-one_event false number events event = append-nil events
+one_event here number events event = grind (arith, common_steps, append-nil)
 
 -- the numbers with that of the section that a reading is of
 abbrev pub numbers_with : Result Saying Cause → ℕ → List ℕ → List ℕ
@@ -39,14 +38,12 @@ module _ (records more : List (List ℕ)) where
   pub numbered_among-append : (k : ℕ) → k ≤ length records → numbered_among (records ++ more) k ≡ numbered_among records k
   unfolding numbered_among
   numbered_among-append zero le = refl
-  numbered_among-append (suc k) le =
-      rw (reading_at-append k (omega arith), current_at-append k (omega arith), numbered_among-append k (omega arith)) refl
+  numbered_among-append (suc k) le = rw (reading_at-append k (omega arith), current_at-append k (omega arith), numbered_among-append k (omega arith)) refl
 
   pub entered_among-append : (k : ℕ) → k ≤ length records → entered_among (records ++ more) k ≡ entered_among records k
   unfolding entered_among
   entered_among-append zero le = refl
-  entered_among-append (suc k) le =
-      rw (reading_at-append k (omega arith), current_at-append k (omega arith), entered_among-append k (omega arith)) refl
+  entered_among-append (suc k) le = rw (reading_at-append k (omega arith), current_at-append k (omega arith), entered_among-append k (omega arith)) refl
 
   refusal_at-append : (k : ℕ) → k < length records → refusal_at (records ++ more) k ≡ refusal_at records k
   unfolding refusal_at
@@ -68,21 +65,15 @@ module _ (records : List (List ℕ)) (text : List ℕ) where
 
   pub current_of-push : current_of (records ++ text ∷ []) ≡ number_after (record_of text) (current_of records)
   unfolding current_of current_at
-  current_of-push =
-      ap (current_at (records ++ text ∷ [])) one_more
-      ∙ rw (reading_at-last, current_at-append records (text ∷ []) (length records) (omega arith)) refl
+  current_of-push = grind (arith, common_steps, one_more, reading_at-last, current_at-append)
 
   pub numbered_events-push : numbered_events (records ++ text ∷ []) ≡ numbered_events records ++ numbered (current_of records) (record_of text)
   unfolding numbered_events numbered_among current_of
-  numbered_events-push =
-      ap (numbered_among (records ++ text ∷ [])) one_more
-      ∙ rw (reading_at-last, current_at-append records (text ∷ []) (length records) (omega arith), numbered_among-append records (text ∷ []) (length records) (omega arith)) refl
+  numbered_events-push = grind (arith, common_steps, one_more, reading_at-last, current_at-append, numbered_among-append)
 
   entered_of-push : entered_of (records ++ text ∷ []) ≡ entered_of records ++ entered (current_of records) (record_of text)
   unfolding entered_of entered_among current_of
-  entered_of-push =
-      ap (entered_among (records ++ text ∷ [])) one_more
-      ∙ rw (reading_at-last, current_at-append records (text ∷ []) (length records) (omega arith), entered_among-append records (text ∷ []) (length records) (omega arith)) refl
+  entered_of-push = grind (arith, common_steps, one_more, reading_at-last, current_at-append, entered_among-append)
 
   -- the numbers of the sections with one more record are at most one insertion more
   pub numbers_of-push : numbers_of (records ++ text ∷ []) ≡ numbers_with (record_of text) (current_of records) (numbers_of records)
@@ -96,33 +87,22 @@ module _ (records : List (List ℕ)) (text : List ℕ) where
   -- the first fault with one more record
   pub first_fault-push : first_fault (records ++ text ∷ []) ≡ or_else (first_fault records) (refusal_after records (record_of text))
   unfolding first_fault first_fault_among
-  first_fault-push =
-      ap (first_fault_among (records ++ text ∷ [])) one_more
-      ∙ rw (first_fault_among-append records (text ∷ []) (length records) (omega arith), refusal_at-last) refl
+  first_fault-push = grind (arith, common_steps, one_more, first_fault_among-append, refusal_at-last)
 
   -- the events of each section, by what the record says
   pub events_in-push : (number : ℕ) → events_in (records ++ text ∷ []) number ≡ events_in records number ++ in_section number (numbered (current_of records) (record_of text))
   unfolding events_in
-  events_in-push number =
-      ap (in_section number) numbered_events-push
-      ∙ ap (map (λ entry. entry.1)) (filter-append (λ entry. entry.0 == number) (numbered_events records) (numbered (current_of records) (record_of text)))
-      ∙ map-append (λ entry. entry.1) _ _
+  events_in-push number = grind (arith, common_steps, numbered_events-push, filter-append, map-append)
 
   pub events_in-event : (event : Event) → record_of text ≡ Ok (Happens event) → (number : ℕ) →
       events_in (records ++ text ∷ []) number ≡ with_event (events_in records) (current_of records) event number
-  events_in-event event says number =
-      events_in-push number ∙ ap (λ reading. events_in records number ++ in_section number (numbered (current_of records) reading)) says
-      ∙ one_event (current_of records == number) (current_of records) (events_in records number) event
+  events_in-event event says number = grind (arith, common_steps, events_in-push, one_event)
 
   pub events_in-enter : (entered : ℕ) → record_of text ≡ Ok (Enters entered) → (number : ℕ) → events_in (records ++ text ∷ []) number ≡ events_in records number
-  events_in-enter entered says number =
-      events_in-push number ∙ ap (λ reading. events_in records number ++ in_section number (numbered (current_of records) reading)) says
-      ∙ append-nil (events_in records number)
+  events_in-enter entered says number = grind (arith, common_steps, events_in-push, append-nil)
 
   pub events_in-nothing : record_of text ≡ Ok Skipped → (number : ℕ) → events_in (records ++ text ∷ []) number ≡ events_in records number
-  events_in-nothing says number =
-      events_in-push number ∙ ap (λ reading. events_in records number ++ in_section number (numbered (current_of records) reading)) says
-      ∙ append-nil (events_in records number)
+  events_in-nothing says number = grind (arith, common_steps, events_in-push, append-nil)
 
   pub skipped_of-event : (event : Event) → record_of text ≡ Ok (Happens event) → skipped_of (records ++ text ∷ []) ≡ skipped_of records
   unfolding skipped_of is_skipped
@@ -139,25 +119,18 @@ module _ (records : List (List ℕ)) (text : List ℕ) where
 -- a fault stays the first one, whatever follows
 pub first_fault-more : (records more : List (List ℕ)) (fault : LogFault) → first_fault records ≡ Some fault → first_fault (records ++ more) ≡ Some fault
 first_fault-more records [] fault is = rw (append-nil records) is
-first_fault-more records (text ∷ more) fault is =
-    ap first_fault (sym (append_assoc records (text ∷ []) more))
-    ∙ first_fault-more (records ++ text ∷ []) more fault (rw (first_fault-push records text, is) refl)
+first_fault-more records (text ∷ more) fault is = grind (arith, common_steps, append_assoc, first_fault-push, first_fault-more (records ++ text ∷ []) more)
 
 -- what bytes show stays, whatever follows
 pub first_fault-ended : (xs ys : List ℕ) (fault : LogFault) → first_fault (ended_records xs) ≡ Some fault → first_fault (ended_records (xs ++ ys)) ≡ Some fault
-first_fault-ended xs ys fault is =
-    let more = ended_records-more xs ys in
-    ap first_fault more.1 ∙ first_fault-more (ended_records xs) more.0 fault is
+first_fault-ended xs ys fault is = let more = ended_records-more xs ys in ap first_fault more.1 ∙ first_fault-more (ended_records xs) more.0 fault is
 
 pub first_fault-records : (xs ys : List ℕ) (fault : LogFault) → first_fault (ended_records xs) ≡ Some fault → first_fault (records_of (xs ++ ys)) ≡ Some fault
 first_fault-records xs ys fault is =
-    let open_end = unfinished (xs ++ ys) in
-    ap first_fault (records_of-unfinished (xs ++ ys) open_end.0 open_end.1)
-    ∙ first_fault-more _ _ fault (first_fault-ended xs ys fault is)
+    let open_end = unfinished (xs ++ ys) in ap first_fault (records_of-unfinished (xs ++ ys) open_end.0 open_end.1) ∙ first_fault-more _ _ fault (first_fault-ended xs ys fault is)
 
 or_else-none : (first : Option LogFault) → or_else first None ≡ first
-or_else-none (Some fault) = refl
-or_else-none None = refl
+or_else-none first = grind (arith, common_steps)
 
 none_is_some : {fault : LogFault} → None ≡ Some fault → ⊥
 none_is_some same = cc
@@ -199,36 +172,18 @@ module _ (limit : ℕ) (bytes rest : List ℕ) (fault : LogFault) (shown : shown
   by_record : first_fault (ended_records (take limit bytes)) ≡ Some fault → fault_within limit (bytes ++ rest) ≡ Some fault
   by_record is = ⊎_elim
       (λ long.
-      let more = take_more_of limit bytes rest in
-      fault_within-long limit (bytes ++ rest) long
-      ∙ shown_within-early limit (bytes ++ rest) fault
+      let more = take_more_of limit bytes rest in fault_within-long limit (bytes ++ rest) long ∙ shown_within-early limit (bytes ++ rest) fault
       (ap (λ front. first_fault (ended_records front)) more.1 ∙ first_fault-ended (take limit bytes) more.0 fault is))
       (λ short.
-      let all : take limit bytes ≡ bytes = take_all limit bytes (omega (arith, length-append bytes rest)) in
-      fault_within-short limit (bytes ++ rest) short
+      let all : take limit bytes ≡ bytes = take_all limit bytes (omega (arith, length-append bytes rest)) in fault_within-short limit (bytes ++ rest) short
       ∙ first_fault-records bytes rest fault (ap (λ front. first_fault (ended_records front)) (sym all) ∙ is))
       (cases_lt limit (length (bytes ++ rest)))
 
   by_length : first_fault (ended_records (take limit bytes)) ≡ None → limit < length bytes → fault_within limit (bytes ++ rest) ≡ Some fault
-  by_length none long =
-      let same : take limit (bytes ++ rest) ≡ take limit bytes = take-append-le limit bytes rest (omega arith) in
-      let longer : limit < length (bytes ++ rest) = omega (arith, length-append bytes rest) in
-      let again : first_fault (ended_records (take limit (bytes ++ rest))) ≡ None = ap (λ front. first_fault (ended_records front)) same ∙ none in
-      fault_within-long limit (bytes ++ rest) longer ∙ shown_within-long limit (bytes ++ rest) longer again
-      ∙ ap (λ front. Some (record { at = length (ended_records front) + 1; cause = TooLong })) same
-      ∙ sym (shown_within-long limit bytes long none) ∙ shown
+  by_length none long = grind (arith, common_steps, take-append-le, length-append, fault_within-long, shown_within-long)
 
   pub shown_within-all : fault_within limit (bytes ++ rest) ≡ Some fault
-  shown_within-all = by_first (first_fault (ended_records (take limit bytes))) refl
-    where
-      by_first : (first : Option LogFault) → first_fault (ended_records (take limit bytes)) ≡ first → fault_within limit (bytes ++ rest) ≡ Some fault
-      by_first (Some other) is = by_record (is ∙ sym (shown_within-early limit bytes other is) ∙ shown)
-      by_first None is = ⊎_elim
-          (λ long. by_length is long)
-          (λ short.
-          let all : take limit bytes ≡ bytes = take_all limit bytes short in
-          absurd (none_is_some (sym is ∙ ap (λ front. first_fault (ended_records front)) all ∙ sym (shown_within-short limit bytes short) ∙ shown)))
-          (cases_lt limit (length bytes))
+  shown_within-all = grind (arith, common_steps, by_record, by_length, shown_within-early, shown_within-short, take_all)
 
 -- the same under the limit of a log
 pub shown_of_all : (bytes : List ℕ) (fault : LogFault) → shown_fault bytes ≡ Some fault → IsFaultOfAll fault bytes

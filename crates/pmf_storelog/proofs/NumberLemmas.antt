@@ -4,16 +4,15 @@ use Rattle.pmf_storelog.specs.Numbers.{is_digit_in, is_numeral, numeral_of}
 
 -- what digits give after a value
 unfoldable pub numeral_from : ℕ → ℕ → List ℕ → Option ℕ
-numeral_from radix value text =
-    cond (list_all (is_digit_in radix) text && nat_lt (digits_value_after radix value text) (2 ^ 64)) (Some (digits_value_after radix value text)) None
+numeral_from radix value text = cond (list_all (is_digit_in radix) text && nat_lt (digits_value_after radix value text) (2 ^ 64)) (Some (digits_value_after radix value text)) None
 
-pub numeral_of-empty : (radix most : ℕ) (text : List ℕ) → length text ≡ 0 → numeral_of radix most text ≡ None
+pub numeral_of_empty : (radix most : ℕ) (text : List ℕ) → length text ≡ 0 → numeral_of radix most text ≡ None
 unfolding numeral_of is_numeral
-numeral_of-empty radix most text empty = rw empty refl
+numeral_of_empty radix most text empty = rw empty refl
 
-pub numeral_of-long : (radix most : ℕ) (text : List ℕ) → most < length text → numeral_of radix most text ≡ None
+pub numeral_of_long : (radix most : ℕ) (text : List ℕ) → most < length text → numeral_of radix most text ≡ None
 unfolding numeral_of is_numeral
-numeral_of-long radix most text long = rw (lt-ltb 0 (length text) (omega arith), lt-leb (length text) most long) refl
+numeral_of_long radix most text long = rw (lt-ltb 0 (length text) (omega arith), lt-leb (length text) most long) refl
 
 pub numeral_of-from : (radix most : ℕ) (text : List ℕ) → 0 < length text → length text ≤ most → numeral_of radix most text ≡ numeral_from radix 0 text
 unfolding numeral_of is_numeral numeral_from
@@ -49,19 +48,13 @@ numeral_from-end radix value small = rw (lt-ltb value (2 ^ 64) small) refl
 -- where the loop over the digits stands: the rest after the value is the whole
 module _ (radix most value i : ℕ) (text : List ℕ) (filled : 0 < length text) (short : length text ≤ most) (left : numeral_from radix value (drop i text) ≡ numeral_from radix 0 text) where
   pub at_other : i < length text → radix ≤ digit_value (get_or text i 0) → None ≡ numeral_of radix most text
-  at_other within other =
-      sym (numeral_of-from radix most text filled short ∙ sym left ∙ ap (numeral_from radix value) (drop_more text i 0 within)
-      ∙ numeral_from-other radix value (get_or text i 0) (drop (i + 1) text) other)
+  at_other within other = grind (arith, common_steps, numeral_of-from, drop_more, numeral_from-other)
 
   pub at_digit : i < length text → digit_value (get_or text i 0) < radix → numeral_from radix (value * radix + digit_value (get_or text i 0)) (drop (i + 1) text) ≡ numeral_from radix 0 text
-  at_digit within digit =
-      sym (sym left ∙ ap (numeral_from radix value) (drop_more text i 0 within)
-      ∙ numeral_from-digit radix value (get_or text i 0) (drop (i + 1) text) digit)
+  at_digit within digit = sym (sym left ∙ ap (numeral_from radix value) (drop_more text i 0 within) ∙ numeral_from-digit radix value (get_or text i 0) (drop (i + 1) text) digit)
 
   pub at_large : 0 < radix → i < length text → digit_value (get_or text i 0) < radix → 2 ^ 64 ≤ value * radix + digit_value (get_or text i 0) → None ≡ numeral_of radix most text
-  at_large some within digit large =
-      sym (numeral_of-from radix most text filled short ∙ sym (at_digit within digit) ∙ numeral_from-large radix _ (drop (i + 1) text) some large)
+  at_large some within digit large = grind (arith, common_steps, numeral_of-from, at_digit, numeral_from-large)
 
   pub at_end : length text ≤ i → value < 2 ^ 64 → Some value ≡ numeral_of radix most text
-  at_end past small =
-      sym (numeral_of-from radix most text filled short ∙ sym left ∙ ap (numeral_from radix value) (drop_all i text past) ∙ numeral_from-end radix value small)
+  at_end past small = sym (numeral_of-from radix most text filled short ∙ sym left ∙ ap (numeral_from radix value) (drop_all i text past) ∙ numeral_from-end radix value small)

@@ -1,6 +1,6 @@
 -- The lines of the canonical text of a section have no separator and no blank.
-use Rattle.std.{proofs.Common.{◌≡◌, ℕ, ◌^◌, ◌<◌, ◌≤◌, Bool, false, List, ◌++◌, length, refl, arith, rules, length-append, codes}, specs.Fmt.{digits}, specs.Char.{digit_value}, specs.List.{AllByRecursion}, proofs.lemmas.Fmt.{digits_is_IsNumeral}, proofs.lemmas.List.Elements.{All-from_recursion}}
-use Rattle.pmf_event.specs.{declared.event.Event.{Event}, declared.event.Event.TheVariants.{Store, Flush, Fence, Persist, Ordered, Exclude, Include, TxBegin, TxAdd, TxEnd, CheckStart, CheckEnd}, Span.{Extent, IsValidExtent}, Address.{address}}
+use Rattle.std.{proofs.Common.{◌≡◌, ℕ, ◌^◌, ◌<◌, ◌≤◌, Bool, false, List, ◌++◌, length, refl, arith, rules, length-append, codes}, specs.Fmt.{digits}, specs.Char.{digit_value}, specs.List.{AllByRecursion}, proofs.lemmas.Fmt.{digits_is_IsNumeral}, proofs.lemmas.List.Elements.{All-from_recursion}, proofs.lemmas.Grind.{common_steps}}
+use Rattle.pmf_event.specs.{declared.event.Event.{Event}, Span.{Extent, IsValidExtent}, Address.{address}}
 use Rattle.pmf_storelog.{specs.Separators.{is_separator, is_blank}, specs.Canonical.{field_of, fields_of_span, fields_of_event, name_of}, specs.Spelling.{AllValid}, proofs.CanonicalLemmas.{not_digit, each-digits, each-append, fits_of}, proofs.PlainRecordLemmas.{IsPlain}}
 
 -- no byte passes
@@ -23,21 +23,11 @@ module _ (p : ℕ → Bool) (digit : (c : ℕ) → digit_value c < 36 → p c �
 
   none-span : (s : Extent) → IsValidExtent s.first s.size → NoneIn p (fields_of_span s)
   unfolding fields_of_span
-  none-span s valid = let fits = fits_of s valid in each-append _ (field_of s.first) (field_of s.size) (none-field s.first fits.first) (none-field s.size fits.size)
+  none-span s valid = grind (arith, common_steps, fits_of, each-append, none-field)
 
   none-fields : (event : Event) → AllValid event → NoneIn p (fields_of_event event)
   unfolding fields_of_event
-  none-fields (Store s) fit =
-      each-append _ (field_of s.first ++ codes ";0x0") (field_of s.size)
-      (each-append _ (field_of s.first) (codes ";0x0") (none-field s.first (fits_of s fit).first) (semicolon, (digit 48 (omega arith), (x, (digit 48 (omega arith), tt)))))
-      (none-field s.size (fits_of s fit).size)
-  none-fields (Flush s) fit = none-span s fit
-  none-fields (Persist s) fit = none-span s fit
-  none-fields (Ordered a b) fit = each-append _ (fields_of_span a) (fields_of_span b) (none-span a fit.0) (none-span b fit.1)
-  none-fields (Exclude s) fit = none-span s fit
-  none-fields (Include s) fit = none-span s fit
-  none-fields (TxAdd s) fit = none-span s fit
-  none-fields _ fit = tt
+  none-fields event fit = grind (arith, common_steps, each-append, none-field, none-span, fits_of, digit)
 
   none-text : (event : Event) → AllValid event → NoneIn p (text_of_event event)
   none-text event fit = each-append _ (name_of event) (fields_of_event event) (named event) (none-fields event fit)
@@ -51,18 +41,7 @@ no_blank c digit = rw (not_digit 32 c refl digit, not_digit 9 c refl digit) refl
 -- a name has no separator and no blank, and is no empty and no long text
 pub spelled : (event : Event) → NoneIn is_separator (name_of event) × (NoneIn is_blank (name_of event) × ((5 ≤ length (name_of event)) × (length (name_of event) ≤ 14)))
 unfolding name_of
-spelled (Store s) = (search rules, (search rules, (omega arith, omega arith)))
-spelled (Flush s) = (search rules, (search rules, (omega arith, omega arith)))
-spelled Fence = (search rules, (search rules, (omega arith, omega arith)))
-spelled (Persist s) = (search rules, (search rules, (omega arith, omega arith)))
-spelled (Ordered a b) = (search rules, (search rules, (omega arith, omega arith)))
-spelled (Exclude s) = (search rules, (search rules, (omega arith, omega arith)))
-spelled (Include s) = (search rules, (search rules, (omega arith, omega arith)))
-spelled TxBegin = (search rules, (search rules, (omega arith, omega arith)))
-spelled (TxAdd s) = (search rules, (search rules, (omega arith, omega arith)))
-spelled TxEnd = (search rules, (search rules, (omega arith, omega arith)))
-spelled CheckStart = (search rules, (search rules, (omega arith, omega arith)))
-spelled CheckEnd = (search rules, (search rules, (omega arith, omega arith)))
+spelled event = grind (arith, common_steps)
 
 pub text_of_event-plain : (event : Event) → AllValid event → IsPlain (text_of_event event)
 text_of_event-plain event fit = record {

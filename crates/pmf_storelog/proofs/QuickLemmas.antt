@@ -1,23 +1,15 @@
 -- What the quick reading finds, it finds as the definition of a record says.
-use Rattle.std.{proofs.Common.{◌≡◌, ℕ, ◌+◌, ◌-◌, length-drop, get_or, append_assoc, append-nil, length-append, ◌^◌, ◌<◌, ◌≤◌, List, [], ◌∷◌, ◌++◌, true, false, rules, length, take, drop, refl, sym, ap, subst, ◌∙◌, arith, codes, Result, Ok, nat_eq, bytes_eq, length-take-le, take-append-drop, take_all, take_at, drop_at}, specs.List.{starts_with, slice_split, join_with_byte}, proofs.lemmas.Slice.Eq.{starts_is, bytes_eq-Decides}, proofs.lemmas.Bool.{false_from_ne_true}, proofs.lemmas.Bool.Decides.{Decides-eqb}, specs.Str.Parse.{AllDigits, digits_value}, proofs.lemmas.List.{drop_more}, proofs.lemmas.List.Elements.{All-from_recursion}, proofs.lemmas.List.Splits.{slice_split_at, join_with_byte-slice_split}, proofs.Math.Nat.{pow-le-pow_right}, proofs.lemmas.Int.Digits.{digits_value-lt}}
+use Rattle.std.{proofs.Common.{◌≡◌, ℕ, ◌+◌, ◌-◌, length-drop, get_or, append_assoc, append-nil, length-append, ◌^◌, ◌<◌, ◌≤◌, List, [], ◌∷◌, ◌++◌, true, false, rules, length, take, drop, refl, sym, ap, subst, ◌∙◌, arith, codes, Result, Ok, nat_eq, bytes_eq, length-take-le, take-append-drop, take_all, take_at, drop_at}, specs.List.{starts_with, slice_split, join_with_byte}, proofs.lemmas.Slice.Eq.{starts_is, bytes_eq-Decides}, proofs.lemmas.Bool.{false_from_ne_true}, proofs.lemmas.Bool.Decides.{Decides-eqb}, specs.Str.Parse.{AllDigits, digits_value}, proofs.lemmas.List.{drop_more}, proofs.lemmas.List.Elements.{All-from_recursion}, proofs.lemmas.List.Splits.{slice_split_at, join_with_byte-slice_split}, proofs.Math.Nat.{pow-le-pow_right}, proofs.lemmas.Int.Digits.{digits_value-lt}, proofs.lemmas.Grind.{common_steps}}
 use Rattle.pmf_storelog.{specs.Numbers.{number_of}, specs.declared.record.Saying.TheVariants.{Happens, Skipped}, specs.Records.{is_field_end, fields_of, record_of, saying_of, transaction_of, saying_of_fields, other_name, order_of_fields, order_of_texts, span_of_fields, span_of_texts, stored_span}, specs.declared.fault.Cause.{Cause}, specs.Separators.{is_separator, is_blank, parts_of}, specs.Quick.{BeginsWithDigits, BeginsWithEvent, BeginsWithField, BeginsWithFields, BeginsWithNumber, BeginsWithPart, HasFields, IsClean}, proofs.CanonicalLemmas.{each-digits, each-append, numeral_of-digits, NoFieldEnd, no_field_end, fields_of-more, fields_of-last}, proofs.PlainRecordLemmas.{IsPlain, records_in-plain}, proofs.PlainLemmas.{no_separator, no_blank}}
 use Rattle.pmf_event.specs.{declared.event.Event.{Event}, declared.event.Event.TheVariants.{Fence, Ordered}, Span.{Extent, extent_of}}
 
 -- fewer than 16 digits leave room for one more
 pub room_for_a_digit : (text : List ℕ) (count : ℕ) → count < 16 → count ≤ length text → AllDigits 16 (take count text) → digits_value 16 (take count text) < 1152921504606846976
-room_for_a_digit text count few within digits =
-    let below = digits_value-lt 16 (take count text) digits in
-    let short : length (take count text) ≤ 15 = omega (arith, length-take-le count text within) in
-    let top : 16 ^ length (take count text) ≤ 16 ^ 15 = pow-le-pow_right (omega arith) short in
-    omega arith
+room_for_a_digit text count few within digits = grind (arith, common_steps, digits_value-lt, length-take-le, pow-le-pow_right)
 
 pub begins_with_digits : (text : List ℕ) (value count : ℕ) → 0 < count → count ≤ 16 → count ≤ length text → value < 2 ^ 64 →
     AllDigits 16 (take count text) → value ≡ digits_value 16 (take count text) → BeginsWithDigits text value count
-begins_with_digits text value count some few within small digits is = record {
-  within = within;
-  digits = digits;
-  value_is = numeral_of-digits 16 16 (take count text) value (omega (arith, length-take-le count text within)) (omega (arith, length-take-le count text within)) digits (sym is) small;
-}
+begins_with_digits text value count some few within small digits is = grind (arith, common_steps, numeral_of-digits, length-take-le)
 
 -- what a slice from n on holds
 pub slice_tail : (n : ℕ) (xs : List ℕ) → take (length xs - n) (drop n xs) ≡ drop n xs
@@ -28,9 +20,7 @@ cut_at n xs = sym (ap (λ rest. take n xs ++ rest) (slice_tail n xs) ∙ take-ap
 
 -- a text that begins with another
 pub begins_with : (text front : List ℕ) → starts_with nat_eq text front ≡ true → text ≡ front ++ take (length text - length front) (drop (length front) text)
-begins_with text front starts =
-    (starts_is Decides-eqb text front (starts_with nat_eq text front) refl).0 starts
-    ∙ ap (λ rest. front ++ rest) (sym (slice_tail (length front) text))
+begins_with text front starts = (starts_is Decides-eqb text front (starts_with nat_eq text front) refl).0 starts ∙ ap (λ rest. front ++ rest) (sym (slice_tail (length front) text))
 
 -- letters and digits end no field, and are clean
 word-NoFieldEnd : (cs : List ℕ) → AllDigits 36 cs → NoFieldEnd cs
@@ -55,8 +45,7 @@ number_found text digits rest value count hex cut begins = record {
 
 -- a last field
 last_field : (text field rest : List ℕ) → text ≡ field ++ rest → AllDigits 36 field → HasFields text (field ∷ []) rest
-last_field text field rest whole word =
-    record { line = field; whole = whole; clean = word-IsClean field word; fields_are = fields_of-last field (word-NoFieldEnd field word) }
+last_field text field rest whole word = grind (arith, common_steps, word-IsClean, fields_of-last, word-NoFieldEnd)
 
 -- a field before others
 next_field : (text field more : List ℕ) (fields : List (List ℕ)) (rest : List ℕ) → text ≡ field ++ 59 ∷ more → AllDigits 36 field → HasFields more fields rest → HasFields text (field ∷ fields) rest
@@ -75,20 +64,13 @@ next_number text value more rest fields n others = next_field text n.field more 
 
 -- what fields spell
 fields_found : {A : Type 0} (read : List (List ℕ) → Result A Cause) (text rest : List ℕ) (fields : List (List ℕ)) (value : A) → HasFields text fields rest → read fields ≡ Ok value → BeginsWithFields read text value (length text - length rest)
-fields_found read text rest fields value begins spells = record {
-  fields = fields;
-  rest = rest;
-  begins = begins;
-  long = omega (arith, ap length begins.whole, length-append begins.line rest);
-  spells = spells;
-}
+fields_found read text rest fields value begins spells = grind (arith, common_steps, length-append)
 
 -- the spans of numbers that were read
 module _ (text more last : List ℕ) (first size : ℕ) (span : Extent) (a : BeginsWithNumber text first (59 ∷ more)) (valid : extent_of first size ≡ Ok span) where
   pub span_found : BeginsWithNumber more size last → BeginsWithFields span_of_fields text span (length text - length last)
   unfolding span_of_fields span_of_texts
-  span_found b =
-      fields_found span_of_fields text last _ span (next_number text first more last _ a (last_number more size last b)) (rw (a.value_is, b.value_is, valid) refl)
+  span_found b = fields_found span_of_fields text last _ span (next_number text first more last _ a (last_number more size last b)) (rw (a.value_is, b.value_is, valid) refl)
 
   pub stored_found : (rest : List ℕ) → BeginsWithField more rest → BeginsWithNumber rest size last → BeginsWithFields stored_span text span (length text - length last)
   unfolding stored_span span_of_texts
@@ -111,8 +93,7 @@ pub event_found : (name text : List ℕ) {A : Type 0} (read : List (List ℕ) �
     ((fields : List (List ℕ)) → read fields ≡ Ok value → saying_of name fields ≡ Ok (Happens event)) → BeginsWithEvent text event (length name + 1 + len)
 unfolding record_of
 event_found name text read value len event filled clean one starts found means =
-    let begins = found.begins in
-    let rest = take (length text - (length name + 1)) (drop (length name + 1) text) in
+    let begins = found.begins in let rest = take (length text - (length name + 1)) (drop (length name + 1) text) in
     let size : length (name ++ 59 ∷ []) ≡ length name + 1 = length-append name (59 ∷ []) in
     let is : text ≡ name ++ 59 ∷ rest = rw size at (begins_with text (name ++ 59 ∷ []) starts) ∙ append_assoc name (59 ∷ []) rest in
     record {
@@ -141,8 +122,7 @@ fence_found text rest is = record {
 part_of : (line more : List ℕ) (c : ℕ) (event : Event) → IsPlain line → is_separator c ≡ true → record_of line ≡ Ok (Happens event) → BeginsWithPart (line ++ c ∷ more) event (length line)
 unfolding parts_of
 part_of line more c event plain ends says =
-    let same : take (length line) (line ++ c ∷ more) ≡ line = take_at line (c ∷ more) _ refl in
-    let one : take (length line + 1) (line ++ c ∷ more) ≡ line ++ c ∷ [] =
+    let same : take (length line) (line ++ c ∷ more) ≡ line = take_at line (c ∷ more) _ refl in let one : take (length line + 1) (line ++ c ∷ more) ≡ line ++ c ∷ [] =
     ap (take (length line + 1)) (sym (append_assoc line (c ∷ []) more)) ∙ take_at (line ++ c ∷ []) more (length line + 1) (omega (arith, length-append line (c ∷ []))) in
     record {
       within = omega (arith, length-append line (c ∷ more));
@@ -156,26 +136,20 @@ part_found text event len found within ends =
     let plain : IsPlain found.line = record { filled = found.filled; whole = λ k d l. (each k d l).0; close = λ k d l. (each k d l).1 } in
     let rest : found.rest ≡ get_or text len 0 ∷ drop (len + 1) text =
     sym (drop_at found.line found.rest len (sym found.long)) ∙ ap (drop len) (sym found.whole) ∙ drop_more text len 0 within in
-    let whole : text ≡ found.line ++ get_or text len 0 ∷ drop (len + 1) text = found.whole ∙ ap (λ l. found.line ++ l) rest in
-    subst (λ t. BeginsWithPart t event len) (sym whole)
+    let whole : text ≡ found.line ++ get_or text len 0 ∷ drop (len + 1) text = found.whole ∙ ap (λ l. found.line ++ l) rest in subst (λ t. BeginsWithPart t event len) (sym whole)
     (subst (λ n. BeginsWithPart (found.line ++ get_or text len 0 ∷ drop (len + 1) text) event n) (sym found.long)
     (part_of found.line (drop (len + 1) text) (get_or text len 0) event plain ends found.says))
 
 -- what a text doesn't begin with, its first field doesn't either, and is not
 module _ (text name rest : List ℕ) (whole : text ≡ name ++ rest) (front : List ℕ) (other : starts_with nat_eq text front ≡ false) where
   never_begins : (more : List ℕ) → text ≡ front ++ more → ⊥
-  never_begins more is =
-      let both : true ≡ false = sym ((starts_is Decides-eqb text front (starts_with nat_eq text front) refl).1 more is) ∙ other in cc
+  never_begins more is = let both : true ≡ false = sym ((starts_is Decides-eqb text front (starts_with nat_eq text front) refl).1 more is) ∙ other in cc
 
   not_named : (more : List ℕ) → bytes_eq name (front ++ more) ≡ false
-  not_named more = false_from_ne_true _ (λ is.
-      let same : name ≡ front ++ more = (bytes_eq-Decides name (front ++ more)).0 is in
-      never_begins (more ++ rest) (whole ∙ ap (λ l. l ++ rest) same ∙ append_assoc front more rest))
+  not_named more = grind (arith, common_steps, false_from_ne_true, bytes_eq-Decides, append_assoc, never_begins)
 
   not_begun : starts_with nat_eq name front ≡ false
-  not_begun = false_from_ne_true _ (λ is.
-      let left = take (length name - length front) (drop (length front) name) in
-      never_begins (left ++ rest) (whole ∙ ap (λ l. l ++ rest) (begins_with name front is) ∙ append_assoc front left rest))
+  not_begun = grind (arith, common_steps, false_from_ne_true, begins_with, append_assoc, never_begins)
 
 saying_of-other : (text name rest : List ℕ) (others : List (List ℕ)) → text ≡ name ++ rest →
     starts_with nat_eq text (codes "STORE") ≡ false → starts_with nat_eq text (codes "FLUSH") ≡ false → starts_with nat_eq text (codes "FENCE") ≡ false → starts_with nat_eq text (codes "PMT.") ≡ false →
@@ -195,5 +169,4 @@ record_of-other text store flush fence marker = by_fields (slice_split is_field_
     by_fields : (fields : List (List ℕ)) → join_with_byte 59 fields ≡ text → saying_of_fields fields ≡ Ok Skipped
     by_fields [] whole = refl
     by_fields (name ∷ []) whole = saying_of-other text name [] [] (sym (append-nil name ∙ whole)) store flush fence marker
-    by_fields (name ∷ next ∷ others) whole =
-        saying_of-other text name (59 ∷ join_with_byte 59 (next ∷ others)) (next ∷ others) (sym whole) store flush fence marker
+    by_fields (name ∷ next ∷ others) whole = saying_of-other text name (59 ∷ join_with_byte 59 (next ∷ others)) (next ∷ others) (sym whole) store flush fence marker

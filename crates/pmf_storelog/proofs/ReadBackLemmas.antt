@@ -1,7 +1,7 @@
 -- What is written of a section is a log that says the section alone.
-use Rattle.std.{proofs.Common.{Equal, ◌≡◌, ℕ, suc, ◌+◌, ◌^◌, ◌<◌, ◌≤◌, List, [], ◌∷◌, ◌++◌, None, Ok, length, map, take, All, refl, sym, ap, subst, ◌∙◌, arith, flat_map, append_assoc, append-nil, take_all, ne_eqb}, proofs.lemmas.List.{length_push}, proofs.lemmas.Bool.Decides.{Decides-eqb}, specs.Cmp.{nat_cmp_is}, specs.Ordering.{match_ordering}}
+use Rattle.std.{proofs.Common.{Equal, ◌≡◌, ℕ, suc, ◌+◌, ◌^◌, ◌<◌, ◌≤◌, List, [], ◌∷◌, ◌++◌, None, Ok, length, map, take, All, refl, sym, ap, ◌∙◌, arith, flat_map, append_assoc, append-nil, take_all, ne_eqb}, proofs.lemmas.List.{length_push}, proofs.lemmas.Bool.Decides.{Decides-eqb}, specs.Cmp.{nat_cmp_is}, specs.Ordering.{match_ordering}, proofs.lemmas.Grind.{common_steps}}
 use Rattle.pmf_event.specs.{declared.event.Event.{Event}, declared.section.TheConstants.{EVENT_LIMIT}, Section.{Trace}}
-use Rattle.pmf_storelog.{specs.declared.fault.TheConstants.{LOG_LIMIT}, specs.declared.record.Saying.TheVariants.{Happens, Enters}, specs.Separators.{records_of}, specs.Records.{record_of}, specs.Sections.{with_event}, specs.LogText.{current_of, current_at, entered_of, entered_among, numbers_of, events_in, numbered_events, numbered_among, skipped_of, first_fault, first_fault_among, refusal_after, or_else, number_after, section_named, sections_of, value_of, value_unless, fault_of, log_of}, specs.Rising.{with_number}, specs.Canonical.{canonical_text, line_of_event, line_of_marker}, specs.Spelling.{AllValid}, proofs.LogLemmas.{numbers_with, current_of-push, numbers_of-push, events_in-event, events_in-enter, skipped_of-event, skipped_of-enter, first_fault-push, fault_within-short}, proofs.PlainLemmas.{text_of_event, text_of_marker}, proofs.RoundTripLemmas.{EachValid, canonical_records, records_of-canonical, canonical-length}, proofs.SpellingLemmas.{record_of-event, record_of-marker}, specs.LogValue.{LogValue}}
+use Rattle.pmf_storelog.{specs.declared.record.Saying.TheVariants.{Happens, Enters}, specs.Separators.{records_of}, specs.Records.{record_of}, specs.Sections.{with_event}, specs.LogText.{current_of, current_at, entered_of, entered_among, numbers_of, events_in, numbered_events, numbered_among, skipped_of, first_fault, first_fault_among, refusal_after, number_after, sections_of, value_of, fault_of, log_of}, specs.Rising.{with_number}, specs.Canonical.{canonical_text, line_of_event, line_of_marker}, specs.Spelling.{AllValid}, proofs.LogLemmas.{numbers_with, current_of-push, numbers_of-push, events_in-event, events_in-enter, skipped_of-event, skipped_of-enter, first_fault-push, fault_within-short}, proofs.PlainLemmas.{text_of_event, text_of_marker}, proofs.RoundTripLemmas.{EachValid, canonical_records, records_of-canonical, canonical-length}, proofs.SpellingLemmas.{record_of-event, record_of-marker}, specs.LogValue.{LogValue}}
 
 -- these records say one section, with this number and these events
 record Says (number : ℕ) (events : List Event) (records : List (List ℕ)) : Type 0 where
@@ -40,20 +40,11 @@ module _ (n : ℕ) (events : List Event) (records : List (List ℕ)) (has : Says
   here = rw (has.events_are, (Decides-eqb n n).1 refl) refl
 
   says-event : length events < EVENT_LIMIT → Says n (events ++ event ∷ []) (records ++ text ∷ [])
-  says-event few = record {
-    current = current_of-push records text ∙ ap (λ reading. number_after reading (current_of records)) says ∙ has.current;
-    numbers =
-        numbers_of-push records text ∙ ap (λ reading. numbers_with reading (current_of records) (numbers_of records)) says
-        ∙ ap (λ k. with_number (numbers_of records) k) has.current ∙ ap (λ ns. with_number ns n) has.numbers ∙ same_number n;
-    events_are = events_in-event records text event says n ∙ ap (λ k. with_event (events_in records) k event n) has.current ∙ here;
-    none_skipped = skipped_of-event records text event says ∙ has.none_skipped;
-    no_fault = first_fault-push records text ∙ ap (λ fault. or_else fault (refusal_after records (record_of text))) has.no_fault ∙ no_refusal few;
-  }
+  says-event few = grind (arith, common_steps, current_of-push, numbers_of-push, events_in-event, skipped_of-event, first_fault-push, no_refusal, same_number, here)
 
 says-events : (n : ℕ) (done left : List Event) (records : List (List ℕ)) → Says n done records → EachValid left → length done + length left ≤ EVENT_LIMIT →
     Says n (done ++ left) (records ++ map text_of_event left)
-says-events n done [] records has valid few =
-    rw (append-nil done, append-nil records) has
+says-events n done [] records has valid few = rw (append-nil done, append-nil records) has
 says-events n done (event ∷ left) records has valid few =
     let next = says-event n done records has event (text_of_event event) (record_of-event event valid.0) (omega arith) in
     let all = says-events n (done ++ event ∷ []) left (records ++ text_of_event event ∷ []) next valid.1 (omega (arith, length_push done event)) in
@@ -71,29 +62,20 @@ module _ (section : Trace) (small : section.name.number < 2 ^ 64) (valid : EachV
 
   no_fault_in_text : fault_of (canonical_text section) ≡ None
   unfolding fault_of
-  no_fault_in_text =
-      fault_within-short LOG_LIMIT (canonical_text section) (omega (arith, canonical-length section small valid (omega (arith, few))))
-      ∙ ap first_fault records_are
-      ∙ (says-section section small valid few).no_fault
+  no_fault_in_text = grind (arith, common_steps, fault_within-short, canonical-length, records_are, says-section)
 
   sections_are : sections_of section.name.run (canonical_records section) ≡ section ∷ []
   unfolding sections_of
-  sections_are =
-      let has = says-section section small valid few in
-      ap (map (λ number. section_named section.name.run number (events_in (canonical_records section) number))) has.numbers
-      ∙ ap (λ events. section_named section.name.run section.name.number events ∷ []) has.events_are
+  sections_are = grind (arith, common_steps, says-section)
 
   value_is : value_of section.name.run (canonical_text section) ≡ record { sections = section ∷ []; skipped = 0 }
   unfolding value_of log_value
-  value_is =
-      ap (λ records. log_value (sections_of section.name.run records) (skipped_of records)) records_are
-      ∙ ap (λ sections. log_value sections (skipped_of (canonical_records section))) sections_are
-      ∙ ap (λ skipped. log_value (section ∷ []) skipped) (says-section section small valid few).none_skipped
+  value_is = grind (arith, common_steps, records_are, sections_are, says-section)
 
   -- the log with the text of a section says the section, and nothing else
   pub log_of-canonical : log_of section.name.run (canonical_text section) ≡ Ok (record { sections = section ∷ []; skipped = 0 })
   unfolding log_of
-  log_of-canonical = ap (λ fault. value_unless fault (value_of section.name.run (canonical_text section))) no_fault_in_text ∙ ap (λ value. Ok value) value_is
+  log_of-canonical = grind (arith, common_steps, no_fault_in_text, value_is)
 
 -- the same, by places
 each_valid : (events : List Event) → All AllValid events → EachValid events
@@ -102,15 +84,11 @@ each_valid (event ∷ events) valid = (valid 0 event (omega arith), each_valid e
 
 pub reads_back : (section : Trace) (text : List ℕ) → text ≡ canonical_text section → section.name.number < 2 ^ 64 → length section.events ≤ EVENT_LIMIT → All AllValid section.events →
     log_of section.name.run text ≡ Ok (record { sections = section ∷ []; skipped = 0 })
-reads_back section text is small few valid =
-    ap (log_of section.name.run) is ∙ log_of-canonical section small (each_valid section.events valid) few
+reads_back section text is small few valid = ap (log_of section.name.run) is ∙ log_of-canonical section small (each_valid section.events valid) few
 
 -- all lines are written
 pub read_back : (section : Trace) (items : List Event) (i : ℕ) (text : List ℕ) → items ≡ section.events → length items ≤ i →
     text ≡ line_of_marker section.name.number ++ flat_map line_of_event (take i items) → All AllValid (take i items) →
     section.name.number < 2 ^ 64 → length section.events ≤ EVENT_LIMIT →
     log_of section.name.run text ≡ Ok (record { sections = section ∷ []; skipped = 0 })
-read_back section items i text same end written valid small few =
-    let all : take i items ≡ section.events = take_all i items end ∙ same in
-    reads_back section text (written ∙ ap (λ events. line_of_marker section.name.number ++ flat_map line_of_event events) all) small few
-    (subst (All AllValid) all valid)
+read_back section items i text same end written valid small few = grind (arith, common_steps, take_all, reads_back)

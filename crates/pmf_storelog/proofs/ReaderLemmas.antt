@@ -1,12 +1,11 @@
 -- What a reader says of all bytes fed to it.
-use Rattle.std.proofs.{Common.{◌≡◌, ◌≢◌, ℕ, ◌+◌, ◌-◌, ◌<◌, ◌≤◌, min, List, [], ◌∷◌, ◌++◌, Some, None, Result, Ok, Err, IfOk, IfErr, length, length-append, take, refl, sym, ap, subst, ◌∙◌, arith, append_assoc, take_all}, lemmas.List.{take_min}, Math.Seq.{take-append-add}, Math.Nat.{min_comm}}
+use Rattle.std.proofs.{Common.{◌≡◌, ◌≢◌, ℕ, ◌+◌, ◌-◌, ◌<◌, ◌≤◌, min, List, [], ◌∷◌, ◌++◌, Some, None, Result, Ok, Err, IfOk, IfErr, length, length-append, take, refl, sym, ap, subst, ◌∙◌, arith, append_assoc, take_all}, lemmas.List.{take_min}, Math.Seq.{take-append-add}, Math.Nat.{min_comm}, lemmas.Grind.{common_steps}}
 use Rattle.pmf_storelog.{specs.declared.fault.TheConstants.{LOG_LIMIT}, specs.declared.fault.Cause.TheVariants.{TooLong}, specs.declared.fault.LogFault.{LogFault}, specs.declared.tally.Tally.{Tally}, specs.declared.progress.Progress.{Progress}, specs.Separators.{records_in, records_of, ended_records}, specs.LogValue.{LogValue}, specs.LogText.{skipped_of, sections_of, first_fault, shown_fault, fault_of, value_of, log_of, out_of_memory}, specs.Answers.{IsShown, Answers}, specs.Tally.{HasTaken}, specs.Progress.{HasParsed, HasParsedTo}, proofs.PartLemmas.{ended_parts-open, records_of-unfinished}, proofs.LogLemmas.{shown_within-short, shown_within-long, shown_within-early, fault_within-short}, proofs.ProgressLemmas.{parsed_open}}
 
 -- what lies within the limit
 pub taken_front : (limit : ℕ) (bytes piece : List ℕ) → length bytes ≤ limit → take limit (bytes ++ piece) ≡ bytes ++ take (min (length piece) (limit - length bytes)) piece
 taken_front limit bytes piece short =
-    let room : limit ≡ length bytes + (limit - length bytes) = omega arith in
-    ap (λ n. take n (bytes ++ piece)) room ∙ take-append-add bytes piece (limit - length bytes)
+    let room : limit ≡ length bytes + (limit - length bytes) = omega arith in ap (λ n. take n (bytes ++ piece)) room ∙ take-append-add bytes piece (limit - length bytes)
     ∙ ap (λ front. bytes ++ front) (sym (ap (λ m. take m piece) (min_comm (length piece) (limit - length bytes)) ∙ take_min (limit - length bytes) piece))
 
 module _ (run : ℕ) (bytes piece rest : List ℕ) (progress : Progress) (reached : HasParsedTo run bytes piece rest progress) where
@@ -15,11 +14,7 @@ module _ (run : ℕ) (bytes piece rest : List ℕ) (progress : Progress) (reache
 
   -- the tally is that of the whole piece
   pub taken_to : HasTaken run (ended_records (bytes ++ piece)) progress.tally
-  taken_to =
-      let same : ended_records (bytes ++ piece) ≡ ended_records (bytes ++ reached.front) =
-      ap ended_records all_is
-      ∙ ap records_in (ended_parts-open (bytes ++ reached.front) rest progress.carry.items reached.parsed.parts reached.open_end) in
-      rw same reached.parsed.taken
+  taken_to = grind (arith, common_steps, all_is, ended_parts-open)
 
   -- with the rest kept, the whole piece is read
   pub parsed_to : (new : Progress) → new.tally ≡ progress.tally → new.carry.items ≡ progress.carry.items ++ rest → HasParsed run (bytes ++ piece) new
@@ -43,9 +38,7 @@ log_of-shown run bytes fault is = rw is refl
 -- one call of `feed`: so many bytes of the piece lie within the limit
 module _ (run : ℕ) (bytes piece : List ℕ) (total taken : ℕ) (fed : total ≡ length bytes) (within : total ≤ LOG_LIMIT) (room : taken ≡ min (length piece) (LOG_LIMIT - total)) where
   front_is : take LOG_LIMIT (bytes ++ piece) ≡ bytes ++ take taken piece
-  front_is =
-      taken_front LOG_LIMIT bytes piece (omega arith)
-      ∙ ap (λ n. bytes ++ take n piece) (sym (room ∙ ap (λ n. min (length piece) (LOG_LIMIT - n)) fed))
+  front_is = taken_front LOG_LIMIT bytes piece (omega arith) ∙ ap (λ n. bytes ++ take n piece) (sym (room ∙ ap (λ n. min (length piece) (LOG_LIMIT - n)) fed))
 
   -- a fault of a record comes first
   pub fed_faulty : (fault : LogFault) → IsShown fault (first_fault (ended_records (bytes ++ take taken piece))) → IsShown fault (shown_fault (bytes ++ piece))
@@ -57,8 +50,7 @@ module _ (run : ℕ) (bytes piece : List ℕ) (total taken : ℕ) (fed : total �
       fault ≡ record { at = progress.tally.records + 1; cause = TooLong } → shown_fault (bytes ++ piece) ≡ Some fault
   unfolding shown_fault
   fed_long rest progress fault reached left is =
-      let same = ap (λ all. ended_records all) front_is in
-      let tally = taken_to run bytes (take taken piece) rest progress reached in
+      let same = ap (λ all. ended_records all) front_is in let tally = taken_to run bytes (take taken piece) rest progress reached in
       shown_within-long LOG_LIMIT (bytes ++ piece) (omega (arith, length-append bytes piece)) (ap first_fault same ∙ tally.faultless)
       ∙ ap (λ n. Some (record { at = n + 1; cause = TooLong })) (ap length same ∙ sym tally.count) ∙ ap (λ f. Some f) (sym is)
 
@@ -88,6 +80,5 @@ module _ (run : ℕ) (bytes : List ℕ) (progress : Progress) (parsed : HasParse
       ((run : ℕ) (records : List (List ℕ)) → HasTaken run records tally → IfOk r (λ log. log ≡ record { sections = sections_of run records; skipped = skipped_of records })) →
       IfErr r (λ fault. fault ≡ out_of_memory) → Answers r (log_of run bytes)
   end_ok tally (Ok log) taken ok err =
-      let all = subst (λ (records : List (List ℕ)). HasTaken run records tally) (sym whole_is) taken in
-      log_of-ok run bytes log short all.faultless (ok run (records_of bytes) all)
+      let all = subst (λ (records : List (List ℕ)). HasTaken run records tally) (sym whole_is) taken in log_of-ok run bytes log short all.faultless (ok run (records_of bytes) all)
   end_ok tally (Err fault) taken ok err = λ memory. absurd (memory err)

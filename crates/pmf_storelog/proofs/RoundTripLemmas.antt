@@ -1,6 +1,6 @@
 -- The records of the canonical text of a section, and its length.
-use Rattle.std.{proofs.Common.{◌≡◌, ℕ, zero, suc, ◌*◌, ◌^◌, ◌<◌, ◌≤◌, List, [], ◌∷◌, ◌++◌, length, map, All, refl, ap, ◌∙◌, arith, length-append, flat_map, codes}, specs.Prelude.{⊤}}
-use Rattle.pmf_event.specs.{declared.event.Event.{Event}, declared.event.Event.TheVariants.{Store, Flush, Persist, Ordered, Exclude, Include, TxAdd}, Section.{Trace}, Span.{Extent, IsValidExtent}}
+use Rattle.std.{proofs.Common.{◌≡◌, ℕ, ◌*◌, ◌^◌, ◌<◌, ◌≤◌, List, [], ◌∷◌, ◌++◌, length, map, All, refl, ap, ◌∙◌, arith, length-append, flat_map, codes}, specs.Prelude.{⊤}, proofs.lemmas.Grind.{common_steps}}
+use Rattle.pmf_event.specs.{declared.event.Event.{Event}, Section.{Trace}, Span.{Extent, IsValidExtent}}
 use Rattle.pmf_storelog.{specs.Separators.{records_of}, specs.Canonical.{field_of, fields_of_span, fields_of_event, name_of, line_of_event, line_of_marker, canonical_text}, specs.Spelling.{AllValid}, proofs.CanonicalLemmas.{fits_of, hex-length}, proofs.PlainRecordLemmas.{IsPlain, text_of_lines, records_of-lines}, proofs.PlainLemmas.{spelled, text_of_event, text_of_event-plain, text_of_marker, text_of_marker-plain}}
 
 -- the spans of each event keep the limits
@@ -22,19 +22,15 @@ unfolding line_of_marker text_of_marker
 canonical_lines section = ap (λ rest. line_of_marker section.name.number ++ rest) (lines_of_events section.events)
 
 plain_events : (events : List Event) → EachValid events → All IsPlain (map text_of_event events)
-plain_events [] fit zero d l = absurd (omega arith)
-plain_events [] fit (suc k) d l = absurd (omega arith)
-plain_events (event ∷ events) fit zero d l = text_of_event-plain event fit.0
-plain_events (event ∷ events) fit (suc k) d l = plain_events events fit.1 k d (omega arith)
+plain_events [] fit = grind (arith, common_steps)
+plain_events (event ∷ events) fit = grind (arith, common_steps, text_of_event-plain, plain_events events fit.1)
 
 plain_section : (section : Trace) → section.name.number < 2 ^ 64 → EachValid section.events → All IsPlain (canonical_records section)
-plain_section section small fit zero d l = text_of_marker-plain section.name.number small
-plain_section section small fit (suc k) d l = plain_events section.events fit k d (omega arith)
+plain_section section small fit = grind (arith, common_steps, text_of_marker-plain, plain_events)
 
 -- what is written reads as these records
 pub records_of-canonical : (section : Trace) → section.name.number < 2 ^ 64 → EachValid section.events → records_of (canonical_text section) ≡ canonical_records section
-records_of-canonical section small fit =
-    ap records_of (canonical_lines section) ∙ records_of-lines (canonical_records section) (plain_section section small fit)
+records_of-canonical section small fit = ap records_of (canonical_lines section) ∙ records_of-lines (canonical_records section) (plain_section section small fit)
 
 -- the length of what is written
 field-length : (n : ℕ) → n < 2 ^ 64 → length (field_of n) ≤ 19
@@ -43,20 +39,11 @@ field-length n small = omega (arith, hex-length n small)
 
 span-length : (s : Extent) → IsValidExtent s.first s.size → length (fields_of_span s) ≤ 38
 unfolding fields_of_span
-span-length s valid = let fits = fits_of s valid in omega (arith, field-length s.first fits.first, field-length s.size fits.size, length-append (field_of s.first) (field_of s.size))
+span-length s valid = grind (arith, common_steps, fits_of, field-length, length-append)
 
 fields-length : (event : Event) → AllValid event → length (fields_of_event event) ≤ 76
 unfolding fields_of_event
-fields-length (Store s) fit =
-    let fits = fits_of s fit in
-    omega (arith, field-length s.first fits.first, field-length s.size fits.size, length-append (field_of s.first) (codes ";0x0"), length-append (field_of s.first ++ codes ";0x0") (field_of s.size))
-fields-length (Flush s) fit = omega (arith, span-length s fit)
-fields-length (Persist s) fit = omega (arith, span-length s fit)
-fields-length (Ordered a b) fit = omega (arith, span-length a fit.0, span-length b fit.1, length-append (fields_of_span a) (fields_of_span b))
-fields-length (Exclude s) fit = omega (arith, span-length s fit)
-fields-length (Include s) fit = omega (arith, span-length s fit)
-fields-length (TxAdd s) fit = omega (arith, span-length s fit)
-fields-length _ fit = omega arith
+fields-length event fit = grind (arith, common_steps, fits_of, field-length, length-append, span-length)
 
 pub line-length : (event : Event) → AllValid event → length (line_of_event event) ≤ 91
 line-length event fit =
@@ -64,18 +51,9 @@ line-length event fit =
 
 lines-length : (events : List Event) → EachValid events → length (flat_map line_of_event events) ≤ 91 * length events
 lines-length [] fit = omega arith
-lines-length (event ∷ events) fit =
-    omega (arith, line-length event fit.0, lines-length events fit.1, length-append (line_of_event event) (flat_map line_of_event events))
+lines-length (event ∷ events) fit = omega (arith, line-length event fit.0, lines-length events fit.1, length-append (line_of_event event) (flat_map line_of_event events))
 
 -- a section that keeps to its limit is a log that keeps to its own
 pub canonical-length : (section : Trace) → section.name.number < 2 ^ 64 → EachValid section.events → length section.events ≤ 1048576 → length (canonical_text section) ≤ 268435456
 unfolding line_of_marker
-canonical-length section small fit few =
-    omega (
-      arith,
-      field-length section.name.number small,
-      lines-length section.events fit,
-      length-append (codes "PMT.SECTION") (field_of section.name.number),
-      length-append (codes "PMT.SECTION" ++ field_of section.name.number) (codes "\n"),
-      length-append (line_of_marker section.name.number) (flat_map line_of_event section.events),
-    )
+canonical-length section small fit few = grind (arith, common_steps, field-length, lines-length, length-append)

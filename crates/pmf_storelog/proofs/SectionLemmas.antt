@@ -1,5 +1,5 @@
 -- The open sections with one more event, and with another current one.
-use Rattle.std.{proofs.Common.{◌≡◌, ◌≢◌, ℕ, suc, ◌+◌, ◌<◌, ◌≤◌, Bool, true, false, cond, nat_lt, map, List, [], ◌∷◌, ◌++◌, Option, Some, None, length, set, get_or, length-append, Result, Ok, Err, OnOk, IfOk, IfErr, refl, sym, ap, subst, ◌∙◌, arith, ⊎_elim, nat_cmp, is_eq, Ordering, eq-eqb, ne_eqb, append_assoc, append-nil, get_or-set_same, get_or-set_other, length-set}, specs.Cmp.{nat_cmp_total}, proofs.lemmas.Bool.{cases_eq}, proofs.lemmas.List.{get_or_append_left, get_or_push, length_push}, specs.declared.cmp.Ordering.TheVariants.{Less, Equal, Greater}, specs.Map.{lookup, keys_of}, specs.BTreeMap.{get, is_at, insert_entry}, specs.BTreeSet.{insert_key}, specs.List.Sorted.{IsStrictlySortedBy}, proofs.lemmas.Map.{lookup-none}, proofs.lemmas.Map.Entries.{none_below_head}, proofs.lemmas.Map.Views.{All-found}, proofs.lemmas.Map.Keys.{sorted_tail}}
+use Rattle.std.{proofs.Common.{◌≡◌, ◌≢◌, ℕ, suc, ◌+◌, ◌<◌, ◌≤◌, Bool, false, cond, map, List, [], ◌∷◌, ◌++◌, Option, Some, None, length, set, get_or, length-append, Result, Ok, Err, OnOk, IfOk, IfErr, refl, sym, ap, ◌∙◌, arith, ⊎_elim, nat_cmp, Ordering, eq-eqb, ne_eqb, append_assoc, append-nil, get_or-set_same, get_or-set_other, length-set}, specs.Cmp.{nat_cmp_total}, proofs.lemmas.Bool.{cases_eq}, proofs.lemmas.List.{get_or_append_left, get_or_push, length_push}, specs.declared.cmp.Ordering.TheVariants.{Less, Equal, Greater}, specs.Map.{lookup, keys_of}, specs.BTreeMap.{get, is_at, insert_entry}, specs.BTreeSet.{insert_key}, specs.List.Sorted.{IsStrictlySortedBy}, proofs.lemmas.Map.{lookup-none}, proofs.lemmas.Map.Entries.{none_below_head}, proofs.lemmas.Map.Views.{All-found}, proofs.lemmas.Map.Keys.{sorted_tail}, proofs.lemmas.Grind.{common_steps}}
 use Rattle.pmf_event.specs.{declared.event.Event.{Event}, Section.{Trace}}
 use Rattle.pmf_storelog.specs.{declared.fault.Cause.{Cause}, declared.fault.Cause.TheVariants.{OutOfMemory, TooManySections}, declared.fault.TheConstants.{SECTION_LIMIT}, declared.sections.OpenSections.{OpenSections}, LogText.{section_named}, Rising.{with_number}, Sections.{HasSections, Opens, StandsAt, current_place, with_event}}
 
@@ -7,16 +7,7 @@ use Rattle.pmf_storelog.specs.{declared.fault.Cause.{Cause}, declared.fault.Caus
 pub sections_as : (run : ℕ) (numbers numbers' : List ℕ) (events events' : ℕ → List Event) (current current' : ℕ) (opened : OpenSections) →
     numbers ≡ numbers' → ((number : ℕ) → events' number ≡ events number) → current ≡ current' →
     HasSections run numbers events current opened → HasSections run numbers' events' current' opened
-sections_as run numbers numbers' events events' current current' opened same_numbers same_events same_current has = record {
-  run_is = has.run_is;
-  ordered = has.ordered;
-  numbers_are = has.numbers_are ∙ same_numbers;
-  count = has.count ∙ ap length same_numbers;
-  found = λ number place is. subst (λ (e : List Event). StandsAt (section_named run number e) opened.sections.items place) (sym (same_events number)) (has.found number place is);
-  others = λ number is. same_events number ∙ has.others number is;
-  here = subst (λ (c : ℕ). get nat_cmp opened.places c ≡ current_place opened) same_current has.here;
-  before = λ none. sym same_current ∙ has.before none;
-}
+sections_as run numbers numbers' events events' current current' opened same_numbers same_events same_current has = grind (arith, common_steps)
 
 some_is_none : {X : Type 0} {x : X} → None ≡ Some x → ⊥
 some_is_none same = cc
@@ -25,47 +16,29 @@ some_is_none same = cc
 present : (number : ℕ) (entries : List (ℕ × ℕ)) (place : ℕ) → IsStrictlySortedBy nat_cmp (keys_of entries) → lookup (is_at (nat_cmp number)) entries ≡ Some place →
     insert_key nat_cmp (keys_of entries) number ≡ keys_of entries
 present number [] place sorted is = absurd (some_is_none is)
-present number (e ∷ entries) place sorted is =
-    by_order (present number entries place (sorted_tail nat_cmp e.0 (keys_of entries) sorted)) (nat_cmp number e.0) refl
+present number (e ∷ entries) place sorted is = by_order (present number entries place (sorted_tail nat_cmp e.0 (keys_of entries) sorted)) (nat_cmp number e.0) refl
   where
     by_order : (lookup (is_at (nat_cmp number)) entries ≡ Some place → insert_key nat_cmp (keys_of entries) number ≡ keys_of entries) →
         (o : Ordering) → nat_cmp number e.0 ≡ o → insert_key nat_cmp (keys_of (e ∷ entries)) number ≡ keys_of (e ∷ entries)
-    by_order later Less order =
-        absurd (some_is_none (sym (lookup-none (is_at (nat_cmp number)) (e ∷ entries) (none_below_head nat_cmp_total number e entries sorted order)) ∙ is))
+    by_order later Less order = absurd (some_is_none (sym (lookup-none (is_at (nat_cmp number)) (e ∷ entries) (none_below_head nat_cmp_total number e entries sorted order)) ∙ is))
     by_order later Equal order = rw order refl
     by_order later Greater order = rw order (ap (λ rest. e.0 ∷ rest) (later (rw order at is)))
 
 -- and one that isn't there makes them one more
 absent : (number : ℕ) (entries : List (ℕ × ℕ)) → lookup (is_at (nat_cmp number)) entries ≡ None → length (insert_key nat_cmp (keys_of entries) number) ≡ suc (length (keys_of entries))
 absent number [] is = refl
-absent number (e ∷ entries) is = by_order (absent number entries) (nat_cmp number e.0) refl
-  where
-    by_order : (lookup (is_at (nat_cmp number)) entries ≡ None → length (insert_key nat_cmp (keys_of entries) number) ≡ suc (length (keys_of entries))) →
-        (o : Ordering) → nat_cmp number e.0 ≡ o → length (insert_key nat_cmp (keys_of (e ∷ entries)) number) ≡ suc (length (keys_of (e ∷ entries)))
-    by_order later Less order = rw order refl
-    by_order later Equal order = absurd (some_is_none (sym (rw order at is)))
-    by_order later Greater order = rw order (ap suc (later (rw order at is)))
+absent number (e ∷ entries) is = grind (arith, common_steps, absent number entries)
 
 keys-insert : (number place : ℕ) (entries : List (ℕ × ℕ)) → keys_of (insert_entry nat_cmp entries number place) ≡ insert_key nat_cmp (keys_of entries) number
 keys-insert number place [] = refl
-keys-insert number place (e ∷ entries) = by_order (keys-insert number place entries) (nat_cmp number e.0) refl
-  where
-    by_order : keys_of (insert_entry nat_cmp entries number place) ≡ insert_key nat_cmp (keys_of entries) number →
-        (o : Ordering) → nat_cmp number e.0 ≡ o → keys_of (insert_entry nat_cmp (e ∷ entries) number place) ≡ insert_key nat_cmp (keys_of (e ∷ entries)) number
-    by_order later Less order = rw order refl
-    by_order later Equal order = rw order refl
-    by_order later Greater order = rw order (ap (λ rest. e.0 ∷ rest) later)
+keys-insert number place (e ∷ entries) = grind (arith, common_steps, keys-insert number place entries)
 
 apart_at : (k n : ℕ) → k ≢ n → is_at (nat_cmp k) n ≡ false
-apart_at k n apart = rw (ne_eqb k n apart) (either (nat_lt k n))
-  where
-    either : (less : Bool) → is_eq (cond less Less Greater) ≡ false
-    either true = refl
-    either false = refl
+apart_at k n apart = grind (arith, common_steps, ne_eqb)
 
 -- a section stays where it stands, whatever is added after it
 stays : (section : Trace) (list more : List Trace) (place : ℕ) → StandsAt section list place → StandsAt section (list ++ more) place
-stays section list more place stands = (omega (arith, stands.0, length-append list more), λ d. get_or_append_left list more d place stands.0 ∙ stands.1 d)
+stays section list more place stands = grind (arith, common_steps, length-append, get_or_append_left)
 
 abbrev pub blank : Trace
 blank = section_named 0 0 []
@@ -75,8 +48,7 @@ one_longer list new section is = ap length is ∙ length_push list section
 
 -- a place that an insertion leaves or puts is inside the list
 pub inside_either : (here : Bool) (put place bound : ℕ) (before : Option ℕ) → cond here (Some put) before ≡ Some place → put < bound → (before ≡ Some place → place < bound) → place < bound
-inside_either true put place bound before is inside kept = let same : put ≡ place = cc in omega (arith, same, inside)
-inside_either false put place bound before is inside kept = kept is
+inside_either here put place bound before is inside kept = grind (arith, common_steps)
 
 -- the current place, where there is a section
 here_is : (opened : OpenSections) → length opened.sections.items ≢ 0 → current_place opened ≡ Some opened.current
@@ -88,13 +60,11 @@ here_none opened none = rw none refl
 module _ (run : ℕ) (numbers : List ℕ) (events : ℕ → List Event) (current : ℕ) (old : OpenSections) (has : HasSections run numbers events current old) where
   -- the numbers with one that is there
   pub same_numbers : (number place : ℕ) → get nat_cmp old.places number ≡ Some place → with_number numbers number ≡ numbers
-  same_numbers number place is =
-      ap (λ ns. insert_key nat_cmp ns number) (sym has.numbers_are) ∙ present number old.places.entries place has.ordered is ∙ has.numbers_are
+  same_numbers number place is = ap (λ ns. insert_key nat_cmp ns number) (sym has.numbers_are) ∙ present number old.places.entries place has.ordered is ∙ has.numbers_are
 
   -- and those with one that isn't
   pub longer : (number : ℕ) → get nat_cmp old.places number ≡ None → length (with_number numbers number) ≡ suc (length numbers)
-  longer number none =
-      ap (λ ns. length (insert_key nat_cmp ns number)) (sym has.numbers_are) ∙ absent number old.places.entries none ∙ ap (λ ns. suc (length ns)) has.numbers_are
+  longer number none = ap (λ ns. length (insert_key nat_cmp ns number)) (sym has.numbers_are) ∙ absent number old.places.entries none ∙ ap (λ ns. suc (length ns)) has.numbers_are
 
   -- a section that begins is current, and has no events
   pub begun : (number : ℕ) (new : OpenSections) → get nat_cmp old.places number ≡ None → Opens number old new → HasSections run (with_number numbers number) events number new
@@ -122,9 +92,7 @@ module _ (run : ℕ) (numbers : List ℕ) (events : ℕ → List Event) (current
       found n place is = ⊎_elim
           (λ equal.
           let at_number : get nat_cmp new.places number ≡ Some place = ap (get nat_cmp new.places) equal ∙ is in
-          let places : Some (length old.sections.items) ≡ Some place = sym opens.updates.1 ∙ at_number in
-          let there : length old.sections.items ≡ place = cc in
-          rw (← equal, ← there) at_end)
+          let places : Some (length old.sections.items) ≡ Some place = sym opens.updates.1 ∙ at_number in let there : length old.sections.items ≡ place = cc in rw (← equal, ← there) at_end)
           (λ apart. rw opens.list (stays _ old.sections.items _ place (has.found n place (sym (opens.updates.2 n (apart_at number n apart)) ∙ is))))
           (cases_eq number n)
 
@@ -137,19 +105,7 @@ module _ (run : ℕ) (numbers : List ℕ) (events : ℕ → List Event) (current
   -- a section that comes again is current
   pub again : (number place : ℕ) (new : OpenSections) → get nat_cmp old.places number ≡ Some place → new.run ≡ old.run → new.places ≡ old.places → new.sections ≡ old.sections → new.current ≡ place →
       HasSections run (with_number numbers number) events number new
-  again number place new is same_run same_places same_sections there = record {
-    run_is = same_run ∙ has.run_is;
-    ordered = rw same_places has.ordered;
-    numbers_are = rw same_places (has.numbers_are ∙ sym (same_numbers number place is));
-    count = rw same_sections (has.count ∙ ap length (sym (same_numbers number place is)));
-    found = rw (same_places, same_sections) has.found;
-    others = rw same_places has.others;
-    here = rw same_places (is ∙ ap (λ p. Some p) (sym there) ∙ sym (here_is new some));
-    before = λ empty. absurd (some empty);
-  }
-    where
-      some : length new.sections.items ≢ 0
-      some empty = omega (arith, empty, ap (λ s. length s.items) same_sections, (has.found number place is).0)
+  again number place new is same_run same_places same_sections there = grind (arith, common_steps, same_numbers, here_is)
 
   -- before the first section nothing is there, and 0 is current
   pub none_yet : length old.sections.items ≡ 0 → get nat_cmp old.places 0 ≡ None
@@ -183,8 +139,7 @@ module _ (run : ℕ) (numbers : List ℕ) (events : ℕ → List Event) (current
       found n place at_n = ⊎_elim
           (λ equal.
           let at_current : get nat_cmp old.places current ≡ Some place = ap (λ m. get nat_cmp m current) (sym same_places) ∙ ap (get nat_cmp new.places) equal ∙ at_n in
-          let places : Some old.current ≡ Some place = sym current_at ∙ at_current in
-          let there : old.current ≡ place = cc in
+          let places : Some old.current ≡ Some place = sym current_at ∙ at_current in let there : old.current ≡ place = cc in
           let long : place < length new.sections.items = omega (arith, there, stands.0, ap length is, length-set old.sections.items old.current (section_named run current (events current ++ event ∷ []))) in
           rw (← equal, eq-eqb current current refl) (long, λ d. rw (is, ← there) (get_or-set_same old.sections.items old.current _ d stands.0)))
           (λ apart.
@@ -237,15 +192,13 @@ module _ (run : ℕ) (numbers : List ℕ) (events : ℕ → List Event) (current
   pub first_ok : (event : Event) (new : OpenSections) (r : Result (Unit {0}) Cause) → OnOk r (HasSections run (with_number (with_number numbers 0) 0) (with_event events 0 event) 0 new) →
       OnOk r (HasSections run (with_number numbers current) (with_event events current event) current new)
   first_ok event new (Err cause) holds = tt
-  first_ok event new (Ok done) holds =
-      sections_as run _ _ _ _ _ _ new first_numbers (λ n. ap (λ c. with_event events c event n) (has.before empty)) (sym (has.before empty)) holds
+  first_ok event new (Ok done) holds = sections_as run _ _ _ _ _ _ new first_numbers (λ n. ap (λ c. with_event events c event n) (has.before empty)) (sym (has.before empty)) holds
 
 -- a list by entries is a list by their numbers
 by_number : (entries : List (ℕ × ℕ)) (f : ℕ × ℕ → Trace) (g : ℕ → Trace) → ((k : ℕ) (d : ℕ × ℕ) → k < length entries → f (get_or entries k d) ≡ g (get_or entries k d).0) →
     map f entries ≡ map g (keys_of entries)
 by_number [] f g same = refl
-by_number (e ∷ entries) f g same =
-    rw (same 0 e (omega arith)) (ap (λ rest. g e.0 ∷ rest) (by_number entries f g (λ k d within. same (suc k) d (omega (arith, within)))))
+by_number (e ∷ entries) f g same = rw (same 0 e (omega arith)) (ap (λ rest. g e.0 ∷ rest) (by_number entries f g (λ k d within. same (suc k) d (omega (arith, within)))))
 
 -- what stands at the places, in order of the numbers
 pub listed : (run : ℕ) (numbers : List ℕ) (events : ℕ → List Event) (current : ℕ) (opened : OpenSections) → HasSections run numbers events current opened → (list shared : List Trace) →
@@ -265,8 +218,7 @@ listed_ok value (Ok list) run numbers events current opened has shared same is =
 pub next_listed : (of_entry : ℕ × ℕ → Trace) (list longer all : List Trace) (entry : ℕ × ℕ) (left rest : List (ℕ × ℕ)) → list ++ map of_entry left ≡ all → left ≡ entry ∷ rest →
     longer ≡ list ++ of_entry entry ∷ [] → longer ++ map of_entry rest ≡ all
 next_listed of_entry list longer all entry left rest so_far is next =
-    ap (λ (l : List Trace). l ++ map of_entry rest) next ∙ append_assoc list (of_entry entry ∷ []) (map of_entry rest)
-    ∙ ap (λ l. list ++ map of_entry l) (sym is) ∙ so_far
+    ap (λ (l : List Trace). l ++ map of_entry rest) next ∙ append_assoc list (of_entry entry ∷ []) (map of_entry rest) ∙ ap (λ l. list ++ map of_entry l) (sym is) ∙ so_far
 
 -- the end of the walk
 pub all_listed : (of_entry : ℕ × ℕ → Trace) (list all : List Trace) (left : List (ℕ × ℕ)) → list ++ map of_entry left ≡ all → left ≡ [] → list ≡ all

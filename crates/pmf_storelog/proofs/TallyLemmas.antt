@@ -1,5 +1,5 @@
 -- The tally with one more record, and with one more part.
-use Rattle.std.proofs.Common.{◌≡◌, ◌≢◌, ℕ, true, false, ◌+◌, ◌<◌, ◌≤◌, List, [], ◌∷◌, ◌++◌, Some, None, Result, Ok, Err, OnOk, IsOk, IfErr, length, length-append, refl, sym, ◌∙◌, arith, lt-ltb, le-ltb, eq-eqb, ne_eqb, append-nil}
+use Rattle.std.proofs.{Common.{◌≡◌, ◌≢◌, ℕ, ◌+◌, ◌<◌, ◌≤◌, List, [], ◌∷◌, ◌++◌, Some, None, Result, Ok, Err, OnOk, IsOk, IfErr, length, length-append, refl, sym, ◌∙◌, arith, lt-ltb, le-ltb, eq-eqb, ne_eqb, append-nil}, lemmas.Grind.{common_steps}}
 use Rattle.pmf_event.specs.declared.{event.Event.{Event}, section.TheConstants.{EVENT_LIMIT}}
 use Rattle.pmf_storelog.{specs.declared.fault.Cause.{Cause}, specs.declared.fault.Cause.TheVariants.{OutOfMemory, TooManyEvents, TooManySections}, specs.declared.fault.LogFault.{LogFault}, specs.declared.fault.TheConstants.{SECTION_LIMIT}, specs.declared.record.Saying.TheVariants.{Happens, Enters, Skipped}, specs.declared.tally.Tally.{Tally}, specs.Separators.{trimmed, records_in}, specs.Records.{record_of}, specs.LogText.{current_at, current_of, numbered_among, numbered_events, entered_among, entered_of, events_in, numbers_of, skipped_of, first_fault, first_fault_among, refusal_after, cause_after, fault_at, out_of_memory}, specs.Rising.{with_number, in_order}, specs.Answers.{IsShown}, specs.Sections.{HasSections, with_event}, specs.Tally.{HasTaken, AddsRecord, AddsSkipped, IsFaultFor}, proofs.LogLemmas.{current_of-push, numbers_of-push, events_in-event, events_in-enter, events_in-nothing, skipped_of-event, skipped_of-enter, skipped_of-nothing, first_fault-push}, proofs.SectionLemmas.{sections_as}}
 
@@ -33,9 +33,7 @@ taken_none run tally sections count skipped = record {
 
 -- what holds of one answer that another says was Ok
 said_ok : {S R N T : Type 0} (one : Result (Unit {0}) Cause) (r : Result (Unit {0}) LogFault) → OnOk one S → OnOk one R → OnOk r (IsOk one × N) → (S → R → N → T) → OnOk r T
-said_ok one (Err fault) of_one and_one of_r then_r = tt
-said_ok (Err cause) (Ok done) of_one and_one of_r then_r = let same : false ≡ true = of_r.0 in cc
-said_ok (Ok took) (Ok done) of_one and_one of_r then_r = then_r of_one and_one of_r.1
+said_ok one r of_one and_one of_r then_r = grind (arith, common_steps)
 
 module _ (run : ℕ) (records : List (List ℕ)) (text : List ℕ) (old : Tally) (taken : HasTaken run records old) where
   -- the first fault is then the new record's
@@ -51,30 +49,14 @@ module _ (run : ℕ) (records : List (List ℕ)) (text : List ℕ) (old : Tally)
   pub taken_event : (event : Event) (new : Tally) → record_of text ≡ Ok (Happens event) →
       HasSections run (with_number (numbers_of records) (current_of records)) (with_event (events_in records) (current_of records) event) (current_of records) new.sections →
       length (events_in records (current_of records)) ≢ EVENT_LIMIT → new.records ≡ old.records + 1 → new.skipped ≡ old.skipped → HasTaken run (records ++ text ∷ []) new
-  taken_event event new says sections room count skipped = record {
-    faultless = rw (new_fault, says, ne_eqb _ _ room) refl;
-    sections = sections_as run _ _ _ _ _ _ new.sections (sym (rw (numbers_of-push records text, says) refl)) (events_in-event records text event says) (sym (rw (current_of-push records text, says) refl)) sections;
-    count = omega (arith, count, taken.count, length-append records (text ∷ []));
-    skipped = skipped ∙ taken.skipped ∙ sym (skipped_of-event records text event says);
-  }
+  taken_event event new says sections room count skipped = grind (arith, common_steps, new_fault, sections_as, numbers_of-push, events_in-event, current_of-push, length-append, skipped_of-event, ne_eqb)
 
-  pub taken_enter : (number : ℕ) (new : Tally) → record_of text ≡ Ok (Enters number) →
-      HasSections run (with_number (numbers_of records) number) (events_in records) number new.sections →
+  pub taken_enter : (number : ℕ) (new : Tally) → record_of text ≡ Ok (Enters number) → HasSections run (with_number (numbers_of records) number) (events_in records) number new.sections →
       length (with_number (numbers_of records) number) ≤ SECTION_LIMIT → new.records ≡ old.records + 1 → new.skipped ≡ old.skipped → HasTaken run (records ++ text ∷ []) new
-  taken_enter number new says sections room count skipped = record {
-    faultless = rw (new_fault, says, le-ltb SECTION_LIMIT (length (in_order (number ∷ entered_of records))) (omega (arith, room, one_entered number))) refl;
-    sections = sections_as run _ _ _ _ _ _ new.sections (sym (rw (numbers_of-push records text, says) refl)) (events_in-enter records text number says) (sym (rw (current_of-push records text, says) refl)) sections;
-    count = omega (arith, count, taken.count, length-append records (text ∷ []));
-    skipped = skipped ∙ taken.skipped ∙ sym (skipped_of-enter records text number says);
-  }
+  taken_enter number new says sections room count skipped = grind (arith, common_steps, new_fault, sections_as, numbers_of-push, events_in-enter, current_of-push, length-append, skipped_of-enter, le-ltb, one_entered)
 
   pub taken_nothing : (new : Tally) → record_of text ≡ Ok Skipped → AddsSkipped old new → HasTaken run (records ++ text ∷ []) new
-  taken_nothing new says adds = record {
-    faultless = rw (new_fault, says) refl;
-    sections = sections_as run (numbers_of records) _ (events_in records) _ (current_of records) _ new.sections (sym (rw (numbers_of-push records text, says) refl)) (events_in-nothing records text says) (sym (rw (current_of-push records text, says) refl)) (rw adds.sections taken.sections);
-    count = omega (arith, adds.count, taken.count, length-append records (text ∷ []));
-    skipped = omega (arith, adds.skipped, taken.skipped, skipped_of-nothing records text says);
-  }
+  taken_nothing new says adds = grind (arith, common_steps, new_fault, sections_as, numbers_of-push, events_in-nothing, current_of-push, length-append, skipped_of-nothing)
 
   pub shown_cause : (cause : Cause) → record_of text ≡ Err cause → first_fault (records ++ text ∷ []) ≡ Some (record { at = old.records + 1; cause = cause })
   shown_cause cause says = rw (new_fault, says) refl
@@ -85,18 +67,12 @@ module _ (run : ℕ) (records : List (List ℕ)) (text : List ℕ) (old : Tally)
       OnOk added (HasSections run (with_number (numbers_of records) (current_of records)) (with_event (events_in records) (current_of records) event) (current_of records) mid.sections) →
       OnOk added (length (events_in records (current_of records)) ≢ EVENT_LIMIT) →
       OnOk r (IsOk added × AddsRecord mid new) → OnOk r (HasTaken run (records ++ text ∷ []) new)
-  happened_ok event mid new added r says count skipped sections room adds = said_ok added r sections room adds (λ there few more.
-      taken_event event new says (rw more.sections there) few (omega (arith, more.count, count)) (more.skipped ∙ skipped))
+  happened_ok event mid new added r says count skipped sections room adds = grind (arith, common_steps, said_ok, taken_event)
 
-  pub happened_err : (event : Event) (mid : Tally) (added : Result (Unit {0}) Cause) (r : Result (Unit {0}) LogFault) → record_of text ≡ Ok (Happens event) →
-      mid.records ≡ old.records →
+  pub happened_err : (event : Event) (mid : Tally) (added : Result (Unit {0}) Cause) (r : Result (Unit {0}) LogFault) → record_of text ≡ Ok (Happens event) → mid.records ≡ old.records →
       IfErr added (λ cause. cause ≢ OutOfMemory → (cause ≡ TooManyEvents) × (length (events_in records (current_of records)) ≡ EVENT_LIMIT)) →
       IfErr r (λ fault. fault ≢ out_of_memory → IsFaultFor added mid fault) → IfErr r (λ fault. IsShown fault (first_fault (records ++ text ∷ [])))
-  happened_err event mid added (Ok done) says count full is = tt
-  happened_err event mid (Ok took) (Err fault) says count full is = λ memory. absurd (is memory)
-  happened_err event mid (Err cause) (Err fault) says count full is = λ memory.
-      let why = full (is memory).0 in
-      rw (new_fault, says, eq-eqb _ _ why.1, (is memory).1, why.0, count) refl
+  happened_err event mid added r says count full is = grind (arith, common_steps, new_fault, eq-eqb)
 
   -- what a marker's section answers
   pub entered_ok : (number : ℕ) (mid new : Tally) (entered : Result (Unit {0}) Cause) (r : Result (Unit {0}) LogFault) → record_of text ≡ Ok (Enters number) →
@@ -107,16 +83,10 @@ module _ (run : ℕ) (records : List (List ℕ)) (text : List ℕ) (old : Tally)
   entered_ok number mid new entered r says count skipped sections room adds = said_ok entered r sections room adds (λ there few more.
       taken_enter number new says (rw more.sections there) few (omega (arith, more.count, count)) (more.skipped ∙ skipped))
 
-  pub entered_err : (number : ℕ) (mid : Tally) (entered : Result (Unit {0}) Cause) (r : Result (Unit {0}) LogFault) → record_of text ≡ Ok (Enters number) →
-      mid.records ≡ old.records →
+  pub entered_err : (number : ℕ) (mid : Tally) (entered : Result (Unit {0}) Cause) (r : Result (Unit {0}) LogFault) → record_of text ≡ Ok (Enters number) → mid.records ≡ old.records →
       IfErr entered (λ cause. cause ≢ OutOfMemory → (cause ≡ TooManySections) × (SECTION_LIMIT < length (with_number (numbers_of records) number))) →
       IfErr r (λ fault. fault ≢ out_of_memory → IsFaultFor entered mid fault) → IfErr r (λ fault. IsShown fault (first_fault (records ++ text ∷ [])))
-  entered_err number mid entered (Ok done) says count full is = tt
-  entered_err number mid (Ok took) (Err fault) says count full is = λ memory. absurd (is memory)
-  entered_err number mid (Err cause) (Err fault) says count full is = λ memory.
-      let why = full (is memory).0 in
-      let more : SECTION_LIMIT < length (in_order (number ∷ entered_of records)) = omega (arith, why.1, one_entered number) in
-      rw (new_fault, says, lt-ltb _ _ more, (is memory).1, why.0, count) refl
+  entered_err number mid entered r says count full is = grind (arith, common_steps, new_fault, lt-ltb, one_entered)
 
 -- a part is one record, or none
 pub records_in-none : records_in [] ≡ []

@@ -41,6 +41,7 @@ fn count_digits(text: &[u8]) -> usize
 }
 
 // The number below 2^64 that 1 to `most` digits spell in this radix.
+#[tactic(auto, using(std::proofs::lemmas::Grind::common_steps, crate::proofs::NumberLemmas::numeral_of_empty, crate::proofs::NumberLemmas::numeral_of_long, crate::proofs::NumberLemmas::at_other, crate::proofs::NumberLemmas::at_large, crate::proofs::NumberLemmas::at_digit, crate::proofs::NumberLemmas::at_end))]
 fn read_numeral(text: &[u8], radix: u64, most: usize) -> Option<u64>
     requires { 0 < radix }
     ensures { result ≡ numeral_of radix most text.now }

@@ -181,6 +181,7 @@ fn read_digits(text: &[u8]) -> Option<(u64, usize)>
 
 // The same of so many bytes at most.
 #[inline(always)]
+#[tactic(auto, using(std::proofs::lemmas::Grind::common_steps, crate::proofs::QuickLemmas::room_for_a_digit, std::proofs::lemmas::Int::Digits::digits_value_more, std::proofs::lemmas::Int::Digits::digits_more))]
 fn read_digits_up_to(text: &[u8], most: usize) -> Option<(u64, usize)>
     requires few { most ≤ 16 }
     requires within { most ≤ length text.now }

@@ -1,5 +1,5 @@
 -- What a ledger holds after a section was put where its name belongs.
-use Rattle.std.proofs.{Common.{◌≡◌, ℕ, List, [], ◌∷◌, map, take, drop, refl, sym, ◌∙◌, ap, subst, arith, inl, inr, get_or, ◌⊎◌, Contains, All, insert, take-append-drop}, lemmas.List.{get_or-map, length-map}, lemmas.List.Elements.{All-append, All-cons, All-take, All-drop, Contains-append_left, Contains-append_right, Contains-append_cases, Contains-push, Contains-push_cases, Contains-get_or}, lemmas.Grind.{common_steps}}
+use Rattle.std.proofs.{Common.{◌≡◌, ℕ, List, [], ◌∷◌, map, take, drop, sym, ◌∙◌, ap, subst, arith, inl, inr, get_or, ◌⊎◌, Contains, All, insert, take-append-drop}, lemmas.List.{get_or-map, length-map}, lemmas.List.Elements.{All-append, All-cons, All-take, All-drop, Contains-append_left, Contains-append_right, Contains-append_cases, Contains-push, Contains-push_cases, Contains-get_or}, lemmas.Grind.{common_steps}}
 use Rattle.pmf_event.specs.Section.{Trace}
 use Rattle.pmf_verdict.specs.Checked.{Checked, checked_by}
 use Rattle.pmf_ledger.{specs.Gathered.{Gains, Gathers, Holds}, specs.LedgerValue.{LedgerValue}, specs.Names.{ComesBefore, Rises}, specs.Places.{IsPlaceOf, LacksName}, proofs.lemmas.NameLemmas.{AllPairs-insert, before-total}}
@@ -8,10 +8,7 @@ pub Rises-insert : (sections : List Checked) (k : ℕ) (v : Checked) → Rises s
 Rises-insert sections k v rises place absent = AllPairs-insert ComesBefore sections k v place.within rises place.before
     (λ i d far inside. elim (before-total v.section.name (get_or sections i d).section.name) [
       | inl before ↦ before
-      | inr other ↦ elim other [
-        | inl same ↦ absurd (absent (get_or sections i d) (Contains-get_or sections i d inside) (sym same))
-        | inr after ↦ absurd (place.from i d far inside after)
-      ]
+      | inr other ↦ elim other [ inl same ↦ absurd (absent (get_or sections i d) (Contains-get_or sections i d inside) (sym same)) | inr after ↦ absurd (place.from i d far inside after) ]
     ])
 
 pub All-insert : {X : Type 0} (P : X → Type 0) (xs : List X) (k : ℕ) (y : X) → P y → All P xs → All P (insert xs k y)
@@ -68,13 +65,10 @@ module _ {X : Type 0} (x y : X) (ys : List X) where
 -- of the images of a list
 pub from_map : {X Y : Type 0} (f : X → Y) (xs : List X) (y : Y) → Contains (map f xs) y → (x : X) × Contains xs x × (f x ≡ y)
 from_map f [] y found = absurd (omega (arith, found.1))
-from_map f (x ∷ xs) y found = elim (Contains-cons_cases y (f x) (map f xs) found) [
-  | inl same ↦ (x, Contains-cons x x xs (inl refl), sym same)
-  | inr behind ↦ let there = from_map f xs y behind in (there.0, Contains-cons there.0 x xs (inr there.1), there.2)
-]
+from_map f (x ∷ xs) y found = grind (arith, common_steps, Contains-cons_cases, Contains-cons, from_map f xs y)
 
 pub to_map : {X Y : Type 0} (f : X → Y) (xs : List X) (x : X) → Contains xs x → Contains (map f xs) (f x)
-to_map f xs x found = (found.0, rw (length-map xs f) found.1, get_or-map f xs found.0 x (f x) found.1 ∙ ap f found.2)
+to_map f xs x found = grind (arith, common_steps, length-map, get_or-map)
 
 pub Gathers-gains : (old new : LedgerValue) (section : Trace) → Gains old section new → Rises new.sections → All (λ (c : Checked). c.profile ≡ new.profile) new.sections → Gathers old section new
 Gathers-gains old new section gains rises checked = λ set is. record {

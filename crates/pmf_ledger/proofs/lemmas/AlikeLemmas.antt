@@ -7,16 +7,13 @@ use Rattle.pmf_ledger.{specs.Report.{report_of}, specs.Gathered.{IsLedgerOf}, sp
 one_ledger : (g h : Gathering) → ((p : Profile) → IsBy p g → IsBy p h) → ((p : Profile) → IsBy p h → IsBy p g) → HaveSameMembers (set_of g) (set_of h) →
     (a b : LedgerValue) → Gives g a → Gives h b → a ≡ b
 one_ledger g h to from members a b first second =
-    let of_a = gives_ledger g a first in
-    let of_b = gives_ledger h b second in
-    let even : a.profile ≡ b.profile = by_one h a.profile b.profile (to a.profile of_a.2) of_b.2 in
+    let of_a = gives_ledger g a first in let of_b = gives_ledger h b second in let even : a.profile ≡ b.profile = by_one h a.profile b.profile (to a.profile of_a.2) of_b.2 in
     ledger_once b.profile (set_of g) (set_of h) a b (subst (λ p. IsLedgerOf p (set_of g) a) even of_a.0) of_b.0 members
 
 -- what the one gives, the other gives
 also_gives : (g h : Gathering) → ((p : Profile) → IsBy p g → IsBy p h) → ((p : Profile) → IsBy p h → IsBy p g) → HaveSameMembers (set_of g) (set_of h) → (a : LedgerValue) → Gives g a → Gives h a
 also_gives g h to from members a first =
-    let of_a = gives_ledger g a first in
-    let given = gives_where_it_may h a.profile (agrees_within (set_of g) (set_of h) (λ s. (members s).1) of_a.1) (to a.profile of_a.2) in
+    let of_a = gives_ledger g a first in let given = gives_where_it_may h a.profile (agrees_within (set_of g) (set_of h) (λ s. (members s).1) of_a.1) (to a.profile of_a.2) in
     subst (Gives h) (sym (one_ledger g h to from members a given.0 first given.1)) given.1
 
 -- where the one is refused, the other is
@@ -35,10 +32,7 @@ alike g h to from members = record {
 }
 
 turned : {X : Type 0} (xs ys : List X) (x : X) → Contains (xs ++ ys) x → Contains (ys ++ xs) x
-turned xs ys x found = elim (Contains-append_cases xs ys x found) [
-  | inl first ↦ Contains-append_right ys xs x first
-  | inr second ↦ Contains-append_left ys xs x second
-]
+turned xs ys x found = elim (Contains-append_cases xs ys x found) [ inl first ↦ Contains-append_right ys xs x first | inr second ↦ Contains-append_left ys xs x second ]
 
 pub joining_commutes : JoiningCommutes
 unfolding IsBy set_of
@@ -66,5 +60,4 @@ set_counts = λ g h profile by_g by_h members.
 
 pub equal_sets : EqualSetsHaveOneLedger
 equal_sets = λ profile xs ys a b of_a of_b members.
-    let same : a ≡ b = ledger_once profile xs ys a b of_a of_b members in
-    (same, ap (λ (l : LedgerValue). report_of l.sections) same, ap text_of_ledger same)
+    let same : a ≡ b = ledger_once profile xs ys a b of_a of_b members in (same, ap (λ (l : LedgerValue). report_of l.sections) same, ap text_of_ledger same)

@@ -1,5 +1,5 @@
 -- How rows count, one after another, and the sums of sections.
-use Rattle.std.proofs.{Common.{◌≡◌, ℕ, ◌+◌, ◌*◌, ◌-◌, ◌^◌, ◌<◌, ◌≤◌, true, List, [], ◌∷◌, length, take, get_or, refl, ◌∙◌, ap, arith, length-append}, lemmas.List.{take_more}, lemmas.List.Sums.{count_by_more_yes, sum_by-append}, lemmas.Grind.{common_steps}}
+use Rattle.std.proofs.{Common.{◌≡◌, ℕ, ◌+◌, ◌*◌, ◌-◌, ◌^◌, ◌<◌, ◌≤◌, true, List, [], ◌∷◌, length, take, get_or, refl, arith, length-append}, lemmas.List.{take_more}, lemmas.List.Sums.{count_by_more_yes, sum_by-append}, lemmas.Grind.{common_steps}}
 use Rattle.pmf_event.specs.declared.row.Row.{Row}
 use Rattle.pmf_verdict.specs.{declared.outcome.Outcome.{Outcome}, declared.outcome.Outcome.TheVariants.{Pass, Fail, Warn, Empty}, Checked.{Checked, rows_in}, Outcome.{outcome_of, is_same}}
 use Rattle.pmf_ledger.specs.{declared.totals.Totals.{Totals}, Report.{IsWithin, both, rows_with, rows_with_in, totals_of}}
@@ -19,7 +19,7 @@ Counted-none rows = record { pass_is = refl; fail_is = refl; warn_is = refl; emp
 module _ (rows : List Row) (index : ℕ) (d : Row) (within : index < length rows) where
   counts : (outcome : Outcome) → outcome_of (get_or rows index d).finding ≡ outcome → is_same outcome outcome ≡ true → rows_with outcome (take (index + 1) rows) ≡ rows_with outcome (take index rows) + 1
   unfolding rows_with
-  counts outcome found same = count_by_more_yes (λ (r : Row). is_same outcome (outcome_of r.finding)) rows index d within (ap (is_same outcome) found ∙ same)
+  counts outcome found same = grind (arith, common_steps, count_by_more_yes)
 
   module _ (pass fail warn empty : ℕ) (so_far : Counted rows index pass fail warn empty) where
     pub Counted-pass : outcome_of (get_or rows index d).finding ≡ Pass → Counted rows (index + 1) (pass + 1) fail warn empty

@@ -24,24 +24,16 @@ gives_ledger (Begun profile) ledger gives =
     let of_set = subst (λ (l : LedgerValue). IsLedgerOf l.profile [] l) (sym gives) (empty_ledger profile) in
     (of_set, Agrees-ledger ledger.profile [] ledger of_set, ap (λ (l : LedgerValue). l.profile) (sym gives))
 gives_ledger (WithVerdict gathering verdict) ledger gives =
-    let old = gives.0 in
-    let before = gives_ledger gathering old gives.1 in
-    let set = verdict.section ∷ set_of gathering in
-    let is : IsLedgerOf old.profile set ledger = gives.3 (set_of gathering) before.0 in
-    let stays : old.profile ≡ ledger.profile = sym is.profile_is in
+    let old = gives.0 in let before = gives_ledger gathering old gives.1 in let set = verdict.section ∷ set_of gathering in
+    let is : IsLedgerOf old.profile set ledger = gives.3 (set_of gathering) before.0 in let stays : old.profile ≡ ledger.profile = sym is.profile_is in
     let of_set : IsLedgerOf ledger.profile set ledger = subst (λ p. IsLedgerOf p set ledger) stays is in
     let even : verdict.profile ≡ old.profile = profile_same verdict.profile old.profile (λ differ. gives.2 (inl differ)) in
     (of_set, Agrees-ledger ledger.profile set ledger of_set, (subst (λ p. IsBy p gathering) stays before.2, even ∙ stays))
 gives_ledger (Joined g h) ledger gives =
-    let a = gives.0 in
-    let b = gives.1 in
-    let first = gives_ledger g a gives.2 in
-    let second = gives_ledger h b gives.3 in
-    let set = set_of g ++ set_of h in
+    let a = gives.0 in let b = gives.1 in let first = gives_ledger g a gives.2 in let second = gives_ledger h b gives.3 in let set = set_of g ++ set_of h in
     let even : a.profile ≡ b.profile = profile_same a.profile b.profile (λ differ. gives.4 (inl differ)) in
     let is : IsLedgerOf a.profile set ledger = gives.5 (set_of g) (set_of h) first.0 (subst (λ p. IsLedgerOf p (set_of h) b) (sym even) second.0) in
-    let stays : a.profile ≡ ledger.profile = sym is.profile_is in
-    let of_set : IsLedgerOf ledger.profile set ledger = subst (λ p. IsLedgerOf p set ledger) stays is in
+    let stays : a.profile ≡ ledger.profile = sym is.profile_is in let of_set : IsLedgerOf ledger.profile set ledger = subst (λ p. IsLedgerOf p set ledger) stays is in
     (of_set, Agrees-ledger ledger.profile set ledger of_set, (subst (λ p. IsBy p g) stays first.2, subst (λ p. IsBy p h) (sym even ∙ stays) second.2))
 
 -- a set agrees with fewer members too
@@ -56,35 +48,27 @@ refuses_for_cause (WithVerdict gathering verdict) profile agrees by refused = el
       refuses_for_cause gathering profile
       (agrees_within (verdict.section ∷ set_of gathering) (set_of gathering) (λ s found. Contains-cons s verdict.section (set_of gathering) (inr found)) agrees) by.0 before
   | inr now ↦
-      let old = now.0 in
-      let is = gives_ledger gathering old now.1 in
+      let old = now.0 in let is = gives_ledger gathering old now.1 in
       elim now.2 [
         | inl differ ↦ differ (by.1 ∙ by_one gathering profile old.profile by.0 is.2)
         | inr other ↦
-            let t = other.0 in
-            let s = verdict.section in
+            let t = other.0 in let s = verdict.section in
             other.3 (agrees t s (Contains-cons t s (set_of gathering) (inr ((is.0.same t).0 other.1))) (Contains-cons s s (set_of gathering) (inl refl)) other.2)
       ]
 ]
 refuses_for_cause (Joined g h) profile agrees by refused =
-    let xs = set_of g in
-    let ys = set_of h in
+    let xs = set_of g in let ys = set_of h in
     elim refused [
       | inl before ↦ elim before [
         | inl first ↦ refuses_for_cause g profile (agrees_within (xs ++ ys) xs (λ s found. Contains-append_left xs ys s found) agrees) by.0 first
         | inr second ↦ refuses_for_cause h profile (agrees_within (xs ++ ys) ys (λ s found. Contains-append_right xs ys s found) agrees) by.1 second
       ]
       | inr now ↦
-          let a = now.0 in
-          let b = now.1 in
-          let first = gives_ledger g a now.2 in
-          let second = gives_ledger h b now.3 in
+          let a = now.0 in let b = now.1 in let first = gives_ledger g a now.2 in let second = gives_ledger h b now.3 in
           elim now.4 [
             | inl differ ↦ differ (by_one g a.profile profile first.2 by.0 ∙ by_one h profile b.profile by.1 second.2)
             | inr some ↦
-                let clash = some.1 in
-                let s = clash.0 in
-                let t = clash.1 in
+                let clash = some.1 in let s = clash.0 in let t = clash.1 in
                 clash.6 (agrees s t (Contains-append_left xs ys s ((first.0.same s).0 clash.2)) (Contains-append_right xs ys t ((second.0.same t).0 clash.3)) (clash.4 ∙ sym clash.5))
           ]
     ]

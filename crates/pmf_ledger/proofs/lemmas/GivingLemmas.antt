@@ -21,9 +21,7 @@ place_first x xs name rises before =
       place = record {
         within = omega arith;
         before = λ i d less. absurd (omega (arith, less));
-        from = λ i d far inside wrong.
-            let c = get_or (x ∷ xs) i d in
-            before-itself name (before-trans name c.section.name name (after c (Contains-get_or (x ∷ xs) i d inside)) wrong);
+        from = λ i d far inside wrong. let c = get_or (x ∷ xs) i d in before-itself name (before-trans name c.section.name name (after c (Contains-get_or (x ∷ xs) i d inside)) wrong);
       };
       lacks = λ c found same. before-itself name (subst (IsBefore name) same (after c found));
     }
@@ -50,14 +48,8 @@ place_behind x xs name before rest = record {
 placed : (sections : List Checked) (name : Name) → Rises sections → HasName sections name ⊎ Place sections name
 placed [] name rises = grind (arith, common_steps, none_of_empty)
 placed (x ∷ xs) name rises = elim (before-total x.section.name name) [
-  | inl before ↦ elim (placed xs name (Rises-rest x xs rises)) [
-    | inl has ↦ inl (has.0, Contains-cons has.0 x xs (inr has.1), has.2)
-    | inr rest ↦ inr (place_behind x xs name before rest)
-  ]
-  | inr other ↦ elim other [
-    | inl same ↦ inl (x, Contains-cons x x xs (inl refl), same)
-    | inr after ↦ inr (place_first x xs name rises after)
-  ]
+  | inl before ↦ elim (placed xs name (Rises-rest x xs rises)) [ inl has ↦ inl (has.0, Contains-cons has.0 x xs (inr has.1), has.2) | inr rest ↦ inr (place_behind x xs name before rest) ]
+  | inr other ↦ elim other [ inl same ↦ inl (x, Contains-cons x x xs (inl refl), same) | inr after ↦ inr (place_first x xs name rises after) ]
 ]
 
 -- the ledger with a section more
@@ -69,12 +61,10 @@ record Grown (old : LedgerValue) (s : Trace) : Type 0 where
 grows : (old : LedgerValue) (s : Trace) → Rises old.sections → AreBy old.profile old.sections → ((t : Trace) → Holds old t → t.name ≡ s.name → t ≡ s) → Grown old s
 grows old s rises by agrees = elim (placed old.sections s.name rises) [
   | inl has ↦
-      let c = has.0 in
-      let held : Holds old c.section = Holds-section old by c has.1 in
+      let c = has.0 in let held : Holds old c.section = Holds-section old by c has.1 in
       record { new = old; gathers = Gathers-gains old old s (Gains-held old s (subst (Holds old) (agrees c.section held has.2) held)) rises by }
   | inr found ↦
-      let v = checked_by old.profile s in
-      let new : LedgerValue = record { profile = old.profile; sections = insert old.sections found.at v } in
+      let v = checked_by old.profile s in let new : LedgerValue = record { profile = old.profile; sections = insert old.sections found.at v } in
       record {
         new = new;
         gathers = Gathers-gains old new s (Gains-insert old new found.at v refl refl refl)
@@ -90,9 +80,7 @@ record HasLedger (profile : Profile) (set : List Trace) : Type 0 where
 
 with_section : (profile : Profile) (s : Trace) (set : List Trace) → Agrees (s ∷ set) → HasLedger profile set → HasLedger profile (s ∷ set)
 with_section profile s set agrees has =
-    let old = has.ledger in
-    let stays = has.is.profile_is in
-    let old_is : IsLedgerOf old.profile set old = subst (λ p. IsLedgerOf p set old) (sym stays) has.is in
+    let old = has.ledger in let stays = has.is.profile_is in let old_is : IsLedgerOf old.profile set old = subst (λ p. IsLedgerOf p set old) (sym stays) has.is in
     let grown = grows old s old_is.rises old_is.checked
     (λ t held same. agrees t s (Contains-cons t s set (inr ((old_is.same t).0 held))) (Contains-cons s s set (inl refl)) same) in
     record { ledger = grown.new; is = subst (λ p. IsLedgerOf p (s ∷ set) grown.new) stays (grown.gathers set old_is) }
@@ -127,21 +115,15 @@ pub gives_where_it_may : (gathering : Gathering) (profile : Profile) → Agrees 
 unfolding Gives IsRefused set_of IsBy
 gives_where_it_may (Begun own) profile agrees by = (record { profile = own; sections = [] }, refl)
 gives_where_it_may (WithVerdict gathering verdict) profile agrees by =
-    let s = verdict.section in
-    let set = set_of gathering in
-    let before = gives_where_it_may gathering profile (agrees_within (s ∷ set) set (λ t found. Contains-cons t s set (inr found)) agrees) by.0 in
-    let old = before.0 in
+    let s = verdict.section in let set = set_of gathering in
+    let before = gives_where_it_may gathering profile (agrees_within (s ∷ set) set (λ t found. Contains-cons t s set (inr found)) agrees) by.0 in let old = before.0 in
     let is = gives_ledger gathering old before.1 in
     let grown = grows old s is.0.rises is.0.checked (λ t held same. agrees t s (Contains-cons t s set (inr ((is.0.same t).0 held))) (Contains-cons s s set (inl refl)) same) in
     let refuse : RefusesVerdict old verdict → ⊥ = λ refused. refuses_for_cause (WithVerdict gathering verdict) profile agrees by (inr (old, before.1, refused)) in
     (grown.new, (old, before.1, refuse, grown.gathers))
 gives_where_it_may (Joined g h) profile agrees by =
-    let xs = set_of g in
-    let ys = set_of h in
-    let first = gives_where_it_may g profile (agrees_within (xs ++ ys) xs (λ s found. Contains-append_left xs ys s found) agrees) by.0 in
-    let second = gives_where_it_may h profile (agrees_within (xs ++ ys) ys (λ s found. Contains-append_right xs ys s found) agrees) by.1 in
-    let a = first.0 in
-    let b = second.0 in
+    let xs = set_of g in let ys = set_of h in let first = gives_where_it_may g profile (agrees_within (xs ++ ys) xs (λ s found. Contains-append_left xs ys s found) agrees) by.0 in
+    let second = gives_where_it_may h profile (agrees_within (xs ++ ys) ys (λ s found. Contains-append_right xs ys s found) agrees) by.1 in let a = first.0 in let b = second.0 in
     let both = has_ledger a.profile (xs ++ ys) agrees in
     let refuse : RefusesJoin a b → ⊥ = λ refused. refuses_for_cause (Joined g h) profile agrees by (inr (a, b, first.1, second.1, refused)) in
     (both.ledger, (a, b, first.1, second.1, refuse, gathers_union a b both.ledger xs ys (gives_ledger g a first.1).0 (gives_ledger h b second.1).0 both.is))

@@ -29,9 +29,7 @@ module _ (a b : LedgerValue) (by_a : AreBy a.profile a.sections) (by_b : AreBy b
   pub agree_checked : a.profile ≡ b.profile → AgreeTogether a b → Agree a.sections b.sections
   agree_checked even agree x y in_a in_b same =
       let section : x.section ≡ y.section = agree x.section y.section (Holds-section a by_a x in_a) (Holds-section b by_b y in_b) same in
-      checked_is a.profile x (All-contains (λ (d : Checked). d.profile ≡ a.profile) a.sections x by_a in_a)
-      ∙ ap (checked_by a.profile) section
-      ∙ ap (λ p. checked_by p y.section) even
+      checked_is a.profile x (All-contains (λ (d : Checked). d.profile ≡ a.profile) a.sections x by_a in_a) ∙ ap (checked_by a.profile) section ∙ ap (λ p. checked_by p y.section) even
       ∙ sym (checked_is b.profile y (All-contains (λ (d : Checked). d.profile ≡ b.profile) b.sections y by_b in_b))
 
 -- two least names are one
@@ -70,10 +68,7 @@ GathersBoth-unites a b new unites rises by = λ xs ys of_a of_b. record {
   checked = subst (λ p. AreBy p new.sections) unites.profile_stays by;
   rises = rises;
   same = λ s. (
-    λ held. elim ((unites.holds s).0 held) [
-      | inl first ↦ Contains-append_left xs ys s ((of_a.same s).0 first)
-      | inr second ↦ Contains-append_right xs ys s ((of_b.same s).0 second)
-    ],
+    λ held. elim ((unites.holds s).0 held) [ inl first ↦ Contains-append_left xs ys s ((of_a.same s).0 first) | inr second ↦ Contains-append_right xs ys s ((of_b.same s).0 second) ],
     λ found. (unites.holds s).1 (elim (Contains-append_cases xs ys s found) [ inl first ↦ inl ((of_a.same s).1 first) | inr second ↦ inr ((of_b.same s).1 second) ]),
   );
 }

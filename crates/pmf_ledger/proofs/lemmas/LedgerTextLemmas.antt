@@ -1,6 +1,6 @@
 -- The text of a ledger loads as that ledger.
-use Rattle.std.{proofs.Common.{◌≡◌, ℕ, zero, suc, ◌+◌, ◌-◌, ◌^◌, ◌<◌, ◌≤◌, ◌==◌, List, [], ◌∷◌, ◌++◌, length, map, Some, None, refl, sym, ◌∙◌, ap, subst, arith, rules, append_assoc, length-append, codes, if◌then◌else◌, decimal, le-ltb, All, flat_map, append-nil, take_at, drop_at}, specs.List.{AllByRecursion}, proofs.lemmas.List.{length_push, length-map}, proofs.lemmas.List.Elements.{recursion_from_All, All-contains}, proofs.lemmas.Slice.Eq.{bytes_eq-Decides}, proofs.lemmas.Grind.{common_steps}}
-use Rattle.pmf_event.specs.{declared.event.Event.{Event}, declared.name.Name.{Name}, declared.profile.Profile.{Profile}, declared.profile.Profile.TheVariants.{One, Two}, declared.row.Row.{Row}, declared.section.TheConstants.{EVENT_LIMIT}, Section.{Trace}}
+use Rattle.std.{proofs.Common.{◌≡◌, ℕ, suc, ◌+◌, ◌-◌, ◌^◌, ◌<◌, ◌≤◌, List, [], ◌∷◌, ◌++◌, length, map, Some, None, refl, sym, ◌∙◌, ap, subst, arith, rules, append_assoc, length-append, codes, if◌then◌else◌, decimal, le-ltb, All, flat_map, append-nil, take_at, drop_at}, specs.List.{AllByRecursion}, proofs.lemmas.List.{length_push, length-map}, proofs.lemmas.List.Elements.{recursion_from_All, All-contains}, proofs.lemmas.Slice.Eq.{bytes_eq-Decides}, proofs.lemmas.Grind.{common_steps}}
+use Rattle.pmf_event.specs.{declared.event.Event.{Event}, declared.name.Name.{Name}, declared.profile.Profile.{Profile}, declared.row.Row.{Row}, declared.section.TheConstants.{EVENT_LIMIT}, Section.{Trace}}
 use Rattle.pmf_storelog.{specs.Canonical.{line_of_event}, specs.Spelling.{AllValid}, proofs.EventLineLemmas.{event_of_line-event}, proofs.FrontLemmas.{BeginsWithNoDigit, number_in_front-decimal}, proofs.PlainRecordLemmas.{text_of_lines}, proofs.PlainLemmas.{text_of_event}}
 use Rattle.pmf_verdict.specs.{Checked.{Checked, checked_by, rows_in}, Rows.{rows_of}, Text.{text_of_row, text_of_rows}}
 use Rattle.pmf_ledger.{specs.declared.head.Head.{Head}, specs.declared.loading.LedgerFault.TheVariants.{FalseRows}, specs.declared.loading.TheConstants.{LEDGER_LIMIT}, specs.Gathered.{IsLedgerOf}, specs.LedgerText.{IsSpelled, version_of, text_of_head, text_of_block, text_of_end, text_of_ledger}, specs.LedgerValue.{LedgerValue}, specs.Loading.{Reading, Stage, AtVersion, AtBlock, AtEvents, AtRows, AtEnd, AtFault, at, unread, alone, number_behind, profile_of, head_of, head_of_run, head_of_number, head_of_events, head_of_rows, end_of, after_version, after_head, after_end, after_event, after_row, after_line, after_line_at, after_lines, with_events, with_section, with_rows, lines_of, left_of, reading_of, fault_of, LoadsAs}, specs.Names.{Rises}, proofs.lemmas.AddingLemmas.{from_map}, proofs.lemmas.ReadingLemmas.{event-added, rows_told, end-here, line-at}, proofs.lemmas.SpelledLemmas.{OneLine, one-append, decimal-one, text_without_end, row-one, event-one, lines_of-lines, left_of-lines, lines-append, each-append}}
@@ -56,11 +56,10 @@ block-one s spelled = grind (arith, common_steps, each-append, events-one, recur
 
 blocks-one : (sections : List Checked) → AllByRecursion IsSpelled sections → AllByRecursion OneLine (flat_map block_lines sections)
 blocks-one [] spelled = tt
-blocks-one (s ∷ sections) spelled = each-append (block_lines s) (flat_map block_lines sections) (block-one s spelled.0) (blocks-one sections spelled.1)
+blocks-one (s ∷ sections) spelled = grind (arith, common_steps, each-append, block-one, blocks-one sections spelled.1)
 
 version-one : (profile : Profile) → OneLine (version_of profile)
-version-one One = search rules
-version-one Two = search rules
+version-one profile = grind (arith, common_steps)
 
 end-one : (blocks : ℕ) → OneLine (end_line blocks)
 unfolding end_line
@@ -84,9 +83,7 @@ head_of-line : (name : Name) (events rows : ℕ) → name.run < 2 ^ 64 → name.
     head_of (head_line name events rows) ≡ Some (head_told name events rows)
 unfolding head_of head_line head_told
 head_of-line name events rows run number few short =
-    let last = decimal rows ++ [] in
-    let third = decimal events ++ (codes " rows=" ++ last) in
-    let second = decimal name.number ++ (codes " events=" ++ third) in
+    let last = decimal rows ++ [] in let third = decimal events ++ (codes " rows=" ++ last) in let second = decimal name.number ++ (codes " events=" ++ third) in
     ap head_of (regroup (codes "section ") (decimal name.run) (codes ".") (decimal name.number) (codes " events=") (decimal events) (codes " rows=") (decimal rows))
     ∙ ap head_of_run (number_behind-word (codes "section ") name.run (codes "." ++ second) run refl)
     ∙ ap (head_of_number name.run) (number_behind-word (codes ".") name.number (codes " events=" ++ third) number refl)
@@ -100,13 +97,12 @@ head_of-end blocks = refl
 end_of-line : (blocks : ℕ) → blocks < 2 ^ 64 → end_of (end_line blocks) ≡ Some blocks
 unfolding end_of end_line
 end_of-line blocks small =
-    ap (λ digits. end_of (codes "end verdicts=" ++ digits)) (sym (append-nil (decimal blocks)))
-    ∙ ap alone (number_behind-word (codes "end verdicts=") blocks [] small tt)
+    ap (λ digits. end_of (codes "end verdicts=" ++ digits)) (sym (append-nil (decimal blocks))) ∙ ap alone (number_behind-word (codes "end verdicts=") blocks [] small tt)
 
 -- the reading after more text lines
 lines-after : (r : Reading) (n : ℕ) (xs ys : List (List ℕ)) → after_lines r n (xs ++ ys) ≡ after_lines (after_lines r n xs) (n + length xs) ys
 unfolding after_lines
-lines-after r n [] ys = let e : n ≡ n + 0 = omega arith in ap (λ k. after_lines r k ys) e
+lines-after r n [] ys = grind (arith, common_steps)
 lines-after r n (x ∷ xs) ys = grind (arith, common_steps, lines-after (after_line r n x) (suc n) xs ys)
 
 -- the text lines lead from one reading to the other, wherever they stand
@@ -128,25 +124,21 @@ leads-append r e f xs ys first second = λ n. lines-after r n xs ys ∙ ap (λ o
 -- what comes next doesn't matter to a step
 rows-at : (r : Reading) (stage : Stage) (section : Trace) (rows : List Row) → with_rows (at r stage) section rows ≡ with_rows r section rows
 unfolding with_rows
-rows-at r stage section [] = refl
-rows-at r stage section (row ∷ rows) = refl
+rows-at r stage section rows = grind (arith, common_steps)
 
 section-at : (r : Reading) (stage : Stage) (section : Trace) (told : ℕ) → with_section (at r stage) section told ≡ with_section r section told
 unfolding with_section
-section-at r stage section told =
-    ap (λ o. if length (rows_of r.profile section.events) == told then o else at r (AtFault (FalseRows section.name))) (rows-at r stage section (rows_of r.profile section.events))
+section-at r stage section told = grind (arith, common_steps, rows-at)
 
 events-at : (r : Reading) (stage : Stage) (section : Trace) (more told : ℕ) → with_events (at r stage) section more told ≡ with_events r section more told
 unfolding with_events
-events-at r stage section zero told = section-at r stage section told
-events-at r stage section (suc more) told = refl
+events-at r stage section more told = grind (arith, common_steps, section-at)
 
 -- rows
 row-step : (r : Reading) (section : Trace) (row : Row) (rows : List Row) (n : ℕ) → after_line (with_rows r section (row ∷ rows)) n (text_without_end row) ≡ with_rows r section rows
 unfolding with_rows after_row after_line_at
 row-step r section row rows n =
-    let here = at r (AtRows section (row ∷ rows)) in
-    line-at here n (text_without_end row) (AtRows section (row ∷ rows)) refl
+    let here = at r (AtRows section (row ∷ rows)) in line-at here n (text_without_end row) (AtRows section (row ∷ rows)) refl
     ∙ ap (λ same. if same then with_rows here section rows else at here (AtFault (FalseRows section.name))) ((bytes_eq-Decides (text_of_row row) (text_of_row row)).1 refl)
     ∙ rows-at r (AtRows section (row ∷ rows)) section rows
 
@@ -163,24 +155,16 @@ module _ (r : Reading) (name : Name) (told : ℕ) where
       after_line (with_events r (of_events done) (length (event ∷ left)) told) n (text_of_event event) ≡ with_events r (of_events (done ++ event ∷ [])) (length left) told
   unfolding with_events of_events after_line_at
   event-step done left event n valid few =
-      let stage = AtEvents (of_events done) (length (event ∷ left)) told in
-      let here = at r stage in
-      let one_less : length (event ∷ left) - 1 ≡ length left = omega arith in
-      line-at here n (text_of_event event) stage refl
-      ∙ ap (after_event here n (of_events done) (length (event ∷ left)) told) (event_of_line-event event valid)
+      let stage = AtEvents (of_events done) (length (event ∷ left)) told in let here = at r stage in let one_less : length (event ∷ left) - 1 ≡ length left = omega arith in
+      line-at here n (text_of_event event) stage refl ∙ ap (after_event here n (of_events done) (length (event ∷ left)) told) (event_of_line-event event valid)
       ∙ event-added here n (of_events done) (length (event ∷ left)) told event (λ full. omega (arith, full, few))
-      ∙ events-at r stage (of_events (done ++ event ∷ [])) (length (event ∷ left) - 1) told
-      ∙ ap (λ k. with_events r (of_events (done ++ event ∷ [])) k told) one_less
+      ∙ events-at r stage (of_events (done ++ event ∷ [])) (length (event ∷ left) - 1) told ∙ ap (λ k. with_events r (of_events (done ++ event ∷ [])) k told) one_less
 
   leads-events : (done left : List Event) → AllByRecursion AllValid left → length done + length left ≤ EVENT_LIMIT →
       Leads (with_events r (of_events done) (length left) told) (map text_of_event left) (with_section r (of_events (done ++ left)) told)
   unfolding with_events
   leads-events done [] valid few = rw (append-nil done) (leads-none (with_section r (of_events done) told))
-  leads-events done (event ∷ left) valid few =
-      let more : length (done ++ event ∷ []) + length left ≤ EVENT_LIMIT = let long = length_push done event in omega (arith, long, few) in
-      let rest = subst (λ events. Leads (with_events r (of_events (done ++ event ∷ [])) (length left) told) (map text_of_event left) (with_section r (of_events events) told)) (append_assoc done (event ∷ []) left) (leads-events (done ++ event ∷ []) left valid.1 more) in
-      leads-cons (with_events r (of_events done) (length (event ∷ left)) told) (with_events r (of_events (done ++ event ∷ [])) (length left) told) (with_section r (of_events (done ++ event ∷ left)) told)
-      (text_of_event event) (map text_of_event left) (λ n. event-step done left event n valid.0 (omega (arith, few))) rest
+  leads-events done (event ∷ left) valid few = grind (arith, common_steps, length_push, append_assoc, leads-cons, event-step, leads-events (done ++ event ∷ []) left valid.1)
 
 -- a block
 after_blocks : Profile → List Trace → Reading
@@ -196,8 +180,7 @@ module _ (profile : Profile) (blocks : List Trace) (section : Trace) (spelled : 
   head-step : (n : ℕ) → after_line r n (head_line section.name (length section.events) (length rows)) ≡ with_events r (record { name = section.name; events = [] }) (length section.events) (length rows)
   unfolding after_blocks head_told after_line_at
   head-step n =
-      let text = head_line section.name (length section.events) (length rows) in
-      line-at r n text AtBlock refl
+      let text = head_line section.name (length section.events) (length rows) in line-at r n text AtBlock refl
       ∙ ap (after_head r n text) (head_of-line section.name (length section.events) (length rows) spelled.run spelled.number (let few = spelled.few in omega (arith, few)) short)
 
   leads-block : Leads r (block_lines (checked_by profile section)) (after_blocks profile (blocks ++ section ∷ []))
@@ -225,10 +208,8 @@ leads-blocks : (profile : Profile) (done : List Trace) (sections : List Checked)
 unfolding AllBy
 leads-blocks profile done [] by spelled few = rw (append-nil done) (leads-none (after_blocks profile done))
 leads-blocks profile done (s ∷ sections) by spelled few =
-    let long = length-append (block_lines s) (flat_map block_lines sections) in
-    let less = rows-few s in
-    let is : s ≡ checked_by profile s.section = ap (λ own. checked_by own s.section) by.0 in
-    let short : length (rows_in s) < 2 ^ 64 = omega (arith, few, long, less) in
+    let long = length-append (block_lines s) (flat_map block_lines sections) in let less = rows-few s in
+    let is : s ≡ checked_by profile s.section = ap (λ own. checked_by own s.section) by.0 in let short : length (rows_in s) < 2 ^ 64 = omega (arith, few, long, less) in
     let block = subst (λ c. Leads (after_blocks profile done) (block_lines c) (after_blocks profile (done ++ s.section ∷ []))) (sym is)
     (leads-block profile done s.section (subst IsSpelled is spelled.0) (subst (λ c. length (rows_in c) < 2 ^ 64) is short)) in
     let rest = leads-blocks profile (done ++ s.section ∷ []) sections by.1 spelled.1 (omega (arith, few, long)) in
@@ -239,10 +220,7 @@ leads-blocks profile done (s ∷ sections) by spelled few =
 sections-few : (sections : List Checked) → length sections ≤ length (flat_map block_lines sections)
 sections-few [] = omega arith
 sections-few (s ∷ sections) =
-    let long = length-append (block_lines s) (flat_map block_lines sections) in
-    let less = rows-few s in
-    let rest = sections-few sections in
-    omega (arith, long, less, rest)
+    let long = length-append (block_lines s) (flat_map block_lines sections) in let less = rows-few s in let rest = sections-few sections in omega (arith, long, less, rest)
 
 lines-long : (lines : List (List ℕ)) → length lines ≤ length (text_of_lines lines)
 lines-long [] = omega arith
@@ -259,8 +237,7 @@ no_fault text is none = rw (none, is) refl
 
 profile_of-version : (profile : Profile) → profile_of (version_of profile) ≡ Some profile
 unfolding profile_of
-profile_of-version One = refl
-profile_of-version Two = refl
+profile_of-version profile = grind (arith, common_steps)
 
 module _ (l : LedgerValue) (rises : Rises l.sections) (checked : All (λ (c : Checked). c.profile ≡ l.profile) l.sections) (spelled : All IsSpelled l.sections) (short : length (text_of_ledger l) ≤ LEDGER_LIMIT) where
   by_profile : AllBy l.profile l.sections
@@ -279,13 +256,9 @@ module _ (l : LedgerValue) (rises : Rises l.sections) (checked : All (λ (c : Ch
   end-step : (n : ℕ) → after_line (after_blocks l.profile (traces l.sections)) n (end_line (length l.sections)) ≡ whole
   unfolding whole after_blocks after_line_at
   end-step n =
-      let r = after_blocks l.profile (traces l.sections) in
-      let few = sections-few l.sections in
-      let small : length l.sections < 2 ^ 64 = omega (arith, few, few_lines) in
-      line-at r n (end_line (length l.sections)) AtBlock refl
-      ∙ ap (after_head r n (end_line (length l.sections))) (head_of-end (length l.sections))
-      ∙ ap (after_end r n) (end_of-line (length l.sections) small)
-      ∙ end-here r n (length l.sections) (length l.sections) (sym (length-map l.sections (λ (s : Checked). s.section))) refl
+      let r = after_blocks l.profile (traces l.sections) in let few = sections-few l.sections in let small : length l.sections < 2 ^ 64 = omega (arith, few, few_lines) in
+      line-at r n (end_line (length l.sections)) AtBlock refl ∙ ap (after_head r n (end_line (length l.sections))) (head_of-end (length l.sections))
+      ∙ ap (after_end r n) (end_of-line (length l.sections) small) ∙ end-here r n (length l.sections) (length l.sections) (sym (length-map l.sections (λ (s : Checked). s.section))) refl
 
   version-step : (n : ℕ) → after_line unread n (version_of l.profile) ≡ after_blocks l.profile []
   unfolding after_blocks after_line_at

@@ -1,10 +1,9 @@
 -- A ledger text read text line by text line: what is left of it, and where the reading ends.
-use Rattle.std.proofs.{Common.{◌≡◌, ℕ, suc, ◌+◌, ◌-◌, ◌<◌, ◌≤◌, true, false, List, [], ◌∷◌, ◌++◌, length, take, drop, get_or, Bool, Some, None, refl, sym, ◌∙◌, ap, subst, arith, if◌then◌else◌, le-ltb, lt-ltb, append_assoc, append-nil, length-drop, length-take-le, rules}, lemmas.Grind.{common_steps}}
+use Rattle.std.proofs.{Common.{◌≡◌, ℕ, suc, ◌+◌, ◌-◌, ◌<◌, ◌≤◌, true, false, List, [], ◌∷◌, ◌++◌, length, take, drop, get_or, Bool, Some, None, refl, sym, ◌∙◌, ap, arith, if◌then◌else◌, le-ltb, lt-ltb, append_assoc, append-nil, length-drop, length-take-le, rules}, lemmas.Grind.{common_steps}}
 use Rattle.memchr.specs.Find.{IsFirstByte, is_byte}
 use Rattle.pmf_event.specs.{declared.name.Name.{Name}, Section.{Trace}}
 use Rattle.pmf_storelog.proofs.SplitLemmas.{split_none, split_some, split_filled}
 use Rattle.pmf_ledger.{specs.declared.blocks.Blocks.{Blocks}, specs.declared.blocks.Next.{Next}, specs.declared.loading.LedgerFault.{LedgerFault}, specs.declared.loading.LedgerFault.TheVariants.{NotALedger}, specs.declared.loading.TheConstants.{LEDGER_LIMIT}, specs.Following.{IsNext, StandsFor, IsStoppedBy, is_over}, specs.Gathering.{Agrees}, specs.Loading.{Reading, AtFault, unread, after_row, after_line_at, with_rows, with_section, with_events, after_line, after_lines, is_line_end, parts_of, lines_of, left_of, reading_of, fault_at_end, fault_of, IsFirstOther, IsRefusedWith, LoadsAs}, proofs.lemmas.ReadingLemmas.{line-at}, proofs.lemmas.UniqueLemmas.{Agrees-ledger}}
-use Rattle.pmf_ledger.specs.declared.blocks.Next.TheVariants as next
 
 -- the first of some parts, with more behind it
 take_before : {X : Type 0} (x : X) (xs : List X) → 0 < length xs → take (length (x ∷ xs) - 1) (x ∷ xs) ≡ x ∷ take (length xs - 1) xs
@@ -63,17 +62,14 @@ later : (r : Reading) (n : ℕ) (texts : List (List ℕ)) → (more : List Trace
 unfolding after_lines
 later r n [] = ([], sym (append-nil r.blocks))
 later r n (text ∷ texts) =
-    let e = extends r n text in
-    let rest = later (after_line r n text) (suc n) texts in
+    let e = extends r n text in let rest = later (after_line r n text) (suc n) texts in
     (e.more ++ rest.0, rest.1 ∙ ap (λ blocks. blocks ++ rest.0) e.whole ∙ append_assoc r.blocks e.more rest.0)
 
 -- a fault stays
 stays : (r : Reading) (found : LedgerFault) (n : ℕ) (texts : List (List ℕ)) → r.stage ≡ AtFault found → after_lines r n texts ≡ r
 unfolding after_lines after_line_at
 stays r found n [] is = refl
-stays r found n (text ∷ texts) is =
-    let same = line-at r n text (AtFault found) is in
-    ap (λ e. after_lines e (suc n) texts) same ∙ stays r found (suc n) texts is
+stays r found n (text ∷ texts) is = let same = line-at r n text (AtFault found) is in ap (λ e. after_lines e (suc n) texts) same ∙ stays r found (suc n) texts is
 
 -- in the text at this line, with this rest: the reading so far leads to the reading of the whole
 pub record IsAt (text rest : List ℕ) (line : ℕ) (r : Reading) : Type 0 where
@@ -149,7 +145,4 @@ module _ (text rest : List ℕ) (line : ℕ) (r : Reading) (here : IsAt text res
   loads-at blocks awaited stands is = grind (arith, common_steps, fault_is, over, reading_is)
 
   pub refused-end : (blocks : Blocks) (awaited : Next) → StandsFor r blocks awaited → is_over awaited rest ≡ false → IsRefusedWith text (NotALedger line)
-  refused-end blocks awaited stands is = (
-    subst (λ (o : Reading). Agrees o.blocks) (sym reading_is) (Agrees-ledger r.profile r.blocks blocks.ledger stands.0.ledger),
-    fault_is ∙ not_over blocks awaited stands.1 is,
-  )
+  refused-end blocks awaited stands is = search (rules, Agrees-ledger, reading_is, fault_is, not_over)

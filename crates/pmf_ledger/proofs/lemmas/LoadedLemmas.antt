@@ -5,8 +5,7 @@ use Rattle.pmf_ledger.{specs.declared.loading.LedgerFault.{LedgerFault}, specs.d
 
 pub loads_once : (text : List ℕ) (a b : LedgerValue) → LoadsAs text a → LoadsAs text b → a ≡ b
 loads_once text a b first second =
-    let blocks = (reading_of text).blocks in
-    ledger_once (reading_of text).profile blocks blocks a b first.gathered second.gathered (λ s. (λ found. found, λ found. found))
+    let blocks = (reading_of text).blocks in ledger_once (reading_of text).profile blocks blocks a b first.gathered second.gathered (λ s. (λ found. found, λ found. found))
 
 some_is_none : (o : Option LedgerFault) (found : LedgerFault) → o ≡ None → o ≡ Some found → ⊥
 some_is_none o found none some = let wrong : None ≡ Some found = sym none ∙ some in cc
@@ -14,9 +13,7 @@ some_is_none o found none some = let wrong : None ≡ Some found = sym none ∙ 
 -- among blocks that agree none is other than one before it
 no_other : (blocks : List Trace) (name : Name) → Agrees blocks → IsFirstOther blocks name → ⊥
 no_other blocks name agrees first =
-    let t = first.other.0 in
-    let s = first.section in
-    let has_t = subst (λ all. Contains all t) (sym first.whole) (Contains-append_left first.before (s ∷ first.rest) t first.other.1) in
+    let t = first.other.0 in let s = first.section in let has_t = subst (λ all. Contains all t) (sym first.whole) (Contains-append_left first.before (s ∷ first.rest) t first.other.1) in
     let has_s = subst (λ all. Contains all s) (sym first.whole) (Contains-append_right first.before (s ∷ first.rest) s (Contains-cons s s first.rest (inl refl))) in
     first.other.3 (agrees t s has_t has_s first.other.2)
 

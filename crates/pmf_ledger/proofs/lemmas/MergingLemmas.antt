@@ -1,5 +1,5 @@
 -- Two rising lists, while they are merged from their ends, and once they are.
-use Rattle.std.proofs.{Common.{◌≡◌, ◌+◌, ◌-◌, ◌<◌, List, [], ◌∷◌, ◌++◌, length, reverse, sym, ◌∙◌, ap, subst, arith, inl, inr, get_or, ◌⊎◌, Contains, AllPairs, length-append, rules}, lemmas.Bool.{cases_order}, lemmas.List.{get_or_append_left, get_or_default, get_or_push, get_or-reverse, length-reverse, reverse-reverse}, lemmas.List.Elements.{Contains-append_left, Contains-get_or, Contains-push, Contains-push_cases}, lemmas.List.Sorted.{Contains-permutation, IsPermutation-reverse}, lemmas.List.Quantifiers.{all_pairs_push}, lemmas.Grind.{common_steps}}
+use Rattle.std.proofs.{Common.{◌≡◌, ◌-◌, ◌<◌, List, [], ◌∷◌, ◌++◌, length, reverse, sym, ◌∙◌, ap, subst, arith, inl, inr, get_or, ◌⊎◌, Contains, AllPairs, length-append, rules}, lemmas.Bool.{cases_order}, lemmas.List.{get_or_append_left, get_or_default, get_or_push, get_or-reverse, length-reverse, reverse-reverse}, lemmas.List.Elements.{Contains-append_left, Contains-get_or, Contains-push, Contains-push_cases}, lemmas.List.Sorted.{Contains-permutation, IsPermutation-reverse}, lemmas.List.Quantifiers.{all_pairs_push}, lemmas.Grind.{common_steps}}
 use Rattle.pmf_verdict.specs.Checked.{Checked}
 use Rattle.pmf_ledger.{specs.Joining.{IsMerged, IsMerging}, specs.Names.{ComesBefore, Rises}, proofs.lemmas.NameLemmas.{before-trans}}
 
@@ -29,12 +29,8 @@ module _ (xs front : List Checked) (x read : Checked) (is : xs ≡ front ++ x �
 -- each of a rising list is the last or comes before it
 pub before_last : (xs : List Checked) (read c : Checked) → Rises xs → read ≡ get_or xs (length xs - 1) read → Contains xs c → (c ≡ read) ⊎ ComesBefore c read
 before_last xs read c rises is found =
-    let inside = found.1 in
-    let at_end : read ≡ get_or xs (length xs - 1) c = is ∙ get_or_default xs (length xs - 1) read c (omega (arith, inside)) in
-    elim (cases_order found.0 (length xs - 1)) [
-      | inl there ↦ inl (sym found.2 ∙ ap (λ n. get_or xs n c) there ∙ sym at_end)
-      | inr aside ↦ grind (arith, common_steps)
-    ]
+    let inside = found.1 in let at_end : read ≡ get_or xs (length xs - 1) c = is ∙ get_or_default xs (length xs - 1) read c (omega (arith, inside)) in
+    elim (cases_order found.0 (length xs - 1)) [ inl there ↦ inl (sym found.2 ∙ ap (λ n. get_or xs n c) there ∙ sym at_end) | inr aside ↦ grind (arith, common_steps) ]
 
 pub all_before : (xs : List Checked) (read x : Checked) → Rises xs → read ≡ get_or xs (length xs - 1) read → ComesBefore read x → (c : Checked) → Contains xs c → ComesBefore c x
 all_before xs read x rises is before c found = elim (before_last xs read c rises is found) [
@@ -49,14 +45,8 @@ read_is_held xs read is inside = subst (Contains xs) (sym is) (Contains-get_or x
 Merging-turned : (xs ys left right merged : List Checked) → IsMerging xs ys left right merged → IsMerging ys xs right left merged
 Merging-turned xs ys left right merged so_far = record {
   kept = λ c. (
-    λ has. elim ((so_far.kept c).0 (elim has [ inl y ↦ inr y | inr x ↦ inl x ])) [
-      | inl rest ↦ inl (elim rest [ inl l ↦ inr l | inr r ↦ inl r ])
-      | inr done ↦ inr done
-    ],
-    λ has. elim ((so_far.kept c).1 (elim has [ inl rest ↦ inl (elim rest [ inl r ↦ inr r | inr l ↦ inl l ]) | inr done ↦ inr done ])) [
-      | inl x ↦ inr x
-      | inr y ↦ inl y
-    ],
+    λ has. elim ((so_far.kept c).0 (elim has [ inl y ↦ inr y | inr x ↦ inl x ])) [ inl rest ↦ inl (elim rest [ inl l ↦ inr l | inr r ↦ inl r ]) | inr done ↦ inr done ],
+    λ has. elim ((so_far.kept c).1 (elim has [ inl rest ↦ inl (elim rest [ inl r ↦ inr r | inr l ↦ inl l ]) | inr done ↦ inr done ])) [ inl x ↦ inr x | inr y ↦ inl y ],
   );
   left_rises = so_far.right_rises;
   right_rises = so_far.left_rises;
@@ -73,20 +63,14 @@ module _ (xs ys left right merged : List Checked) (x : Checked) (so_far : IsMerg
     kept = λ c. (
       λ has. elim ((so_far.kept c).0 has) [
         | inl rest ↦ elim rest [
-          | inl l ↦ elim (Contains-push_cases left x c l) [
-            | inl before ↦ inl (inl before)
-            | inr here ↦ inr (subst (Contains (merged ++ x ∷ [])) here (Contains-push merged x))
-          ]
+          | inl l ↦ elim (Contains-push_cases left x c l) [ inl before ↦ inl (inl before) | inr here ↦ inr (subst (Contains (merged ++ x ∷ [])) here (Contains-push merged x)) ]
           | inr r ↦ inl (inr r)
         ]
         | inr done ↦ inr (Contains-append_left merged (x ∷ []) c done)
       ],
       λ has. (so_far.kept c).1 (elim has [
         | inl rest ↦ elim rest [ inl l ↦ inl (inl (Contains-append_left left (x ∷ []) c l)) | inr r ↦ inl (inr r) ]
-        | inr done ↦ elim (Contains-push_cases merged x c done) [
-          | inl before ↦ inr before
-          | inr here ↦ inl (inl (subst (Contains (left ++ x ∷ [])) here (Contains-push left x)))
-        ]
+        | inr done ↦ elim (Contains-push_cases merged x c done) [ inl before ↦ inr before | inr here ↦ inl (inl (subst (Contains (left ++ x ∷ [])) here (Contains-push left x))) ]
       ]),
     );
     left_rises = AllPairs-front ComesBefore left (x ∷ []) so_far.left_rises;
@@ -115,10 +99,7 @@ module _ (xs ys left right merged : List Checked) (x : Checked) (so_far : IsMerg
         ]
         | inr done ↦ inr done
       ],
-      λ has. (so_far.kept c).1 (elim has [
-        | inl rest ↦ elim rest [ inl l ↦ inl (inl (Contains-append_left left (x ∷ []) c l)) | inr r ↦ inl (inr r) ]
-        | inr done ↦ inr done
-      ]),
+      λ has. (so_far.kept c).1 (elim has [ inl rest ↦ elim rest [ inl l ↦ inl (inl (Contains-append_left left (x ∷ []) c l)) | inr r ↦ inl (inr r) ] | inr done ↦ inr done ]),
     );
     left_rises = AllPairs-front ComesBefore left (x ∷ []) so_far.left_rises;
     right_rises = so_far.right_rises;

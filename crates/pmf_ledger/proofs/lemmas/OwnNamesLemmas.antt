@@ -23,10 +23,7 @@ module _ (run : ℕ) (name : Name) where
 
 pub own_names : (run : ℕ) (bytes : List ℕ) (log : LogValue) → log_of run bytes ≡ Ok log → (name : Name) → StandsTwice log.sections name → ⊥
 own_names run bytes log is name twice =
-    let found = numbers_rise run bytes log is in
-    let same = ap (count_by (is_name name)) found.3 in
-    let most = once run name found.0 found.1 in
-    omega (arith, same, most, twice)
+    let found = numbers_rise run bytes log is in let same = ap (count_by (is_name name)) found.3 in let most = once run name found.0 found.1 in omega (arith, same, most, twice)
 
 pub few_sections : (run : ℕ) (bytes : List ℕ) (log : LogValue) → log_of run bytes ≡ Ok log → length log.sections ≤ 65536
 few_sections run bytes log is = grind (arith, common_steps, numbers_rise, length-map, name_in)

@@ -23,13 +23,9 @@ Window-up sections name low high m x rises window inside is here = record {
   ordered = omega (arith, inside);
   within = window.within;
   before = λ i d small.
-      let all = window.within in
-      let there : get_or sections m d ≡ x = get_or_default sections m d x (omega (arith, inside, all)) ∙ sym is in
+      let all = window.within in let there : get_or sections m d ≡ x = get_or_default sections m d x (omega (arith, inside, all)) ∙ sym is in
       let before_name : IsBefore (get_or sections m d).section.name name = subst (λ (c : Checked). IsBefore c.section.name name) (sym there) here in
-      elim (cases_order i m) [
-        | inl same ↦ subst (λ n. IsBefore (get_or sections n d).section.name name) (sym same) before_name
-        | inr aside ↦ grind (arith, common_steps, before-trans)
-      ];
+      elim (cases_order i m) [ inl same ↦ subst (λ n. IsBefore (get_or sections n d).section.name name) (sym same) before_name | inr aside ↦ grind (arith, common_steps, before-trans) ];
   from = window.from;
 }
 
@@ -41,8 +37,7 @@ Window-down sections name low high m x rises window reach inside is here = recor
   within = let all = window.within in omega (arith, inside, all);
   before = window.before;
   from = λ i d far within before.
-      let all = window.within in
-      let there : get_or sections m d ≡ x = get_or_default sections m d x (omega (arith, inside, all)) ∙ sym is in
+      let all = window.within in let there : get_or sections m d ≡ x = get_or_default sections m d x (omega (arith, inside, all)) ∙ sym is in
       elim (cases_order m i) [
         | inl same ↦ here (subst (λ (c : Checked). IsBefore c.section.name name) there (subst (λ n. IsBefore (get_or sections n d).section.name name) (sym same) before))
         | inr aside ↦ grind (arith, common_steps, before-trans)
@@ -52,5 +47,4 @@ Window-down sections name low high m x rises window reach inside is here = recor
 -- a section that stands at a place is one of them
 pub HasName-from_place : (sections : List Checked) (name : Name) (k : ℕ) → StandsAt sections name k → HasName sections name
 HasName-from_place sections name k stands =
-    let some : Checked = record { section = record { name = name; events = [] }; profile = One } in
-    (get_or sections k some, Contains-get_or sections k some stands.inside, stands.named some)
+    let some : Checked = record { section = record { name = name; events = [] }; profile = One } in (get_or sections k some, Contains-get_or sections k some stands.inside, stands.named some)

@@ -16,10 +16,7 @@ IsLedgerOf-members profile xs ys ledger is alike = record {
 -- an element in front or behind
 pub cons-push : (x : Trace) (xs : List Trace) → HaveSameMembers (x ∷ xs) (xs ++ x ∷ [])
 cons-push x xs = λ s. (
-  λ front. elim (Contains-cons_cases s x xs front) [
-    | inl same ↦ subst (Contains (xs ++ x ∷ [])) (sym same) (Contains-push xs x)
-    | inr inside ↦ Contains-append_left xs (x ∷ []) s inside
-  ],
+  λ front. elim (Contains-cons_cases s x xs front) [ inl same ↦ subst (Contains (xs ++ x ∷ [])) (sym same) (Contains-push xs x) | inr inside ↦ Contains-append_left xs (x ∷ []) s inside ],
   λ behind. elim (Contains-push_cases xs x s behind) [ inl inside ↦ Contains-cons s x xs (inr inside) | inr same ↦ Contains-cons s x xs (inl (sym same)) ],
 )
 

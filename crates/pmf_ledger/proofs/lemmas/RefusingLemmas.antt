@@ -1,6 +1,6 @@
 -- A gathering gives a ledger or is refused: which of the two is decided step by step.
 use Rattle.std.{proofs.Common.{rules, ◌≡◌, ◌≢◌, ◌⊎◌, Bool, true, false, List, [], ◌∷◌, ◌++◌, refl, sym, ◌∙◌, ap, subst, inl, inr, Contains, Decides, arith}, specs.Cmp.Lexicographic.{pointwise}, proofs.lemmas.Bool.{true≢false}, proofs.lemmas.List.Elements.{Contains-append_cases, Contains-push_cases}, proofs.lemmas.Grind.{common_steps}, proofs.lemmas.Slice.Eq.{slice_eq-Decides}}
-use Rattle.pmf_event.specs.{declared.event.Event.{Event}, declared.profile.Profile.{Profile}, declared.profile.Profile.TheVariants.{One, Two}, contracts.event.EventPartialEq.TheImpl.{eq-value}, Section.{Trace}}
+use Rattle.pmf_event.specs.{declared.event.Event.{Event}, declared.profile.Profile.{Profile}, contracts.event.EventPartialEq.TheImpl.{eq-value}, Section.{Trace}}
 use Rattle.pmf_ledger.{specs.Gathering.{Agrees, Begun, Gathering, GivesOrIsRefused, IsBy, IsRefused, Joined, WithVerdict, set_of}, specs.Names.{IsBefore}, proofs.lemmas.AddingLemmas.{Contains-cons, Contains-cons_cases}, proofs.lemmas.GatheringLemmas.{gives_ledger, refuses_for_cause}, proofs.lemmas.GivingLemmas.{gives_where_it_may}, proofs.lemmas.MergingLemmas.{none_of_empty}, proofs.lemmas.NameLemmas.{before-itself, before-total}}
 
 event_Decides : (a b : Event) → Decides (eq-value.it a b) (a ≡ b)
@@ -14,10 +14,7 @@ same_events xs ys = by (pointwise eq-value.it xs ys) (slice_eq-Decides event_Dec
     by false decides = inr (λ same. true≢false (sym (decides.1 same)))
 
 same_profile : (p q : Profile) → (p ≡ q) ⊎ (p ≢ q)
-same_profile One One = inl refl
-same_profile One Two = inr (λ same. search rules)
-same_profile Two One = inr (λ same. search rules)
-same_profile Two Two = inl refl
+same_profile p q = grind (arith, common_steps)
 
 -- the section has the name and other events, or is this one if it has the name
 one_of_name : (t s : Trace) → ((t.name ≡ s.name) × (t ≢ s)) ⊎ (t.name ≡ s.name → t ≡ s)
@@ -39,10 +36,7 @@ among s (t ∷ set) = elim (one_of_name t s) [
   | inl other ↦ inl (t, Contains-cons t t set (inl refl), other.0, other.1)
   | inr one ↦ elim (among s set) [
     | inl u ↦ inl (u.0, Contains-cons u.0 t set (inr u.1), u.2, u.3)
-    | inr all ↦ inr (λ u found same. elim (Contains-cons_cases u t set found) [
-      | inl is ↦ is ∙ one (ap (λ (v : Trace). v.name) (sym is) ∙ same)
-      | inr later ↦ all u later same
-    ])
+    | inr all ↦ inr (λ u found same. elim (Contains-cons_cases u t set found) [ inl is ↦ is ∙ one (ap (λ (v : Trace). v.name) (sym is) ∙ same) | inr later ↦ all u later same ])
   ]
 ]
 
@@ -63,14 +57,8 @@ between_two (s ∷ xs) ys = elim (among s ys) [
 -- two sets that agree, and with each other, agree as one
 agree_as_one : (xs ys : List Trace) → Agrees xs → Agrees ys → ((s t : Trace) → Contains xs s → Contains ys t → t.name ≡ s.name → t ≡ s) → Agrees (xs ++ ys)
 agree_as_one xs ys first second each s t has_s has_t same = elim (Contains-append_cases xs ys s has_s) [
-  | inl s_first ↦ elim (Contains-append_cases xs ys t has_t) [
-    | inl t_first ↦ first s t s_first t_first same
-    | inr t_second ↦ sym (each s t s_first t_second (sym same))
-  ]
-  | inr s_second ↦ elim (Contains-append_cases xs ys t has_t) [
-    | inl t_first ↦ each t s t_first s_second same
-    | inr t_second ↦ second s t s_second t_second same
-  ]
+  | inl s_first ↦ elim (Contains-append_cases xs ys t has_t) [ inl t_first ↦ first s t s_first t_first same | inr t_second ↦ sym (each s t s_first t_second (sym same)) ]
+  | inr s_second ↦ elim (Contains-append_cases xs ys t has_t) [ inl t_first ↦ each t s t_first s_second same | inr t_second ↦ second s t s_second t_second same ]
 ]
 
 -- what holds of one section holds of each in a set of it alone
@@ -84,9 +72,7 @@ refused_or_fair (Begun own) = inr (own, (λ s t found. absurd (none_of_empty [] 
 refused_or_fair (WithVerdict gathering verdict) = elim (refused_or_fair gathering) [
   | inl before ↦ inl (inl before)
   | inr fair ↦
-      let given = gives_where_it_may gathering fair.0 fair.1 fair.2 in
-      let is = gives_ledger gathering given.0 given.1 in
-      let s = verdict.section in
+      let given = gives_where_it_may gathering fair.0 fair.1 fair.2 in let is = gives_ledger gathering given.0 given.1 in let s = verdict.section in
       elim (same_profile verdict.profile given.0.profile) [
         | inl even ↦ elim (among s (set_of gathering)) [
           | inl t ↦ inl (inr (given.0, given.1, inr (t.0, (is.0.same t.0).1 t.1, t.2, t.3)))
@@ -105,9 +91,7 @@ refused_or_fair (Joined g h) = elim (refused_or_fair g) [
   | inr fair_g ↦ elim (refused_or_fair h) [
     | inl second ↦ inl (inl (inr second))
     | inr fair_h ↦
-        let a = gives_where_it_may g fair_g.0 fair_g.1 fair_g.2 in
-        let b = gives_where_it_may h fair_h.0 fair_h.1 fair_h.2 in
-        let is_a = gives_ledger g a.0 a.1 in
+        let a = gives_where_it_may g fair_g.0 fair_g.1 fair_g.2 in let b = gives_where_it_may h fair_h.0 fair_h.1 fair_h.2 in let is_a = gives_ledger g a.0 a.1 in
         let is_b = gives_ledger h b.0 b.1 in
         elim (same_profile a.0.profile b.0.profile) [
           | inl even ↦ elim (between_two (set_of g) (set_of h)) [
@@ -120,7 +104,4 @@ refused_or_fair (Joined g h) = elim (refused_or_fair g) [
 ]
 
 pub gives_or_is_refused : GivesOrIsRefused
-gives_or_is_refused gathering = (
-  elim (refused_or_fair gathering) [ inl refused ↦ inr refused | inr fair ↦ inl (gives_where_it_may gathering fair.0 fair.1 fair.2) ],
-  λ ledger gives refused. let is = gives_ledger gathering ledger gives in refuses_for_cause gathering ledger.profile is.1 is.2 refused,
-)
+gives_or_is_refused gathering = grind (arith, common_steps, refused_or_fair, gives_where_it_may, gives_ledger, refuses_for_cause)

@@ -32,8 +32,7 @@ module _ (names : List Name) (d : Name) where
 
   chain : (R : Name → Name → Type 0) → ((a b c : Name) → R a b → R b c → R a c) → (n i j : ℕ) → ((k : ℕ) → k + 1 < n → R (name_at k) (name_at (k + 1))) → i < j → j < n → R (name_at i) (name_at j)
   chain R trans n i j step less inside =
-      let k : i + 1 + (j - i - 1) ≡ j = omega (arith, less) in
-      subst (λ x. R (name_at i) (name_at x)) k (chain_by R trans n i (j - i - 1) step (omega (arith, less, inside)))
+      let k : i + 1 + (j - i - 1) ≡ j = omega (arith, less) in subst (λ x. R (name_at i) (name_at x)) k (chain_by R trans n i (j - i - 1) step (omega (arith, less, inside)))
 
   -- of two of the rising ones the first comes before
   rises_between : (n i j : ℕ) → RisesTo n names → i < j → j < n → IsBefore (name_at i) (name_at j)
@@ -47,10 +46,10 @@ module _ (names : List Name) (d : Name) where
 
 module _ {X : Type 0} (p : X → Bool) where
   counted-yes : (x : X) (xs : List X) → p x ≡ true → count_by p (x ∷ xs) ≡ count_by p xs + 1
-  counted-yes x xs yes_is = let c = sum_by-cons (λ y. cond (p y) 1 0) x xs in let one : ◌≡◌ {A = ℕ} (cond (p x) 1 0) 1 = ap (λ b. cond b 1 0) yes_is in omega (arith, c, one)
+  counted-yes x xs yes_is = grind (arith, common_steps, sum_by-cons)
 
   counted-none : (x : X) (xs : List X) → p x ≡ false → count_by p (x ∷ xs) ≡ count_by p xs
-  counted-none x xs not_is = let c = sum_by-cons (λ y. cond (p y) 1 0) x xs in let none : ◌≡◌ {A = ℕ} (cond (p x) 1 0) 0 = ap (λ b. cond b 1 0) not_is in omega (arith, c, none)
+  counted-none x xs not_is = grind (arith, common_steps, sum_by-cons)
 
   -- where one is counted, it stands somewhere
   one_of : (xs : List X) (d : X) → 0 < count_by p xs → (j : ℕ) × (j < length xs) × (p (get_or xs j d) ≡ true)
@@ -66,8 +65,7 @@ module _ {X : Type 0} (p : X → Bool) where
   two_of (x ∷ xs) d some = elim (cases_Bool (p x)) [
     | inl yes_is ↦ let r = one_of xs d (let c = counted-yes x xs yes_is in omega (arith, c, some)) in (0, suc r.0, omega arith, (let b = r.1 in omega (arith, b)), yes_is, r.2)
     | inr not_is ↦
-        let r = two_of xs d (let c = counted-none x xs not_is in omega (arith, c, some)) in
-        (suc r.0, suc r.1, (let b = r.2 in omega (arith, b)), (let b = r.3 in omega (arith, b)), r.4, r.5)
+        let r = two_of xs d (let c = counted-none x xs not_is in omega (arith, c, some)) in (suc r.0, suc r.1, (let b = r.2 in omega (arith, b)), (let b = r.3 in omega (arith, b)), r.4, r.5)
   ]
 
   some_one : (xs : List X) (j : ℕ) (d : X) → j < length xs → p (get_or xs j d) ≡ true → 0 < count_by p xs
@@ -81,14 +79,12 @@ is_name-is : (name n : Name) → is_name name n ≡ true → n ≡ name
 is_name-is name n is = grind (arith, common_steps, and_parts, eqb-true)
 
 pub is_name-yes : (name n : Name) → n ≡ name → is_name name n ≡ true
-is_name-yes name n is = subst (λ m. is_name m n ≡ true) is (rw (eq-eqb n.run n.run refl, eq-eqb n.number n.number refl) refl)
+is_name-yes name n is = grind (arith, common_steps, eq-eqb)
 
 module _ (names : List Name) (d : Name) where
   -- a name that stands twice stands at two places
   stands_at : (name : Name) → StandsTwiceIn names name → (i : ℕ) × (j : ℕ) × (i < j) × (j < length names) × (name_at names d i ≡ name) × (name_at names d j ≡ name)
-  stands_at name twice =
-      let r = two_of (is_name name) names d twice in
-      (r.0, r.1, r.2, r.3, is_name-is name (get_or names r.0 d) r.4, is_name-is name (get_or names r.1 d) r.5)
+  stands_at name twice = let r = two_of (is_name name) names d twice in (r.0, r.1, r.2, r.3, is_name-is name (get_or names r.0 d) r.4, is_name-is name (get_or names r.1 d) r.5)
 
   -- where all names rise none stands twice
   own-names-at : RisesTo (length names) names → AreOwn names

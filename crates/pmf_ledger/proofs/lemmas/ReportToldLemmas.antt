@@ -1,9 +1,9 @@
 -- The report of some sections tells these sections.
-use Rattle.std.{proofs.Common.{◌≡◌, ℕ, ◌^◌, ◌<◌, ◌==◌, if◌then◌else◌, List, [], ◌∷◌, ◌++◌, length, map, Option, Some, None, refl, sym, ◌∙◌, ap, arith, rules, append_assoc, append-nil, codes, decimal, flat_map, take_at, drop_at}, specs.List.{AllByRecursion}, specs.Fmt.{digits}, proofs.lemmas.Fmt.{digits_is_IsNumeral}, proofs.lemmas.Bool.Decides.{Decides-eqb}, proofs.lemmas.List.Elements.{recursion_from_All}, proofs.lemmas.Slice.Eq.{bytes_eq-Decides}, proofs.lemmas.Grind.{common_steps}}
+use Rattle.std.{proofs.Common.{◌≡◌, ℕ, ◌^◌, ◌<◌, ◌==◌, if◌then◌else◌, List, [], ◌∷◌, ◌++◌, length, map, Option, Some, None, refl, sym, ◌∙◌, ap, arith, rules, append_assoc, append-nil, codes, decimal, flat_map, take_at, drop_at}, specs.List.{AllByRecursion}, proofs.lemmas.Fmt.{digits_is_IsNumeral}, proofs.lemmas.Bool.Decides.{Decides-eqb}, proofs.lemmas.List.Elements.{recursion_from_All}, proofs.lemmas.Slice.Eq.{bytes_eq-Decides}, proofs.lemmas.Grind.{common_steps}}
 use Rattle.pmf_event.specs.{Address.{address}, declared.finding.Finding.{Finding}, declared.finding.Finding.TheVariants.{PersistFail, OrderedFail, OrderedSameLine, FlushDoubled, FlushNeedless, NoBackup, DupLog, CheckFail, TxStillOpen, Unclosed}, declared.row.Row.{Row}}
 use Rattle.pmf_storelog.{specs.Numbers.{is_numeral, numeral_of, number_in_front}, proofs.CanonicalLemmas.{hex-length, numeral_of-digits}, proofs.FrontLemmas.{BeginsWithNone, BeginsWithNoDigit, digits-front, number_in_front-decimal}, proofs.PlainRecordLemmas.{text_of_lines}}
 use Rattle.pmf_verdict.specs.{Checked.{Checked, rows_in}, Text.{text_of_pair, text_of_finding}}
-use Rattle.pmf_ledger.{specs.declared.totals.Totals.{Totals}, specs.Loading.{number_behind}, specs.Report.{totals_of, text_of_counts, text_of_header, text_of_section, text_of_totals, report_of}, specs.ReportTold.{told_by, at_last, address_in_front, address_behind, byte_told, crash_told, pair_told, lines_told, number_told, words_at, finding_told, row_told, Told, shown, header_told, row_before, rows_told, header_before, sections_in, sections_told, counts_told, sums_told, last_sums, totals_told, FitsFinding, FitsRow, FitsSection, FitsTotals, ReportsTellSections, ReportsTellTotals}, proofs.lemmas.LedgerTextLemmas.{row_lines, rows-one, number_behind-word}, proofs.lemmas.SpelledLemmas.{OneLine, one-append, decimal-one, text_without_end, lines_of-lines, lines-append, each-append}}
+use Rattle.pmf_ledger.{specs.declared.totals.Totals.{Totals}, specs.Loading.{number_behind}, specs.Report.{totals_of, text_of_counts, text_of_header, text_of_section, text_of_totals, report_of}, specs.ReportTold.{told_by, at_last, address_in_front, address_behind, byte_told, crash_told, pair_told, lines_told, number_told, words_at, finding_told, row_told, Told, shown, header_told, row_before, rows_told, sections_in, sections_told, counts_told, sums_told, last_sums, totals_told, FitsFinding, FitsRow, FitsSection, FitsTotals, ReportsTellSections, ReportsTellTotals}, proofs.lemmas.LedgerTextLemmas.{row_lines, rows-one, number_behind-word}, proofs.lemmas.SpelledLemmas.{OneLine, one-append, decimal-one, text_without_end, lines_of-lines, lines-append, each-append}}
 
 -- ---- numbers
 
@@ -22,16 +22,14 @@ one a n = ap (λ last. a ++ last) (sym (append-nil n))
 
 byte-is : (finding : ℕ → Finding) (b : ℕ) → b < 2 ^ 64 → byte_told finding (codes " byte=" ++ address b) ≡ Some (finding b)
 byte-is finding b small =
-    ap (byte_told finding) (one (codes " byte=") (address b))
-    ∙ ap (told_by (λ byte rest. at_last (finding byte) rest)) (address_behind-word (codes " byte=") b [] small tt)
+    ap (byte_told finding) (one (codes " byte=") (address b)) ∙ ap (told_by (λ byte rest. at_last (finding byte) rest)) (address_behind-word (codes " byte=") b [] small tt)
 
 crash-is : (k : ℕ) (finding : ℕ → Finding) (b : ℕ) → k < 2 ^ 64 → b < 2 ^ 64 → crash_told k finding (codes " byte=" ++ address b ++ codes " crash=" ++ decimal k) ≡ Some (finding b)
 crash-is k finding b here small =
     let checked = λ (byte crash : ℕ) (last : List ℕ). if crash == k then at_last (finding byte) last else None in
     ap (crash_told k finding) (two (codes " byte=") (address b) (codes " crash=") (decimal k))
     ∙ ap (told_by (λ byte rest. told_by (checked byte) (number_behind (codes " crash=") rest))) (address_behind-word (codes " byte=") b (codes " crash=" ++ (decimal k ++ [])) small refl)
-    ∙ ap (told_by (checked b)) (number_behind-word (codes " crash=") k [] here tt)
-    ∙ ap (λ v. if v then Some (finding b) else None) ((Decides-eqb k k).1 refl)
+    ∙ ap (told_by (checked b)) (number_behind-word (codes " crash=") k [] here tt) ∙ ap (λ v. if v then Some (finding b) else None) ((Decides-eqb k k).1 refl)
 
 pair-is : (tells : ℕ → ℕ → List ℕ → Option Finding) (x y : ℕ) (last : List ℕ) → x < 2 ^ 64 → y < 2 ^ 64 → BeginsWithNone 16 last →
     pair_told tells (codes " byte=" ++ (address x ++ (codes " after=" ++ (address y ++ last)))) ≡ tells x y last
@@ -51,8 +49,7 @@ finding-is : (k : ℕ) (f : Finding) → k < 2 ^ 64 → FitsFinding f → findin
 unfolding text_of_finding text_of_pair words_at
 finding-is k (PersistFail byte) here fits = crash-is k PersistFail byte here fits
 finding-is k (OrderedFail byte after crash) here fits =
-    let last = codes " crash=" ++ decimal crash in
-    let tells = λ (x y : ℕ) (rest : List ℕ). number_told (codes " crash=") (λ n. OrderedFail x y n) rest in
+    let last = codes " crash=" ++ decimal crash in let tells = λ (x y : ℕ) (rest : List ℕ). number_told (codes " crash=") (λ n. OrderedFail x y n) rest in
     ap (pair_told tells) (append_assoc (codes " byte=" ++ address byte ++ codes " after=" ++ address after) (codes " crash=") (decimal crash)
     ∙ append_assoc (codes " byte=" ++ address byte ++ codes " after=") (address after) last ∙ append_assoc (codes " byte=" ++ address byte) (codes " after=") (address after ++ last)
     ∙ append_assoc (codes " byte=") (address byte) (codes " after=" ++ (address after ++ last)))
@@ -103,43 +100,24 @@ section-text s = grind (arith, common_steps, append_assoc, row_lines)
 
 sections-text : (sections : List Checked) → flat_map text_of_section sections ≡ text_of_lines (flat_map section_lines sections)
 sections-text [] = refl
-sections-text (s ∷ sections) =
-    ap (λ front. front ++ flat_map text_of_section sections) (section-text s)
-    ∙ ap (λ rest. text_of_lines (section_lines s) ++ rest) (sections-text sections)
-    ∙ sym (lines-append (section_lines s) (flat_map section_lines sections))
+sections-text (s ∷ sections) = grind (arith, common_steps, section-text, lines-append, sections-text sections)
 
 report-text : (sections : List Checked) → report_of sections ≡ text_of_lines (report_lines sections)
 unfolding text_of_totals text_of_counts total_line counts_line
 report-text sections = grind (arith, common_steps, sections-text, lines-append)
 
 -- no line end stands in them
-more-one : (front word : List ℕ) (n : ℕ) → OneLine front → OneLine word → OneLine (front ++ word ++ decimal n)
-more-one front word n first second = one-append (front ++ word) (decimal n) (one-append front word first second) (decimal-one n)
-
-word-one : (word : List ℕ) (n : ℕ) → OneLine word → OneLine (word ++ decimal n)
-word-one word n first = one-append word (decimal n) first (decimal-one n)
-
 counts-one : (t : Totals) → OneLine (counts_line t)
 unfolding counts_line
-counts-one t =
-    let first = codes " pass=" ++ decimal t.pass in
-    let second = first ++ codes " fail=" ++ decimal t.fail in
-    let third = second ++ codes " warn=" ++ decimal t.warn in
-    more-one third (codes " empty=") t.empty (more-one second (codes " warn=") t.warn
-    (more-one first (codes " fail=") t.fail (word-one (codes " pass=") t.pass (search rules)) (search rules)) (search rules)) (search rules)
+counts-one t = grind (arith, common_steps, one-append, decimal-one)
 
 header-one : (s : Checked) → OneLine (header_line s)
 unfolding header_line named
-header-one s =
-    let run = codes "section " ++ decimal s.section.name.run in
-    let name = run ++ codes "." ++ decimal s.section.name.number in
-    one-append (named s) (counts_line (totals_of (s ∷ [])))
-    (more-one name (codes " events=") (length s.section.events) (more-one run (codes ".") s.section.name.number (word-one (codes "section ") s.section.name.run (search rules)) (search rules)) (search rules))
-    (counts-one (totals_of (s ∷ [])))
+header-one s = grind (arith, common_steps, one-append, decimal-one, counts-one)
 
 total-one : (t : Totals) → OneLine (total_line t)
 unfolding total_line
-total-one t = one-append (codes "total sections=" ++ decimal t.sections) (counts_line t) (word-one (codes "total sections=") t.sections (search rules)) (counts-one t)
+total-one t = grind (arith, common_steps, one-append, decimal-one, counts-one)
 
 sections-one : (sections : List Checked) → AllByRecursion OneLine (flat_map section_lines sections)
 sections-one [] = tt
@@ -153,17 +131,12 @@ report-one sections = each-append (flat_map section_lines sections) (total_line 
 header-is : (s : Checked) → FitsSection s → header_told (header_line s) ≡ Some (record { name = s.section.name; events = length s.section.events; rows = [] })
 unfolding header_told header_line named counts_line
 header-is s fits =
-    let t = totals_of (s ∷ []) in
-    let name = s.section.name in
-    let e = decimal (length s.section.events) in
-    let third = e ++ counts_line t in
-    let second = decimal name.number ++ (codes " events=" ++ third) in
-    ap header_told
+    let t = totals_of (s ∷ []) in let name = s.section.name in let e = decimal (length s.section.events) in let third = e ++ counts_line t in
+    let second = decimal name.number ++ (codes " events=" ++ third) in ap header_told
     (append_assoc (codes "section " ++ decimal name.run ++ codes "." ++ decimal name.number ++ codes " events=") e (counts_line t)
     ∙ append_assoc (codes "section " ++ decimal name.run ++ codes "." ++ decimal name.number) (codes " events=") third
     ∙ append_assoc (codes "section " ++ decimal name.run ++ codes ".") (decimal name.number) (codes " events=" ++ third)
-    ∙ append_assoc (codes "section " ++ decimal name.run) (codes ".") second
-    ∙ append_assoc (codes "section ") (decimal name.run) (codes "." ++ second))
+    ∙ append_assoc (codes "section " ++ decimal name.run) (codes ".") second ∙ append_assoc (codes "section ") (decimal name.run) (codes "." ++ second))
     ∙ ap (told_by (λ run rest. told_by (λ number more. told_by (told run number) (number_behind (codes " events=") more)) (number_behind (codes ".") rest)))
     (number_behind-word (codes "section ") name.run (codes "." ++ second) fits.run refl)
     ∙ ap (told_by (λ number more. told_by (told name.run number) (number_behind (codes " events=") more))) (number_behind-word (codes ".") name.number (codes " events=" ++ third) fits.number refl)
@@ -189,35 +162,18 @@ rows-are : (rows : List Row) (lines : List (List ℕ)) → AllByRecursion FitsRo
     (rows_told (map text_without_end rows ++ lines) ≡ rows) × (sections_in (map text_without_end rows ++ lines) ≡ sections_in lines)
 unfolding rows_told sections_in
 rows-are [] lines fit none = (none, refl)
-rows-are (row ∷ rows) lines fit none =
-    let rest = rows-are rows lines fit.1 none in
-    let line = text_without_end row in
-    let more = map text_without_end rows ++ lines in (
-      ap (λ o. row_before o (rows_told more)) (row-is row fit.0) ∙ ap (λ rs. row ∷ rs) rest.0,
-      ap (λ o. header_before o (header_told line) (rows_told more) (sections_in more)) (row-is row fit.0) ∙ rest.1,
-    )
+rows-are (row ∷ rows) lines fit none = grind (arith, common_steps, row-is, rows-are rows lines fit.1 none)
 
 -- no row stands before the next header or the sums
 no_row : (sections : List Checked) (t : Totals) → rows_told (flat_map section_lines sections ++ total_line t ∷ []) ≡ []
 unfolding rows_told
 no_row [] t = ap (λ o. row_before o []) (total-no_row t)
-no_row (s ∷ sections) t =
-    ap (λ o. row_before o (rows_told ((map text_without_end (rows_in s) ++ flat_map section_lines sections) ++ total_line t ∷ []))) (header-no_row s)
+no_row (s ∷ sections) t = ap (λ o. row_before o (rows_told ((map text_without_end (rows_in s) ++ flat_map section_lines sections) ++ total_line t ∷ []))) (header-no_row s)
 
 sections-are : (sections : List Checked) (t : Totals) → AllByRecursion FitsSection sections → sections_in (flat_map section_lines sections ++ total_line t ∷ []) ≡ map shown sections
 unfolding sections_in rows_told
-sections-are [] t fit =
-    ap (λ o. header_before o (header_told (total_line t)) [] []) (total-no_row t) ∙ ap (λ h. header_before None h [] []) (total-no_header t)
-sections-are (s ∷ sections) t fit =
-    let rows = rows_in s in
-    let behind = flat_map section_lines sections ++ total_line t ∷ [] in
-    let lines = (map text_without_end rows ++ flat_map section_lines sections) ++ total_line t ∷ [] in
-    let order : lines ≡ map text_without_end rows ++ behind = append_assoc (map text_without_end rows) (flat_map section_lines sections) (total_line t ∷ []) in
-    let found = rows-are rows behind (recursion_from_All FitsRow rows fit.0.rows) (no_row sections t) in
-    ap (λ o. header_before o (header_told (header_line s)) (rows_told lines) (sections_in lines)) (header-no_row s)
-    ∙ ap (λ h. header_before None h (rows_told lines) (sections_in lines)) (header-is s fit.0)
-    ∙ ap (λ rs. record { name = s.section.name; events = length s.section.events; rows = rs } ∷ sections_in lines) (ap rows_told order ∙ found.0)
-    ∙ ap (λ told. shown s ∷ told) (ap sections_in order ∙ found.1 ∙ sections-are sections t fit.1)
+sections-are [] t fit = grind (arith, common_steps, total-no_row, total-no_header)
+sections-are (s ∷ sections) t fit = grind (arith, common_steps, append_assoc, rows-are, recursion_from_All, no_row, header-no_row, header-is, sections-are sections t fit.1)
 
 pub reports_tell_sections : ReportsTellSections
 unfolding sections_told
@@ -228,16 +184,12 @@ reports_tell_sections sections fit = grind (arith, common_steps, report-text, li
 counts-are : (t : Totals) → FitsTotals t → counts_told t.sections (counts_line t) ≡ Some t
 unfolding counts_told counts_line
 counts-are t fits =
-    let last = decimal t.empty ++ [] in
-    let fourth = decimal t.warn ++ (codes " empty=" ++ last) in
-    let third = decimal t.fail ++ (codes " warn=" ++ fourth) in
-    ap (counts_told t.sections)
+    let last = decimal t.empty ++ [] in let fourth = decimal t.warn ++ (codes " empty=" ++ last) in let third = decimal t.fail ++ (codes " warn=" ++ fourth) in ap (counts_told t.sections)
     (ap (λ digits. codes " pass=" ++ decimal t.pass ++ codes " fail=" ++ decimal t.fail ++ codes " warn=" ++ decimal t.warn ++ codes " empty=" ++ digits) (sym (append-nil (decimal t.empty)))
     ∙ append_assoc (codes " pass=" ++ decimal t.pass ++ codes " fail=" ++ decimal t.fail ++ codes " warn=" ++ decimal t.warn) (codes " empty=") last
     ∙ append_assoc (codes " pass=" ++ decimal t.pass ++ codes " fail=" ++ decimal t.fail ++ codes " warn=") (decimal t.warn) (codes " empty=" ++ last)
     ∙ append_assoc (codes " pass=" ++ decimal t.pass ++ codes " fail=" ++ decimal t.fail) (codes " warn=") fourth
-    ∙ append_assoc (codes " pass=" ++ decimal t.pass ++ codes " fail=") (decimal t.fail) (codes " warn=" ++ fourth)
-    ∙ append_assoc (codes " pass=" ++ decimal t.pass) (codes " fail=") third
+    ∙ append_assoc (codes " pass=" ++ decimal t.pass ++ codes " fail=") (decimal t.fail) (codes " warn=" ++ fourth) ∙ append_assoc (codes " pass=" ++ decimal t.pass) (codes " fail=") third
     ∙ append_assoc (codes " pass=") (decimal t.pass) (codes " fail=" ++ third))
     ∙ ap (told_by (λ pass rest. told_by (fails pass) (number_behind (codes " fail=") rest))) (number_behind-word (codes " pass=") t.pass (codes " fail=" ++ third) fits.pass refl)
     ∙ ap (told_by (fails t.pass)) (number_behind-word (codes " fail=") t.fail (codes " warn=" ++ fourth) fits.fail refl)
@@ -261,8 +213,7 @@ sums-are t fits =
 
 last-sums : (lines : List (List ℕ)) (line : List ℕ) → last_sums (lines ++ line ∷ []) ≡ sums_told line
 last-sums [] line = refl
-last-sums (one ∷ []) line = refl
-last-sums (one ∷ other ∷ lines) line = last-sums (other ∷ lines) line
+last-sums (one ∷ lines) line = grind (arith, common_steps, last-sums lines line)
 
 pub reports_tell_totals : ReportsTellTotals
 unfolding totals_told

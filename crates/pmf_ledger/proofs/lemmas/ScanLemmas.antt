@@ -35,19 +35,15 @@ module _ (xs ys : List Checked) (i j : ℕ) (x y : Checked) (scanned : Scanned x
   -- the section at i agrees with all of the other list, if that at j is not before it
   agrees_with_all : Rises ys → (ComesBefore y x → ⊥) → (x.section.name ≡ y.section.name → x.section ≡ y.section) → (z : Checked) → Contains ys z → x.section.name ≡ z.section.name → x.section ≡ z.section
   agrees_with_all rises after agree z found same =
-      let here = found.2 in
-      let at_j : get_or ys j z ≡ y = read_at ys j y z read.second_inside read.second_is in
+      let here = found.2 in let at_j : get_or ys j z ≡ y = read_at ys j y z read.second_inside read.second_is in
       let has_x : Contains xs x = subst (Contains xs) (sym read.first_is) (Contains-get_or xs i x read.first_inside) in
       elim (cases_order found.0 j) [
         | inl there ↦
-            let is_y : z ≡ y = sym here ∙ ap (λ n. get_or ys n z) there ∙ at_j in
-            agree (same ∙ ap (λ (c : Checked). c.section.name) is_y) ∙ ap (λ (c : Checked). c.section) (sym is_y)
+            let is_y : z ≡ y = sym here ∙ ap (λ n. get_or ys n z) there ∙ at_j in agree (same ∙ ap (λ (c : Checked). c.section.name) is_y) ∙ ap (λ (c : Checked). c.section) (sym is_y)
         | inr aside ↦ elim aside [
-          | inl less ↦
-              sym (scanned.second found.0 z x less has_x (ap (λ (c : Checked). c.section.name) here ∙ sym same)) ∙ ap (λ (c : Checked). c.section) here
+          | inl less ↦ sym (scanned.second found.0 z x less has_x (ap (λ (c : Checked). c.section.name) here ∙ sym same)) ∙ ap (λ (c : Checked). c.section) here
           | inr more ↦
-              let pair = rises j found.0 z more found.1 in
-              let before : ComesBefore y z = subst (λ c. ComesBefore c z) at_j (subst (ComesBefore (get_or ys j z)) here pair) in
+              let pair = rises j found.0 z more found.1 in let before : ComesBefore y z = subst (λ c. ComesBefore c z) at_j (subst (ComesBefore (get_or ys j z)) here pair) in
               absurd (after (subst (IsBefore y.section.name) (sym same) before))
         ]
       ]
@@ -57,10 +53,7 @@ module _ (xs ys : List Checked) (i j : ℕ) (x y : Checked) (scanned : Scanned x
     | inl there ↦
         let is_x : get_or xs k d ≡ x = ap (λ n. get_or xs n d) there ∙ read_at xs i x d read.first_inside read.first_is in
         ap (λ (c : Checked). c.section) is_x ∙ agrees_with_all rises after agree z found (ap (λ (c : Checked). c.section.name) (sym is_x) ∙ same)
-    | inr aside ↦ elim aside [
-      | inl low ↦ scanned.first k d z low found same
-      | inr high ↦ absurd (omega (arith, less, high))
-    ]
+    | inr aside ↦ elim aside [ inl low ↦ scanned.first k d z low found same | inr high ↦ absurd (omega (arith, less, high)) ]
   ]
 
   pub Scanned_first : Rises ys → ComesBefore x y → Scanned xs ys (i + 1) j
@@ -89,12 +82,9 @@ module _ (xs ys : List Checked) (i j : ℕ) (x y : Checked) (scanned : Scanned x
               let is_x : a ≡ x = sym in_first.2 ∙ ap (λ n. get_or xs n a) there ∙ at_i in
               absurd (before-itself x.section.name (subst (λ (c : Checked). IsBefore c.section.name x.section.name) is_x before))
           | inr aside ↦ elim aside [
-            | inl less ↦
-                let is = in_first.2 in
-                ap (λ (c : Checked). c.section) (sym is) ∙ scanned.first in_first.0 a b less in_second (ap (λ (c : Checked). c.section.name) is ∙ even)
+            | inl less ↦ let is = in_first.2 in ap (λ (c : Checked). c.section) (sym is) ∙ scanned.first in_first.0 a b less in_second (ap (λ (c : Checked). c.section.name) is ∙ even)
             | inr more ↦
-                let pair = rises i in_first.0 a more in_first.1 in
-                let after : ComesBefore x a = subst (λ c. ComesBefore c a) at_i (subst (ComesBefore (get_or xs i a)) in_first.2 pair) in
+                let pair = rises i in_first.0 a more in_first.1 in let after : ComesBefore x a = subst (λ c. ComesBefore c a) at_i (subst (ComesBefore (get_or xs i a)) in_first.2 pair) in
                 absurd (before-itself x.section.name (before-trans _ a.section.name _ after before))
           ]
         ];
@@ -119,13 +109,11 @@ Scanned-both xs ys i j x y scanned read first second same =
 pub Scanned-ends : (xs ys : List Checked) (i j : ℕ) → Scanned xs ys i j → (i < length xs → j < length ys → ⊥) → AgreeInNames xs ys
 Scanned-ends xs ys i j scanned end x y in_first in_second same = elim (cases_order i (length xs)) [
   | inl all ↦
-      let is = in_first.2 in
-      let inside = in_first.1 in
+      let is = in_first.2 in let inside = in_first.1 in
       ap (λ (c : Checked). c.section) (sym is) ∙ scanned.first in_first.0 x y (omega (arith, inside, all)) in_second (ap (λ (c : Checked). c.section.name) is ∙ same)
   | inr aside ↦ elim aside [
     | inl some ↦
-        let is = in_second.2 in
-        let inside = in_second.1 in
+        let is = in_second.2 in let inside = in_second.1 in
         let all : length ys ≤ j = elim (cases_order j (length ys)) [
           | inl even ↦ omega (arith, even)
           | inr apart ↦ elim apart [ inl less ↦ absurd (end some less) | inr more ↦ omega (arith, more) ]

@@ -1,5 +1,5 @@
 -- The text lines of what is spelled: where no line end stands in them, the text is split into them again.
-use Rattle.std.{proofs.Common.{◌≡◌, ℕ, zero, suc, ◌+◌, ◌-◌, ◌%◌, ◌/◌, false, List, [], ◌∷◌, ◌++◌, length, get_or, refl, arith, append_assoc, length-append, take_at, decimal}, specs.Fmt.{digits_onto, digit_glyph, digits}, specs.List.{AllByRecursion}, proofs.lemmas.Bool.{ne_eqb}, proofs.lemmas.Grind.{flat_map-append, common_steps}, proofs.lemmas.List.Elements.{All-from_recursion, recursion_from_All}, proofs.lemmas.List.Splits.{slice_split_at}}
+use Rattle.std.{proofs.Common.{◌≡◌, ℕ, zero, suc, ◌-◌, ◌%◌, ◌/◌, false, List, [], ◌∷◌, ◌++◌, length, get_or, refl, arith, append_assoc, length-append, take_at, decimal}, specs.Fmt.{digits_onto, digit_glyph, digits}, specs.List.{AllByRecursion}, proofs.lemmas.Bool.{ne_eqb}, proofs.lemmas.Grind.{flat_map-append, common_steps}, proofs.lemmas.List.Elements.{All-from_recursion, recursion_from_All}, proofs.lemmas.List.Splits.{slice_split_at}}
 use Rattle.pmf_event.specs.{declared.event.Event.{Event}, declared.finding.Finding.{Finding}, declared.row.Row.{Row}, Address.{address}}
 use Rattle.pmf_storelog.{specs.Separators.{is_separator}, specs.Spelling.{AllValid}, proofs.EventLineLemmas.{text-one_line}, proofs.PlainRecordLemmas.{text_of_lines}, proofs.PlainLemmas.{text_of_event}}
 use Rattle.pmf_verdict.specs.Text.{text_of_pair, text_of_finding}

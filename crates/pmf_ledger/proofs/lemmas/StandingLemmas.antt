@@ -8,19 +8,16 @@ use Rattle.pmf_ledger.{specs.Gathered.{Holds, HoldsOther}, specs.LedgerValue.{Le
 apart-by_place : (sections : List Checked) → Rises sections → (a b : Checked) (i j : ℕ) → i < j → j < length sections →
     get_or sections i a ≡ a → get_or sections j b ≡ b → a.section.name ≡ b.section.name → ⊥
 apart-by_place sections rises a b i j less inside is_a is_b same =
-    let later : get_or sections j a ≡ b = get_or_default sections j a b inside ∙ is_b in
-    let before = rises i j a less inside in
+    let later : get_or sections j a ≡ b = get_or_default sections j a b inside ∙ is_b in let before = rises i j a less inside in
     let first = subst (λ (c : Checked). IsBefore c.section.name (get_or sections j a).section.name) is_a before in
-    let both = subst (λ (c : Checked). IsBefore a.section.name c.section.name) later first in
-    before-itself b.section.name (subst (λ n. IsBefore n b.section.name) same both)
+    let both = subst (λ (c : Checked). IsBefore a.section.name c.section.name) later first in before-itself b.section.name (subst (λ n. IsBefore n b.section.name) same both)
 
 pub held-once : (sections : List Checked) → Rises sections → (a b : Checked) → Contains sections a → Contains sections b → a.section.name ≡ b.section.name → a ≡ b
 held-once sections rises a b here there same = grind (arith, common_steps, get_or_default, apart-by_place)
 
 pub held-not_other : (ledger : LedgerValue) (s : Trace) → Rises ledger.sections → Holds ledger s → HoldsOther ledger s → ⊥
 held-not_other ledger s rises held other =
-    let t = other.0 in
-    other.3 (ap (λ (c : Checked). c.section) (held-once ledger.sections rises (checked_by ledger.profile t) (checked_by ledger.profile s) other.1 held other.2))
+    let t = other.0 in other.3 (ap (λ (c : Checked). c.section) (held-once ledger.sections rises (checked_by ledger.profile t) (checked_by ledger.profile s) other.1 held other.2))
 
 pub absent_not_held : (ledger : LedgerValue) (s : Trace) → LacksName ledger.sections s.name → Holds ledger s → ⊥
 absent_not_held ledger s absent held = absent (checked_by ledger.profile s) held refl

@@ -51,10 +51,8 @@ rising_once (x ∷ xs) (y ∷ ys) first second to from =
 module _ (profile : Profile) (xs ys : List Trace) (a b : LedgerValue) (of_a : IsLedgerOf profile xs a) (of_b : IsLedgerOf profile ys b) (members : (s : Trace) → Contains xs s → Contains ys s) where
   lists_too : (c : Checked) → Contains a.sections c → Contains b.sections c
   lists_too c found =
-      let by : c.profile ≡ profile = All-contains (λ (d : Checked). d.profile ≡ profile) a.sections c of_a.checked found in
-      let by_a : c.profile ≡ a.profile = by ∙ sym of_a.profile_is in
-      let by_b : b.profile ≡ c.profile = of_b.profile_is ∙ sym by in
-      let held : Holds a c.section = subst (λ p. Contains a.sections (checked_by p c.section)) by_a found in
+      let by : c.profile ≡ profile = All-contains (λ (d : Checked). d.profile ≡ profile) a.sections c of_a.checked found in let by_a : c.profile ≡ a.profile = by ∙ sym of_a.profile_is in
+      let by_b : b.profile ≡ c.profile = of_b.profile_is ∙ sym by in let held : Holds a c.section = subst (λ p. Contains a.sections (checked_by p c.section)) by_a found in
       subst (λ p. Contains b.sections (checked_by p c.section)) by_b ((of_b.same c.section).1 (members c.section ((of_a.same c.section).0 held)))
 
 abbrev ledger_value : Profile → List Checked → LedgerValue

@@ -6,8 +6,7 @@ use Rattle.pmf_ledger.{specs.Gathered.{IsUpgradeOf, upgraded}, specs.LedgerValue
 
 pub Rises-upgraded : (sections : List Checked) → Rises sections → Rises (map upgraded sections)
 Rises-upgraded sections rises = λ i j d less within.
-    let inside_j : j < length sections = rw (length-map sections upgraded) at within in
-    let inside_i : i < length sections = omega (arith, less, inside_j) in
+    let inside_j : j < length sections = rw (length-map sections upgraded) at within in let inside_i : i < length sections = omega (arith, less, inside_j) in
     rw (get_or-map upgraded sections i d d inside_i, get_or-map upgraded sections j d d inside_j) (rises i j d less inside_j)
 
 pub All-upgraded : (sections : List Checked) → All (λ (c : Checked). c.profile ≡ Two) (map upgraded sections)
@@ -25,9 +24,7 @@ IsUpgradeOf-upgraded old new by are rises checked unchanged = record {
     same = λ s. (
       λ held.
           let among = subst (λ (cs : List Checked). Contains cs (checked_by Two s)) are (subst (λ p. Contains new.sections (checked_by p s)) by held) in
-          let before = from_map upgraded old.sections (checked_by Two s) among in
-          let c = before.0 in
-          let here = before.1 in
+          let before = from_map upgraded old.sections (checked_by Two s) among in let c = before.0 in let here = before.1 in
           let is_s : c.section ≡ s = ap (λ (x : Checked). x.section) before.2 in
           let is_p : c.profile ≡ old.profile = All-contains (λ (x : Checked). x.profile ≡ old.profile) old.sections c checked here in
           (is.same s).0 (subst (Contains old.sections) (ap (λ t. checked_by c.profile t) is_s ∙ ap (λ p. checked_by p s) is_p) here),

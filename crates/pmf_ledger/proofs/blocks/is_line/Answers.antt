@@ -5,8 +5,7 @@ use Rattle.pmf_ledger.proofs.blocks.is_line.Goals as goal
 pub returns-in-Some : goal.returns-in-Some
 returns-in-Some c =
     let whole = strip_suffix_is Decides-eqb c.args.spelled.now c.as_slice.result.now (Rattle.std.specs.Prelude.Some c.in-Some.line) c.in-Some.ensures.cases in
-    c.eq.ensures ∙ ended-same c.args.text.now c.in-Some.line.now
-    ∙ ap (bytes_eq (c.args.text.now ++ 10 ∷ [])) (sym (whole ∙ ap (λ xs. c.in-Some.line.now ++ xs) c.as_slice.ensures))
+    c.eq.ensures ∙ ended-same c.args.text.now c.in-Some.line.now ∙ ap (bytes_eq (c.args.text.now ++ 10 ∷ [])) (sym (whole ∙ ap (λ xs. c.in-Some.line.now ++ xs) c.as_slice.ensures))
 
 pub returns-in-None : goal.returns-in-None
 returns-in-None c = grind (arith, common_steps, strip_suffix_is, Decides-eqb, ended-other)

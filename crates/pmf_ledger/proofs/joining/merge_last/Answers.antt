@@ -16,12 +16,8 @@ returns-then-is_empty-2-clause-merging c = λ xs ys so_far.
 
 pub returns-in-Less-clause-merging : goal.returns-in-Less-clause-merging
 returns-in-Less-clause-merging c = λ xs ys so_far.
-    let first = c.args.first.now.items in
-    let second = c.args.second.now.items in
-    let x = c.index.result.now in
-    let y = c.index-2.result.now in
-    let is_x : x ≡ get_or first (length first - 1) x = search rules in
-    let is_y : y ≡ get_or second (length second - 1) y = search rules in
+    let first = c.args.first.now.items in let second = c.args.second.now.items in let x = c.index.result.now in let y = c.index-2.result.now in
+    let is_x : x ≡ get_or first (length first - 1) x = search rules in let is_y : y ≡ get_or second (length second - 1) y = search rules in
     let moved : y ≡ c.take_last-in-Less.result = last_is second _ c.take_last-in-Less.result y c.take_last-in-Less.ensures.items is_y in
     let less : ComesBefore x y = subst (λ n. IsBefore n y.section.name) c.name.ensures (subst (IsBefore c.name.result) c.name-2.ensures (c.order.ensures.less c.in-Less.is)) in
     Merging-right xs ys _ _ _ _ _ c.take_last-in-Less.result c.take_last-in-Less.ensures.items c.push_reserved-in-Less.ensures.items
@@ -29,12 +25,8 @@ returns-in-Less-clause-merging c = λ xs ys so_far.
 
 pub returns-in-Greater-clause-merging : goal.returns-in-Greater-clause-merging
 returns-in-Greater-clause-merging c = λ xs ys so_far.
-    let first = c.args.first.now.items in
-    let second = c.args.second.now.items in
-    let x = c.index.result.now in
-    let y = c.index-2.result.now in
-    let is_x : x ≡ get_or first (length first - 1) x = search rules in
-    let is_y : y ≡ get_or second (length second - 1) y = search rules in
+    let first = c.args.first.now.items in let second = c.args.second.now.items in let x = c.index.result.now in let y = c.index-2.result.now in
+    let is_x : x ≡ get_or first (length first - 1) x = search rules in let is_y : y ≡ get_or second (length second - 1) y = search rules in
     let moved : x ≡ c.take_last-in-Greater.result = last_is first _ c.take_last-in-Greater.result x c.take_last-in-Greater.ensures.items is_x in
     let less : ComesBefore y x = subst (λ n. IsBefore n x.section.name) c.name-2.ensures (subst (IsBefore c.name-2.result) c.name.ensures (c.order.ensures.greater c.in-Greater.is)) in
     Merging-left xs ys _ _ _ _ _ c.take_last-in-Greater.result c.take_last-in-Greater.ensures.items c.push_reserved-in-Greater.ensures.items
@@ -42,12 +34,8 @@ returns-in-Greater-clause-merging c = λ xs ys so_far.
 
 pub returns-in-Equal-clause-merging : goal.returns-in-Equal-clause-merging
 returns-in-Equal-clause-merging c = λ xs ys so_far.
-    let first = c.args.first.now.items in
-    let second = c.args.second.now.items in
-    let x = c.index.result.now in
-    let y = c.index-2.result.now in
-    let is_x : x ≡ get_or first (length first - 1) x = search rules in
-    let is_y : y ≡ get_or second (length second - 1) y = search rules in
+    let first = c.args.first.now.items in let second = c.args.second.now.items in let x = c.index.result.now in let y = c.index-2.result.now in
+    let is_x : x ≡ get_or first (length first - 1) x = search rules in let is_y : y ≡ get_or second (length second - 1) y = search rules in
     let some : length second - 1 < length second = search rules in
     let dropped : x ≡ c.take_last-in-Equal.result = last_is first _ c.take_last-in-Equal.result x c.take_last-in-Equal.ensures.items is_x in
     let same : x.section.name ≡ y.section.name = sym c.name.ensures ∙ c.order.ensures.equal c.in-Equal.is ∙ c.name-2.ensures in

@@ -4,6 +4,4 @@ use Rattle.pmf_ledger.proofs.reporting.push_totals.Goals as goal
 
 pub returns : goal.returns
 unfolding text_of_totals
-returns c =
-    let both = rw c.in_ok-write.ensures.bytes at c.push_counts.ensures in
-    simp append_assoc (simp append_assoc at both)
+returns c = let both = rw c.in_ok-write.ensures.bytes at c.push_counts.ensures in simp append_assoc (simp append_assoc at both)

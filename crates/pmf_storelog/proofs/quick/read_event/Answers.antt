@@ -16,8 +16,7 @@ returns-then-starts_with-2 c =
     (sym c.starts_with-2.ensures.value ∙ c.if-starts_with-2.true) c.in_ok-span-2.ensures (λ fields spells. ap (event_over Flush) spells)
 
 pub returns-then-starts_with-3 : goal.returns-then-starts_with-3
-returns-then-starts_with-3 c =
-    fence_found c.args.text.now _ (begins_with c.args.text.now (codes "FENCE") (sym c.starts_with-3.ensures.value ∙ c.if-starts_with-3.true))
+returns-then-starts_with-3 c = fence_found c.args.text.now _ (begins_with c.args.text.now (codes "FENCE") (sym c.starts_with-3.ensures.value ∙ c.if-starts_with-3.true))
 
 pub returns-then-starts_with-4 : goal.returns-then-starts_with-4
 unfolding saying_of transaction_of

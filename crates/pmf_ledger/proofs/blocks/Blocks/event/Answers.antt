@@ -11,6 +11,5 @@ returns-in-Err-TooManyEvents c = λ r read of_text.
 
 pub returns-in-Err : goal.returns-in-Err
 returns-in-Err c = λ r read of_text.
-    let e = after_event r c.args.line c.args.section c.args.more c.args.told in
-    subst (IsStoppedBy (e (event_of_line c.args.text.now))) (sym c.fault_at.ensures)
+    let e = after_event r c.args.line c.args.section c.args.more c.args.told in subst (IsStoppedBy (e (event_of_line c.args.text.now))) (sym c.fault_at.ensures)
     (event-refused r c.args.self.now read c.args.line _ _ (ap e (sym c.read_event.ensures ∙ c.in-Err.is)))

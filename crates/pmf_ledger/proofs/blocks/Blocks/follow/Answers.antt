@@ -29,5 +29,4 @@ returns-in-Rows c = λ r here.
 pub returns-in-End : goal.returns-in-End
 unfolding after_line_at
 returns-in-End c = λ r here of_text.
-    let stands = subst (StandsFor r c.args.self.now) c.in-End.is here in
-    stopped r c.args.self.now stands.0 _ _ (line-at r c.args.line c.args.text.now _ stands.1)
+    let stands = subst (StandsFor r c.args.self.now) c.in-End.is here in stopped r c.args.self.now stands.0 _ _ (line-at r c.args.line c.args.text.now _ stands.1)

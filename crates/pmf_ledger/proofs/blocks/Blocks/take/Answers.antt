@@ -3,8 +3,7 @@ use Rattle.pmf_ledger.proofs.lemmas.ReadingLemmas.{HasRead-taken, first_other, t
 use Rattle.pmf_ledger.proofs.blocks.Blocks.take.Goals as goal
 
 pub returns-in-Ok : goal.returns-in-Ok
-returns-in-Ok c = λ r read.
-    (HasRead-taken r c.args.self.now read c.args.verdict.section _ c.in-Ok.ensures.gathers refl, taken_stage r c.args.verdict.section)
+returns-in-Ok c = λ r read. (HasRead-taken r c.args.self.now read c.args.verdict.section _ c.in-Ok.ensures.gathers refl, taken_stage r c.args.verdict.section)
 
 pub returns-in-Err-Conflict-default : goal.returns-in-Err-Conflict-default
 returns-in-Err-Conflict-default c = λ r read of_text.

@@ -5,12 +5,9 @@ use Rattle.pmf_ledger.proofs.ledger.Ledger.add.Goals as goal
 
 pub invariant_of-self-2 : goal.invariant_of-self-2
 invariant_of-self-2 c =
-    let items = c.self.inside.verdicts.items in
-    let same : c.args.self.now.sections ≡ items = ap (λ (v : LedgerValue). v.sections) (sym c.self.view_is) in
-    let by : c.args.self.now.profile ≡ c.self.inside.profile = ap (λ (v : LedgerValue). v.profile) (sym c.self.view_is) in
-    let v = c.args.verdict in
-    let place = subst (λ xs. IsPlaceOf xs v.section.name c.args.place) same c.requires.place in
-    let absent = subst (λ xs. LacksName xs v.section.name) same c.requires.absent in
+    let items = c.self.inside.verdicts.items in let same : c.args.self.now.sections ≡ items = ap (λ (v : LedgerValue). v.sections) (sym c.self.view_is) in
+    let by : c.args.self.now.profile ≡ c.self.inside.profile = ap (λ (v : LedgerValue). v.profile) (sym c.self.view_is) in let v = c.args.verdict in
+    let place = subst (λ xs. IsPlaceOf xs v.section.name c.args.place) same c.requires.place in let absent = subst (λ xs. LacksName xs v.section.name) same c.requires.absent in
     let is = rw c.in_default.is at c.insert.ensures.items in
     rw is (
       Rises-insert items c.args.place v c.self.invariant.0 place absent,
@@ -28,9 +25,6 @@ returns-clause-added c =
 
 pub returns-clause-rises : goal.returns-clause-rises
 returns-clause-rises c =
-    let items = c.self.inside.verdicts.items in
-    let same : c.args.self.now.sections ≡ items = ap (λ (v : LedgerValue). v.sections) (sym c.self.view_is) in
-    let v = c.args.verdict in
-    let place = subst (λ xs. IsPlaceOf xs v.section.name c.args.place) same c.requires.place in
-    let absent = subst (λ xs. LacksName xs v.section.name) same c.requires.absent in
+    let items = c.self.inside.verdicts.items in let same : c.args.self.now.sections ≡ items = ap (λ (v : LedgerValue). v.sections) (sym c.self.view_is) in let v = c.args.verdict in
+    let place = subst (λ xs. IsPlaceOf xs v.section.name c.args.place) same c.requires.place in let absent = subst (λ xs. LacksName xs v.section.name) same c.requires.absent in
     rw (rw c.in_default.is at c.insert.ensures.items) (Rises-insert items c.args.place v c.self.invariant.0 place absent)

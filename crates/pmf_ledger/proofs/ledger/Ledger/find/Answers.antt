@@ -5,11 +5,8 @@ use Rattle.pmf_ledger.proofs.ledger.Ledger.find.Goals as goal
 
 pub returns-else-is_same : goal.returns-else-is_same
 returns-else-is_same c =
-    let sections = c.args.self.now.sections in
-    let same : sections ≡ c.self.inside.verdicts.items = ap (λ (v : LedgerValue). v.sections) (sym c.self.view_is) in
-    let rises : Rises sections = subst Rises (sym same) c.self.invariant.0 in
-    let k = c.place_of-place.result in
-    let x = c.index-held.result.now in
+    let sections = c.args.self.now.sections in let same : sections ≡ c.self.inside.verdicts.items = ap (λ (v : LedgerValue). v.sections) (sym c.self.view_is) in
+    let rises : Rises sections = subst Rises (sym same) c.self.invariant.0 in let k = c.place_of-place.result in let x = c.index-held.result.now in
     let is : x ≡ get_or sections k x = c.index-held.ensures ∙ ap (λ xs. get_or xs k x) (sym same) in (
       c.place_of-place.ensures,
       LacksName-from_place sections c.args.name k rises c.place_of-place.ensures (λ d inside held.

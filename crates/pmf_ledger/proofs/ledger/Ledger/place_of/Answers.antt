@@ -11,12 +11,9 @@ settled sections name low high window = grind (arith, common_steps)
 
 pub loop-low-preserved : goal.loop-low-preserved
 loop-low-preserved c =
-    let sections = c.args.self.now.sections in
-    let same : sections ≡ c.self.inside.verdicts.items = ap (λ (v : LedgerValue). v.sections) (sym c.self.view_is) in
-    let rises : Rises sections = subst Rises (sym same) c.self.invariant.0 in
-    let x = c.index.result.now in
-    let is : x ≡ get_or sections c.loop-low.middle x = c.index.ensures ∙ ap (λ xs. get_or xs c.loop-low.middle x) (sym same) in
-    let so_far = c.loop-low.invariant in
+    let sections = c.args.self.now.sections in let same : sections ≡ c.self.inside.verdicts.items = ap (λ (v : LedgerValue). v.sections) (sym c.self.view_is) in
+    let rises : Rises sections = subst Rises (sym same) c.self.invariant.0 in let x = c.index.result.now in
+    let is : x ≡ get_or sections c.loop-low.middle x = c.index.ensures ∙ ap (λ xs. get_or xs c.loop-low.middle x) (sym same) in let so_far = c.loop-low.invariant in
     elim c.match-order.branch [
       | in-Less w ↦
           let here = subst (λ n. IsBefore n c.args.name) c.name.ensures (c.order.ensures.less w.in-Less.is) in

@@ -26,8 +26,7 @@ returns-in-Absent-clause-conflict c =
 
 pub returns-in-Held-clause-gathers : goal.returns-in-Held-clause-gathers
 returns-in-Held-clause-gathers c =
-    let ledger = c.args.self.now in
-    let rises : Rises ledger.sections = subst (λ (l : LedgerValue). Rises l.sections) c.self.view_is c.self.invariant.0 in
+    let ledger = c.args.self.now in let rises : Rises ledger.sections = subst (λ (l : LedgerValue). Rises l.sections) c.self.view_is c.self.invariant.0 in
     let checked = subst (λ (l : LedgerValue). All (λ (v : Checked). v.profile ≡ l.profile) l.sections) c.self.view_is c.self.invariant.1 in
     let held = subst (Holds ledger) (c.deref.ensures ∙ c.section.ensures) c.in-Held.ensures in
     Gathers-gains ledger ledger c.args.verdict.section (Gains-held ledger c.args.verdict.section held) rises checked

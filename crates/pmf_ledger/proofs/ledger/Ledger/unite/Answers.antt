@@ -4,9 +4,7 @@ use Rattle.pmf_ledger.proofs.ledger.Ledger.unite.Goals as goal
 
 pub merge-requires-clause-agree : goal.merge-requires-clause-agree
 merge-requires-clause-agree c =
-    let a = c.args.self in
-    let b = c.args.other in
-    let by_a : AreBy a.profile a.sections = subst (λ (l : LedgerValue). AreBy l.profile l.sections) c.self.view_is c.self.invariant.1 in
+    let a = c.args.self in let b = c.args.other in let by_a : AreBy a.profile a.sections = subst (λ (l : LedgerValue). AreBy l.profile l.sections) c.self.view_is c.self.invariant.1 in
     let by_b : AreBy b.profile b.sections = subst (λ (l : LedgerValue). AreBy l.profile l.sections) c.other.view_is c.other.invariant.1 in
     let agree : Agree a.sections b.sections = agree_checked a b by_a by_b c.requires.profile c.requires.agree in
     subst (λ xs. Agree xs c.other.inside.verdicts.items) (ap (λ (l : LedgerValue). l.sections) (sym c.self.view_is))
@@ -28,8 +26,6 @@ returns-clause-checked c =
 
 pub returns-clause-unites : goal.returns-clause-unites
 returns-clause-unites c =
-    let a = c.args.self in
-    let b = c.args.other in
-    Unites-merged a b _ c.requires.profile (ap (λ (l : LedgerValue). l.profile) c.self.view_is)
+    let a = c.args.self in let b = c.args.other in Unites-merged a b _ c.requires.profile (ap (λ (l : LedgerValue). l.profile) c.self.view_is)
     (subst (λ xs. IsMerged xs b.sections c.merge.result.items) (ap (λ (l : LedgerValue). l.sections) c.self.view_is)
     (subst (λ ys. IsMerged c.self.inside.verdicts.items ys c.merge.result.items) (ap (λ (l : LedgerValue). l.sections) c.other.view_is) c.merge.ensures))

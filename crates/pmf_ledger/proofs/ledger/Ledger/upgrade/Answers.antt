@@ -8,13 +8,10 @@ pub returns-in-Two : goal.returns-in-Two
 returns-in-Two c =
     let rises = subst (λ (l : LedgerValue). Rises l.sections) c.self.view_is c.self.invariant.0 in
     let checked = subst (λ (l : LedgerValue). All (λ (v : Checked). v.profile ≡ l.profile) l.sections) c.self.view_is c.self.invariant.1 in
-    let by : c.args.self.profile ≡ Two = ap (λ (l : LedgerValue). l.profile) (sym c.self.view_is) ∙ c.in-Two.is in
-    IsUpgradeOf-itself c.args.self by rises checked
+    let by : c.args.self.profile ≡ Two = ap (λ (l : LedgerValue). l.profile) (sym c.self.view_is) ∙ c.in-Two.is in IsUpgradeOf-itself c.args.self by rises checked
 
 pub invariant_of-result : goal.invariant_of-result
-invariant_of-result c =
-    let items = c.self.inside.verdicts.items in
-    rw (c.in-Ok.ensures, c.deref.ensures.value) (Rises-upgraded items c.self.invariant.0, All-upgraded items)
+invariant_of-result c = let items = c.self.inside.verdicts.items in rw (c.in-Ok.ensures, c.deref.ensures.value) (Rises-upgraded items c.self.invariant.0, All-upgraded items)
 
 pub returns-in-Ok : goal.returns-in-Ok
 returns-in-Ok c =

@@ -7,8 +7,7 @@ loop-row-init c = search (rules, Counted-none)
 
 pub loop-row-preserved : goal.loop-row-preserved
 loop-row-preserved c =
-    let rows = c.rows-row-items.result.now in
-    let so_far = c.loop-row.invariant in
+    let rows = c.rows-row-items.result.now in let so_far = c.loop-row.invariant in
     elim c.match-outcome_of_row.branch [
       | in-Pass w ↦ rw (w.pass-is, w.fail-is, w.warn-is, w.empty-is) (Counted-pass rows c.loop-row.row-index _ c.loop-row-test.true _ _ _ _ so_far (sym c.outcome_of_row.ensures ∙ w.in-Pass.is))
       | in-Fail w ↦ rw (w.pass-is, w.fail-is, w.warn-is, w.empty-is) (Counted-fail rows c.loop-row.row-index _ c.loop-row-test.true _ _ _ _ so_far (sym c.outcome_of_row.ensures ∙ w.in-Fail.is))

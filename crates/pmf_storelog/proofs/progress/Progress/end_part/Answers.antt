@@ -16,11 +16,9 @@ pub returns-in_err-take_part-clause-err : goal.returns-in_err-take_part-clause-e
 returns-in_err-take_part-clause-err c = λ run bytes piece parsed ends.
     let p = err_from_is_err_and c.from_residual-in_err-take_part.result c.from_residual-in_err-take_part.ensures.1 in
     let carry : c.deref.result.now ≡ c.args.self.now.carry.items ++ c.args.end.now = c.deref.ensures.value ∙ c.in_ok-extend_from_slice.ensures.items in
-    let shown = c.in_err-take_part.ensures.err run _ parsed.taken in
-    rw (p.1, p.2) (shown_ended run bytes c.args.self.now parsed piece c.args.end.now _ ends (rw (← carry) shown))
+    let shown = c.in_err-take_part.ensures.err run _ parsed.taken in rw (p.1, p.2) (shown_ended run bytes c.args.self.now parsed piece c.args.end.now _ ends (rw (← carry) shown))
 
 pub returns-clause-ok : goal.returns-clause-ok
 returns-clause-ok c = λ run bytes piece parsed ends.
     let carry : c.deref.result.now ≡ c.args.self.now.carry.items ++ c.args.end.now = c.deref.ensures.value ∙ c.in_ok-extend_from_slice.ensures.items in
-    let taken = c.in_ok-take_part.ensures.ok run _ parsed.taken in
-    parsed_ended run bytes c.args.self.now parsed piece c.args.end.now _ ends (rw (← carry) taken) c.clear.ensures.items
+    let taken = c.in_ok-take_part.ensures.ok run _ parsed.taken in parsed_ended run bytes c.args.self.now parsed piece c.args.end.now _ ends (rw (← carry) taken) c.clear.ensures.items

@@ -4,8 +4,7 @@ use Rattle.pmf_storelog.proofs.progress.Progress.read_ended.Goals as goal
 
 pub returns-in_err-end_part-clause-err : goal.returns-in_err-end_part-clause-err
 returns-in_err-end_part-clause-err c = λ run bytes parsed.
-    let p = err_from_is_err_and c.from_residual.result c.from_residual.ensures.1 in
-    let ends = next_part c.args.piece.now c.loop-len.start c.in-Some.len c.in-Some.ensures.cases in
+    let p = err_from_is_err_and c.from_residual.result c.from_residual.ensures.1 in let ends = next_part c.args.piece.now c.loop-len.start c.in-Some.len c.in-Some.ensures.cases in
     let shown = c.in_err-end_part.ensures.err run _ _ (c.loop-len.invariant.parsed run bytes parsed) ends in
     rw (p.1, p.2) (shown_in_piece run bytes c.args.piece.now c.loop-len.start c.in-Some.len _ shown)
 
@@ -15,8 +14,7 @@ loop-len-preserved c = record {
   grows = omega (arith, c.in_ok-end_part.ensures.grows);
   parsed = λ run bytes parsed.
       let ends = next_part c.args.piece.now c.loop-len.start c.in-Some.len c.in-Some.ensures.cases in
-      let taken = c.in_ok-end_part.ensures.ok run _ _ (c.loop-len.invariant.parsed run bytes parsed) ends in
-      front_longer run bytes c.args.piece.now c.loop-len.start c.in-Some.len _ taken;
+      let taken = c.in_ok-end_part.ensures.ok run _ _ (c.loop-len.invariant.parsed run bytes parsed) ends in front_longer run bytes c.args.piece.now c.loop-len.start c.in-Some.len _ taken;
 }
 
 pub returns-clause-ok : goal.returns-clause-ok

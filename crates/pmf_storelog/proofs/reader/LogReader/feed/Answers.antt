@@ -10,8 +10,7 @@ returns-in_err-rest-clause-err c = λ run bytes read.
 
 pub returns-in_err-rest-clause-of_all : goal.returns-in_err-rest-clause-of_all
 returns-in_err-rest-clause-of_all c = λ run bytes read.
-    let p = err_from_is_err_and c.from_residual.result c.from_residual.ensures.1 in
-    rw (p.1, p.2) (λ memory. shown_of_all (bytes ++ c.args.piece.now) _
+    let p = err_from_is_err_and c.from_residual.result c.from_residual.ensures.1 in rw (p.1, p.2) (λ memory. shown_of_all (bytes ++ c.args.piece.now) _
     (fed_faulty run bytes c.args.piece.now c.args.self.now.total c.min-taken.result read.total c.args.self.now.within c.min-taken.ensures
     _ (c.in_err-rest.ensures.err run bytes read.parsed) memory))
 

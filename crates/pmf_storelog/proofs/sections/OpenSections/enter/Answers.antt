@@ -1,4 +1,4 @@
-use Rattle.std.proofs.Common.{refl, sym, arith}
+use Rattle.std.proofs.{Common.{refl, sym, arith}, lemmas.Grind.{common_steps}}
 use Rattle.pmf_storelog.proofs.SectionLemmas.{again, same_numbers, begun_ok, begun_room, begun_err}
 use Rattle.pmf_storelog.proofs.sections.OpenSections.enter.Goals as goal
 
@@ -12,8 +12,7 @@ returns-in-Some-clause-room c = λ run numbers events current has.
     (omega (arith, has.count, c.args.self.now.few))
 
 pub returns-in-None-clause-ok : goal.returns-in-None-clause-ok
-returns-in-None-clause-ok c = λ run numbers events current has.
-    begun_ok run numbers events current c.args.self.now has c.args.number c.open.new.self c.open.result (sym c.in-None.ensures.value) c.open.ensures.ok
+returns-in-None-clause-ok c = grind (arith, common_steps, begun_ok)
 
 pub returns-in-None-clause-room : goal.returns-in-None-clause-room
 returns-in-None-clause-room c = λ run numbers events current has.
