@@ -6,3 +6,4 @@ pub use Rattle.pmf_stream.specs.Asked
 pub use Rattle.pmf_stream.specs.Joining
 pub mod Statuses
 pub mod Answered
+pub mod ExplanationTold

@@ -164,6 +164,11 @@ unfolding rows_told sections_in
 rows-are [] lines fit none = (none, refl)
 rows-are (row ∷ rows) lines fit none = grind (arith, common_steps, row-is, rows-are rows lines fit.1 none)
 
+-- rows, and then a text line that is none
+pub rows-front : (rows : List Row) (first : List ℕ) (more : List (List ℕ)) → AllByRecursion FitsRow rows → row_told first ≡ None → rows_told (map text_without_end rows ++ first ∷ more) ≡ rows
+unfolding rows_told
+rows-front rows first more fit none = (rows-are rows (first ∷ more) fit (ap (λ o. row_before o (rows_told more)) none)).0
+
 -- no row stands before the next header or the sums
 no_row : (sections : List Checked) (t : Totals) → rows_told (flat_map section_lines sections ++ total_line t ∷ []) ≡ []
 unfolding rows_told

@@ -24,7 +24,7 @@ pub decimal-one : (n : ℕ) → OneLine (decimal n)
 unfolding digits
 decimal-one n = onto-one 64 10 n [] tt
 
-address-one : (n : ℕ) → OneLine (address n)
+pub address-one : (n : ℕ) → OneLine (address n)
 unfolding digits
 address-one n = (refl, (refl, onto-one 64 16 n [] tt))
 
