@@ -7,7 +7,7 @@ pub fn status_zero_keeps_all()
     ensures { StatusZeroKeepsAll }
 {}
 
-/// The text that explains an event tells, text line by text line, just the rows that were found there.
+/// The text that explains an event tells, text line by text line, just the rows that were found there, where their numbers are below 2^64.
 pub fn explanations_tell_their_rows()
     ensures { ExplanationsTellTheirRows }
 {}
