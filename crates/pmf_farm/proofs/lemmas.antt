@@ -1,3 +1,4 @@
 pub mod WorkingLemmas
 pub mod RollLemmas
 pub mod GatherLemmas
+pub mod TurnLemmas

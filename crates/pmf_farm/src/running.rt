@@ -4,7 +4,7 @@ ghost use Rattle.std.specs.{Prelude.{◌≡◌, ◌<◌, ◌≤◌, [], get_or, 
 ghost use Rattle.pmf_board.specs.Calls.{PassesOverAll};
 ghost use Rattle.pmf_verdict.specs.Checked.{checked_by};
 ghost use Rattle.pmf_ledger.specs.{Gathered.{IsLedgerOf}, Repeats.{HaveOwnNames}};
-ghost use Rattle.pmf_farm.specs.{Rolls.{IsRepeatOf, RollRises, Stays, checks, sections_of}, Running.{IsRefused, IsTaken}, Working.{HasWorked, IsLost, most_left}};
+ghost use Rattle.pmf_farm.specs.{Rolls.{IsRepeatOf, RollRises, Stays, checks, sections_of}, Running.{IsRefused, IsTaken}, Working.{HasWorked, IsLost, TakesInTurn, most_left}};
 
 use crate::fault::FarmFault;
 use crate::gate::Gate;
@@ -73,6 +73,7 @@ fn work_on_thread<'a, R: Wait, G: Gate>(
     ensures worked { HasWorked (map (λ s. s.value) queue.now.sections.items) queue.now.profile
         hand.pass.view result.0.view [] (map (λ s. checked_by s.profile s.section.value) result.1.sent.items)
         (most_left result.2) }
+    ensures turns { TakesInTurn board.now.words hand.number hand.pass.view result.0.view }
     ensures lost { (result.2 ≡ Ok Ended.Lost) → IsLost (λ worker section.
         G.answers gate.now worker (get_or queue.now.places.items section section)) hand.number result.0.view }
     ensures all { (result.2 ≡ Ok Ended.All) → PassesOverAll 8 board.now.words result.0.view }

@@ -1,10 +1,10 @@
 //! What a worker does: it takes sections from a board, checks them, and puts their verdicts.
 
 ghost use Rattle.std.specs.Prelude.{◌≡◌, ◌≢◌, ◌<◌, length, map, IfOk, OnOk, OnErr, IfNone, IfSome, IfErr, Ok};
-ghost use Rattle.pmf_board.specs.{Calls.{PassesOverAll, Stays, Takes}, Views.{HasTaken}};
+ghost use Rattle.pmf_board.specs.{Calls.{PassesOver, PassesOverAll, Stays, Takes}, Views.{HasTaken}};
 ghost use Rattle.pmf_verdict.specs.Checked.{checked_by};
 ghost use Rattle.pmf_ledger.specs.Repeats.{section_at};
-ghost use Rattle.pmf_farm.specs.Working.{HasWorked, IsLost, Serves, limit_of, most_left};
+ghost use Rattle.pmf_farm.specs.Working.{HasWorked, IsLost, Serves, TakesAgain, TakesFresh, TakesInTurn, limit_of, most_left};
 
 use crate::gate::{Gate, Turn};
 use crate::outbox::Outbox;
@@ -107,6 +107,7 @@ impl<'a, G: Gate> Worker<'a, G> {
         ensures same { pass.new.board ≡ pass.old.board }
         ensures some { IfSome result (λ t. Takes (limit_of again) pass.old.view t pass.new.view) }
         ensures there { IfSome result (λ t. t.section < self.now.board.now.words) }
+        ensures passed { IfSome result (λ t. PassesOver (limit_of again) self.now.board.now.words start t.section pass.new.view) }
         ensures none { IfNone result (Stays pass.old.view pass.new.view) }
         ensures all { IfNone result (PassesOverAll (limit_of again) self.now.board.now.words pass.new.view) }
     {
@@ -129,15 +130,19 @@ impl<'a, G: Gate> Worker<'a, G> {
         ensures same { pass.new.board ≡ pass.old.board }
         ensures worked { HasWorked (map (λ s. s.value) self.now.sections.now) self.now.profile
             pass.old.view pass.new.view (O.sent outbox.old) (O.sent outbox.new) (most_left result) }
+        ensures fresh { (limit_of again ≡ 1)
+            → TakesFresh self.now.board.now.words self.now.number pass.old.view pass.new.view }
+        ensures again { TakesAgain self.now.board.now.words pass.old.view pass.new.view }
         ensures lost { (result ≡ Ok Ended.Lost)
             → IsLost (G.answers self.now.gate.now) self.now.number pass.new.view }
         ensures all { (result ≡ Ok Ended.All)
             → PassesOverAll (limit_of again) self.now.board.now.words pass.new.view }
     {
+        let count = self.board.sections();
         // Behind the last task, so that no section is passed over twice in a round.
         let mut start = self.number;
         while let Some(task) = self.take(pass, start, again) {
-            start = task.section().wrapping_add(1);
+            start = (task.section() + 1) % count;
             match self.serve(pass, outbox, task) {
                 Ok(Turn::Go) => {}
                 Ok(Turn::Lost) => return Ok(Ended::Lost),
@@ -154,6 +159,7 @@ impl<'a, G: Gate> Worker<'a, G> {
         ensures same { pass.new.board ≡ pass.old.board }
         ensures worked { HasWorked (map (λ s. s.value) self.now.sections.now) self.now.profile
             pass.old.view pass.new.view (O.sent outbox.old) (O.sent outbox.new) (most_left result) }
+        ensures again { TakesAgain self.now.board.now.words pass.old.view pass.new.view }
         ensures lost { (result ≡ Ok Ended.Lost)
             → IsLost (G.answers self.now.gate.now) self.now.number pass.new.view }
     {
@@ -197,6 +203,9 @@ pub fn work<O: Outbox, G: Gate>(
     // What it put are, in order, the verdicts of the sections that it marked; it took those and at most one more.
     ensures worked { HasWorked (map (λ s. s.value) sections.now) profile
         pass.old.view pass.new.view (O.sent outbox.old) (O.sent outbox.new) (most_left result) }
+
+    // It begins at the section of its own number, and takes none again before each was seen handed out or done.
+    ensures turns { TakesInTurn board.now.words worker pass.old.view pass.new.view }
 
     // At Lost its gate lost it, by its own number, over a section that it took.
     ensures lost { (result ≡ Ok Ended.Lost) → IsLost (G.answers gate.now) worker pass.new.view }

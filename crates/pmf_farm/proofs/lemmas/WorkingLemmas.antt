@@ -60,6 +60,17 @@ module _ (sections : List Trace) (profile : Profile) where
     few = omega arith;
   }
 
+  -- a task that was taken and not served is left
+  pub HasWorked-left : (old mid taken new : View) (before sent after : List Checked) (limit : ℕ) (t : Task) → HasWorked sections profile old mid before sent 0 → Takes limit mid t taken → new.took ≡ taken.took → new.marked ≡ taken.marked → after ≡ sent → HasWorked sections profile old new before after 1
+  HasWorked-left old mid taken new before sent after limit t worked takes took marked put = record {
+    tasks = worked.tasks;
+    rest = t ∷ [];
+    took = took ∙ takes.took ∙ ap (λ ts. ts ++ t ∷ []) (took_all old mid before sent worked);
+    marked = marked ∙ takes.marked ∙ worked.marked;
+    put = put ∙ worked.put;
+    few = omega arith;
+  }
+
   -- two stretches of work are one
   pub HasWorked-then : (old mid new : View) (before sent after : List Checked) (most : ℕ) → HasWorked sections profile old mid before sent 0 → HasWorked sections profile mid new sent after most → HasWorked sections profile old new before after most
   HasWorked-then old mid new before sent after most first second = record {

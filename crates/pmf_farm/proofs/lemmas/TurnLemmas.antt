@@ -1,0 +1,211 @@
+-- In which order a worker takes sections.
+use Rattle.std.{proofs.Common.{◌≡◌, ℕ, suc, ◌+◌, ◌-◌, ◌*◌, ◌%◌, ◌<◌, ◌≤◌, ◌⊎◌, inl, inr, ⊎_elim, cond, Result, Ok, Err, List, [], ◌∷◌, ◌++◌, length, All, AllPairs, refl, sym, ◌∙◌, ap, subst, arith, append_assoc, append-nil}, proofs.lemmas.Bool.{cases_lt, le-leb, lt-leb}, proofs.lemmas.Nat.{mod_below, mod-mul-add}, proofs.lemmas.List.Elements.{All-append, All-push}, proofs.lemmas.List.Quantifiers.{all_pairs_push}}
+use Rattle.pmf_board.{specs.Calls.{Marks, PassesOver, PassesOverAll, Stays, Takes, round_from}, specs.declared.task.Task.{Task}, specs.declared.view.View.{View}, specs.Views.{HasSeenClosed, HasSeenDone, NeverFalls, most_seen}, proofs.lemmas.CallLemmas.{NeverFalls-both, closed-later, round-round}}
+use Rattle.pmf_farm.specs.{declared.gate.Turn.{Turn}, declared.gate.Turn.TheVariants.{Go, Lost}, Working.{AreInTurn, TakesAgain, TakesFresh, TakesInTurn, TakesLater, Took}}
+
+-- p lies so far behind w, upwards and round
+abbrev Lies : ℕ → ℕ → ℕ → ℕ → Type 0
+Lies n w p far = (p ≡ w + far) ⊎ (p + n ≡ w + far)
+
+-- where s lies behind w
+round-is : (n w s : ℕ) → ((w ≤ s) × (round_from n w s ≡ s - w)) ⊎ ((s < w) × (round_from n w s ≡ s + n - w))
+round-is n w s = ⊎_elim (λ less. inr (less, round-round n w s less)) (λ up. inl (up, ap (λ b. cond b (s - w) (s + n - w)) (le-leb w s up))) (cases_lt s w)
+
+-- what lies behind p lies behind w, by as much more as p does
+apart : (n w p s far : ℕ) → w < n → p < n → s < n → Lies n w p far → far ≤ round_from n w s → round_from n p s + far ≡ round_from n w s
+apart n w p s far lw lp ls at le = by at (round-is n w s) (round-is n p s)
+  where
+    by : Lies n w p far → ((w ≤ s) × (round_from n w s ≡ s - w)) ⊎ ((s < w) × (round_from n w s ≡ s + n - w)) → ((p ≤ s) × (round_from n p s ≡ s - p)) ⊎ ((s < p) × (round_from n p s ≡ s + n - p)) → round_from n p s + far ≡ round_from n w s
+    by (inl a) (inl b) (inl c) = omega (arith, a, b.0, b.1, c.0, c.1, le, lw, lp, ls)
+    by (inl a) (inl b) (inr c) = omega (arith, a, b.0, b.1, c.0, c.1, le, lw, lp, ls)
+    by (inl a) (inr b) (inl c) = omega (arith, a, b.0, b.1, c.0, c.1, le, lw, lp, ls)
+    by (inl a) (inr b) (inr c) = omega (arith, a, b.0, b.1, c.0, c.1, le, lw, lp, ls)
+    by (inr a) (inl b) (inl c) = omega (arith, a, b.0, b.1, c.0, c.1, le, lw, lp, ls)
+    by (inr a) (inl b) (inr c) = omega (arith, a, b.0, b.1, c.0, c.1, le, lw, lp, ls)
+    by (inr a) (inr b) (inl c) = omega (arith, a, b.0, b.1, c.0, c.1, le, lw, lp, ls)
+    by (inr a) (inr b) (inr c) = omega (arith, a, b.0, b.1, c.0, c.1, le, lw, lp, ls)
+
+-- no two lie as far behind w
+round-once : (n w s t : ℕ) → w < n → s < n → t < n → round_from n w s ≡ round_from n w t → s ≡ t
+round-once n w s t lw ls lt same = by (round-is n w s) (round-is n w t)
+  where
+    by : ((w ≤ s) × (round_from n w s ≡ s - w)) ⊎ ((s < w) × (round_from n w s ≡ s + n - w)) → ((w ≤ t) × (round_from n w t ≡ t - w)) ⊎ ((t < w) × (round_from n w t ≡ t + n - w)) → s ≡ t
+    by (inl a) (inl b) = omega (arith, a.0, a.1, b.0, b.1, same, lw, ls, lt)
+    by (inl a) (inr b) = omega (arith, a.0, a.1, b.0, b.1, same, lw, ls, lt)
+    by (inr a) (inl b) = omega (arith, a.0, a.1, b.0, b.1, same, lw, ls, lt)
+    by (inr a) (inr b) = omega (arith, a.0, a.1, b.0, b.1, same, lw, ls, lt)
+
+round-below : (n w s : ℕ) → w < n → s < n → round_from n w s < n
+round-below n w s lw ls = ⊎_elim (λ a. omega (arith, a.0, a.1, lw, ls)) (λ a. omega (arith, a.0, a.1, lw, ls)) (round-is n w s)
+
+mod-small : (n s : ℕ) → s < n → s % n ≡ s
+mod-small n s lt = let is : s ≡ 0 * n + s = omega arith in ap (λ m. m % n) is ∙ mod-mul-add 0 n s lt
+
+-- the next one lies one further
+lies-next : (n w t : ℕ) → w < n → t < n → Lies n w ((t + 1) % n % n) (round_from n w t + 1)
+lies-next n w t lw lt = by (cases_lt (t + 1) n) (round-is n w t)
+  where
+    some : 0 < n
+    some = omega (arith, lw)
+
+    twice : (t + 1) % n % n ≡ (t + 1) % n
+    twice = mod-small n ((t + 1) % n) (mod_below (t + 1) n some)
+
+    by : (t + 1 < n) ⊎ (n ≤ t + 1) → ((w ≤ t) × (round_from n w t ≡ t - w)) ⊎ ((t < w) × (round_from n w t ≡ t + n - w)) → Lies n w ((t + 1) % n % n) (round_from n w t + 1)
+    by (inl less) (inl a) = let is = twice ∙ mod-small n (t + 1) less in inl (omega (arith, is, a.0, a.1))
+    by (inl less) (inr a) = let is = twice ∙ mod-small n (t + 1) less in inr (omega (arith, is, a.0, a.1, lw))
+    by (inr last) (inl a) =
+        let end : t + 1 ≡ 1 * n + 0 = omega (arith, last, lt) in
+        let is = twice ∙ ap (λ m. m % n) end ∙ mod-mul-add 1 n 0 some in
+        inr (omega (arith, is, end, a.0, a.1))
+    by (inr last) (inr a) =
+        let end : t + 1 ≡ 1 * n + 0 = omega (arith, last, lt) in absurd (omega (arith, a.0, lw, end))
+
+-- the worker took sections in turn, and the next one lies so far from the start that each nearer one was seen handed out or done
+pub record TakesTo (n start next : ℕ) (old new : View) : Type 0 where
+  pub tasks : List Task
+  pub took : Took old tasks new
+  pub in_turn : AreInTurn n start tasks new
+  pub far : ℕ
+  pub within : far ≤ n
+  pub at : Lies n (start % n) (next % n) far
+  pub below : All (λ (t : Task). round_from n (start % n) t.section < far) tasks
+  pub closed : (s : ℕ) → s < n → round_from n (start % n) s < far → HasSeenClosed 1 new s
+
+pub TakesTo-none : (n start : ℕ) (v : View) → TakesTo n start start v v
+TakesTo-none n start v = record {
+  tasks = [];
+  took = sym (append-nil v.took);
+  in_turn = record { first = λ k d lt. absurd (omega (arith, lt)); rise = λ i j d lt within. absurd (omega (arith, within)); passed = λ k d lt. absurd (omega (arith, lt)) };
+  far = 0;
+  within = omega arith;
+  at = inl (omega arith);
+  below = λ k d lt. absurd (omega (arith, lt));
+  closed = λ s there less. absurd (omega (arith, less));
+}
+
+-- what was passed over stays so
+passed-later : (n start : ℕ) (tasks : List Task) (v w : View) → NeverFalls v w → All (λ (t : Task). PassesOver 1 n start t.section v) tasks → All (λ (t : Task). PassesOver 1 n start t.section w) tasks
+passed-later n start tasks v w falls passed = λ k d lt s there before. closed-later 1 v w s falls (passed k d lt s there before)
+
+-- one that took nothing more has taken the same
+pub TakesTo-later : (n start next : ℕ) (old mid new : View) → new.took ≡ mid.took → NeverFalls mid new → TakesTo n start next old mid → TakesTo n start next old new
+TakesTo-later n start next old mid new same falls takes = record {
+  tasks = takes.tasks;
+  took = same ∙ takes.took;
+  in_turn = record { first = takes.in_turn.first; rise = takes.in_turn.rise; passed = passed-later n start takes.tasks mid new falls takes.in_turn.passed };
+  far = takes.far;
+  within = takes.within;
+  at = takes.at;
+  below = takes.below;
+  closed = λ s there less. closed-later 1 mid new s falls (takes.closed s there less);
+}
+
+-- a section that was never handed out is seen neither done nor handed out
+fresh-open : (mid new : View) (t : Task) → Takes 1 mid t new → HasSeenClosed 1 mid t.section → ⊥
+fresh-open mid new t takes = ⊎_elim takes.open_before.0 (λ most. omega (arith, most, takes.above, takes.number.1))
+
+-- the next one in turn is one more
+pub TakesTo-taken : (n start next : ℕ) (old mid new : View) (t : Task) → t.section < n → Takes 1 mid t new → PassesOver 1 n next t.section new → TakesTo n start next old mid → TakesTo n start ((t.section + 1) % n) old new
+TakesTo-taken n start next old mid new t there taken passes takes = record {
+  tasks = takes.tasks ++ t ∷ [];
+  took = taken.took ∙ ap (λ ts. ts ++ t ∷ []) takes.took ∙ append_assoc old.took takes.tasks (t ∷ []);
+  in_turn = record {
+    first = All-push (λ (x : Task). x.number ≡ 1) takes.tasks t takes.in_turn.first (omega (arith, taken.number.0, taken.number.1));
+    rise = all_pairs_push (λ (x : Task) (y : Task). round_from n w x.section < round_from n w y.section) takes.tasks t takes.in_turn.rise (λ k d lt. omega (arith, takes.below k d lt, reach));
+    passed = All-push (λ (x : Task). PassesOver 1 n start x.section new) takes.tasks t (passed-later n start takes.tasks mid new taken.never_falls takes.in_turn.passed) nearer;
+  };
+  far = round_from n w t.section + 1;
+  within = omega (arith, round-below n w t.section lw there);
+  at = lies-next n w t.section lw there;
+  below = All-push (λ (x : Task). round_from n w x.section < round_from n w t.section + 1) takes.tasks t (λ k d lt. omega (arith, takes.below k d lt, reach)) (omega arith);
+  closed = λ s less before. ⊎_elim (nearer s less) (λ on. seen-here s (round-once n w s t.section lw less there (omega (arith, on, before)))) (cases_lt (round_from n w s) (round_from n w t.section));
+}
+  where
+    some : 0 < n
+    some = omega (arith, there)
+
+    w : ℕ
+    w = start % n
+
+    p : ℕ
+    p = next % n
+
+    lw : w < n
+    lw = mod_below start n some
+
+    lp : p < n
+    lp = mod_below next n some
+
+    reach : takes.far ≤ round_from n w t.section
+    reach = ⊎_elim (λ less. absurd (fresh-open mid new t taken (takes.closed t.section there less))) (λ le. le) (cases_lt (round_from n w t.section) takes.far)
+
+    nearer : (s : ℕ) → s < n → round_from n w s < round_from n w t.section → HasSeenClosed 1 new s
+    nearer s less before = ⊎_elim (λ near. closed-later 1 mid new s taken.never_falls (takes.closed s less near))
+        (λ on. passes s less (omega (arith, before, apart n w p s takes.far lw lp less takes.at on, apart n w p t.section takes.far lw lp there takes.at reach)))
+        (cases_lt (round_from n w s) takes.far)
+
+    seen-here : (s : ℕ) → s ≡ t.section → HasSeenClosed 1 new s
+    seen-here s is = subst (HasSeenClosed 1 new) (sym is) (inr (omega (arith, taken.seen.0, taken.number.0)))
+
+pub TakesTo-fresh : (n start next : ℕ) (old new : View) → TakesTo n start next old new → TakesFresh n start old new
+TakesTo-fresh n start next old new takes = record { tasks = takes.tasks; took = takes.took; in_turn = takes.in_turn }
+
+pub TakesAgain-none : (n : ℕ) (v : View) → TakesAgain n v v
+TakesAgain-none n v all = record {
+  tasks = [];
+  took = sym (append-nil v.took);
+  later = λ k d lt. absurd (omega (arith, lt));
+  never_falls = record { most = λ s. omega arith; done = λ s d. d; frozen = λ s d. refl };
+}
+
+pub TakesAgain-later : (n : ℕ) (old mid new : View) → new.took ≡ mid.took → NeverFalls mid new → TakesAgain n old mid → TakesAgain n old new
+TakesAgain-later n old mid new same falls takes all = let before = takes all in record {
+  tasks = before.tasks;
+  took = same ∙ before.took;
+  later = before.later;
+  never_falls = NeverFalls-both old mid new before.never_falls falls;
+}
+
+-- what was seen handed out is handed out again
+pub TakesAgain-taken : (n limit : ℕ) (old mid new : View) (t : Task) → t.section < n → Takes limit mid t new → TakesAgain n old mid → TakesAgain n old new
+TakesAgain-taken n limit old mid new t there taken takes all = let before = takes all in record {
+  tasks = before.tasks ++ t ∷ [];
+  took = taken.took ∙ ap (λ ts. ts ++ t ∷ []) before.took ∙ append_assoc old.took before.tasks (t ∷ []);
+  later = All-push (λ (x : Task). 2 ≤ x.number) before.tasks t before.later
+      (⊎_elim (λ done. absurd (taken.open_before.0 done)) (λ most. omega (arith, most, taken.above)) (closed-later 1 old mid t.section before.never_falls (all t.section there)));
+  never_falls = NeverFalls-both old mid new before.never_falls taken.never_falls;
+}
+
+-- first in turn, and then twice what was handed out before
+pub TakesInTurn-from : (n start : ℕ) (old mid next new : View) → TakesFresh n start old mid → PassesOverAll 1 n mid → TakesAgain n mid next → TakesAgain n next new → TakesInTurn n start old new
+TakesInTurn-from n start old mid next new fresh all first second =
+    let one = first all in
+    let two = second (λ s there. closed-later 1 mid next s one.never_falls (all s there)) in
+    let falls = NeverFalls-both mid next new one.never_falls two.never_falls in
+    record {
+      fresh = fresh.tasks;
+      again = one.tasks ++ two.tasks;
+      took = two.took ∙ ap (λ ts. ts ++ two.tasks) (one.took ∙ ap (λ ts. ts ++ one.tasks) fresh.took)
+          ∙ ap (λ ts. ts ++ two.tasks) (append_assoc old.took fresh.tasks one.tasks) ∙ append_assoc old.took (fresh.tasks ++ one.tasks) two.tasks
+          ∙ ap (λ ts. old.took ++ ts) (append_assoc fresh.tasks one.tasks two.tasks);
+      in_turn = record { first = fresh.in_turn.first; rise = fresh.in_turn.rise; passed = passed-later n start fresh.tasks mid new falls fresh.in_turn.passed };
+      later = All-append (λ (x : Task). 2 ≤ x.number) one.tasks two.tasks one.later two.later;
+    }
+
+-- who only took in turn took nothing again
+pub TakesInTurn-fresh : (n start : ℕ) (old new : View) → TakesFresh n start old new → TakesInTurn n start old new
+TakesInTurn-fresh n start old new fresh = record {
+  fresh = fresh.tasks;
+  again = [];
+  took = fresh.took ∙ sym (append-nil (old.took ++ fresh.tasks)) ∙ append_assoc old.took fresh.tasks [];
+  in_turn = fresh.in_turn;
+  later = λ k d lt. absurd (omega (arith, lt));
+}
+
+-- a turn that is lost, or want of memory, is none to go on
+pub lost-not_go : {E : Type 0} (t : Turn) → t ≡ Lost → ◌≡◌ {A = Result Turn E} (Ok t) (Ok Go) → ⊥
+lost-not_go t is same = let z : ◌≡◌ {A = ℕ} 0 1 = cc in omega (arith, z)
+
+pub err-not_go : {E : Type 0} (e : E) → ◌≡◌ {A = Result Turn E} (Err e) (Ok Go) → ⊥
+err-not_go e same = let z : ◌≡◌ {A = ℕ} 0 1 = cc in omega (arith, z)
