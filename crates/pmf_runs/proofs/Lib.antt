@@ -12,4 +12,5 @@ pub mod SkipLemmas
 pub mod JoinedLemmas
 pub mod JoinedLevelLemmas
 pub mod RunJoinedLemmas
+pub mod SpaceLemmas
 pub mod RunRules

@@ -10,6 +10,10 @@ leaf_state leaf d b = at_rank leaf.keys.items leaf.states.items d b
 unfoldable pub leaf_begins : {S : Type 0} → Leaf S → ℕ → Type 0
 leaf_begins leaf b = HasKey leaf.keys.items b
 
+-- how many keys the leaf has
+abbrev pub leaf_size : {S : Type 0} → Leaf S → ℕ
+leaf_size leaf = vec_len leaf.keys
+
 -- whether the leaf is to be parted
 abbrev pub leaf_full : {S : Type 0} → Leaf S → Bool
 leaf_full leaf = nat_le 62 (vec_len leaf.keys)

@@ -18,6 +18,10 @@ pub record BeginsWithin {P : Type 0} (begins : P → ℕ → Type 0) (level : Le
 unfoldable pub level_begins : {P : Type 0} → (P → ℕ → Type 0) → Level P → ℕ → Type 0
 level_begins begins level b = HasKey level.keys.items b ⊎ BeginsWithin begins level b
 
+-- how many keys the level has
+abbrev pub level_size : {P : Type 0} → Level P → ℕ
+level_size level = vec_len level.keys
+
 -- whether the level is to be parted
 abbrev pub level_full : {P : Type 0} → Level P → Bool
 level_full level = nat_le 62 (vec_len level.keys)

@@ -4,6 +4,7 @@ pub mod Walks
 pub mod Lines
 pub mod Levels
 pub mod Joined
+pub mod Spaces
 pub mod Pages
 pub mod Runs
 pub mod Members

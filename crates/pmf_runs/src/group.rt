@@ -1,7 +1,7 @@
 //! A level of pages with its summary.
 
 ghost use Rattle.std.specs.Prelude.{◌≡◌, ◌≤◌, ℕ, true, false, None, Some, OnOk, OnErr, IfOk, IfSome};
-ghost use Rattle.pmf_runs.specs.{Ranks.{SameStates, CoversAll}, Joined.{InOrder, ChangesRange, ChangesCut, Halves}, Levels.{level_full, level_middle}, Pages.{pages_state, pages_begins, pages_joined}};
+ghost use Rattle.pmf_runs.specs.{Ranks.{SameStates, CoversAll}, Joined.{InOrder, ChangesRange, ChangesCut, Halves}, Levels.{level_full, level_size, level_middle}, Spaces.{IsHalved}, Pages.{pages_state, pages_begins, pages_joined, pages_space}};
 
 use crate::level::Level;
 use crate::page::Page;
@@ -70,6 +70,7 @@ impl<S: State> Group<S> {
     fn halve(&mut self, place: u64) -> Result<Group<S>, AllocError>
         requires { level_full self.old.level ≡ true }
         ensures ok { IfOk result (λ part. Halves pages_state pages_joined (level_middle self.old.level place) self.old.level self.new.level part.level) }
+        ensures halved { IfOk result (λ part. IsHalved (level_middle self.old.level place) place (level_size self.old.level) (level_size self.new.level) (level_size part.level)) }
         ensures unchanged { OnErr result (SameStates (pages_state self.old.level) (pages_state self.new.level)) }
     {
         let rest = self.level.halve(place)?;
@@ -117,7 +118,11 @@ impl<S: State> Part<S> for Group<S> {
 
     ghost full = { λ group. level_full group.level };
 
+    ghost size = { λ group. level_size group.level };
+
     ghost middle = { λ group place. level_middle group.level place };
+
+    ghost makes_space = { λ place old new. pages_space place old.level new.level };
 
     fn at(&self, place: u64) -> S {
         self.level.state_of(place)

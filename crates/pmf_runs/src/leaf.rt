@@ -27,7 +27,7 @@ pub(crate) struct Leaf<S> {
 }
 
 impl<S: State> Leaf<S> {
-    ghost use Rattle.pmf_runs.specs.{Leaves.{leaf_state, leaf_begins, leaf_full, leaf_middle}, Joined.{JoinedBut, JoinedBeside, InOrder, ChangesRange, ChangesCut, Halves}};
+    ghost use Rattle.pmf_runs.specs.{Leaves.{leaf_state, leaf_begins, leaf_full, leaf_size, leaf_middle}, Spaces.{IsHalved}, Joined.{JoinedBut, JoinedBeside, InOrder, ChangesRange, ChangesCut, Halves}};
 
     /// The leaf in which each number has this state.
     #[tactic(auto, using(crate::proofs::RunRules::leaf_new))]
@@ -264,6 +264,7 @@ impl<S: State> Leaf<S> {
     pub(crate) fn halve(&mut self, place: u64) -> Result<Leaf<S>, AllocError>
         requires { leaf_full self.old ≡ true }
         ensures ok { IfOk result (Halves leaf_state JoinedBut (leaf_middle self.old place) self.old self.new) }
+        ensures halved { IfOk result (λ part. IsHalved (leaf_middle self.old place) place (leaf_size self.old) (leaf_size self.new) (leaf_size part)) }
         ensures unchanged { OnErr result (SameStates (leaf_state self.old) (leaf_state self.new)) }
     {
         let half = parting(&self.keys, place);

@@ -27,7 +27,7 @@ pub(crate) struct Level<P> {
 }
 
 impl<P> Level<P> {
-    ghost use Rattle.pmf_runs.specs.{Levels.{level_state, level_begins, level_full, level_middle, BeginsAt, GoesOn, IsFullAt, Rewrites}, Joined.{PartsJoined, JoinsParts, InOrder, ChangesRange, ChangesCut, Halves}};
+    ghost use Rattle.pmf_runs.specs.{Levels.{level_state, level_begins, level_full, level_size, level_middle, BeginsAt, GoesOn, IsFullAt, Rewrites}, Spaces.{IsHalved, HasSpace, MakesSpace}, Joined.{PartsJoined, JoinsParts, InOrder, ChangesRange, ChangesCut, Halves}};
 
     /// The level of one part.
     #[tactic(auto, using(crate::proofs::RunRules::level_new))]
@@ -82,6 +82,7 @@ impl<P> Level<P> {
         P: Part<S>,
         ensures same { SameStates (level_state P.state self.old) (level_state P.state self.new) }
         ensures joined { OnOk result (PartsJoined P.joined self.old None None → PartsJoined P.joined self.new None None) }
+        ensures space { OnOk result (MakesSpace P.full P.size P.middle P.makes_space place self.old self.new) }
     {
         let full = rank_of(&self.keys, place);
         self.split_full(full, place)?;
@@ -90,12 +91,14 @@ impl<P> Level<P> {
     }
 
     /// Splits the part in two if it is full, before more is put in at this place.
+    #[tactic(auto, using(crate::proofs::RunRules::level_parts))]
     fn split_full<S: State>(&mut self, index: usize, place: u64) -> Result<(), AllocError>
     where
         P: Part<S>,
-        requires { index < vec_len self.old.parts }
+        requires { index ≡ rank self.old.keys.items place }
         ensures same { SameStates (level_state P.state self.old) (level_state P.state self.new) }
         ensures joined { OnOk result (PartsJoined P.joined self.old None None → PartsJoined P.joined self.new None None) }
+        ensures space { OnOk result (HasSpace P.full P.size P.middle place self.old self.new) }
     {
         if !self.parts[index].is_full() {
             return Ok(());
@@ -120,11 +123,13 @@ impl<P> Level<P> {
     ) -> Result<(), AllocError>
     where
         P: Part<S>,
+        requires place { index ≡ rank self.old.keys.items place }
         requires full { IsFullAt P.full (λ part. P.middle part place) self.old index middle }
         requires rank { index ≡ rank self.old.keys.items middle }
         requires fresh { IsFresh self.old.keys.items middle }
         ensures same { SameStates (level_state P.state self.old) (level_state P.state self.new) }
         ensures joined { OnOk result (PartsJoined P.joined self.old None None → PartsJoined P.joined self.new None None) }
+        ensures space { OnOk result (HasSpace P.full P.size P.middle place self.old self.new) }
     {
         make_room(&mut self.keys)?;
         make_room(&mut self.parts)?;
@@ -177,6 +182,7 @@ impl<P> Level<P> {
         P: Part<S>,
         requires { level_full self.old ≡ true }
         ensures ok { IfOk result (Halves (level_state P.state) (PartsJoined P.joined) (level_middle self.old place) self.old self.new) }
+        ensures halved { IfOk result (λ part. IsHalved (level_middle self.old place) place (level_size self.old) (level_size self.new) (level_size part)) }
         ensures unchanged { OnErr result (SameStates (level_state P.state self.old) (level_state P.state self.new)) }
     {
         let half = parting(&self.keys, place);

@@ -1,7 +1,7 @@
 //! A leaf with its summary.
 
 ghost use Rattle.std.specs.Prelude.{◌≡◌, ◌≤◌, ℕ, true, false, None, Some, OnOk, OnErr, IfOk, IfSome};
-ghost use Rattle.pmf_runs.specs.{Ranks.{SameStates, CoversAll}, Joined.{JoinedBut, InOrder, ChangesRange, ChangesCut, Halves}, Leaves.{leaf_state, leaf_begins, leaf_full, leaf_middle}};
+ghost use Rattle.pmf_runs.specs.{Ranks.{SameStates, CoversAll}, Joined.{JoinedBut, InOrder, ChangesRange, ChangesCut, Halves}, Leaves.{leaf_state, leaf_begins, leaf_full, leaf_size, leaf_middle}, Spaces.{IsHalved}};
 
 use crate::leaf::Leaf;
 use crate::part::Part;
@@ -75,6 +75,7 @@ impl<S: State> Page<S> {
     fn halve(&mut self, place: u64) -> Result<Page<S>, AllocError>
         requires { leaf_full self.old.leaf ≡ true }
         ensures ok { IfOk result (λ part. Halves leaf_state JoinedBut (leaf_middle self.old.leaf place) self.old.leaf self.new.leaf part.leaf) }
+        ensures halved { IfOk result (λ part. IsHalved (leaf_middle self.old.leaf place) place (leaf_size self.old.leaf) (leaf_size self.new.leaf) (leaf_size part.leaf)) }
         ensures unchanged { OnErr result (SameStates (leaf_state self.old.leaf) (leaf_state self.new.leaf)) }
     {
         let rest = self.leaf.halve(place)?;
@@ -118,7 +119,11 @@ impl<S: State> Part<S> for Page<S> {
 
     ghost full = { λ page. leaf_full page.leaf };
 
+    ghost size = { λ page. leaf_size page.leaf };
+
     ghost middle = { λ page place. leaf_middle page.leaf place };
+
+    ghost makes_space = { λ place old new. new.leaf ≡ old.leaf };
 
     fn at(&self, place: u64) -> S {
         self.leaf.state_of(place)

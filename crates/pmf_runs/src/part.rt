@@ -2,7 +2,7 @@
 
 ghost use Rattle.std.specs.Prelude.{◌≡◌, ◌≤◌, ◌-◌, ℕ, Bool, true, Option, None, Some, IfOk, OnOk, OnErr, IfSome};
 ghost use Rattle.pmf_event.specs.Ranges.{first_from, least_from, lesser};
-ghost use Rattle.pmf_runs.specs.{Lines.{counted_from}, Ranks.{SameStates, CoversAll, IsTail}, Joined.{InOrder, ChangesRange, ChangesCut, Halves}};
+ghost use Rattle.pmf_runs.specs.{Lines.{counted_from}, Ranks.{SameStates, CoversAll, IsTail}, Joined.{InOrder, ChangesRange, ChangesCut, Halves}, Spaces.{IsHalved}};
 
 use crate::state::{Change, Effect, Key, State, Test};
 use crate::walk::Counted;
@@ -18,7 +18,11 @@ pub(crate) trait Part<S: State>: Drop {
 
     ghost full: { Self → Bool };
 
+    ghost size: { Self → ℕ };
+
     ghost middle: { Self → ℕ → ℕ };
+
+    ghost makes_space: { ℕ → Self → Self → Type 0 };
 
     /// The state of a number.
     fn at(&self, place: u64) -> S
@@ -45,12 +49,14 @@ pub(crate) trait Part<S: State>: Drop {
     fn split(&mut self, place: u64) -> Result<Self, AllocError>
         requires { full self.old ≡ true }
         ensures ok { IfOk result (Halves state joined (middle self.old place) self.old self.new) }
+        ensures halved { IfOk result (λ part. IsHalved (middle self.old place) place (size self.old) (size self.new) (size part)) }
         ensures unchanged { OnErr result (SameStates (state self.old) (state self.new)) };
 
     /// Splits what is full on the way to the number.
     fn make_space(&mut self, place: u64) -> Result<(), AllocError>
         ensures same { SameStates (state self.old) (state self.new) }
-        ensures joined { OnOk result (joined self.old None None → joined self.new None None) };
+        ensures joined { OnOk result (joined self.old None None → joined self.new None None) }
+        ensures space { OnOk result (makes_space place self.old self.new) };
 
     /// Makes a run begin at the number, which changes no state.
     fn cut(&mut self, place: u64) -> Result<(), AllocError>

@@ -1,0 +1,42 @@
+-- Space for more on the way to a number, by what is done to a full part.
+use Rattle.std.proofs.{Common.{◌≡◌, ℕ, ◌+◌, ◌<◌, ◌≤◌, Bool, true, false, List, length, get_or, set, take, drop, subst, arith, insert, Vec, Global, vec_len, length-set, length-take-le, length-drop, get_or-set_same}, lemmas.Bool.Decides.{nat_tests}, lemmas.List.{get_or_read}, lemmas.List.Edits.{length-insert, get_or-insert_below, get_or-insert_at, get_or-insert_above}}
+use Rattle.pmf_runs.{specs.declared.leaf.Leaf.{Leaf}, specs.declared.level.Level.{Level}, specs.Ranks.{rank, HasKey, parting}, specs.Leaves.{leaf_middle, leaf_size}, specs.Levels.{level_middle, level_size}, specs.Spaces.{IsHalved, HasSpace, MakesSpace}, proofs.RankLemmas.{rank-here, rank-unique}, proofs.LeafLemmas.{middle-is}, proofs.LevelLemmas.{level-bound, level-middle-is}, proofs.JoinedLevelLemmas.{has-fresh}}
+
+-- the keys are parted at one of them
+parts-few : (old low high : Vec ℕ Global) (m place : ℕ) → m ≡ parting old.items place → m < length old.items → low.items ≡ take m old.items → high.items ≡ drop (m + 1) old.items → IsHalved (get_or old.items m 0) place (vec_len old) (vec_len low) (vec_len high)
+unfolding parting
+parts-few old low high m place at within is_low is_high = grind (arith, nat_tests, length-take-le, length-drop, old.ok.0, low.ok.0, high.ok.0)
+
+pub leaf-halved : {S : Type 0} (old : Leaf S) (low high : Vec ℕ Global) (m place : ℕ) → m ≡ parting old.keys.items place → m < length old.keys.items → low.items ≡ take m old.keys.items → high.items ≡ drop (m + 1) old.keys.items →
+    IsHalved (leaf_middle old place) place (leaf_size old) (vec_len low) (vec_len high)
+leaf-halved old low high m place at within is_low is_high = subst (λ k. IsHalved k place (vec_len old.keys) (vec_len low) (vec_len high)) (middle-is old m place at) (parts-few old.keys low high m place at within is_low is_high)
+
+pub level-halved : {P : Type 0} (old : Level P) (low high : Vec ℕ Global) (m place : ℕ) → m ≡ parting old.keys.items place → m < length old.keys.items → low.items ≡ take m old.keys.items → high.items ≡ drop (m + 1) old.keys.items →
+    IsHalved (level_middle old place) place (level_size old) (vec_len low) (vec_len high)
+level-halved old low high m place at within is_low is_high = subst (λ k. IsHalved k place (vec_len old.keys) (vec_len low) (vec_len high)) (level-middle-is old m place at) (parts-few old.keys low high m place at within is_low is_high)
+
+-- the place's rank after a key is put in at it: that of the lower or of the higher half
+rank-low : (keys : List ℕ) (p place i : ℕ) → i ≡ rank keys place → place < p → rank (insert keys i p) place ≡ i
+rank-low keys p place i at below = let is = rank-here keys place i at in rank-unique (insert keys i p) place i (grind (arith, length-insert, get_or-insert_below, get_or-insert_at))
+
+rank-high : (keys : List ℕ) (p place i : ℕ) → i ≡ rank keys place → p ≤ place → rank (insert keys i p) place ≡ i + 1
+rank-high keys p place i at from = let is = rank-here keys place i at in rank-unique (insert keys i p) place (i + 1) (grind (arith, length-insert, get_or-insert_below, get_or-insert_at, get_or-insert_above))
+
+module _ {P : Type 0} (full : P → Bool) (size : P → ℕ) (middle : P → ℕ → ℕ) where
+  pub space-kept : (level : Level P) (part : P) (place i : ℕ) → i ≡ rank level.keys.items place → part ≡ get_or level.parts.items i part → full part ≡ false → HasSpace full size middle place level level
+  space-kept level part place i at read room = grind (arith, level-bound, get_or_read)
+
+  -- the number that it is to be split at is another part's, or a part begins there
+  pub space-other : (level : Level P) (part : P) (place i m : ℕ) → i ≡ rank level.keys.items place → part ≡ get_or level.parts.items i part → m ≡ middle part place → (rank level.keys.items m ≡ i → ⊥) → HasSpace full size middle place level level
+  space-other level part place i m at read is other = grind (arith, level-bound, get_or_read)
+
+  pub space-key : (level : Level P) (part : P) (place i m : ℕ) → i ≡ rank level.keys.items place → part ≡ get_or level.parts.items i part → m ≡ middle part place → HasKey level.keys.items m → HasSpace full size middle place level level
+  space-key level part place i m at read is has = let beside = has-fresh level.keys.items m level.ordered has in grind (arith, level-bound, get_or_read, beside)
+
+  pub space-split : (old new : Level P) (part low high : P) (place i m : ℕ) → i ≡ rank old.keys.items place → part ≡ get_or old.parts.items i part → full part ≡ true → m ≡ middle part place → IsHalved m place (size part) (size low) (size high) →
+      new.keys.items ≡ insert old.keys.items i m → new.parts.items ≡ insert (set old.parts.items i low) (i + 1) high → HasSpace full size middle place old new
+  space-split old new part low high place i m at read is_full is halved keys parts = grind (arith, level-bound, get_or_read, rank-low, rank-high, length-set, get_or-set_same, get_or-insert_below, get_or-insert_at)
+
+  pub space-made : (makes : ℕ → P → P → Type 0) (old split new : Level P) (part next : P) (place i : ℕ) → HasSpace full size middle place old split → i ≡ rank split.keys.items place → part ≡ get_or split.parts.items i part → makes place part next →
+      new.keys.items ≡ split.keys.items → new.parts.items ≡ set split.parts.items i next → MakesSpace full size middle makes place old new
+  space-made makes old split new part next place i has at read made keys parts = record { split = split; has = has; part = λ d. grind (arith, level-bound, get_or_read, get_or-set_same) }
