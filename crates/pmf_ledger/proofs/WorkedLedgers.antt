@@ -1,8 +1,8 @@
--- Worked examples of ledgers that hold one name with different events, and of their text lines, by the definitions alone.
-use Rattle.std.{specs.Fmt.{digits}, proofs.Common.{◌≡◌, ◌≢◌, [], ◌∷◌, length, codes, refl, sym, ◌∙◌, ap, subst, arith, inl, inr}}
+-- Worked examples of ledgers and of gatherings, of one name with different events too, and of a ledger's text lines.
+use Rattle.std.{specs.Fmt.{digits}, proofs.Common.{◌≡◌, ◌≢◌, [], ◌∷◌, length, codes, refl, sym, ◌∙◌, ap, subst, arith, inl, inr, All}, proofs.lemmas.{List.Elements.{All-cons}, List.Kept.{AllPairs-cons}, Grind.{common_steps}}}
 use Rattle.pmf_event.specs.{declared.event.Event.TheVariants.{Fence}, declared.name.Name.{Name}, declared.profile.Profile.TheVariants.{One, Two}, Section.{Trace}}
 use Rattle.pmf_verdict.specs.Checked.{Checked, checked_by}
-use Rattle.pmf_ledger.{specs.Gathered.{ClashesAt, Holds, HoldsOther, IsLeastClash}, specs.LedgerText.{text_of_end, text_of_head, text_of_ledger}, specs.LedgerValue.{LedgerValue}, specs.Report.{text_of_counts, text_of_totals}, specs.Names.{IsBefore}, proofs.lemmas.AddingLemmas.{Contains-cons_cases}, proofs.lemmas.MergingLemmas.{none_of_empty}, proofs.lemmas.NameLemmas.{before-itself}}
+use Rattle.pmf_ledger.{specs.Gathered.{ClashesAt, Holds, HoldsOther, IsLeastClash, IsLedgerOf}, specs.Gathering.{Begun, Gathering, Gives, IsBy, IsRefused, Joined, WithVerdict, set_of}, specs.LedgerText.{text_of_end, text_of_head, text_of_ledger}, specs.LedgerValue.{LedgerValue}, specs.Report.{text_of_counts, text_of_totals}, specs.Names.{ComesBefore, IsBefore}, proofs.lemmas.AddingLemmas.{Contains-cons, Contains-cons_cases}, proofs.lemmas.GatheringLemmas.{by_one, gives_ledger}, proofs.lemmas.GivingLemmas.{gives_where_it_may}, proofs.lemmas.MergingLemmas.{none_of_empty}, proofs.lemmas.NameLemmas.{before-itself}, proofs.lemmas.RefusingLemmas.{gives_or_is_refused}, proofs.lemmas.UniqueLemmas.{Agrees-ledger, ledger_once}}
 
 abbrev one : Name
 one = record { run = 0; number = 1 }
@@ -49,3 +49,71 @@ texts :
     × (text_of_ledger (record { profile = One; sections = [] }) ≡ codes "PMFARM-LEDGER 1\nend verdicts=0\n")
 unfolding digits text_of_counts text_of_totals text_of_head text_of_end
 texts = (refl, refl, refl, refl)
+
+-- ---- gatherings
+
+abbrev second : Trace
+second = record { name = record { run = 0; number = 2 }; events = [] }
+
+-- the verdict of one section, alone
+abbrev alone : Trace → Gathering
+alone s = WithVerdict (Begun Two) (checked_by Two s)
+
+-- the verdict of the later section, joined with those of both, so that one is a repeat
+abbrev gathered : Gathering
+gathered = Joined (alone second) (WithVerdict (alone fenced) (checked_by Two second))
+
+abbrev both : LedgerValue
+both = record { profile = Two; sections = checked_by Two fenced ∷ checked_by Two second ∷ [] }
+
+-- both sections once, in the order of their names
+is_both : IsLedgerOf Two (second ∷ second ∷ fenced ∷ []) both
+is_both =
+    let f = checked_by Two fenced in
+    let s = checked_by Two second in
+    let single : (P : Checked → Type 0) → P s → All P (s ∷ []) = λ P is. All-cons P s [] is (λ k d within. absurd (omega arith)) in
+    record {
+      profile_is = refl;
+      checked = All-cons (λ (c : Checked). c.profile ≡ Two) f (s ∷ []) refl (single (λ c. c.profile ≡ Two) refl);
+      rises = AllPairs-cons ComesBefore f (s ∷ []) (single (ComesBefore f) (inr (refl, omega arith))) (λ i j d lt within. absurd (omega arith));
+      same = λ t. (
+        grind (arith, common_steps, Contains-cons_cases, Contains-cons, none_of_empty),
+        grind (arith, common_steps, Contains-cons_cases, Contains-cons, none_of_empty),
+      );
+    }
+
+by_two : IsBy Two gathered
+unfolding IsBy
+by_two = ((refl, refl), ((refl, refl), refl))
+
+-- the gathering gives this ledger, and no other
+gives_both : Gives gathered both × ((l : LedgerValue) → Gives gathered l → l ≡ both)
+unfolding set_of
+gives_both =
+    let only : (l : LedgerValue) → Gives gathered l → l ≡ both = λ l gives.
+        let of = gives_ledger gathered l gives in
+        let by = by_one gathered l.profile Two of.2 by_two in
+        let of_l : IsLedgerOf Two (set_of gathered) l = subst (λ p. IsLedgerOf p (set_of gathered) l) by of.0 in
+        ledger_once Two (set_of gathered) (set_of gathered) l both of_l is_both (λ s. (λ has. has, λ has. has)) in
+    let some = gives_where_it_may gathered Two (Agrees-ledger Two (set_of gathered) both is_both) by_two in
+    (subst (Gives gathered) (only some.0 some.1) some.1, only)
+
+-- one name with different events, and a verdict by another profile
+abbrev clashing : Gathering
+clashing = Joined (alone fenced) (alone bare)
+
+abbrev mixed : Gathering
+mixed = WithVerdict (Begun One) (checked_by Two fenced)
+
+gives_none : ((l : LedgerValue) → Gives clashing l → ⊥) × ((l : LedgerValue) → Gives mixed l → ⊥)
+unfolding set_of IsBy
+gives_none = (
+  (λ l gives. let of = gives_ledger clashing l gives in differ (of.1 fenced bare (0, omega arith, refl) (1, omega arith, refl) refl)),
+  (λ l gives. let of = gives_ledger mixed l gives in absurd (cc (of.2.0 ∙ sym of.2.1))),
+)
+
+are_refused : IsRefused clashing × IsRefused mixed
+are_refused = (
+  elim (gives_or_is_refused clashing).0 [ inl gives ↦ absurd (gives_none.0 gives.0 gives.1) | inr refused ↦ refused ],
+  elim (gives_or_is_refused mixed).0 [ inl gives ↦ absurd (gives_none.1 gives.0 gives.1) | inr refused ↦ refused ],
+)
