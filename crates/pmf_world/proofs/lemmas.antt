@@ -11,3 +11,4 @@ pub mod ScheduleLemmas
 pub mod PlayingLemmas
 pub mod LedgersLemmas
 pub mod SimulatingLemmas
+pub mod StandingLemmas

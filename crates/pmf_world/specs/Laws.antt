@@ -3,7 +3,8 @@ use Rattle.std.specs.Prelude.{◌≡◌, ◌≢◌, ◌⊎◌, ◌↔◌, ℕ, �
 use Rattle.pmf_event.specs.Section.{Trace}
 use Rattle.pmf_ledger.specs.{Gathered.{Holds}, Repeats.{section_at}}
 use Rattle.pmf_board.specs.Machine.{entry_at}
-use Rattle.pmf_world.specs.{declared.step.WorldStep.{WorldStep}, Steps.{WorldState, Stepped, opening_of, stepped, after, set_at}, Worlds.{WorldValue, StandsFor, ledger_at}}
+use Rattle.pmf_event.specs.declared.profile.Profile.{Profile}
+use Rattle.pmf_world.specs.{declared.step.WorldStep.{WorldStep}, declared.step.WorldAnswer.{WorldAnswer}, Opening.{IsOpening}, Steps.{WorldState, Stepped, opening_of, stepped, after, set_at}, Worlds.{WorldValue, StandsFor, Steps, ledger_at}}
 use Rattle.pmf_world.specs.declared.step.WorldStep.TheVariants as step
 use Rattle.pmf_world.specs.declared.step.WorldAnswer.TheVariants as answer
 
@@ -49,3 +50,13 @@ TasksDiffer = (sections workers ledgers : ℕ) (steps : List WorldStep) → AllP
 abbrev pub DoneWasSent : Type 0
 DoneWasSent = (sections workers ledgers : ℕ) (steps : List WorldStep) → let w = after (opening_of sections workers ledgers) steps in
     (s : ℕ) → (entry_at w.farm.board s).done ≡ true → Contains w.farm.messages s
+
+-- the world stands for some state
+abbrev pub StandsForSome : WorldValue → Type 0
+StandsForSome world = (state : WorldState) × StandsFor world state
+
+-- a new world stands for some state, and what does so does after each step
+abbrev pub WorldsStandForSome : Type 0
+WorldsStandForSome =
+    ((profile : Profile) (sections : List Trace) (workers ledgers : ℕ) (world : WorldValue) → IsOpening profile sections workers ledgers world → StandsForSome world)
+    × ((old new : WorldValue) (newest : WorldStep) (told : WorldAnswer) → Steps old newest told new → StandsForSome old → StandsForSome new)
