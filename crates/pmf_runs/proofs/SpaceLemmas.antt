@@ -37,6 +37,6 @@ module _ {P : Type 0} (full : P → Bool) (size : P → ℕ) (middle : P → ℕ
       new.keys.items ≡ insert old.keys.items i m → new.parts.items ≡ insert (set old.parts.items i low) (i + 1) high → HasSpace full size middle place old new
   space-split old new part low high place i m at read is_full is halved keys parts = grind (arith, level-bound, get_or_read, rank-low, rank-high, length-set, get_or-set_same, get_or-insert_below, get_or-insert_at)
 
-  pub space-made : (makes : ℕ → P → P → Type 0) (old split new : Level P) (part next : P) (place i : ℕ) → HasSpace full size middle place old split → i ≡ rank split.keys.items place → part ≡ get_or split.parts.items i part → makes place part next →
-      new.keys.items ≡ split.keys.items → new.parts.items ≡ set split.parts.items i next → MakesSpace full size middle makes place old new
-  space-made makes old split new part next place i has at read made keys parts = record { split = split; has = has; part = λ d. grind (arith, level-bound, get_or_read, get_or-set_same) }
+  pub space-made : (makes : ℕ → P → P → Type 0) (old split new : Level P) (part next : P) (place i : ℕ) → HasSpace full size middle place old split → vec_len split.keys ≤ vec_len old.keys + 1 → i ≡ rank split.keys.items place → part ≡ get_or split.parts.items i part → makes place part next →
+      new.keys ≡ split.keys → new.parts.items ≡ set split.parts.items i next → MakesSpace full size middle makes place old new
+  space-made makes old split new part next place i has grown at read made keys parts = record { split = split; has = has; keys = keys; grown = grind arith; part = λ d. grind (arith, level-bound, get_or_read, get_or-set_same) }

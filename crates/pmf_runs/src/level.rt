@@ -99,6 +99,7 @@ impl<P> Level<P> {
         ensures same { SameStates (level_state P.state self.old) (level_state P.state self.new) }
         ensures joined { OnOk result (PartsJoined P.joined self.old None None → PartsJoined P.joined self.new None None) }
         ensures space { OnOk result (HasSpace P.full P.size P.middle place self.old self.new) }
+        ensures grown { vec_len self.new.keys ≤ vec_len self.old.keys + 1 }
     {
         if !self.parts[index].is_full() {
             return Ok(());
@@ -130,6 +131,7 @@ impl<P> Level<P> {
         ensures same { SameStates (level_state P.state self.old) (level_state P.state self.new) }
         ensures joined { OnOk result (PartsJoined P.joined self.old None None → PartsJoined P.joined self.new None None) }
         ensures space { OnOk result (HasSpace P.full P.size P.middle place self.old self.new) }
+        ensures grown { vec_len self.new.keys ≤ vec_len self.old.keys + 1 }
     {
         make_room(&mut self.keys)?;
         make_room(&mut self.parts)?;
