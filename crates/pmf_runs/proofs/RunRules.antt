@@ -1,5 +1,5 @@
 -- The lemmas that functions of src/ name in their attributes.
-use Rattle.pmf_runs.proofs.{AskingLemmas.{rank-front}, ChangingLemmas.{alters-none, on-ok, level-changed, on-error, changes-none, changes-altered}, JoinedLemmas.{joined-low, joined-high, beside-taken, joined-swap, joined-put}, JoinedLevelLemmas.{parts-kept, order-bound, parts-low as low-parts, parts-high as high-parts, parts-begun, parts-begun_too, parts-cut, parts-cut_too}, LeafLemmas.{same-both, parted-last, parted-middle, rest-copied, middle-is, parts-low, parts-high, same-joined, rank-bound, begins-kept, same-items, begins-put, begins-put_kept, same-put, begins-is, state-read, state-single, same-none}, LevelLemmas.{level-bound, level-set, begins-bound, inner-begins, level-joined, level-middle-is, level-low, level-high, level-tail, level-same, level-split, level-has, level-kept, level-begun, level-read, level-single}, LineCountLemmas.{counted-none}, RankLemmas.{bound_at-same, bound_at-other, rank-is, key-found, key-missing, remove-rises, insert-fresh, inner-within, at-low, at-high, high_rank-bound, none-is-any, high-some}, RunLemmas.{changes-empty, gap-is}, SkipLemmas.{least-none, first-none}, SpaceLemmas.{leaf-halved, level-halved, space-kept, space-other, space-key, space-split, space-made}}
+use Rattle.pmf_runs.proofs.{AskingLemmas.{rank-front}, ChangingLemmas.{alters-none, on-ok, level-changed, on-error, changes-none, changes-altered}, JoinedLemmas.{joined-low, joined-high, beside-taken, joined-swap, joined-put}, JoinedLevelLemmas.{parts-kept, order-bound, parts-low as low-parts, parts-high as high-parts, parts-begun, parts-begun_too, parts-cut, parts-cut_too}, LeafLemmas.{same-both, parted-last, parted-middle, rest-copied, middle-is, parts-low, parts-high, same-joined, rank-bound, begins-kept, same-items, begins-put, begins-put_kept, same-put, begins-is, state-read, state-single, same-none}, LevelLemmas.{level-bound, level-set, begins-bound, inner-begins, level-joined, level-middle-is, level-low, level-high, level-tail, level-same, level-split, level-has, level-kept, level-begun, level-read, level-single}, LineCountLemmas.{counted-none}, RankLemmas.{bound_at-same, bound_at-other, rank-is, key-found, key-missing, remove-rises, insert-fresh, inner-within, at-low, at-high, high_rank-bound, none-is-any, high-some}, RunLemmas.{changes-empty, gap-is}, SkipLemmas.{least-none, first-none}, SpaceLemmas.{leaf-halved, level-halved, space-kept, space-other, size-is, size-halved, space-made}}
 use Rattle.std.proofs.{Common.{vec_len}, lemmas.Bool.Decides.{nat_tests}, lemmas.List.{get_or_read}}
 
 pub ruleset skipped = (least-none, counted-none, first-none)
@@ -28,7 +28,7 @@ pub ruleset leaf_new = (state-single)
 
 pub ruleset level_changes = (level-bound, on-ok, level-changed, parts-kept, on-error, level-set)
 
-pub ruleset in_level = (level-bound)
+pub ruleset in_level = (level-bound, space-kept)
 
 pub ruleset parts_rewritten = (begins-bound, order-bound)
 
@@ -42,9 +42,9 @@ pub ruleset level_middle = (get_or_read, level-middle-is)
 
 pub ruleset level_tail = (level-tail)
 
-pub ruleset level_splits = (level-same, level-set, vec_len, insert-fresh, level-split, level-bound, space-split)
+pub ruleset level_splits = (level-same, level-set, vec_len, insert-fresh, level-split, level-bound, size-halved)
 
-pub ruleset level_parts = (level-bound, space-kept, space-other, space-key)
+pub ruleset level_parts = (level-bound, space-kept, space-other, size-is)
 
 pub ruleset level_space = (level-bound, same-both, level-set, on-ok, space-made)
 

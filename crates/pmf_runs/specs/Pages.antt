@@ -1,6 +1,6 @@
 -- The states of the numbers in a level of pages.
 use Rattle.std.specs.Prelude.{◌≡◌, ℕ, Option}
-use Rattle.pmf_runs.specs.{declared.level.Level.{Level}, declared.page.Page.{Page}, declared.state.State.{Ghosts}, Leaves.{leaf_state, leaf_begins, leaf_full, leaf_size, leaf_middle}, Levels.{level_state, level_begins}, Joined.{JoinedBut, PartsJoined}, Spaces.{MakesSpace}}
+use Rattle.pmf_runs.specs.{declared.level.Level.{Level}, declared.page.Page.{Page}, declared.state.State.{Ghosts}, Leaves.{leaf_state, leaf_begins, leaf_full, leaf_middle}, Levels.{level_state, level_begins}, Joined.{JoinedBut, PartsJoined}, Spaces.{MakesSpace}}
 
 module _ {S M : Type 0} {laws : Ghosts S M} where
   -- the state of a number in a level of pages is that in the leaf of the page that it is handed to
@@ -15,6 +15,6 @@ module _ {S M : Type 0} {laws : Ghosts S M} where
   abbrev pub pages_joined : Level (Page S M laws) → Option ℕ → Option ℕ → Type 0
   pages_joined = PartsJoined (λ page. JoinedBut page.leaf)
 
-  -- the page that the place is handed to was split if it was full, and no page is changed but so
-  abbrev pub pages_space : ℕ → Level (Page S M laws) → Level (Page S M laws) → Type 0
-  pages_space = MakesSpace (λ page. leaf_full page.leaf) (λ page. leaf_size page.leaf) (λ page. leaf_middle page.leaf) (λ place old new. new.leaf ≡ old.leaf)
+  -- the page that the place is handed to is not full, unless it can't be split
+  abbrev pub pages_space : ℕ → Level (Page S M laws) → Type 0
+  pages_space = MakesSpace (λ page. leaf_full page.leaf) (λ page. leaf_middle page.leaf) (λ place old new. new.leaf ≡ old.leaf)

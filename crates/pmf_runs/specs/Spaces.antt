@@ -1,5 +1,5 @@
 -- Space for more on the way to a number: what is full there is split.
-use Rattle.std.specs.Prelude.{◌≡◌, ◌<◌, ◌≤◌, ◌+◌, ◌/◌, ℕ, Bool, true, false, List, get_or, vec_len}
+use Rattle.std.specs.Prelude.{◌≡◌, ◌<◌, ◌≤◌, ◌/◌, ℕ, Bool, true, List, get_or, map}
 use Rattle.pmf_runs.specs.{declared.level.Level.{Level}, Ranks.{rank, IsFresh}}
 
 -- of the two halves, the one in which the place lies has at most half the keys
@@ -15,16 +15,17 @@ part_at level place d = get_or level.parts.items (rank level.keys.items place) d
 abbrev pub IsBeside : List ℕ → ℕ → ℕ → Type 0
 IsBeside keys place b = (rank keys b ≡ rank keys place) × IsFresh keys b
 
--- the part that the place is handed to is kept if it was not full; else it is not full any more, or has at most half its keys, unless the number that it was to be split at is not beside the place
-pub record HasSpace {P : Type 0} (full : P → Bool) (size : P → ℕ) (middle : P → ℕ → ℕ) (place : ℕ) (old new : Level P) : Type 0 where
-  pub kept : (d : P) → full (part_at old place d) ≡ false → part_at new place d ≡ part_at old place d
-  pub space : (d : P) → IsBeside old.keys.items place (middle (part_at old place d) place) → full (part_at new place d) ≡ true →
-      size (part_at new place d) ≤ size (part_at old place d) / 2
+-- the part that the place is handed to is not full, unless the number that it would be split at is another part's, or begins a part
+pub record HasSpace {P : Type 0} (full : P → Bool) (middle : P → ℕ → ℕ) (place : ℕ) (level : Level P) : Type 0 where
+  pub space : (d : P) → full (part_at level place d) ≡ true → IsBeside level.keys.items place (middle (part_at level place d) place) → ⊥
 
--- the part that the place is handed to was split if it was full, and then made space itself; the level has at most one key more
-pub record MakesSpace {P : Type 0} (full : P → Bool) (size : P → ℕ) (middle : P → ℕ → ℕ) (makes : ℕ → P → P → Type 0) (place : ℕ) (old new : Level P) : Type 0 where
-  pub split : Level P
-  pub has : HasSpace full size middle place old split
-  pub keys : new.keys ≡ split.keys
-  pub grown : vec_len new.keys ≤ vec_len old.keys + 1
-  pub part : (d : P) → makes place (part_at split place d) (part_at new place d)
+-- a level that had space, but that the part that the place is handed to has made space itself since
+pub record MakesSpace {P : Type 0} (full : P → Bool) (middle : P → ℕ → ℕ) (makes : ℕ → P → P → Type 0) (place : ℕ) (level : Level P) : Type 0 where
+  pub before : Level P
+  pub had : HasSpace full middle place before
+  pub keys : level.keys ≡ before.keys
+  pub part : (d : P) → makes place (part_at before place d) (part_at level place d)
+
+-- the size of the part that the place is handed to
+unfoldable pub size_at : {P : Type 0} → (P → ℕ) → Level P → ℕ → ℕ
+size_at size level place = get_or (map size level.parts.items) (rank level.keys.items place) 0

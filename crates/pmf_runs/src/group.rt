@@ -122,7 +122,7 @@ impl<S: State> Part<S> for Group<S> {
 
     ghost middle = { λ group place. level_middle group.level place };
 
-    ghost makes_space = { λ place old new. pages_space place old.level new.level };
+    ghost makes_space = { λ place old new. pages_space place new.level };
 
     fn at(&self, place: u64) -> S {
         self.level.state_of(place)

@@ -1,6 +1,6 @@
 //! A level of a map: parts, and the keys between them.
 
-ghost use Rattle.std.specs.Prelude.{◌≡◌, false, Option, None, Some, ◌≤◌, ◌<◌, ◌+◌, ◌-◌, ℕ, true, OnOk, OnErr, IfOk, IfSome, get_or, length, vec_len};
+ghost use Rattle.std.specs.Prelude.{◌≡◌, false, Option, None, Some, ◌≤◌, ◌<◌, ◌+◌, ◌-◌, ℕ, true, OnOk, OnErr, IfOk, IfSome, get_or, length, vec_len, ◌/◌};
 ghost use Rattle.pmf_runs.specs.Ranks.{Rises, rank, SameStates, IsFresh, CoversAll, IsTail, AllSettled};
 
 use crate::keys::{
@@ -27,7 +27,7 @@ pub(crate) struct Level<P> {
 }
 
 impl<P> Level<P> {
-    ghost use Rattle.pmf_runs.specs.{Levels.{level_state, level_begins, level_full, level_size, level_middle, BeginsAt, GoesOn, IsFullAt, Rewrites}, Spaces.{IsHalved, HasSpace, MakesSpace}, Joined.{PartsJoined, JoinsParts, InOrder, ChangesRange, ChangesCut, Halves}};
+    ghost use Rattle.pmf_runs.specs.{Levels.{level_state, level_begins, level_full, level_size, level_middle, BeginsAt, GoesOn, IsFullAt, Rewrites}, Spaces.{IsHalved, HasSpace, MakesSpace, size_at}, Joined.{PartsJoined, JoinsParts, InOrder, ChangesRange, ChangesCut, Halves}};
 
     /// The level of one part.
     #[tactic(auto, using(crate::proofs::RunRules::level_new))]
@@ -82,36 +82,36 @@ impl<P> Level<P> {
         P: Part<S>,
         ensures same { SameStates (level_state P.state self.old) (level_state P.state self.new) }
         ensures joined { OnOk result (PartsJoined P.joined self.old None None → PartsJoined P.joined self.new None None) }
-        ensures space { OnOk result (MakesSpace P.full P.size P.middle P.makes_space place self.old self.new) }
+        ensures space { OnOk result (MakesSpace P.full P.middle P.makes_space place self.new) }
     {
-        let full = rank_of(&self.keys, place);
-        self.split_full(full, place)?;
+        self.split_full(place)?;
         let index = rank_of(&self.keys, place);
         self.parts[index].make_space(place)
     }
 
-    /// Splits the part in two if it is full, before more is put in at this place.
+    /// Splits the part that the place is handed to until it is not full, before more is put in there. Once is enough
+    /// for what lists hold at most; one that can't be split is left.
     #[tactic(auto, using(crate::proofs::RunRules::level_parts))]
-    fn split_full<S: State>(&mut self, index: usize, place: u64) -> Result<(), AllocError>
+    fn split_full<S: State>(&mut self, place: u64) -> Result<(), AllocError>
     where
         P: Part<S>,
-        requires { index ≡ rank self.old.keys.items place }
         ensures same { SameStates (level_state P.state self.old) (level_state P.state self.new) }
         ensures joined { OnOk result (PartsJoined P.joined self.old None None → PartsJoined P.joined self.new None None) }
-        ensures space { OnOk result (HasSpace P.full P.size P.middle place self.old self.new) }
-        ensures grown { vec_len self.new.keys ≤ vec_len self.old.keys + 1 }
+        ensures space { OnOk result (HasSpace P.full P.middle place self.new) }
     {
-        if !self.parts[index].is_full() {
-            return Ok(());
+        let mut index = rank_of(&self.keys, place);
+        while self.parts[index].is_full() {
+            let middle = self.parts[index].middle(place);
+            if rank_of(&self.keys, middle) != index {
+                return Ok(());
+            }
+            if is_key(&self.keys, index, middle) {
+                return Ok(());
+            }
+            self.split_at(index, middle, place)?;
+            index = rank_of(&self.keys, place);
         }
-        let middle = self.parts[index].middle(place);
-        if rank_of(&self.keys, middle) != index {
-            return Ok(());
-        }
-        if is_key(&self.keys, index, middle) {
-            return Ok(());
-        }
-        self.split_at(index, middle, place)
+        Ok(())
     }
 
     /// Splits a full part at its middle.
@@ -130,8 +130,7 @@ impl<P> Level<P> {
         requires fresh { IsFresh self.old.keys.items middle }
         ensures same { SameStates (level_state P.state self.old) (level_state P.state self.new) }
         ensures joined { OnOk result (PartsJoined P.joined self.old None None → PartsJoined P.joined self.new None None) }
-        ensures space { OnOk result (HasSpace P.full P.size P.middle place self.old self.new) }
-        ensures grown { vec_len self.new.keys ≤ vec_len self.old.keys + 1 }
+        ensures halved { OnOk result (size_at P.size self.new place ≤ size_at P.size self.old place / 2) }
     {
         make_room(&mut self.keys)?;
         make_room(&mut self.parts)?;
@@ -358,7 +357,7 @@ impl<P> Level<P> {
         ensures ok { OnOk result (ChangesRange (level_state P.state) (PartsJoined P.joined) first end (C.changed change.now) self.old self.new) }
         ensures unchanged { OnErr result (SameStates (level_state P.state self.old) (level_state P.state self.new)) }
     {
-        self.split_full(index, first)?;
+        self.split_full(first)?;
         let index = rank_near(&self.keys, first, index);
         self.change_at(index, first, end, change)
     }
@@ -376,6 +375,7 @@ impl<P> Level<P> {
         P: Part<S>,
         requires order { first ≤ end }
         requires rank { index ≡ rank self.old.keys.items first }
+        requires space { HasSpace P.full P.middle first self.old }
         ensures ok { OnOk result (ChangesRange (level_state P.state) (PartsJoined P.joined) first end (C.changed change.now) self.old self.new) }
         ensures unchanged { OnErr result (SameStates (level_state P.state self.old) (level_state P.state self.new)) }
     {

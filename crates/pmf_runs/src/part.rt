@@ -1,6 +1,6 @@
 //! What the levels of a map are made of.
 
-ghost use Rattle.std.specs.Prelude.{◌≡◌, ◌≤◌, ◌-◌, ℕ, Bool, true, Option, None, Some, IfOk, OnOk, OnErr, IfSome};
+ghost use Rattle.std.specs.Prelude.{◌≡◌, ◌<◌, ◌≤◌, ◌-◌, ℕ, Bool, true, Option, None, Some, IfOk, OnOk, OnErr, IfSome};
 ghost use Rattle.pmf_event.specs.Ranges.{first_from, least_from, lesser};
 ghost use Rattle.pmf_runs.specs.{Lines.{counted_from}, Ranks.{SameStates, CoversAll, IsTail}, Joined.{InOrder, ChangesRange, ChangesCut, Halves}, Spaces.{IsHalved}};
 
@@ -38,7 +38,8 @@ pub(crate) trait Part<S: State>: Drop {
 
     /// Whether it should be split before more is put in.
     fn is_full(&self) -> bool
-        ensures { result ≡ full self.now };
+        ensures is { result ≡ full self.now }
+        ensures some { result ≡ true → 0 < size self.now };
 
     /// The number at which it is split before more is put in at this place.
     fn middle(&self, place: u64) -> u64
