@@ -21,14 +21,14 @@ pub struct Renewal {
 
 impl Part {
     /// The head of a part that goes on as this one does, and that part where no transaction runs and there is no scope, and the head has
-    /// fewer events than the limit and was found to be one.
+    /// at most so many events and was found to be one.
     ///
     /// It takes a step for each run of equal bytes of this part, and memory for its runs.
-    pub fn renewed(&self, alloc: Global, limit: u32) -> Result<Renewal, AllocError>
+    pub fn renewed(&self, alloc: Global, most: usize) -> Result<Renewal, AllocError>
         ensures { IfOk result (λ made. IfSome made.part (λ part. BeginsAt self.now part made.head.items)) }
     {
         let head = head_of(alloc, &self.shadow)?;
-        if head.len() >= limit as usize {
+        if head.len() > most {
             return Ok(Renewal { head, part: None });
         }
         let part = self.renewed_by(alloc, &head)?;

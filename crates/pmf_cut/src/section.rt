@@ -93,7 +93,12 @@ impl Cutting {
         if !self.is_good(event, limit) {
             return Ok(None);
         }
-        let Renewal { head, part } = self.part.part().renewed(alloc, limit)?;
+        let open = self.part.part().shadow.open_runs();
+        if open > self.most_open(limit) {
+            self.put_off(alloc, limit, open, notes)?;
+            return Ok(None);
+        }
+        let Renewal { head, part } = self.part.part().renewed(alloc, most_of_a_head(limit))?;
         match part {
             Some(part) => Ok(Some(NextPart { head, part })),
             None => {
@@ -116,24 +121,29 @@ impl Cutting {
     }
 
     // Whether to cut in front of this event, where it may be: in front of any in a part of as many events as it may have; before that
-    // in front of one that begins something, and until it is overdue only where nothing is open.
+    // in front of one that begins something; and until it is overdue only where nothing is open.
     fn is_good(&self, event: &Event, limit: u32) -> bool {
-        let length = self.part.events();
-        if length >= limit {
-            return true;
+        (self.part.events() >= limit || begins(event))
+            && (self.part.events() >= self.overdue || self.is_durable())
+    }
+
+    // How many open runs a head may tell: before the part is full, and where no file waits for the cut, as many as take half of the next
+    // part.
+    fn most_open(&self, limit: u32) -> usize {
+        if self.part.events() < limit && self.file == self.newest {
+            limit as usize / 2
+        } else {
+            most_of_a_head(limit)
         }
-        let begins = match event {
-            Event::Store(_) | Event::TxBegin | Event::CheckStart => true,
-            _ => false,
-        };
-        begins
-            && (length >= self.overdue
-                || self
-                    .part
-                    .part()
-                    .shadow
-                    .least_undurable(0, ADDRESS_LIMIT)
-                    .is_none())
+    }
+
+    // Whether no store is open.
+    fn is_durable(&self) -> bool {
+        self.part
+            .part()
+            .shadow
+            .least_undurable(0, ADDRESS_LIMIT)
+            .is_none()
     }
 
     /// The event happens; where it is an order assertion that the cuts may have changed, that is said. After an `Err` the section is
@@ -190,7 +200,7 @@ impl Cutting {
         Ok(())
     }
 
-    // There was no room for a cut: one is looked for again, but not at each event.
+    // A head would leave no room: a cut is looked for again where nothing is open, and else when the part is full, or is longer by as much.
     fn put_off(
         &mut self,
         alloc: Global,
@@ -201,13 +211,15 @@ impl Cutting {
         ensures { OnOk result (IsSame self.old self.new) }
     {
         let length = self.part.events();
-        if length < limit {
-            let later = length.saturating_add(limit / 8).saturating_add(1);
-            self.due = later.min(limit);
-            return Ok(());
+        self.overdue = if length < limit {
+            limit
+        } else {
+            length.saturating_add(limit)
+        };
+        if self.is_durable() {
+            self.due = self.overdue;
         }
-        self.due = length.saturating_add(limit);
-        let why = format!(in alloc; "what is excluded or not durable takes {told} events")?;
+        let why = format!(in alloc; "what is excluded or not durable takes about {told} events")?;
         self.tell_length(limit, notes, why.as_str())?;
         Ok(())
     }
@@ -228,6 +240,19 @@ impl Cutting {
     fn next_event(&self) -> u64 {
         self.events.saturating_add(1)
     }
+}
+
+// Whether this event begins something.
+fn begins(event: &Event) -> bool {
+    match event {
+        Event::Store(_) | Event::TxBegin | Event::CheckStart => true,
+        _ => false,
+    }
+}
+
+// How many events a head may have: behind a longer one a part had no room to speak of.
+fn most_of_a_head(limit: u32) -> usize {
+    limit.saturating_sub((limit / 16).max(1)) as usize
 }
 
 // Three quarters of the room behind a head, and at least one event.

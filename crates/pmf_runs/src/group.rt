@@ -187,6 +187,13 @@ impl<S: State> Part<S> for Group<S> {
         self.level.count_lines(first, end, test, so_far)
     }
 
+    fn count_runs<T: Test<S>>(&self, test: &T) -> usize {
+        if !test.may_pass(self.summary) {
+            return 0;
+        }
+        self.level.count_runs(test)
+    }
+
     #[tactic(auto, using(crate::proofs::RunRules::skipped))]
     fn least_key<K: Key<S>>(
         &self,

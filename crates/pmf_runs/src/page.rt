@@ -187,6 +187,13 @@ impl<S: State> Part<S> for Page<S> {
         self.leaf.count_lines(first, end, test, so_far)
     }
 
+    fn count_runs<T: Test<S>>(&self, test: &T) -> usize {
+        if !test.may_pass(self.summary) {
+            return 0;
+        }
+        self.leaf.count_runs(test)
+    }
+
     #[tactic(auto, using(crate::proofs::RunRules::skipped))]
     fn least_key<K: Key<S>>(
         &self,

@@ -97,6 +97,9 @@ pub(crate) trait Part<S: State>: Drop {
         ensures is { (d : S) → result ≡ counted_from (λ b. T.passes test.now (state self.now d b)) first (end - first) so_far }
         ensures bound { result.count ≤ result.next };
 
+    /// How many of its runs have a state that passes. For speed alone.
+    fn count_runs<T: Test<S>>(&self, test: &T) -> usize;
+
     /// The lesser of the least so far and the least key that a state of the numbers from `first` up to
     /// `end` has.
     fn least_key<K: Key<S>>(&self, first: u64, end: u64, key: &K, least: Option<u32>) -> Option<u32>

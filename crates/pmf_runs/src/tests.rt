@@ -176,6 +176,8 @@ fn a_map_answers_as_an_array_does(rt: HostRuntime) -> Result<(), Fail> {
         }
         assert_states(&rt, &map, &plain);
         assert_eq!(rt; map.key_count(), plain.borders());
+        let test = Is(some_colour(&mut numbers));
+        assert_eq!(rt; map.count_runs(&test), plain.count_runs(test));
     }
     Ok(())
 }

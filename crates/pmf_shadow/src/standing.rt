@@ -60,6 +60,12 @@ impl Shadow {
         }
     }
 
+    /// How many runs of bytes that stand alike are excluded or have a store that is not durable, as they are held: neighbouring runs may
+    /// stand alike. It takes a step for each run, but for what is durable at once.
+    pub fn open_runs(&self) -> usize {
+        self.bytes.count_runs(&IsOutstanding { epoch: self.fences })
+    }
+
     /// The least byte from the first one on, up to the end, whose last store is not durable.
     pub fn least_undurable(&self, first: u64, end: u64) -> Option<u64>
         ensures { ForEachList self.now (λ told es p. result ≡ first_from (is_undurable es p) first (end - first)) }

@@ -67,6 +67,17 @@ impl<S: State> Leaf<S> {
         self.states.len()
     }
 
+    /// How many of its runs have a state that passes.
+    pub(crate) fn count_runs<T: Test<S>>(&self, test: &T) -> usize {
+        let mut count = 0usize;
+        for i in 0..self.states.len() {
+            if test.passes(self.states[i]) {
+                count = count.saturating_add(1);
+            }
+        }
+        count
+    }
+
     /// The count of lines with those that have a number from `first` up to `end` whose state passes.
     pub(crate) fn count_lines<T: Test<S>>(
         &self,

@@ -62,6 +62,18 @@ impl<P> Level<P> {
         part.first_where(start, end_of(&self.keys, index, end), test)
     }
 
+    /// How many runs of its parts have a state that passes.
+    pub(crate) fn count_runs<S: State, T: Test<S>>(&self, test: &T) -> usize
+    where
+        P: Part<S>,
+    {
+        let mut count = 0usize;
+        for i in 0..self.parts.len() {
+            count = count.saturating_add(self.parts[i].count_runs(test));
+        }
+        count
+    }
+
     /// The count of lines with those that have a number from `first` up to `end` whose state passes.
     pub(crate) fn count_lines<S: State, T: Test<S>>(
         &self,

@@ -39,6 +39,15 @@ impl<S: State> RunMap<S> {
         }
     }
 
+    /// How many runs have a state that passes. Where two leaves meet, neighbouring ones may have one state. It takes a step for each run
+    /// of the leaves in which a state may pass.
+    pub fn count_runs<T: Test<S>>(&self, test: &T) -> usize {
+        match &self.root {
+            None => usize::from(test.passes(self.gap)),
+            Some(root) => root.count_runs(test),
+        }
+    }
+
     /// The least key that a state of the numbers from `first` up to `end` has, if one of them has any.
     /// The key of a run is asked once.
     pub fn least_key<K: Key<S>>(&self, first: u64, end: u64, key: &K) -> Option<u32>

@@ -54,6 +54,18 @@ impl Plain {
         None
     }
 
+    /// How many runs pass, the last of which has no end.
+    pub(super) fn count_runs(&self, test: Is) -> usize {
+        let mut count = usize::from(test.passes(self.at(0)));
+        for place in 0..self.places() {
+            let next = place.saturating_add(1);
+            if test.passes(self.at(next)) && !test.passes(self.at(place)) {
+                count = count.saturating_add(1);
+            }
+        }
+        count
+    }
+
     pub(super) fn count_lines(&self, first: u64, end: u64, test: Is) -> u64 {
         let mut count = 0u64;
         let mut last = None;

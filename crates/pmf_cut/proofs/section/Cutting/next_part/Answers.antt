@@ -4,5 +4,5 @@ use Rattle.pmf_cut.proofs.section.Cutting.next_part.Goals as goal
 
 pub returns-in-Some-clause-begins : goal.returns-in-Some-clause-begins
 returns-in-Some-clause-begins c = begins_behind c.catch_up.new.self c.in-Some.part _ c.in_ok-catch_up.ensures.none
-    (subst (λ (old : Part). BeginsAt old c.in-Some.part c.in_ok-head.field-0.head.items) c.part-2.ensures
-    (subst (λ (o : Option Part). IfSome o (λ part. BeginsAt c.part-2.result.now part c.in_ok-head.field-0.head.items)) c.in-Some.is c.in_ok-head.ensures))
+    (subst (λ (old : Part). BeginsAt old c.in-Some.part c.in_ok-head.field-0.head.items) c.part-3.ensures
+    (subst (λ (o : Option Part). IfSome o (λ part. BeginsAt c.part-3.result.now part c.in_ok-head.field-0.head.items)) c.in-Some.is c.in_ok-head.ensures))
