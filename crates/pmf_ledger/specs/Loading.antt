@@ -1,6 +1,6 @@
 -- What a text says that is loaded as a ledger: it is read from the top, text line by text line, and the first fault
 -- decides. Defined here.
-use Rattle.std.specs.{Prelude.{◌≡◌, ◌≢◌, ⊤, ℕ, zero, suc, ◌-◌, Bool, nat_lt, nat_eq, ◌==◌, List, [], ◌∷◌, ◌++◌, length, take, drop, slice_index_or, Option, Some, None, Result, Ok, Err, if◌then◌else◌, codes, Contains, bytes_eq}, List.{slice_split, starts_with}}
+use Rattle.std.specs.{Prelude.{◌≡◌, ◌≢◌, ⊤, ℕ, zero, suc, ◌-◌, ◌≤◌, Bool, nat_lt, nat_eq, ◌==◌, List, [], ◌∷◌, ◌++◌, length, take, drop, slice_index_or, Option, Some, None, Result, Ok, Err, IsOk, if◌then◌else◌, codes, Contains, bytes_eq}, List.{slice_split, starts_with}}
 use Rattle.pmf_event.specs.{declared.event.Event.{Event}, declared.name.Name.{Name}, declared.profile.Profile.{Profile}, declared.profile.Profile.TheVariants.{One, Two}, declared.row.Row.{Row}, declared.section.TheConstants.{EVENT_LIMIT}, Section.{Trace}}
 use Rattle.pmf_storelog.specs.{declared.fault.Cause.TheVariants.{TooManyEvents}, declared.line.LineFault.{LineFault}, declared.line.LineFault.TheVariants.{NoEvent, Refused}, Lines.{event_of_line}, LogText.{out_of_memory}, Numbers.{number_in_front}}
 use Rattle.pmf_verdict.specs.{Rows.{rows_of}, Text.{text_of_row}}
@@ -178,6 +178,29 @@ abbrev pub IsOfText : LedgerFault → Type 0
 IsOfText OutOfMemory = ⊥
 IsOfText (Log fault) = fault ≢ out_of_memory
 IsOfText _ = ⊤
+
+-- the fault is want of memory, the loader's own or that of an event
+abbrev pub IsWantOfMemory : LedgerFault → Type 0
+IsWantOfMemory OutOfMemory = ⊤
+IsWantOfMemory (Log fault) = fault ≡ out_of_memory
+IsWantOfMemory _ = ⊥
+
+-- at this stage the text line takes memory: it is the head of a block, an event that its section has room for, or compared with a row
+abbrev pub LineTakesMemory : Stage → List ℕ → Type 0
+LineTakesMemory AtBlock text = head_of text ≢ None
+LineTakesMemory (AtEvents section more told) text = IsOk (event_of_line text) × (length section.events ≢ EVENT_LIMIT)
+LineTakesMemory (AtRows section rows) text = ⊤
+LineTakesMemory _ text = ⊥
+
+-- memory may be wanted: the text is not too long, and some text line takes memory, up to which the reading has no fault and its blocks agree
+pub record MayWantMemory (text : List ℕ) : Type 0 where
+  pub fits : length text ≤ LEDGER_LIMIT
+  pub before : List (List ℕ)
+  pub line : List ℕ
+  pub rest : List (List ℕ)
+  pub whole : lines_of text ≡ before ++ line ∷ rest
+  pub agrees : Agrees (after_lines unread 1 before).blocks
+  pub takes : LineTakesMemory (after_lines unread 1 before).stage line
 
 -- the text loads as this ledger: it has no fault, and this is the ledger of its sections
 pub record LoadsAs (text : List ℕ) (ledger : LedgerValue) : Type 0 where

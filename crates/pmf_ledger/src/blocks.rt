@@ -1,8 +1,9 @@
 //! The blocks of a ledger text, as far as it was read.
 
-ghost use Rattle.std.specs.Prelude.{◌≡◌, ◌+◌, ◌<◌, ◌^◌, [], ◌++◌, drop, length, codes, IfOk, bytes_eq};
+ghost use Rattle.std.specs.Prelude.{◌≡◌, ◌≢◌, ◌+◌, ◌<◌, ◌^◌, [], ◌++◌, drop, length, codes, None, IfErr, IfOk, IsOk, bytes_eq};
+ghost use Rattle.pmf_event.specs.declared.section.TheConstants.{EVENT_LIMIT};
 ghost use Rattle.pmf_verdict.specs.{Checked.{rows_in}, Text.{text_of_row}};
-ghost use Rattle.pmf_ledger.specs.{Following.{HasRead, Reaches, StandsFor}, Loading.{Reading, after_end, after_event, after_head, after_line, after_row, after_version, end_of, fault_at, head_of, profile_of, unread, with_events, with_rows, with_section}};
+ghost use Rattle.pmf_ledger.specs.{Following.{HasRead, Reaches, StandsFor}, Gathered.{HoldsOther}, Loading.{IsWantOfMemory, Reading, LineTakesMemory, after_end, after_event, after_head, after_line, after_row, after_version, end_of, fault_at, head_of, profile_of, unread, with_events, with_rows, with_section}};
 ghost use Rattle.pmf_storelog.specs.Lines.{event_of_line};
 
 use crate::head::{read_end, read_head, read_version};
@@ -94,8 +95,10 @@ impl Blocks {
     ) -> Result<Next, LedgerFault>
         requires count { self.old.count < 2 ^ 63 }
         requires stands { (r : Reading) × StandsFor r self.old next }
-        ensures { (r : Reading) → StandsFor r self.old next
+        ensures reaches { (r : Reading) → StandsFor r self.old next
             → Reaches (after_line r line text.now) result self.new }
+        ensures memory { (r : Reading) → StandsFor r self.old next → 0 < line
+            → IfErr result (λ found. IsWantOfMemory found → LineTakesMemory r.stage text.now) }
     {
         match next {
             Next::Version => self.version(alloc, line, text),
@@ -111,8 +114,9 @@ impl Blocks {
     }
 
     fn version(&mut self, alloc: Global, line: u64, text: &[u8]) -> Result<Next, LedgerFault>
-        ensures { (r : Reading) → HasRead r self.old → r.blocks ≡ []
+        ensures reaches { (r : Reading) → HasRead r self.old → r.blocks ≡ []
             → Reaches (after_version r line (profile_of text.now)) result self.new }
+        ensures memory { IfErr result (λ found. IsWantOfMemory found → ⊥) }
     {
         match read_version(text) {
             Some(profile) => {
@@ -125,8 +129,9 @@ impl Blocks {
 
     fn block(&mut self, alloc: Global, line: u64, text: &[u8]) -> Result<Next, LedgerFault>
         requires { self.old.count < 2 ^ 63 }
-        ensures { (r : Reading) → HasRead r self.old
+        ensures reaches { (r : Reading) → HasRead r self.old
             → Reaches (after_head r line text.now (head_of text.now)) result self.new }
+        ensures memory { IfErr result (λ found. IsWantOfMemory found → head_of text.now ≢ None) }
     {
         match read_head(text) {
             Some(head) => {
@@ -138,8 +143,9 @@ impl Blocks {
     }
 
     fn end(&mut self, line: u64, text: &[u8]) -> Result<Next, LedgerFault>
-        ensures { (r : Reading) → HasRead r self.old
+        ensures reaches { (r : Reading) → HasRead r self.old
             → Reaches (after_end r line (end_of text.now)) result self.new }
+        ensures memory { IfErr result (λ found. IsWantOfMemory found → ⊥) }
     {
         match read_end(text) {
             Some(blocks) => {
@@ -164,9 +170,11 @@ impl Blocks {
     ) -> Result<Next, LedgerFault>
         requires count { self.old.count < 2 ^ 63 }
         requires some { 0 < more }
-        ensures { (r : Reading) → HasRead r self.old
+        ensures reaches { (r : Reading) → HasRead r self.old
             → Reaches (after_event r line section more told (event_of_line text.now))
             result self.new }
+        ensures memory { 0 < line → IfErr result (λ found. IsWantOfMemory found
+            → IsOk (event_of_line text.now) × (length section.events ≢ EVENT_LIMIT)) }
     {
         let mut section = section;
         let event = match read_event(text) {
@@ -290,8 +298,10 @@ impl Blocks {
     fn take(&mut self, verdict: Verdict) -> Result<Next, LedgerFault>
         requires count { self.old.count < 2 ^ 63 }
         requires profile { verdict.profile ≡ self.old.ledger.profile }
-        ensures { (r : Reading) → HasRead r self.old
+        ensures reaches { (r : Reading) → HasRead r self.old
             → Reaches (with_rows r verdict.section []) result self.new }
+        ensures memory { IfErr result (λ found. IsWantOfMemory found
+            → HoldsOther self.old.ledger verdict.section → ⊥) }
     {
         let name = verdict.name();
         match self.ledger.take(verdict) {

@@ -126,6 +126,8 @@ impl Ledger {
             ↔ (self.profile ≢ other.profile) }
         ensures conflict { (name : Name) → (AreRefusedAs result (JoinFault.Conflict name)
             ↔ (self.profile ≡ other.profile) × IsLeastClash self other name) }
+        ensures memory { AreRefusedAs result JoinFault.OutOfMemory
+            → (self.profile ≡ other.profile) × AgreeTogether self other }
         ensures returned { IfErr result (λ refused. (refused.1 ≡ self) × (refused.2 ≡ other)) }
     {
         if self.profile != other.profile {

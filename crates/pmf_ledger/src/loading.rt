@@ -1,7 +1,7 @@
 //! A ledger from its text.
 
-ghost use Rattle.std.specs.Prelude.{◌≡◌, MatchResult};
-ghost use Rattle.pmf_ledger.specs.{FaultText.{words_of_conflict}, Following.{is_over}, Loading.{IsOfText, IsRefusedWith, LoadsAs}};
+ghost use Rattle.std.specs.Prelude.{◌≡◌, IfErr, MatchResult};
+ghost use Rattle.pmf_ledger.specs.{FaultText.{words_of_conflict}, Following.{is_over}, Loading.{IsOfText, IsRefusedWith, IsWantOfMemory, LoadsAs, MayWantMemory}};
 
 use crate::blocks::{Blocks, Next};
 use crate::ledger::Ledger;
@@ -85,8 +85,9 @@ fn words_of_conflict() -> &'static str
 /// Blocks in the order of their names, as they are written, are loaded in the time that their checks take; a block before
 /// others costs what [`Ledger::take`] says.
 pub fn load_ledger(alloc: Global, text: &[u8]) -> Result<Ledger, LedgerFault>
-    ensures { MatchResult result (LoadsAs text.now)
+    ensures loads { MatchResult result (LoadsAs text.now)
         (λ found. IsOfText found → IsRefusedWith text.now found) }
+    ensures memory { IfErr result (λ found. IsWantOfMemory found → MayWantMemory text.now) }
 {
     if text.len() > LEDGER_LIMIT {
         return Err(LedgerFault::NotALedger { line: 0 });

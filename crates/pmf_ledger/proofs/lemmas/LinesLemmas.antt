@@ -1,9 +1,9 @@
 -- A ledger text read text line by text line: what is left of it, and where the reading ends.
-use Rattle.std.proofs.{Common.{◌≡◌, ℕ, suc, ◌+◌, ◌-◌, ◌<◌, ◌≤◌, true, false, List, [], ◌∷◌, ◌++◌, length, take, drop, get_or, Bool, Some, None, refl, sym, ◌∙◌, ap, arith, if◌then◌else◌, le-ltb, lt-ltb, append_assoc, append-nil, length-drop, length-take-le, rules}, lemmas.Grind.{common_steps}}
+use Rattle.std.proofs.{Common.{◌≡◌, ℕ, suc, ◌+◌, ◌-◌, ◌<◌, ◌≤◌, true, false, List, [], ◌∷◌, ◌++◌, length, take, drop, get_or, Bool, Some, None, refl, sym, ◌∙◌, ap, subst, arith, if◌then◌else◌, le-ltb, lt-ltb, append_assoc, append-nil, length-drop, length-take-le, rules}, lemmas.Grind.{common_steps}, lemmas.List.{length_push}}
 use Rattle.memchr.specs.Find.{IsFirstByte, is_byte}
 use Rattle.pmf_event.specs.{declared.name.Name.{Name}, Section.{Trace}}
 use Rattle.pmf_storelog.proofs.SplitLemmas.{split_none, split_some, split_filled}
-use Rattle.pmf_ledger.{specs.declared.blocks.Blocks.{Blocks}, specs.declared.blocks.Next.{Next}, specs.declared.loading.LedgerFault.{LedgerFault}, specs.declared.loading.LedgerFault.TheVariants.{NotALedger}, specs.declared.loading.TheConstants.{LEDGER_LIMIT}, specs.Following.{IsNext, StandsFor, IsStoppedBy, is_over}, specs.Gathering.{Agrees}, specs.Loading.{Reading, AtFault, unread, after_row, after_line_at, with_rows, with_section, with_events, after_line, after_lines, is_line_end, parts_of, lines_of, left_of, reading_of, fault_at_end, fault_of, IsFirstOther, IsRefusedWith, LoadsAs}, proofs.lemmas.ReadingLemmas.{line-at}, proofs.lemmas.UniqueLemmas.{Agrees-ledger}}
+use Rattle.pmf_ledger.{specs.declared.blocks.Blocks.{Blocks}, specs.declared.blocks.Next.{Next}, specs.declared.loading.LedgerFault.{LedgerFault}, specs.declared.loading.LedgerFault.TheVariants.{NotALedger}, specs.declared.loading.TheConstants.{LEDGER_LIMIT}, specs.Following.{HasRead, IsNext, StandsFor, IsStoppedBy, is_over}, specs.Gathering.{Agrees}, specs.Loading.{Reading, AtFault, unread, after_row, after_line_at, with_rows, with_section, with_events, after_line, after_lines, is_line_end, parts_of, lines_of, left_of, reading_of, fault_at_end, fault_of, IsFirstOther, IsRefusedWith, LineTakesMemory, LoadsAs, MayWantMemory}, proofs.lemmas.ReadingLemmas.{line-at}, proofs.lemmas.UniqueLemmas.{Agrees-ledger}}
 
 -- the first of some parts, with more behind it
 take_before : {X : Type 0} (x : X) (xs : List X) → 0 < length xs → take (length (x ∷ xs) - 1) (x ∷ xs) ≡ x ∷ take (length xs - 1) xs
@@ -71,6 +71,29 @@ unfolding after_lines after_line_at
 stays r found n [] is = refl
 stays r found n (text ∷ texts) is = let same = line-at r n text (AtFault found) is in ap (λ e. after_lines e (suc n) texts) same ∙ stays r found (suc n) texts is
 
+after-push : (r : Reading) (n : ℕ) (front : List (List ℕ)) (text : List ℕ) → after_lines r n (front ++ text ∷ []) ≡ after_line (after_lines r n front) (n + length front) text
+unfolding after_lines
+after-push r n [] text = let none : n + length {A = List ℕ} [] ≡ n = omega arith in rw none refl
+after-push r n (first ∷ front) text = let one : n + length (first ∷ front) ≡ suc n + length front = omega arith in rw one (after-push (after_line r n first) (suc n) front text)
+
+-- the text lines before this rest lead to this reading
+unfoldable pub IsBehind : List ℕ → List ℕ → ℕ → Reading → Type 0
+IsBehind text rest line r = (front : List (List ℕ)) × (lines_of text ≡ front ++ lines_of rest) × (after_lines unread 1 front ≡ r) × (1 + length front ≡ line)
+
+behind-start : (text : List ℕ) → IsBehind text text 1 unread
+unfolding after_lines IsBehind
+behind-start text = ([], refl, refl, refl)
+
+behind-next : (text rest : List ℕ) (line end : ℕ) (r : Reading) → IsBehind text rest line r → IsFirstByte (is_byte 10) rest (Some end) → IsBehind text (drop (end + 1) rest) (line + 1) (after_line r line (take end rest))
+unfolding IsBehind
+behind-next text rest line end r (front, whole, read, count) found =
+    let next = take end rest in let long = length_push front next in (
+      front ++ next ∷ [],
+      whole ∙ ap (λ lines. front ++ lines) (lines_more rest end found) ∙ sym (append_assoc front (next ∷ []) (lines_of (drop (end + 1) rest))),
+      after-push unread 1 front next ∙ ap (λ n. after_line (after_lines unread 1 front) n next) count ∙ ap (λ o. after_line o line next) read,
+      omega (arith, long, count),
+    )
+
 -- in the text at this line, with this rest: the reading so far leads to the reading of the whole
 pub record IsAt (text rest : List ℕ) (line : ℕ) (r : Reading) : Type 0 where
   pub whole : after_lines r line (lines_of rest) ≡ reading_of text
@@ -78,13 +101,14 @@ pub record IsAt (text rest : List ℕ) (line : ℕ) (r : Reading) : Type 0 where
   pub left : left_of rest ≡ left_of text
   pub few : length r.blocks < line
   pub short : line + length rest ≤ length text + 1
+  pub behind : IsBehind text rest line r
 
 lines-count : (text : List ℕ) → 1 + length (lines_of text) ≡ length (parts_of text)
 lines-count text = grind (arith, common_steps, parts_filled, length-take-le)
 
 pub IsAt-start : (text : List ℕ) → length text ≤ LEDGER_LIMIT → IsAt text text 1 unread
 unfolding reading_of
-IsAt-start text short = grind (arith, common_steps, le-ltb, lines-count)
+IsAt-start text short = grind (arith, common_steps, le-ltb, lines-count, behind-start)
 
 -- too long
 pub refused-long : (text : List ℕ) → LEDGER_LIMIT < length text → IsRefusedWith text (NotALedger 0)
@@ -95,7 +119,7 @@ refused-long text long = rw (lt-ltb LEDGER_LIMIT (length text) long) ((λ s t he
 pub IsAt-next : (text rest : List ℕ) (line end : ℕ) (r : Reading) → IsAt text rest line r → end < length rest → IsFirstByte (is_byte 10) rest (Some end) →
     IsAt text (drop (end + 1) rest) (line + 1) (after_line r line (take end rest))
 unfolding after_lines
-IsAt-next text rest line end r here inside found = grind (arith, common_steps, lines_more, left_more, blocks-more, length-drop)
+IsAt-next text rest line end r here inside found = grind (arith, common_steps, lines_more, left_more, blocks-more, length-drop, behind-next)
 
 -- where the reading stops, so does the text
 module _ (text rest : List ℕ) (line : ℕ) (r : Reading) (here : IsAt text rest line r) where
@@ -118,6 +142,22 @@ module _ (text rest : List ℕ) (line : ℕ) (r : Reading) (here : IsAt text res
 
   pub refused-at : (found : LedgerFault) → IsStoppedBy r found → IsRefusedWith text found
   refused-at found stop = search (rules, stopped_at, other_at)
+
+-- memory may be wanted where a text line takes some
+pub wants-at : (text rest : List ℕ) (line end : ℕ) (r : Reading) (blocks : Blocks) → IsAt text rest line r → HasRead r blocks → IsFirstByte (is_byte 10) rest (Some end) → length text ≤ LEDGER_LIMIT →
+    LineTakesMemory r.stage (take end rest) → MayWantMemory text
+unfolding IsBehind
+wants-at text rest line end r blocks here read found fits takes =
+    let behind = here.behind in
+    record {
+      fits = fits;
+      before = behind.0;
+      line = take end rest;
+      rest = lines_of (drop (end + 1) rest);
+      whole = behind.1 ∙ ap (λ lines. behind.0 ++ lines) (lines_more rest end found);
+      agrees = subst (λ (o : Reading). Agrees o.blocks) (sym behind.2) (Agrees-ledger r.profile r.blocks blocks.ledger read.ledger);
+      takes = subst (λ (o : Reading). LineTakesMemory o.stage (take end rest)) (sym behind.2) takes;
+    }
 
 -- where no text line is left, the reading is that of the text
 module _ (text rest : List ℕ) (line : ℕ) (r : Reading) (here : IsAt text rest line r) (none : IsFirstByte (is_byte 10) rest None) where
