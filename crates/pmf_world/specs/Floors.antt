@@ -1,5 +1,5 @@
 -- What the floor of a world keeps, beside the farm that it shows. Defined here.
-use Rattle.std.specs.Prelude.{◌≡◌, ◌≢◌, ℕ, ◌+◌, ◌<◌, ◌≤◌, List, length, sum_by, slice_get, Some, None, Result, Ok, Err, All}
+use Rattle.std.specs.Prelude.{◌≡◌, ◌≢◌, ℕ, ◌+◌, ◌<◌, ◌≤◌, List, length, sum_by, slice_get, Some, None, Result, Ok, Err, IsOk, All}
 use Rattle.pmf_event.specs.{declared.profile.Profile.{Profile}, Section.{Trace}}
 use Rattle.pmf_verdict.specs.Checked.{Checked, checked_by}
 use Rattle.pmf_board.specs.declared.entry.Entry.{Entry}
@@ -66,7 +66,7 @@ abbrev pub IsTurned : FloorValue → Turned → Result WorldAnswer WorldFault �
 IsTurned old turn (Ok told) new = (farm : FarmState) × (turn ≡ Ok (told, farm)) × Becomes old farm new
 IsTurned old turn (Err refused) new = (turn ≡ Err refused) × (refused ≢ fault.OutOfMemory) × (new ≡ old)
 
--- the same, or memory was refused, and then the floor is as it was
+-- the same, or memory was refused to a turn that is not, and then the floor is as it was
 abbrev pub IsTurnedIfRoom : FloorValue → Turned → Result WorldAnswer WorldFault → FloorValue → Type 0
-IsTurnedIfRoom old turn (Err fault.OutOfMemory) new = new ≡ old
+IsTurnedIfRoom old turn (Err fault.OutOfMemory) new = IsOk turn × (new ≡ old)
 IsTurnedIfRoom old turn result new = IsTurned old turn result new

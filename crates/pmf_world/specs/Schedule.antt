@@ -1,5 +1,5 @@
 -- A schedule: its text, and the steps that it tells. Defined here.
-use Rattle.std.specs.{Prelude.{ℕ, suc, ◌^◌, Bool, nat_lt, ◌==◌, ◌&&◌, List, [], ◌∷◌, Option, None, Some, Result, Ok, Err, if◌then◌else◌, codes, bytes_eq}, List.{slice_split}, Str.Parse.{digits_value}}
+use Rattle.std.specs.{Prelude.{◌≡◌, ◌<◌, ℕ, suc, ◌^◌, Bool, nat_lt, ◌==◌, ◌&&◌, List, [], ◌∷◌, length, take, Option, None, Some, Result, Ok, Err, if◌then◌else◌, codes, bytes_eq}, List.{slice_split}, Str.Parse.{digits_value}}
 use Rattle.pmf_storelog.specs.Numbers.{is_numeral}
 use Rattle.pmf_world.specs.declared.step.{WorldStep.{WorldStep}, WorldStep.TheVariants.{Fresh, Again, Check, Send, Mark, Lose, Arrive, Join}}
 
@@ -65,3 +65,7 @@ steps_of_lines n (text ∷ texts) = line_before n text (steps_of_lines (suc n) t
 -- the steps that a schedule tells, or the number of its first text line that is neither empty nor a step
 unfoldable pub schedule_of : List ℕ → Result (List WorldStep) ℕ
 schedule_of text = steps_of_lines 1 (slice_split is_line_end text)
+
+-- some text lines from the front of a schedule tell steps, at least one
+abbrev pub TellsSome : List ℕ → Type 0
+TellsSome text = (n : ℕ) × (steps : List WorldStep) × (0 < length steps) × (steps_of_lines 1 (take n (slice_split is_line_end text)) ≡ Ok steps)

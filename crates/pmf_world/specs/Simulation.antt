@@ -1,9 +1,9 @@
 -- What a simulation writes of a log and a schedule, and what it refuses. Defined here.
-use Rattle.std.specs.Prelude.{◌≡◌, ◌≢◌, ℕ, ◌<◌, ◌≤◌, List, [], ◌++◌, length, reverse, Ok, Err}
+use Rattle.std.specs.Prelude.{◌≡◌, ◌≢◌, ◌⊎◌, ℕ, ◌<◌, ◌≤◌, List, [], ◌++◌, length, reverse, Ok, Err}
 use Rattle.pmf_event.specs.{declared.profile.Profile.TheVariants.{One}, Section.{Trace}}
 use Rattle.pmf_storelog.specs.{LogText.{log_of, out_of_memory}, LogValue.{LogValue}}
 use Rattle.pmf_board.specs.{declared.board.TheConstants.{MOST_WORKERS}, Workers.{AreWorkers}}
-use Rattle.pmf_world.specs.{declared.fault.TheConstants.{MOST_LEDGERS}, declared.fault.WorldNewFault.{WorldNewFault}, declared.step.WorldStep.{WorldStep}, Steps.{after, opening_of}, Worlds.{WorldValue, StandsFor}, declared.simulating.SimFault.{SimFault}, declared.simulating.TheConstants.{SCHEDULE_LIMIT}, Schedule.{schedule_of}, Lines.{text_of_steps, text_of_ledgers}}
+use Rattle.pmf_world.specs.{declared.fault.TheConstants.{MOST_LEDGERS}, declared.fault.WorldNewFault.{WorldNewFault}, declared.step.WorldStep.{WorldStep}, Steps.{after, opening_of}, Worlds.{WorldValue, StandsFor}, declared.simulating.SimFault.{SimFault}, declared.simulating.TheConstants.{SCHEDULE_LIMIT}, Schedule.{TellsSome, schedule_of}, Lines.{text_of_steps, text_of_ledgers}}
 use Rattle.pmf_world.specs.declared.fault.WorldNewFault.TheVariants as new
 use Rattle.pmf_world.specs.declared.simulating.SimFault.TheVariants as fault
 
@@ -38,7 +38,8 @@ IsNumbersFault workers ledgers new.TooManyLedgers = AreWorkers workers × (MOST_
 IsNumbersFault workers ledgers new.OutOfMemory = AreWorkers workers
 IsNumbersFault workers ledgers _ = ⊥
 
--- why there is no simulation: each fault where those before it don't apply; want of memory says nothing
+-- why there is no simulation: each fault where those before it don't apply; memory is wanted by a schedule
+-- that is not too long and tells some steps, or where nothing is refused
 abbrev pub IsSimFault : List ℕ → List ℕ → ℕ → ℕ → SimFault → Type 0
 IsSimFault log schedule workers ledgers fault.TooLong = SCHEDULE_LIMIT < length schedule
 IsSimFault log schedule workers ledgers (fault.BadStep line) = (length schedule ≤ SCHEDULE_LIMIT) × (schedule_of schedule ≡ Err line)
@@ -46,4 +47,6 @@ IsSimFault log schedule workers ledgers (fault.Log found) =
     (steps : List WorldStep) × IsSchedule schedule steps × (found ≢ out_of_memory → log_of 0 log ≡ Err found)
 IsSimFault log schedule workers ledgers (fault.New found) =
     (steps : List WorldStep) × (read : LogValue) × IsSchedule schedule steps × (log_of 0 log ≡ Ok read) × IsNumbersFault workers ledgers found
-IsSimFault log schedule workers ledgers fault.OutOfMemory = Unit {0}
+IsSimFault log schedule workers ledgers fault.OutOfMemory =
+    ((length schedule ≤ SCHEDULE_LIMIT) × TellsSome schedule)
+    ⊎ ((steps : List WorldStep) × (read : LogValue) × IsSchedule schedule steps × (log_of 0 log ≡ Ok read) × AreWorkers workers × (ledgers ≤ MOST_LEDGERS))

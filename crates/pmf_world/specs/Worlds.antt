@@ -1,5 +1,5 @@
 -- A world as contracts see it, and what it stands for. Defined here.
-use Rattle.std.specs.Prelude.{◌≡◌, ℕ, ◌<◌, List, [], length, map, get_or, Contains, Ok, Err, All}
+use Rattle.std.specs.Prelude.{◌≡◌, ℕ, ◌<◌, List, [], length, map, get_or, Contains, Ok, Err, IsOk, All}
 use Rattle.pmf_event.specs.{declared.profile.Profile.{Profile}, Section.{Trace}}
 use Rattle.pmf_ledger.specs.{Gathered.{Holds, IsLedgerOf}, LedgerValue.{LedgerValue}, Repeats.{section_at}}
 use Rattle.pmf_world.specs.{declared.step.WorldStep.{WorldStep}, declared.step.WorldAnswer.{WorldAnswer}, declared.step.WorldFault.{WorldFault}, Turns.{FarmState}, Steps.{WorldState, stepped, set_at}}
@@ -46,7 +46,8 @@ pub record Steps (old : WorldValue) (newest : WorldStep) (told : WorldAnswer) (n
   pub sections_stay : new.sections ≡ old.sections
   pub follows : (state : WorldState) → StandsFor old state → (after : WorldState) × (stepped state newest ≡ Ok (told, after)) × StandsFor new after
 
--- whatever the world stands for, the step is refused there for this reason; want of memory comes only where the step takes some
+-- whatever the world stands for, the step is refused there for this reason; want of memory comes only where the step takes some, and is not
+-- refused there
 abbrev pub Refuses : WorldValue → WorldStep → WorldFault → Type 0
-Refuses world newest fault.OutOfMemory = TakesMemory newest
+Refuses world newest fault.OutOfMemory = TakesMemory newest × ((state : WorldState) → StandsFor world state → IsOk (stepped state newest))
 Refuses world newest refused = (state : WorldState) → StandsFor world state → stepped state newest ≡ Err refused

@@ -80,6 +80,7 @@ impl World {
     }
 
     // A message arrives at a ledger.
+    #[tactic(auto, using(std::proofs::lemmas::Grind::common_steps, crate::proofs::lemmas::WorldLedgerLemmas::arrive_ok))]
     pub(crate) fn arrive(&mut self, message: u32, ledger: u32) -> Result<WorldAnswer, WorldFault>
         ensures steps { IfOk result (λ told.
             Steps self.old (WorldStep.Arrive message ledger) told self.new) }
@@ -100,7 +101,7 @@ impl World {
     }
 
     // A ledger is joined with a copy of another, or with itself.
-    #[tactic(auto, using(std::proofs::lemmas::Grind::common_steps, crate::proofs::lemmas::WorldLedgerLemmas::join_steps))]
+    #[tactic(auto, using(std::proofs::lemmas::Grind::common_steps, crate::proofs::lemmas::WorldLedgerLemmas::join_steps, crate::proofs::lemmas::WorldLedgerLemmas::join_ok))]
     pub(crate) fn join(&mut self, into: u32, from: u32) -> Result<WorldAnswer, WorldFault>
         ensures steps { IfOk result (λ told.
             Steps self.old (WorldStep.Join into from) told self.new) }

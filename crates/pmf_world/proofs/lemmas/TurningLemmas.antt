@@ -23,7 +23,7 @@ module _ (old new : FloorValue) (turn : Turned) (ledgers : List LedgerValue) whe
   kept-turned (Err refused) is kept = subst (λ f. IsKept f ledgers) (sym is.2) kept
 
   pub kept-turned_if_room : (r : Result WorldAnswer WorldFault) → IsTurnedIfRoom old turn r new → IsKept old ledgers → IsKept new ledgers
-  kept-turned_if_room (Err fault.OutOfMemory) is kept = subst (λ f. IsKept f ledgers) (sym is) kept
+  kept-turned_if_room (Err fault.OutOfMemory) is kept = subst (λ f. IsKept f ledgers) (sym is.1) kept
   kept-turned_if_room r is kept = kept-turned r is kept
 
 module _ (old : WorldValue) (newest : WorldStep) (turn : FarmState → Turned) (floor new : FloorValue) (ledgers : List LedgerValue) (is_old : world_on floor ledgers ≡ old)

@@ -1,9 +1,9 @@
 -- What one ledger of a world takes or is joined with, and the world after it.
-use Rattle.std.{proofs.Common.{rules, ◌≡◌, ℕ, zero, suc, ◌+◌, ◌<◌, true, List, [], ◌∷◌, ◌++◌, length, set, get_or, slice_get, refl, sym, ◌∙◌, ap, subst, Some, Ok, inl, inr, arith, if◌then◌else◌, eqb, eqb-true, ◌↔◌, Contains, IfOk, OnOk, OnErr, Result, Err, All, eq-eqb}, specs.List.{list_any}, proofs.lemmas.List.{get_or-map, get_or_default, length-map, map-append, set-get_or}, proofs.lemmas.List.Elements.{All-append, All-cons, All-get_or, Contains-append_cases, Contains-append_left}, proofs.lemmas.List.Folds.{Any-from_list_any, list_any_at}, proofs.lemmas.Option.{slice_get-get_or}, proofs.lemmas.Grind.{common_steps}}
+use Rattle.std.{proofs.Common.{rules, ◌≡◌, ℕ, zero, suc, ◌<◌, true, List, [], ◌∷◌, ◌++◌, length, set, get_or, slice_get, refl, sym, ◌∙◌, ap, subst, Some, Ok, inl, inr, arith, if◌then◌else◌, eqb, eqb-true, ◌↔◌, Contains, IfOk, IsOk, OnOk, OnErr, Result, Err, All, eq-eqb}, specs.List.{list_any}, proofs.lemmas.List.{get_or-map, get_or_default, length-map, map-append, set-get_or}, proofs.lemmas.List.Elements.{All-append, All-cons, All-get_or, Contains-append_cases, Contains-append_left}, proofs.lemmas.List.Folds.{Any-from_list_any, list_any_at}, proofs.lemmas.Option.{slice_get-get_or}, proofs.lemmas.Grind.{common_steps}}
 use Rattle.pmf_event.specs.{declared.name.Name.{Name}, declared.profile.Profile.{Profile}, Section.{Trace}}
 use Rattle.pmf_ledger.{specs.declared.taking.Taken.{Taken}, specs.Gathered.{ClashesAt, Gains, Gathers, GathersBoth, Holds, HoldsOther, IsLedgerOf, Unites}, specs.LedgerValue.{LedgerValue}, specs.Repeats.{HaveOwnNames, is_name, names_of, no_section, section_at}, proofs.lemmas.AddingLemmas.{from_map, to_map}, proofs.lemmas.RepeatLemmas.{is_name-yes, some_two}}
 use Rattle.pmf_verdict.specs.Checked.{Checked}
-use Rattle.pmf_world.{specs.Floors.{IsSent}, specs.Steps.{WorldState, set_at, with_set, arrive_found, join_found}, specs.Worlds.{IsOfWorld, StandsFor, Steps, WorldValue, ledger_at, sections_at}, specs.Gatherings.{JoinsAt, TakesAt, answer_of, with_ledger}, proofs.lemmas.WorldStandsLemmas.{StandsFor-set}}
+use Rattle.pmf_world.{specs.Floors.{IsSent}, specs.Steps.{WorldState, set_at, stepped, with_set, arrive_found, join_found}, specs.Worlds.{IsOfWorld, StandsFor, Steps, WorldValue, ledger_at, sections_at}, specs.Gatherings.{JoinsAt, TakesAt, answer_of, with_ledger}, proofs.lemmas.WorldStandsLemmas.{StandsFor-set}}
 use Rattle.pmf_ledger.specs.declared.taking.Taken.TheVariants as taken
 use Rattle.pmf_world.specs.declared.step.WorldAnswer.TheVariants as answer
 use Rattle.pmf_world.specs.declared.step.WorldStep.TheVariants as step
@@ -117,6 +117,14 @@ arrive-steps old new m k v t own sent there takes =
                 (All-cons (λ n. n < length old.sections) s gathered here (within_at old state stands k there)) stands,
           );
     })
+
+-- a message that was sent and ledgers that there are refuse nothing
+module _ (old : WorldValue) (state : WorldState) (stands : StandsFor old state) (k : ℕ) (there : k < length old.ledgers) where
+  pub arrive_ok : (m : ℕ) (v : Checked) → IsSent old.profile old.sections old.farm.messages m v → IsOk (stepped state (step.Arrive m k))
+  arrive_ok m v sent = let message = subst (λ f. slice_get f.messages m ≡ Some sent.0) stands.farm sent.1 in rw (message, there_is old state stands k there) refl
+
+  pub join_ok : (from : ℕ) → from < length old.ledgers → IsOk (stepped state (step.Join k from))
+  join_ok from other = rw (there_is old state stands k there, there_is old state stands from other) refl
 
 -- a ledger is joined with another
 pub join_steps : (old new : WorldValue) (k from : ℕ) → k < length old.ledgers → from < length old.ledgers → JoinsAt old k from new → Steps old (step.Join k from) answer.Joined new
