@@ -192,7 +192,8 @@ LineTakesMemory (AtEvents section more told) text = IsOk (event_of_line text) ×
 LineTakesMemory (AtRows section rows) text = ⊤
 LineTakesMemory _ text = ⊥
 
--- memory may be wanted: the text is not too long, and some text line takes memory, up to which the reading has no fault and its blocks agree
+-- memory may be wanted: the text is not too long, and some text line takes memory, up to which the reading has no fault and its
+-- blocks agree
 pub record MayWantMemory (text : List ℕ) : Type 0 where
   pub fits : length text ≤ LEDGER_LIMIT
   pub before : List (List ℕ)

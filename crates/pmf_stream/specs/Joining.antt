@@ -1,11 +1,9 @@
 -- What the texts of ledgers give that are joined, text after text. Defined here.
-use Rattle.std.specs.Prelude.{◌≡◌, ◌≢◌, ℕ, zero, suc, ◌<◌, ◌≤◌, Bool, List, [], false, length, map, take, slice_index_or, None, All, flat_map}
+use Rattle.std.specs.Prelude.{◌≡◌, ◌≢◌, ◌⊎◌, ℕ, zero, suc, ◌<◌, ◌≤◌, Bool, List, [], false, length, map, take, slice_index_or, None, All, flat_map}
 use Rattle.pmf_event.specs.{declared.profile.Profile.{Profile}, declared.profile.Profile.TheVariants.{One}, Section.{Trace}}
-use Rattle.pmf_ledger.specs.{declared.joining.JoinFault.{JoinFault}, declared.loading.LedgerFault.{LedgerFault}, Gathered.{GathersBoth, IsLeastClash, IsLedgerOf, Unites}, AllKept.{AllKept, AllFilled}, LedgerValue.{LedgerValue}, Loading.{IsRefusedWith, LoadsAs, fault_of, reading_of}, Report.{totals_of}, ReportTold.{sections_told, shown}}
+use Rattle.pmf_ledger.specs.{declared.joining.JoinFault.{JoinFault}, Joining.{AgreeTogether}, Gathered.{GathersBoth, IsLeastClash, IsLedgerOf, Unites}, AllKept.{AllKept, AllFilled}, LedgerValue.{LedgerValue}, Loading.{IsRefusedWith, LoadsAs, MayWantMemory, fault_of, reading_of}, Report.{totals_of}, ReportTold.{sections_told, shown}}
 use Rattle.pmf_stream.specs.{declared.joining.Joined.{Joined}, declared.joining.JoinTextFault.{JoinTextFault}, Checking.{text_asked}}
 use Rattle.pmf_ledger.specs.declared.joining.JoinFault.TheVariants as join
-use Rattle.pmf_ledger.specs.declared.loading.LedgerFault.TheVariants as load
-use Rattle.pmf_storelog.specs.declared.fault.Cause.TheVariants as cause
 use Rattle.pmf_stream.specs.declared.joining.JoinTextFault.TheVariants as fault
 
 -- the sections of a text's blocks
@@ -27,25 +25,20 @@ pub record IsReached (texts : List (List ℕ)) (index : ℕ) (before : LedgerVal
   pub within : index < length texts
   pub joined : IsJoinOf (take index texts) before
 
--- the loader's fault is want of memory, its own or that of an event
-abbrev pub IsWantOfMemory : LedgerFault → Type 0
-IsWantOfMemory load.OutOfMemory = Unit {0}
-IsWantOfMemory (load.Log found) = found.cause ≡ cause.OutOfMemory
-IsWantOfMemory _ = ⊥
-
 -- two ledgers are not joined for this reason
 abbrev pub IsJoinFaultOf : LedgerValue → LedgerValue → JoinFault → Type 0
 IsJoinFaultOf a b join.ProfileMismatch = a.profile ≢ b.profile
 IsJoinFaultOf a b (join.Conflict name) = (a.profile ≡ b.profile) × IsLeastClash a b name
-IsJoinFaultOf a b join.OutOfMemory = Unit {0}
+IsJoinFaultOf a b join.OutOfMemory = (a.profile ≡ b.profile) × AgreeTogether a b
 
--- the text of this index is refused with this fault, want of memory aside: it is refused itself, or its ledger does not
--- join that of the texts before it
+-- the text of this index is refused with this fault: it is refused itself, or its ledger does not join that of the texts
+-- before it; memory is wanted where it may be, by the text or by the join
 abbrev pub IsRefusedAt : LedgerValue → ℕ → List ℕ → JoinTextFault → Type 0
 IsRefusedAt before index text (fault.Load told found) = (told ≡ index) × IsRefusedWith text found
 IsRefusedAt before index text (fault.Join join.OutOfMemory) = ⊥
 IsRefusedAt before index text (fault.Join found) = (1 ≤ index) × (after : LedgerValue) × LoadsAs text after × IsJoinFaultOf before after found
-IsRefusedAt before index text fault.OutOfMemory = Unit {0}
+IsRefusedAt before index text fault.OutOfMemory =
+    MayWantMemory text ⊎ ((1 ≤ index) × (after : LedgerValue) × LoadsAs text after × IsJoinFaultOf before after join.OutOfMemory)
 
 -- text after text, those before one of them are joined, and that one is refused with this fault
 abbrev pub IsFirstRefusal : List (List ℕ) → JoinTextFault → Type 0

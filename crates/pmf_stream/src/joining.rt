@@ -1,8 +1,8 @@
 //! From the texts of ledgers to the text of the ledger of them all.
 
-ghost use Rattle.std.specs.Prelude.{◌≡◌, ◌+◌, ◌≤◌, ℕ, List, map, IfOk, IfErr, MatchResult};
-ghost use Rattle.pmf_ledger.specs.{LedgerValue.{LedgerValue}, Loading.{IsOfText, IsRefusedWith, LoadsAs}};
-ghost use Rattle.pmf_stream.specs.{Answering.{Answers, TellsFaults}, Failures.{CanCountOneMore}, Joining.{IsFirstRefusal, IsJoinFaultOf, IsJoinOf, IsJoinOfTwo, IsJoinedAt, IsJoinedText, IsRefusalOfTexts, IsRefusedAt, IsWantOfMemory}};
+ghost use Rattle.std.specs.Prelude.{◌≡◌, ◌+◌, ◌⊎◌, ◌≤◌, ℕ, List, map, IfOk, IfErr, IsErrOf, MatchResult};
+ghost use Rattle.pmf_ledger.specs.{LedgerValue.{LedgerValue}, Loading.{IsOfText, IsRefusedWith, IsWantOfMemory, LoadsAs, MayWantMemory}};
+ghost use Rattle.pmf_stream.specs.{Answering.{Answers, TellsFaults}, Failures.{CanCountOneMore}, Joining.{IsFirstRefusal, IsJoinFaultOf, IsJoinOf, IsJoinOfTwo, IsJoinedAt, IsJoinedText, IsRefusalOfTexts, IsRefusedAt}};
 
 use crate::checking::write_asked;
 use crate::fault::StreamFault;
@@ -43,15 +43,16 @@ pub enum JoinTextFault {
 // Why the text of this index was not loaded.
 fn fault_at(index: usize, fault: LedgerFault) -> JoinTextFault
     ensures refused { (before : LedgerValue) (text : List ℕ)
-        → (IsOfText fault → IsRefusedWith text fault) → IsRefusedAt before index text result }
+        → (IsOfText fault → IsRefusedWith text fault) → (IsWantOfMemory fault → MayWantMemory text)
+        → IsRefusedAt before index text result }
     ensures memory { result ≡ JoinTextFault.OutOfMemory → IsWantOfMemory fault }
 {
     match fault {
         LedgerFault::OutOfMemory => JoinTextFault::OutOfMemory,
         LedgerFault::Log(
             LogFault {
+                at: 0,
                 cause: Cause::OutOfMemory,
-                ..
             },
         ) => JoinTextFault::OutOfMemory,
         fault => JoinTextFault::Load { index, fault },
@@ -136,6 +137,10 @@ pub fn join_to<W: Sink>(
     ensures answer { Answers (IsJoinedText as_ledger (map (λ text. text.items) texts.now))
         (IsRefusalOfTexts (map (λ text. text.items) texts.now))
         (W.held writer.old) (W.held writer.new) result }
+    // Memory was wanted where a text is loaded or joined, or the texts are joined.
+    ensures memory { IsErrOf result StreamFault.OutOfMemory
+        → IsFirstRefusal (map (λ text. text.items) texts.now) JoinTextFault.OutOfMemory
+        ⊎ ((ledger : LedgerValue) × IsJoinOf (map (λ text. text.items) texts.now) ledger) }
     ensures faults { TellsFaults 0 0 (W.failed_calls writer.old) (W.failed_calls writer.new)
         writer.old writer.new result }
 {

@@ -1,5 +1,7 @@
 //! From a log and a schedule to the text of the simulation, written.
 
+ghost use Rattle.std.specs.Prelude.{IsErrOf};
+ghost use Rattle.pmf_world.specs.Simulation.{IsSimFault};
 ghost use Rattle.pmf_stream.specs.{Answering.{Answers, TellsFaults}, Failures.{CanCountOneMore}, Simulated.{IsSimRefusalOf, IsSimulationOf}};
 
 use crate::fault::StreamFault;
@@ -26,6 +28,8 @@ pub fn sim_to<W: Sink>(
     ensures answer { Answers (IsSimulationOf log.now schedule.now workers ledgers)
         (IsSimRefusalOf log.now schedule.now workers ledgers)
         (W.held writer.old) (W.held writer.new) result }
+    ensures memory { IsErrOf result StreamFault.OutOfMemory
+        → IsSimFault log.now schedule.now workers ledgers SimFault.OutOfMemory }
     ensures faults { TellsFaults 0 0 (W.failed_calls writer.old) (W.failed_calls writer.new)
         writer.old writer.new result }
 {

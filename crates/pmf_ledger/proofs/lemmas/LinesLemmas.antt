@@ -71,20 +71,24 @@ unfolding after_lines after_line_at
 stays r found n [] is = refl
 stays r found n (text ∷ texts) is = let same = line-at r n text (AtFault found) is in ap (λ e. after_lines e (suc n) texts) same ∙ stays r found (suc n) texts is
 
-after-push : (r : Reading) (n : ℕ) (front : List (List ℕ)) (text : List ℕ) → after_lines r n (front ++ text ∷ []) ≡ after_line (after_lines r n front) (n + length front) text
+after-push : (r : Reading) (n : ℕ) (front : List (List ℕ)) (text : List ℕ) →
+    after_lines r n (front ++ text ∷ []) ≡ after_line (after_lines r n front) (n + length front) text
 unfolding after_lines
 after-push r n [] text = let none : n + length {A = List ℕ} [] ≡ n = omega arith in rw none refl
-after-push r n (first ∷ front) text = let one : n + length (first ∷ front) ≡ suc n + length front = omega arith in rw one (after-push (after_line r n first) (suc n) front text)
+after-push r n (first ∷ front) text =
+    let one : n + length (first ∷ front) ≡ suc n + length front = omega arith in rw one (after-push (after_line r n first) (suc n) front text)
 
 -- the text lines before this rest lead to this reading
 unfoldable pub IsBehind : List ℕ → List ℕ → ℕ → Reading → Type 0
-IsBehind text rest line r = (front : List (List ℕ)) × (lines_of text ≡ front ++ lines_of rest) × (after_lines unread 1 front ≡ r) × (1 + length front ≡ line)
+IsBehind text rest line r =
+    (front : List (List ℕ)) × (lines_of text ≡ front ++ lines_of rest) × (after_lines unread 1 front ≡ r) × (1 + length front ≡ line)
 
 behind-start : (text : List ℕ) → IsBehind text text 1 unread
 unfolding after_lines IsBehind
 behind-start text = ([], refl, refl, refl)
 
-behind-next : (text rest : List ℕ) (line end : ℕ) (r : Reading) → IsBehind text rest line r → IsFirstByte (is_byte 10) rest (Some end) → IsBehind text (drop (end + 1) rest) (line + 1) (after_line r line (take end rest))
+behind-next : (text rest : List ℕ) (line end : ℕ) (r : Reading) → IsBehind text rest line r → IsFirstByte (is_byte 10) rest (Some end) →
+    IsBehind text (drop (end + 1) rest) (line + 1) (after_line r line (take end rest))
 unfolding IsBehind
 behind-next text rest line end r (front, whole, read, count) found =
     let next = take end rest in let long = length_push front next in (
@@ -144,8 +148,8 @@ module _ (text rest : List ℕ) (line : ℕ) (r : Reading) (here : IsAt text res
   refused-at found stop = search (rules, stopped_at, other_at)
 
 -- memory may be wanted where a text line takes some
-pub wants-at : (text rest : List ℕ) (line end : ℕ) (r : Reading) (blocks : Blocks) → IsAt text rest line r → HasRead r blocks → IsFirstByte (is_byte 10) rest (Some end) → length text ≤ LEDGER_LIMIT →
-    LineTakesMemory r.stage (take end rest) → MayWantMemory text
+pub wants-at : (text rest : List ℕ) (line end : ℕ) (r : Reading) (blocks : Blocks) → IsAt text rest line r → HasRead r blocks →
+    IsFirstByte (is_byte 10) rest (Some end) → length text ≤ LEDGER_LIMIT → LineTakesMemory r.stage (take end rest) → MayWantMemory text
 unfolding IsBehind
 wants-at text rest line end r blocks here read found fits takes =
     let behind = here.behind in

@@ -1,7 +1,7 @@
 -- Ledger texts joined one after another.
 use Rattle.std.proofs.{Common.{◌≡◌, ℕ, List, [], ◌∷◌, ◌++◌, length, flat_map, refl, sym, ◌∙◌, ap, subst, ◌≢◌, ◌↔◌, All, append-nil}, lemmas.Grind.{flat_map-append}, lemmas.List.Elements.{All-cons, All-nil, All-push}}
 use Rattle.pmf_event.specs.declared.{name.Name.{Name}, profile.Profile.{Profile}, profile.Profile.TheVariants.{One, Two}}
-use Rattle.pmf_ledger.specs.{declared.joining.JoinFault.{JoinFault}, declared.joining.JoinFault.TheVariants.{ProfileMismatch, Conflict, OutOfMemory}, Gathered.{IsLeastClash, IsLedgerOf}, LedgerValue.{LedgerValue}, Loading.{LoadsAs, reading_of}}
+use Rattle.pmf_ledger.specs.{declared.joining.JoinFault.{JoinFault}, declared.joining.JoinFault.TheVariants.{ProfileMismatch, Conflict, OutOfMemory}, Gathered.{IsLeastClash, IsLedgerOf}, Joining.{AgreeTogether}, LedgerValue.{LedgerValue}, Loading.{LoadsAs, reading_of}}
 use Rattle.pmf_stream.specs.Joining.{IsJoinFaultOf, IsJoinOf, IsJoinedAt, IsOfProfile, blocks_of}
 
 -- profiles that don't differ are the same
@@ -45,7 +45,8 @@ IsJoinOf-more (first ∷ texts) before new text is (after, loads, joined) =
 
 -- why two ledgers were refused, from what `join` says of each cause
 pub IsJoinFaultOf-refused : (a b : LedgerValue) (found : JoinFault) → ((found ≡ ProfileMismatch) ↔ (a.profile ≢ b.profile)) →
-    ((name : Name) → (found ≡ Conflict name) ↔ ((a.profile ≡ b.profile) × IsLeastClash a b name)) → IsJoinFaultOf a b found
-IsJoinFaultOf-refused a b ProfileMismatch mismatch conflict = mismatch.0 refl
-IsJoinFaultOf-refused a b (Conflict name) mismatch conflict = (conflict name).0 refl
-IsJoinFaultOf-refused a b OutOfMemory mismatch conflict = tt
+    ((name : Name) → (found ≡ Conflict name) ↔ ((a.profile ≡ b.profile) × IsLeastClash a b name)) →
+    (found ≡ OutOfMemory → (a.profile ≡ b.profile) × AgreeTogether a b) → IsJoinFaultOf a b found
+IsJoinFaultOf-refused a b ProfileMismatch mismatch conflict memory = mismatch.0 refl
+IsJoinFaultOf-refused a b (Conflict name) mismatch conflict memory = (conflict name).0 refl
+IsJoinFaultOf-refused a b OutOfMemory mismatch conflict memory = memory refl

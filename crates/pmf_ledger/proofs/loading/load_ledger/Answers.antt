@@ -26,8 +26,10 @@ returns-in-Err-clause-loads c = λ of_text.
 pub returns-in-Err-clause-memory : goal.returns-in-Err-clause-memory
 returns-in-Err-clause-memory c =
     let text = c.args.text.now in let rest = c.loop-end.rest.now in let line = c.loop-end.line in let end = c.in-Some.end in
-    let r = c.loop-end.invariant.0 in let stands = c.loop-end.invariant.1 in let here = c.loop-end.invariant.2 in let few = here.few in let out = c.if-text-gt-LEDGER_LIMIT.false in
-    let takes = subst (λ result. IfErr result (λ found. IsWantOfMemory found → LineTakesMemory r.stage (take end rest))) c.in-Err.is (c.follow.ensures.memory r stands (omega (arith, few))) in
+    let r = c.loop-end.invariant.0 in let stands = c.loop-end.invariant.1 in let here = c.loop-end.invariant.2 in
+    let few = here.few in let out = c.if-text-gt-LEDGER_LIMIT.false in
+    let takes =
+    subst (λ result. IfErr result (λ found. IsWantOfMemory found → LineTakesMemory r.stage (take end rest))) c.in-Err.is (c.follow.ensures.memory r stands (omega (arith, few))) in
     λ wants. wants-at text rest line end r _ here stands.0 (subst (IsFirstByte (is_byte 10) rest) c.in-Some.is c.memchr.ensures) (omega (arith, out)) (takes wants)
 
 pub returns-then-is_over-clause-loads : goal.returns-then-is_over-clause-loads
