@@ -68,4 +68,5 @@ schedule_of text = steps_of_lines 1 (slice_split is_line_end text)
 
 -- some text lines from the front of a schedule tell steps, at least one
 abbrev pub TellsSome : List ℕ → Type 0
-TellsSome text = (n : ℕ) × (steps : List WorldStep) × (0 < length steps) × (steps_of_lines 1 (take n (slice_split is_line_end text)) ≡ Ok steps)
+TellsSome text =
+    (n : ℕ) × (steps : List WorldStep) × (0 < length steps) × (steps_of_lines 1 (take n (slice_split is_line_end text)) ≡ Ok steps)

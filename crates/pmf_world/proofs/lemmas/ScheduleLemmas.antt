@@ -14,8 +14,8 @@ steps_then-none told = grind (arith, common_steps)
 empty-then : (n : ℕ) (text : List ℕ) (told : Result (List WorldStep) ℕ) → length text ≡ 0 → told ≡ line_before n text told
 empty-then n text told none = grind (arith, common_steps)
 
-step-then : (n : ℕ) (text : List ℕ) (told : Result (List WorldStep) ℕ) (steps : List WorldStep) (step : WorldStep) → 0 < length text → step_of_line text ≡ Some step →
-    steps_then (steps ++ step ∷ []) told ≡ steps_then steps (line_before n text told)
+step-then : (n : ℕ) (text : List ℕ) (told : Result (List WorldStep) ℕ) (steps : List WorldStep) (step : WorldStep) →
+    0 < length text → step_of_line text ≡ Some step → steps_then (steps ++ step ∷ []) told ≡ steps_then steps (line_before n text told)
 step-then n text told steps step some tells = grind (arith, common_steps, append_assoc)
 
 -- the first k of these text lines tell these steps, whatever follows them; the next one has number n
@@ -42,7 +42,8 @@ module _ (texts : List (List ℕ)) (k n : ℕ) (steps : List WorldStep) (here : 
 
   module _ (text : List ℕ) (within : k < length texts) (is : text ≡ get_or texts k text) where
     one_more : (rest : List (List ℕ)) → take k texts ++ text ∷ rest ≡ take (k + 1) texts ++ rest
-    one_more rest = sym (append_assoc (take k texts) (text ∷ []) rest) ∙ ap (λ front. front ++ rest) (ap (λ t. take k texts ++ t ∷ []) is ∙ sym (take_more texts k text within))
+    one_more rest =
+        sym (append_assoc (take k texts) (text ∷ []) rest) ∙ ap (λ front. front ++ rest) (ap (λ t. take k texts ++ t ∷ []) is ∙ sym (take_more texts k text within))
 
     more : (rest : List (List ℕ)) → steps_then steps (line_before n text (steps_of_lines (n + 1) rest)) ≡ steps_of_lines 1 (take (k + 1) texts ++ rest)
     unfolding steps_of_lines Leads
@@ -50,12 +51,18 @@ module _ (texts : List (List ℕ)) (k n : ℕ) (steps : List WorldStep) (here : 
 
     pub at_empty : length text ≡ 0 → IsAt texts (k + 1) (n + 1) steps
     unfolding Leads
-    at_empty none = record { number = let so = here.number in omega (arith, so); leads = λ rest. ap (steps_then steps) (empty-then n text (steps_of_lines (n + 1) rest) none) ∙ more rest }
+    at_empty none = record {
+      number = let so = here.number in omega (arith, so);
+      leads = λ rest. ap (steps_then steps) (empty-then n text (steps_of_lines (n + 1) rest) none) ∙ more rest;
+    }
 
     module _ (some : 0 < length text) where
       pub at_step : (step : WorldStep) → step_of_line text ≡ Some step → IsAt texts (k + 1) (n + 1) (steps ++ step ∷ [])
       unfolding Leads
-      at_step step tells = record { number = let so = here.number in omega (arith, so); leads = λ rest. step-then n text (steps_of_lines (n + 1) rest) steps step some tells ∙ more rest }
+      at_step step tells = record {
+        number = let so = here.number in omega (arith, so);
+        leads = λ rest. step-then n text (steps_of_lines (n + 1) rest) steps step some tells ∙ more rest;
+      }
 
       pub at_bad : step_of_line text ≡ None → steps_of_lines 1 texts ≡ Err n
       at_bad tells =
@@ -68,8 +75,9 @@ unfolding schedule_of
 told text = refl
 
 -- memory is wanted where a step was told
-pub tells_some : (schedule : List ℕ) (k n : ℕ) (steps : List WorldStep) → IsAt (slice_split is_line_end schedule) k n steps →
-    (text : List ℕ) → k < length (slice_split is_line_end schedule) → text ≡ get_or (slice_split is_line_end schedule) k text → 0 < length text → (step : WorldStep) → step_of_line text ≡ Some step → TellsSome schedule
-tells_some schedule k n steps here text within is some step tells =
-    let texts = slice_split is_line_end schedule in let long = length_push steps step in
-    (k + 1, steps ++ step ∷ [], omega (arith, long), front texts (k + 1) (n + 1) (steps ++ step ∷ []) (at_step texts k n steps here text within is some step tells))
+module _ (schedule : List ℕ) (k n : ℕ) (steps : List WorldStep) (here : IsAt (slice_split is_line_end schedule) k n steps) (text : List ℕ) where
+  pub tells_some : k < length (slice_split is_line_end schedule) → text ≡ get_or (slice_split is_line_end schedule) k text → 0 < length text →
+      (step : WorldStep) → step_of_line text ≡ Some step → TellsSome schedule
+  tells_some within is some step tells =
+      let texts = slice_split is_line_end schedule in let new = steps ++ step ∷ [] in let long = length_push steps step in
+      (k + 1, new, omega (arith, long), front texts (k + 1) (n + 1) new (at_step texts k n steps here text within is some step tells))
