@@ -121,7 +121,7 @@ impl Ledger {
         ensures unites { IfOk result (Unites self other) }
         ensures gathers { IfOk result (GathersBoth self other) }
 
-        // Each refusal comes exactly where it has to, want of memory aside, and both ledgers come back.
+        // Each refusal comes exactly where it has to, want of memory only where neither does, and both ledgers come back.
         ensures mismatch { AreRefusedAs result JoinFault.ProfileMismatch
             ↔ (self.profile ≢ other.profile) }
         ensures conflict { (name : Name) → (AreRefusedAs result (JoinFault.Conflict name)
