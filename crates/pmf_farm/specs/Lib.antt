@@ -9,3 +9,4 @@ pub use Rattle.pmf_board.specs.Workers
 pub mod Working
 pub mod Rolls
 pub mod Running
+pub mod FaultText

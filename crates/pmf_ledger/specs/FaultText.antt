@@ -1,6 +1,9 @@
--- How the fault of a ledger text is told. ASCII. Defined here.
+-- How the faults of a ledger text, of a join and of a name that stands twice are told. ASCII. Defined here.
 use Rattle.std.specs.Prelude.{ℕ, List, ◌++◌, ◌==◌, if◌then◌else◌, codes, decimal}
 use Rattle.pmf_storelog.specs.{declared.fault.LogFault.{LogFault}, FaultText.{words_of_cause}}
+use Rattle.pmf_event.specs.declared.name.Name.{Name}
+use Rattle.pmf_ledger.specs.declared.joining.JoinFault.{JoinFault}
+use Rattle.pmf_ledger.specs.declared.joining.JoinFault.TheVariants as join
 use Rattle.pmf_ledger.specs.declared.loading.{LedgerFault.{LedgerFault}, LedgerFault.TheVariants.{NotALedger, FalseRows, Conflict, Log, OutOfMemory}}
 
 -- what is told of an event: its text line, if the fault is of one, and the words of the cause
@@ -20,3 +23,13 @@ text_of_fault (FalseRows name) = codes "section " ++ decimal name.run ++ codes "
 text_of_fault (Conflict name) = codes "section " ++ decimal name.run ++ codes "." ++ decimal name.number ++ codes ": " ++ words_of_conflict
 text_of_fault (Log fault) = text_of_log fault
 text_of_fault OutOfMemory = codes "out of memory"
+
+-- the text of a refused join
+abbrev pub text_of_join : JoinFault → List ℕ
+text_of_join join.ProfileMismatch = codes "profiles differ"
+text_of_join (join.Conflict name) = codes "section " ++ decimal name.run ++ codes "." ++ decimal name.number ++ codes ": " ++ words_of_conflict
+text_of_join join.OutOfMemory = codes "out of memory"
+
+-- the text of a name that stands twice
+abbrev pub text_of_twice : Name → List ℕ
+text_of_twice name = codes "section " ++ decimal name.run ++ codes "." ++ decimal name.number ++ codes ": handed in twice"

@@ -5,28 +5,47 @@ ghost use Rattle.pmf_verdict.specs.Checked.{Checked};
 ghost use Rattle.pmf_ledger.specs.{Gathered.{GathersBoth, IsLeastClash, Unites}, Joining.{Agree, AgreeInNames, AgreeTogether, AreRefusedAs, IsLeastDiffering, IsMerging, IsMerged}, Names.{Rises}};
 
 use crate::ledger::Ledger;
+use crate::loading::words_of_conflict;
 use crate::taking::order;
 use pmf_event::Name;
 use pmf_verdict::Verdict;
 use std::cmp::Ordering;
-use thiserror::Error;
+use std::error::Error;
+use std::fmt;
 
 /// Why two ledgers were not joined: the first that applies, in this order.
-#[derive(Clone, Copy, Debug, PartialEq, Eq, Error)]
+#[derive(Clone, Copy, Debug, PartialEq, Eq)]
 pub enum JoinFault {
     /// They are by different profiles.
-    #[error("profiles differ")]
     ProfileMismatch,
     /// This name, the least of its kind, is held by both with other events.
-    #[error("section {}.{}: held with other events", .name.run, .name.number)]
     Conflict {
         /// The name.
         name: Name,
     },
     /// Room for the verdicts of both was refused.
-    #[error("out of memory")]
     OutOfMemory,
 }
+
+impl fmt::Display for JoinFault {
+    ghost use Rattle.std.specs.Prelude.{Some};
+    ghost use Rattle.pmf_ledger.specs.FaultText.{text_of_join};
+
+    ghost output = { λ fault. Some (text_of_join fault) };
+
+    fn fmt<W: fmt::Write>(&self, f: &mut fmt::Formatter<W>) -> fmt::Result {
+        match self {
+            JoinFault::ProfileMismatch => f.write_str("profiles differ"),
+            JoinFault::Conflict { name } => {
+                write!(f, "section {}.{}: ", name.run, name.number)?;
+                f.write_str(words_of_conflict())
+            }
+            JoinFault::OutOfMemory => f.write_str("out of memory"),
+        }
+    }
+}
+
+impl Error for JoinFault {}
 
 // The least name that two sections have, one of each list, that differ.
 #[tactic(auto, using(std::proofs::lemmas::Grind::common_steps, crate::proofs::lemmas::ScanLemmas::Scanned_first, crate::proofs::lemmas::ScanLemmas::Scanned_second, crate::proofs::lemmas::ScanLemmas::least_here))]

@@ -72,7 +72,7 @@ impl fmt::Display for LedgerFault {
 impl Error for LedgerFault {}
 
 #[tactic(auto, unfolding(crate::specs::FaultText::words_of_conflict))]
-fn words_of_conflict() -> &'static str
+pub(crate) fn words_of_conflict() -> &'static str
     ensures { result.now ≡ words_of_conflict }
 {
     "held with other events"

@@ -16,3 +16,4 @@ pub mod Asked
 pub mod Joining
 pub mod Simulated
 pub mod Files
+pub mod FaultText

@@ -17,9 +17,10 @@ use pmf_ledger::Ledger;
 use pmf_request::Settings;
 use pmf_storelog::{LOG_LIMIT, Log, LogFault, LogReader};
 use std::alloc::{AllocError, Global};
+use std::error::Error;
+use std::fmt;
 use std::sync::Wait;
 use std::thread::Threads;
-use thiserror::Error;
 
 /// What [`check_stream`] tells of a log that it has reported.
 #[derive(Clone, Copy, Debug, PartialEq, Eq)]
@@ -31,15 +32,29 @@ pub struct Done {
 }
 
 /// Why a log was not checked: it is faulty, or else its sections were not taken by the workers.
-#[derive(Clone, Copy, Debug, PartialEq, Eq, Error)]
+#[derive(Clone, Copy, Debug, PartialEq, Eq)]
 pub enum CheckLogFault {
     /// What was read is no log, by its first fault.
-    #[error("{0}")]
     Log(LogFault),
     /// The log was read without a fault, and there are no workers for it, too many, or no memory.
-    #[error("{0}")]
     Farm(FarmFault),
 }
+
+impl fmt::Display for CheckLogFault {
+    ghost use Rattle.std.specs.Prelude.{Some};
+    ghost use Rattle.pmf_stream.specs.FaultText.{text_of_check};
+
+    ghost output = { λ fault. Some (text_of_check fault) };
+
+    fn fmt<W: fmt::Write>(&self, f: &mut fmt::Formatter<W>) -> fmt::Result {
+        match self {
+            CheckLogFault::Log(fault) => write!(f, "{fault}"),
+            CheckLogFault::Farm(fault) => write!(f, "{fault}"),
+        }
+    }
+}
+
+impl Error for CheckLogFault {}
 
 impl Intake for LogReader {
     type Fault = LogFault;

@@ -12,7 +12,8 @@ use pmf_event::Profile;
 use pmf_ledger::{JoinFault, Ledger, LedgerFault, load_ledger};
 use pmf_storelog::{Cause, LogFault};
 use std::alloc::Global;
-use thiserror::Error;
+use std::error::Error;
+use std::fmt;
 
 /// What is told of the ledger texts that were joined.
 #[derive(Clone, Copy, Debug, PartialEq, Eq)]
@@ -22,10 +23,9 @@ pub struct Joined {
 }
 
 /// Why ledger texts were not joined: the first that applies as they are loaded and joined, text after text.
-#[derive(Clone, Copy, Debug, PartialEq, Eq, Error)]
+#[derive(Clone, Copy, Debug, PartialEq, Eq)]
 pub enum JoinTextFault {
     /// A text is refused.
-    #[error("{fault}")]
     Load {
         /// The index of the text, counted from 0.
         index: usize,
@@ -33,12 +33,27 @@ pub enum JoinTextFault {
         fault: LedgerFault,
     },
     /// The ledger of a text doesn't join that of the texts before it.
-    #[error("{0}")]
     Join(JoinFault),
     /// Room for a ledger was refused.
-    #[error("out of memory")]
     OutOfMemory,
 }
+
+impl fmt::Display for JoinTextFault {
+    ghost use Rattle.std.specs.Prelude.{Some};
+    ghost use Rattle.pmf_stream.specs.FaultText.{text_of_join_text};
+
+    ghost output = { λ fault. Some (text_of_join_text fault) };
+
+    fn fmt<W: fmt::Write>(&self, f: &mut fmt::Formatter<W>) -> fmt::Result {
+        match self {
+            JoinTextFault::Load { fault, .. } => write!(f, "{fault}"),
+            JoinTextFault::Join(fault) => write!(f, "{fault}"),
+            JoinTextFault::OutOfMemory => f.write_str("out of memory"),
+        }
+    }
+}
+
+impl Error for JoinTextFault {}
 
 // Why the text of this index was not loaded.
 fn fault_at(index: usize, fault: LedgerFault) -> JoinTextFault

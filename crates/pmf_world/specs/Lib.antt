@@ -22,3 +22,4 @@ pub mod Scheduling
 pub mod Lines
 pub mod Playing
 pub mod Simulation
+pub mod FaultText

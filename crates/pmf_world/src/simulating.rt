@@ -11,33 +11,48 @@ use crate::world::World;
 use pmf_event::Profile;
 use pmf_storelog::{LogFault, read_log};
 use std::alloc::{AllocError, Global};
-use thiserror::Error;
+use std::error::Error;
+use std::fmt;
 
 /// The greatest length of a schedule, in bytes: 2^20.
 pub const SCHEDULE_LIMIT: usize = 1_048_576;
 
 /// Why a schedule was not simulated: the first that applies, in this order.
-#[derive(Clone, Copy, Debug, PartialEq, Eq, Error)]
+#[derive(Clone, Copy, Debug, PartialEq, Eq)]
 pub enum SimFault {
     /// The schedule has more than [`SCHEDULE_LIMIT`] bytes.
-    #[error("schedule is too long")]
     TooLong,
     /// This text line of the schedule, the first such, is neither empty nor a step.
-    #[error("schedule line {line}: bad step")]
     BadStep {
         /// The number of the text line, counted from 1.
         line: u32,
     },
     /// The log is refused.
-    #[error("{0}")]
     Log(LogFault),
     /// There is no such world of the log's sections.
-    #[error("{0}")]
     New(WorldNewFault),
     /// Memory was refused.
-    #[error("out of memory")]
     OutOfMemory,
 }
+
+impl fmt::Display for SimFault {
+    ghost use Rattle.std.specs.Prelude.{Some};
+    ghost use Rattle.pmf_world.specs.FaultText.{text_of_sim};
+
+    ghost output = { λ fault. Some (text_of_sim fault) };
+
+    fn fmt<W: fmt::Write>(&self, f: &mut fmt::Formatter<W>) -> fmt::Result {
+        match self {
+            SimFault::TooLong => f.write_str("schedule is too long"),
+            SimFault::BadStep { line } => write!(f, "schedule line {line}: bad step"),
+            SimFault::Log(fault) => write!(f, "{fault}"),
+            SimFault::New(fault) => write!(f, "{fault}"),
+            SimFault::OutOfMemory => f.write_str("out of memory"),
+        }
+    }
+}
+
+impl Error for SimFault {}
 
 impl From<AllocError> for SimFault {
     ghost use Rattle.pmf_world.specs.declared.simulating.SimFault.TheVariants.{OutOfMemory};
