@@ -1,1 +1,2 @@
 pub mod ExplanationLemmas
+mod WorkedStatuses
