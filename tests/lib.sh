@@ -33,6 +33,13 @@ has() {
     case $1 in
         'GNU parallel') parallel --version 2>/dev/null </dev/null | grep -q '^GNU parallel' ;;
         'a YAML parser for Python') python3 -c 'import yaml' 2>/dev/null ;;
+        'valgrind with its static libraries and gcc')
+            has gcc && has valgrind && [ -e /usr/include/valgrind/pub_tool_basics.h ] &&
+                ls /usr/lib/x86_64-linux-gnu/valgrind/libcoregrind-amd64-linux.a >/dev/null 2>&1
+            ;;
+        *'-dev for the tracer')
+            has 'valgrind with its static libraries and gcc' && [ -e "/usr/include/${1%%-dev *}.h" ]
+            ;;
         *) type -P "$1" >/dev/null ;;
     esac
 }

@@ -85,7 +85,7 @@ static Bool take_range(const HChar *text)
     size = VG_(strtoull10)(end + 1, &end);
     if (*end || size == 0)
         return False;
-    range_add(first, first + size, 0, first);
+    lasting_range_add(first, first + size);
     return True;
 }
 

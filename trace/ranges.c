@@ -130,7 +130,7 @@ static void compare_with_pasts(Addr start, Addr end, UInt file, ULong offset)
 /* A piece that meets no range. */
 static void insert(Addr start, Addr end, UInt file, ULong offset)
 {
-    struct range range = {start, end, file, file ? offset : start, array_of(sizeof(struct section *))};
+    struct range range = {start, end, file, file ? offset : start, False, array_of(sizeof(struct section *))};
 
     compare_with_pasts(start, end, range.file, range.offset);
     VG_(insertIndexXA)(ranges, ranges_below(start), &range);
@@ -157,6 +157,15 @@ void range_add(Addr start, Addr end, UInt file, ULong offset)
         at = range->end;
     }
     measure_hull();
+}
+
+void lasting_range_add(Addr start, Addr end)
+{
+    Word i;
+
+    range_add(start, end, 0, start);
+    for (i = ranges_below(start); i < VG_(sizeXA)(ranges) && range_at(i)->start < end; i++)
+        range_at(i)->is_lasting = True;
 }
 
 /* Asserts of what is stored there that it is durable, in each section that stored there, in spans that a log may have. */
@@ -186,7 +195,7 @@ static void leave(const struct range *range, Addr start, Addr end)
 {
     struct past past = {start, end, range->file, range->offset + (start - range->start), lines_touched(range, start, end)};
 
-    if (settings.persist_at_end)
+    if (settings.persist_at_end && past.touched != UNTOUCHED)
         assert_durable(range, start, end);
     forget_excluded(start, end);
     if (past.touched != UNTOUCHED)
@@ -200,6 +209,10 @@ void range_remove(Addr start, Addr end)
     while (i < VG_(sizeXA)(ranges) && range_at(i)->start < end) {
         struct range old = *range_at(i), head = old, tail = old;
         Addr from = old.start > start ? old.start : start, to = old.end < end ? old.end : end;
+        if (old.is_lasting) {
+            i++;
+            continue;
+        }
         leave(&old, from, to);
         VG_(removeIndexXA)(ranges, i);
         if (to < old.end) {

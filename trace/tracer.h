@@ -73,6 +73,7 @@ struct range {
     Addr start, end;
     UInt file;       /* 0: none */
     ULong offset;    /* of its start, in the file */
+    Bool is_lasting; /* told by hand, whatever is mapped there */
     XArray *stored;  /* of struct section *: those that stored to it */
 };
 
@@ -80,6 +81,7 @@ extern ULong hull_low, hull_size; /* an address a is near a range only where a -
 
 void ranges_begin(void);
 void range_add(Addr start, Addr end, UInt file, ULong offset);
+void lasting_range_add(Addr start, Addr end);
 void range_remove(Addr start, Addr end);
 UInt file_of(ULong device, ULong node);
 struct range *range_behind(Addr address); /* the first that ends behind it, or none */
