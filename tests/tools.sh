@@ -69,6 +69,24 @@ assert each[9] == {"run": 2, "section": 3, "place": 9, "event": "FLUSH", "result
 assert each[18] == {"run": 2, "section": 3, "place": 31, "event": "SECTION", "result": "UNCLOSED", "counts_as": "fail", "start": 30}'
 }
 
+# With the log of a report its objects have the frames of their records: of logs that a tracer wrote, and of one without frames.
+rows_with_frames() {
+    local named=examples/traced_append_without_a_fence
+    tools/rows --json --fail --log "$named.log" "$named.report" | head -n 1 >"$scratch/rows" &&
+        said '{"run": 0, "section": 0, "place": 5, "event": "ORDERED", "result": "FAIL", "counts_as": "fail", "byte": "0x10040", "after": "0x10000", "crash": 4, "frames": ["append (append_log.c:67)", "main (append_log.c:87)"], "stored_by": ["append (append_log.c:59)", "main (append_log.c:87)"]}' \
+            "$scratch/rows" && tools/rows --json --log examples/first.log examples/first.report >"$scratch/rows" &&
+        said '{"run": 0, "section": 0, "place": 4, "event": "PERSIST", "result": "PASS", "counts_as": "pass"}' "$scratch/rows" || return
+    { sed 's/$/;main (x.c:1)/' <<<'PMT.CHECKSTART|STORE;8;1;8|PMT.SECTION;7|STORE;8;1;8' && echo 'PMT.SECTION;0|FENCE'; } >"$scratch/log"
+    "$program" check <"$scratch/log" 2>/dev/null | tools/rows --json --log "$scratch/log" >"$scratch/rows"
+    said '{"run": 0, "section": 0, "place": 4, "event": "SECTION", "result": "UNCLOSED", "counts_as": "fail", "start": 1}' "$scratch/rows" || return
+    tools/rows --json --log examples/first.log "$named.report" 2>"$scratch/diagnostics"
+    ended 2 $? && said 'rows: the log has no event 5 in section 0' "$scratch/diagnostics" || return
+    tools/rows --json --log examples/none.log "$named.report" 2>"$scratch/diagnostics"
+    ended 2 $? && said 'rows: examples/none.log: No such file or directory' "$scratch/diagnostics" || return
+    tools/rows --log examples/first.log "$named.report" 2>"$scratch/diagnostics"
+    ended 2 $? && tail -n 1 "$scratch/diagnostics" | said 'rows: error: --log is for --json' -
+}
+
 # no_report EDIT FAULT: that report, edited by sed, is refused with this line.
 no_report() {
     report_of_each_row | sed "$1" | tools/rows --pass >"$scratch/rows" 2>"$scratch/diagnostics"
@@ -298,6 +316,7 @@ SH
 try_tools() {
     check 'tools/rows selects the rows of each kind and section' rows_by_kind
     check 'tools/rows writes rows as JSON' rows_as_json
+    check 'tools/rows writes the frames of a log' rows_with_frames
     check 'tools/rows refuses what is no report, or not a whole one' rows_refused
     check 'tools/rows gives each row of the examples, and ends with its reader' rows_of_examples
     check 'the example in C writes its logs, with the fence and without' example_by 'cc -std=c11' 'cc -std=c99 -O2'
