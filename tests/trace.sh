@@ -317,6 +317,20 @@ by_libpmemobj() {
     comes_from "$(sed -n 's/^byte=.* last=//p' "$scratch/image")" 'strcpy(account->name, name)'
 }
 
+# The three commands of README.md, from a program to the source line of its bug.
+commands_of_readme() {
+    local line
+    gcc -g -DMISSING_ADD -Wall -Wextra -Werror -o "$room/accounts" examples/c/accounts.c -lpmemobj && rm -f "$room/pool" || return
+    ln -sfn "$top/tools" "$room/tools" && printf '#!/bin/sh\nexec "%s" "$@"\n' "$top/$program" >"$room/pmfarm" && chmod +x "$room/pmfarm" || return
+    grep -E '^    (tools/trace|\./pmfarm|tools/rows) .*accounts' README.md | sed 's/^    //' >"$scratch/commands"
+    ended 3 "$(wc -l <"$scratch/commands")" && (cd "$room" && bash "$scratch/commands") >"$scratch/report" 2>&1
+    line=$(grep -n 'accounts->to.payments++' examples/c/accounts.c | cut -d : -f 1)
+    tail -n 1 "$scratch/report" | grep -q "\"STORE\", \"result\": \"NOBACKUP\".*\"stored_by\": \[\"pay (accounts.c:$line)\"" || {
+        cat "$scratch/report"
+        return 1
+    }
+}
+
 # A long log is cut and checked in one pipe.
 in_one_pipe() {
     PMEM_IS_PMEM_FORCE=1 tools/trace "$room/pmem" "$room/long" 70000 2>"$scratch/told" | "$program" cut 2>"$scratch/diagnostics" |
@@ -344,4 +358,5 @@ try_trace() {
     check_by 'libpmem-dev for the tracer' 'traced: appends by libpmem, and one without its drain' by_libpmem
     check_by 'libpmem-dev for the tracer' 'traced: a long log is cut and checked in one pipe' in_one_pipe
     check_by 'libpmemobj-dev for the tracer' 'traced: transactions of libpmemobj, a range that is not added, one that is not persisted' by_libpmemobj
+    check_by 'libpmemobj-dev for the tracer' 'the commands of README.md lead to the line of a bug' commands_of_readme
 }
