@@ -126,6 +126,42 @@ PMT.SECTION;1
 $(durable 0x10000008)" 'trace: threads 0 and 1 store to line 0x10000000, in make_durable (pool.h:N) and in make_durable (pool.h:N): a PASS of it stands only where they take turns' lives line
 }
 
+# Requests become markers: sections, scopes around transactions, what is clean until it is stored to, what is ignored in each section.
+requests_become_markers() {
+    traced 0 "PMT.SECTION;7
+$(durable 0x10000000)
+PMT.CHECKSTART
+PMT.TXBEGIN
+PMT.TXEND
+PMT.CHECKEND
+PMT.CHECKSTART
+PMT.TXBEGIN
+PMT.TXBEGIN
+PMT.TXEND
+PMT.TXEND
+PMT.CHECKEND
+PMT.EXCLUDE;0x10000000;0x8" '' lives mark && traced 0 "$(durable 0x10000000)
+PMT.EXCLUDE;0x10000000;0x40
+PMT.EXCLUDE;0x10000020;0x40
+PMT.INCLUDE;0x1000001c;0x4
+STORE;0x1000001c;0x0;0x8
+PMT.INCLUDE;0x10000000;0x8
+PMT.EXCLUDE;0x10000000;0x8
+PMT.SECTION;1
+PMT.EXCLUDE;0x10000020;0x40
+$(durable 0x10000080)
+PMT.SECTION;0
+PMT.INCLUDE;0x10000020;0x40
+PMT.SECTION;1
+PMT.INCLUDE;0x10000020;0x40
+PMT.SECTION;0
+PMT.INCLUDE;0x10000024;0x1c
+PMT.INCLUDE;0x10000008;0x14
+PMT.INCLUDE;0x10000000;0x8" '' lives request && traced 4 "PMT.SECTION;1
+$(durable 0x10000000)
+STORE;0x10000040;0x0;0x8" 'trace: section 1 has records of threads 1 and 0: there a fence of one settles write-backs of the other' lives take
+}
+
 mappings_end_and_move() {
     traced 0 "$(durable 0x10000000)
 PMT.PERSIST;0x10000000;0x1000
@@ -348,6 +384,7 @@ try_trace() {
     check_by "$tracer" 'traced: wide stores, and those past the cache' each_wide_store
     check_by "$tracer" 'traced: neighbours are merged; fences, msync and what counts as a fence' write_backs_and_fences
     check_by "$tracer" 'traced: a section for each thread, and lines of two threads' each_thread_has_a_section
+    check_by "$tracer" 'traced: requests become markers' requests_become_markers
     check_by "$tracer" 'traced: mappings that end, move, or show bytes twice' mappings_end_and_move
     check_by "$tracer" 'traced: forks and exec' forks_and_exec
     check_by "$tracer" 'traced: what a program writes, its status, its signals' programs_end

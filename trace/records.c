@@ -24,7 +24,7 @@ enum pending_kind { NOTHING, STORES, FLUSHES, PASSED_BY };
 static struct {
     enum pending_kind kind;
     struct section *section;
-    Addr start, end;
+    Addr start, end, place;
     struct frames frames;
 } pending;
 
@@ -181,12 +181,14 @@ static void settle(void)
         put_span(pending.section, kind == STORES, pending.start, pending.end, &pending.frames);
 }
 
-static void begin_pending(enum pending_kind kind, struct section *section, Addr start, Addr end, const struct frames *frames)
+static void begin_pending(enum pending_kind kind, struct section *section, Addr place, Addr start, Addr end,
+    const struct frames *frames)
 {
     settle();
     ignored_are_told(section);
     pending.kind = kind;
     pending.section = section;
+    pending.place = place;
     pending.start = start;
     pending.end = end;
     pending.frames = *frames;
@@ -225,11 +227,11 @@ void record_store(struct section *section, Addr place, Addr start, Addr end, Boo
     struct frames frames;
 
     take_frames(place, &frames);
-    if (is_repeated && goes_on(STORES, section, start, &frames)) {
+    if (is_repeated && pending.place == place && goes_on(STORES, section, start, &frames)) {
         pending.end = end;
         return;
     }
-    begin_pending(STORES, section, start, end, &frames);
+    begin_pending(STORES, section, place, start, end, &frames);
     if (!is_repeated)
         settle();
 }
@@ -242,7 +244,7 @@ void record_flush(struct section *section, Addr place, Addr start, Addr end)
     if (goes_on(FLUSHES, section, start, &frames))
         pending.end = end;
     else
-        begin_pending(FLUSHES, section, start, end, &frames);
+        begin_pending(FLUSHES, section, place, start, end, &frames);
 }
 
 /* A store that passes by the cache is written back as it is made. The write-back stands behind a run of such stores. */
@@ -260,7 +262,7 @@ void record_non_temporal(struct section *section, Addr place, Addr start, Addr e
     settle();
     ignored_are_told(section);
     put_span(section, True, start, end, &frames);
-    begin_pending(PASSED_BY, section, first, behind, &frames);
+    begin_pending(PASSED_BY, section, place, first, behind, &frames);
 }
 
 void records_end(void)

@@ -176,18 +176,25 @@ static void set_clean(struct thread *thread, Addr place, Addr start, Addr end)
         exclude_until_stored(thread->section, place, start, end);
 }
 
+/* Around the outermost transaction stands a scope, unless the program has opened one. */
 static void begin_transaction(struct thread *thread, Addr place)
 {
-    if (thread->depth++ == 0)
+    if (thread->depth++ == 0 && !thread->section->is_in_scope) {
+        thread->has_opened = True;
         record(thread->section, place, "PMT.CHECKSTART");
+    }
     record(thread->section, place, "PMT.TXBEGIN");
 }
 
 static void end_transaction(struct thread *thread, Addr place)
 {
     record(thread->section, place, "PMT.TXEND");
-    if (thread->depth && --thread->depth == 0)
+    if (thread->depth)
+        thread->depth--;
+    if (thread->depth == 0 && thread->has_opened) {
+        thread->has_opened = False;
         record(thread->section, place, "PMT.CHECKEND");
+    }
 }
 
 /* (libpmemobj adds its own logs outside of transactions, too, where nothing is backed up) */
@@ -224,9 +231,15 @@ static void emit_one(struct thread *thread, Addr place, const HChar *text)
 {
     ULong number;
 
-    if (is_section(text, &number))
+    if (is_section(text, &number)) {
         enter_section(thread, number);
-    else if (*text)
+        return;
+    }
+    if (VG_(strcmp)(text, "PMT.CHECKSTART") == 0)
+        thread->section->is_in_scope = True;
+    else if (VG_(strcmp)(text, "PMT.CHECKEND") == 0)
+        thread->section->is_in_scope = False;
+    if (*text)
         record_text(thread->section, place, text);
 }
 

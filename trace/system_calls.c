@@ -33,6 +33,14 @@ static Bool is_shared(UWord flags)
     return (flags & SHARED_OR_VALIDATED) == 1 || (flags & SHARED_OR_VALIDATED) == 3;
 }
 
+/* (what was excluded there and is no part of a range ends, too) */
+static void is_unmapped(Addr start, Addr size)
+{
+    range_remove(start, start + whole_pages(size));
+    if (had_a_range())
+        forget_excluded(start, start + whole_pages(size));
+}
+
 static void is_mapped(Addr start, Addr size, UWord flags)
 {
     const NSegment *segment;
@@ -110,7 +118,7 @@ void behind_call(ThreadId tid, UInt number, UWord *words, UInt count, SysRes res
     if (number == __NR_mmap)
         is_mapped(sr_Res(result), words[1], words[3]);
     else if (number == __NR_munmap)
-        range_remove(words[0], words[0] + whole_pages(words[1]));
+        is_unmapped(words[0], words[1]);
     else if (number == __NR_mremap)
         is_remapped(words[0], words[1], sr_Res(result), words[2]);
     else if (number == __NR_msync)

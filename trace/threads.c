@@ -71,22 +71,22 @@ struct thread *thread_of(ThreadId tid)
     return *(struct thread **)VG_(indexXA)(threads, tid);
 }
 
-/* That a section is shared is told where a second thread goes on in it. */
-static void owned_by(struct section *section, const struct thread *thread)
+/* The section is this thread's from now on. Where it has records of another one that is told. */
+static void own(struct section *section, const struct thread *thread)
 {
     if (section->owner != thread->serial && section->has_records && is_first(SHARED_SECTION))
         say_fault("section %llu has records of threads %u and %u: there a fence of one settles write-backs of the other",
             section->number, section->owner, thread->serial);
+    section->owner = thread->serial;
 }
 
 struct thread *thread_now(void)
 {
     struct thread *thread = thread_of(VG_(get_running_tid)());
 
-    if (!settings.section_of_each_thread) {
+    if (!settings.section_of_each_thread)
         thread->section = shared;
-        owned_by(shared, thread);
-    }
+    own(thread->section, thread);
     return thread;
 }
 
@@ -96,9 +96,7 @@ void enter_section(struct thread *thread, ULong number)
 
     if (!section)
         section = new_section(number, thread->serial);
-    else if (settings.section_of_each_thread)
-        owned_by(section, thread);
-    section->owner = thread->serial;
+    own(section, thread);
     thread->section = shared = section;
 }
 

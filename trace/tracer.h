@@ -51,12 +51,14 @@ struct section {
     XArray *excluded;  /* of struct span: what is clean, by request, until it is stored to */
     Word ignored_told; /* how many of the spans that no transaction backs up were told here */
     Bool has_records;
+    Bool is_in_scope; /* that the program itself has opened */
 };
 
 struct thread {
     UInt serial; /* from 0, never again */
     struct section *section;
     UInt depth;      /* of its transactions */
+    Bool has_opened; /* a scope, around them */
     XArray *pending; /* of struct line *: written back, and not fenced */
 };
 

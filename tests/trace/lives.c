@@ -1,5 +1,6 @@
 /* Processes, threads and mappings: lives POOL CASE. */
 #include "pool.h"
+#include "pmfarm_markers.h"
 #include <pthread.h>
 #include <signal.h>
 #include <sys/wait.h>
@@ -136,6 +137,43 @@ static void killed(void)
     kill(getpid(), SIGKILL);
 }
 
+/* Sections of its own, and a transaction in a scope of its own and in none. */
+static void marking(void)
+{
+    PMFARM_SECTION(7);
+    make_durable(pool, 1);
+    PMFARM_CHECKSTART();
+    VALGRIND_DO_CLIENT_REQUEST_STMT(0x50430012, 0, 0, 0, 0, 0);
+    VALGRIND_DO_CLIENT_REQUEST_STMT(0x50430014, 0, 0, 0, 0, 0);
+    PMFARM_CHECKEND();
+    VALGRIND_DO_CLIENT_REQUEST_STMT(0x50430012, 0, 0, 0, 0, 0);
+    VALGRIND_DO_CLIENT_REQUEST_STMT(0x50430012, 0, 0, 0, 0, 0);
+    VALGRIND_DO_CLIENT_REQUEST_STMT(0x50430014, 0, 0, 0, 0, 0);
+    VALGRIND_DO_CLIENT_REQUEST_STMT(0x50430014, 0, 0, 0, 0, 0);
+    PMFARM_EXCLUDE(pool, 8);
+}
+
+/* What is clean is out until it is stored to, and so is a part that is removed; a transaction needs no backup of what is ignored. */
+static void requesting(void)
+{
+    make_durable(pool, 1);
+    VALGRIND_DO_CLIENT_REQUEST_STMT(0x50430011, pool, 64, 0, 0, 0);
+    VALGRIND_DO_CLIENT_REQUEST_STMT(0x5043001c, pool + 32, 64, 0, 0, 0);
+    store(pool + 28, 1);
+    VALGRIND_DO_CLIENT_REQUEST_STMT(0x50430002, pool, 8, 0, 0, 0);
+    store(pool, 1);
+    run_thread(pool + 128);
+    munmap(pool, POOL_SIZE);
+}
+
+/* A section that a thread has records in is told by another. */
+static void taking(void)
+{
+    run_thread(pool);
+    PMFARM_SECTION(1);
+    store(pool + 64, 1);
+}
+
 /* (until it is killed from outside) */
 static void waiting(void)
 {
@@ -203,7 +241,7 @@ int main(int count, char **words)
     } cases[] = {{"fork", forked}, {"exec", started}, {"threads", threads}, {"line", one_line}, {"unmap", unmapped},
         {"again", mapped_again}, {"open", mapped_again_open}, {"twice", mapped_twice}, {"move", moved}, {"shrink", shrunk},
         {"private", private}, {"msync", synchronized}, {"kill", killed}, {"wait", waiting}, {"abort", aborted}, {"unknown", unknown},
-        {"neighbours", neighbours}, {"locked", locked}, {"talk", talking}, {"ask", asking}, {"nothing", nothing}};
+        {"neighbours", neighbours}, {"locked", locked}, {"talk", talking}, {"mark", marking}, {"request", requesting}, {"take", taking}, {"ask", asking}, {"nothing", nothing}};
     size_t i;
 
     if (count != 3)
