@@ -76,6 +76,21 @@ void line_is_written_back(struct line *line, struct thread *thread)
     VG_(addToXA)(thread->pending, &line);
 }
 
+/* (a wide msync meets many pages that nothing was stored to) */
+void lines_are_written_back(const struct range *range, Addr start, Addr end, struct thread *thread)
+{
+    ULong offset = offset_of(range, start) & ~(ULong)(LINE - 1), behind = offset_of(range, end);
+
+    while (offset < behind) {
+        ULong next = (offset | (PAGE - 1)) + 1;
+        UWord found = 0;
+        if (VG_(lookupSWA)(pages, &found, page_number(range->file, offset)))
+            for (; offset < next && offset < behind; offset += LINE)
+                line_is_written_back(&((struct page *)found)->lines[offset % PAGE / LINE], thread);
+        offset = next;
+    }
+}
+
 void lines_are_fenced(struct thread *thread)
 {
     Word count = VG_(sizeXA)(thread->pending), i;

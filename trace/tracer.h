@@ -106,6 +106,7 @@ void lines_begin(void);
 struct line *line_at(const struct range *range, Addr address);
 void line_is_stored(struct line *line, const struct range *range, Addr address, struct thread *thread, Addr place);
 void line_is_written_back(struct line *line, struct thread *thread);
+void lines_are_written_back(const struct range *range, Addr start, Addr end, struct thread *thread);
 void lines_are_fenced(struct thread *thread);
 enum touched { UNTOUCHED, SETTLED, OPEN };
 enum touched lines_touched(const struct range *range, Addr start, Addr end);

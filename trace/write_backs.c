@@ -5,11 +5,8 @@
 /* The lines that a span meets, of one range. */
 static void write_back(struct thread *thread, const struct range *range, Addr start, Addr end, Addr place)
 {
-    Addr at;
-
     record_flush(thread->section, place, start & ~(Addr)(LINE - 1), (end + LINE - 1) & ~(Addr)(LINE - 1));
-    for (at = start & ~(Addr)(LINE - 1); at < end; at += LINE)
-        line_is_written_back(line_at(range, at < range->start ? range->start : at), thread);
+    lines_are_written_back(range, start, end, thread);
 }
 
 void log_write_back(Addr start, Addr end, Addr place)

@@ -18,14 +18,16 @@ static void plain(void)
 
 static void vectors(void)
 {
-    __asm__ volatile("pxor %%xmm0, %%xmm0; movups %%xmm0, 1(%0); movaps %%xmm0, 64(%0); movss %%xmm0, 128(%0)"
+    __asm__ volatile("pxor %%xmm0, %%xmm0; movups %%xmm0, 1(%0); movaps %%xmm0, 64(%0); movss %%xmm0, 128(%0);"
+                     "movhps %%xmm0, 136(%0); fld1; fstpt 192(%0)"
                      : : "r"(pool) : "xmm0", "memory");
 }
 
 __attribute__((target("avx"))) static void wide_vectors(void)
 {
-    __asm__ volatile("vpxor %%xmm0, %%xmm0, %%xmm0; vmovups %%ymm0, 3(%0); vmovaps %%ymm0, 64(%0); vmovups %%xmm0, 128(%0)"
-                     : : "r"(pool) : "xmm0", "memory");
+    __asm__ volatile("vpxor %%xmm0, %%xmm0, %%xmm0; vmovups %%ymm0, 3(%0); vmovaps %%ymm0, 64(%0); vmovups %%xmm0, 128(%0);"
+                     "vpcmpeqd %%xmm1, %%xmm1, %%xmm1; vpslldq $12, %%xmm1, %%xmm1; vmaskmovps %%xmm0, %%xmm1, 256(%0)"
+                     : : "r"(pool) : "xmm0", "xmm1", "memory");
 }
 
 static void strings(void)
