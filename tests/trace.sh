@@ -162,7 +162,12 @@ PMT.INCLUDE;0x10000024;0x1c
 PMT.INCLUDE;0x10000008;0x14
 PMT.INCLUDE;0x10000000;0x8" '' lives request && traced 4 "PMT.SECTION;1
 $(durable 0x10000000)
-STORE;0x10000040;0x0;0x8" 'trace: section 1 has records of threads 1 and 0: there a fence of one settles write-backs of the other' lives take
+STORE;0x10000040;0x0;0x8" 'trace: section 1 has records of threads 1 and 0: there a fence of one settles write-backs of the other' lives take && traced 0 "PMT.SECTION;1
+$(durable 0x10000000)
+PMT.SECTION;2
+$(durable 0x10000040)
+PMT.SECTION;3
+$(durable 0x10000080)" '' lives turn --sections none
 }
 
 mappings_end_and_move() {

@@ -8,7 +8,7 @@ void log_fence(Addr place)
 
     if (!had_a_range())
         return;
-    thread = thread_now();
+    thread = thread_that_acts();
     record(thread->section, place, "FENCE");
     lines_are_fenced(thread);
     write_out();

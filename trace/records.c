@@ -153,7 +153,6 @@ static void put_section(struct section *section)
 
 static void put_record(struct section *section, const HChar *text, const struct frames *frames)
 {
-    section->has_records = True;
     put_section(section);
     put(text);
     put_frames(frames);

@@ -58,7 +58,7 @@ void log_store(Addr address, SizeT size, enum store_kind kind, Addr place)
 
     while (at < end && (range = range_behind(at)) && range->start < end) {
         Addr from = range->start > at ? range->start : at, to = range->end < end ? range->end : end;
-        log_in_range(thread_now(), range, from, to, kind, place);
+        log_in_range(thread_that_acts(), range, from, to, kind, place);
         at = to;
     }
 }

@@ -71,13 +71,14 @@ struct thread *thread_of(ThreadId tid)
     return *(struct thread **)VG_(indexXA)(threads, tid);
 }
 
-/* The section is this thread's from now on. Where it has records of another one that is told. */
+/* The section is this thread's from now on. Where it has stores, write-backs or fences of another one that is told. */
 static void own(struct section *section, const struct thread *thread)
 {
-    if (section->owner != thread->serial && section->has_records && is_first(SHARED_SECTION))
+    if (section->owner != thread->serial && section->has_acts && is_first(SHARED_SECTION))
         say_fault("section %llu has records of threads %u and %u: there a fence of one settles write-backs of the other",
             section->number, section->owner, thread->serial);
     section->owner = thread->serial;
+    section->has_acts = True;
 }
 
 struct thread *thread_now(void)
@@ -86,6 +87,13 @@ struct thread *thread_now(void)
 
     if (!settings.section_of_each_thread)
         thread->section = shared;
+    return thread;
+}
+
+struct thread *thread_that_acts(void)
+{
+    struct thread *thread = thread_now();
+
     own(thread->section, thread);
     return thread;
 }
@@ -96,7 +104,6 @@ void enter_section(struct thread *thread, ULong number)
 
     if (!section)
         section = new_section(number, thread->serial);
-    own(section, thread);
     thread->section = shared = section;
 }
 
@@ -113,7 +120,7 @@ void sections_are_of_child(void)
 
     for (i = 0; i < VG_(sizeXA)(sections); i++) {
         struct section *section = *(struct section **)VG_(indexXA)(sections, i);
-        section->has_records = False;
+        section->has_acts = False;
         section->ignored_told = 0;
         VG_(dropTailXA)(section->excluded, VG_(sizeXA)(section->excluded));
     }

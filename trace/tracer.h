@@ -50,7 +50,7 @@ struct section {
     UInt owner;        /* the thread whose it is */
     XArray *excluded;  /* of struct span: what is clean, by request, until it is stored to */
     Word ignored_told; /* how many of the spans that no transaction backs up were told here */
-    Bool has_records;
+    Bool has_acts; /* stores, write-backs or fences */
     Bool is_in_scope; /* that the program itself has opened */
 };
 
@@ -64,6 +64,7 @@ struct thread {
 
 void threads_begin(void);
 struct thread *thread_now(void);
+struct thread *thread_that_acts(void); /* which stores, writes back or fences in its section */
 struct thread *thread_of(ThreadId tid);
 void enter_section(struct thread *thread, ULong number);
 XArray *all_sections(void); /* of struct section * */

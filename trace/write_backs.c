@@ -16,7 +16,7 @@ void log_write_back(Addr start, Addr end, Addr place)
 
     while (at < behind && (range = range_behind(at)) && range->start < behind) {
         Addr from = range->start > at ? range->start : at, to = range->end < behind ? range->end : behind;
-        write_back(thread_now(), range, from, to, place);
+        write_back(thread_that_acts(), range, from, to, place);
         at = (to + LINE - 1) & ~(Addr)(LINE - 1);
     }
 }

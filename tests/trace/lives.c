@@ -166,6 +166,25 @@ static void requesting(void)
     munmap(pool, POOL_SIZE);
 }
 
+static void *in_turn(void *at)
+{
+    PMFARM_SECTION(2);
+    return in_thread(at);
+}
+
+/* Threads that take turns, each in a section that it tells. */
+static void turning(void)
+{
+    pthread_t thread;
+
+    PMFARM_SECTION(1);
+    make_durable(pool, 1);
+    if (pthread_create(&thread, NULL, in_turn, pool + 64) != 0 || pthread_join(thread, NULL) != 0)
+        fail("thread");
+    PMFARM_SECTION(3);
+    make_durable(pool + 128, 1);
+}
+
 /* A section that a thread has records in is told by another. */
 static void taking(void)
 {
@@ -241,7 +260,7 @@ int main(int count, char **words)
     } cases[] = {{"fork", forked}, {"exec", started}, {"threads", threads}, {"line", one_line}, {"unmap", unmapped},
         {"again", mapped_again}, {"open", mapped_again_open}, {"twice", mapped_twice}, {"move", moved}, {"shrink", shrunk},
         {"private", private}, {"msync", synchronized}, {"kill", killed}, {"wait", waiting}, {"abort", aborted}, {"unknown", unknown},
-        {"neighbours", neighbours}, {"locked", locked}, {"talk", talking}, {"mark", marking}, {"request", requesting}, {"take", taking}, {"ask", asking}, {"nothing", nothing}};
+        {"neighbours", neighbours}, {"locked", locked}, {"talk", talking}, {"mark", marking}, {"request", requesting}, {"take", taking}, {"turn", turning}, {"ask", asking}, {"nothing", nothing}};
     size_t i;
 
     if (count != 3)
