@@ -139,10 +139,15 @@ void open_log_of_fork(void)
     say("process %d is a fork, and its log is %s", VG_(getpid)(), path);
 }
 
+/* (its log has its own faults, each of which it tells anew) */
 static void is_forked(ThreadId tid)
 {
+    Bool has_told_exec = is_told[EXEC_OF_FORK];
+
     is_child = True;
     has_fault = False;
+    VG_(memset)(is_told, 0, sizeof is_told);
+    is_told[EXEC_OF_FORK] = has_told_exec;
     if (settings.log_file >= 0)
         VG_(close)(settings.log_file);
     settings.log_file = -1;

@@ -110,21 +110,28 @@ static Bool is_alias(UInt file, ULong offset, Addr start, Addr end, const struct
 }
 
 /* What was there before, at these addresses or of these bytes of the file, is told where rows may speak of both. */
+static void compare_with_past(Addr start, Addr end, UInt file, ULong offset, struct past *past)
+{
+    Bool meets = start < past->end && past->start < end;
+    Bool is_same = file == past->file && start - offset == past->start - past->offset;
+
+    if (past->touched == OPEN && is_alias(file, offset, start, end, past) && is_first(MOVED))
+        say_fault("a file is mapped again, at 0x%lx, whose stores through 0x%lx were not all durable: the log takes these "
+            "for other bytes", start, past->start);
+    else if (past->touched != UNTOUCHED && meets && !is_same && is_first(REUSED))
+        say("the addresses from 0x%lx on are used again, for another mapping: rows there may speak of stores to the first",
+            start < past->start ? past->start : start);
+    /* (it is back, and what becomes of it is asked when it ends again) */
+    if (is_same && start <= past->start && past->end <= end)
+        past->touched = UNTOUCHED;
+}
+
 static void compare_with_pasts(Addr start, Addr end, UInt file, ULong offset)
 {
     Word i;
 
-    for (i = 0; i < VG_(sizeXA)(pasts); i++) {
-        struct past *past = VG_(indexXA)(pasts, i);
-        Bool meets = start < past->end && past->start < end;
-        if (past->touched == OPEN && is_alias(file, offset, start, end, past) && is_first(MOVED))
-            say_fault("a file is mapped again, at 0x%lx, whose stores through 0x%lx were not all durable: the log takes these "
-                "for other bytes", start, past->start);
-        else if (past->touched != UNTOUCHED && meets && (file != past->file || start - offset != past->start - past->offset) &&
-            is_first(REUSED))
-            say("the addresses from 0x%lx on are used again, for another mapping: rows there may speak of stores to the first",
-                start < past->start ? past->start : start);
-    }
+    for (i = 0; i < VG_(sizeXA)(pasts); i++)
+        compare_with_past(start, end, file, offset, VG_(indexXA)(pasts, i));
 }
 
 /* A piece that meets no range. */

@@ -91,6 +91,20 @@ static void mapped_again_open(void)
     map_at(POOL + 0x100000, file, MAP_SHARED);
 }
 
+/* What was not is durable, once it was back at its address. */
+static void mapped_back(void)
+{
+    store(pool, 1);
+    munmap(pool, POOL_SIZE);
+    make_durable(map_at(POOL, file, MAP_SHARED), 2);
+    munmap(pool, POOL_SIZE);
+    make_durable(map_at(POOL + 0x100000, file, MAP_SHARED), 3);
+    munmap(pool + 0x100000, POOL_SIZE);
+    close(file);
+    file = open("/proc/self/exe", O_RDONLY);
+    mmap(pool, POOL_SIZE, PROT_READ, MAP_SHARED | MAP_FIXED, file, 0);
+}
+
 static void mapped_twice(void)
 {
     char *second = map_at(POOL + 0x100000, file, MAP_SHARED);
@@ -258,7 +272,7 @@ int main(int count, char **words)
         const char *name;
         void (*run)(void);
     } cases[] = {{"fork", forked}, {"exec", started}, {"threads", threads}, {"line", one_line}, {"unmap", unmapped},
-        {"again", mapped_again}, {"open", mapped_again_open}, {"twice", mapped_twice}, {"move", moved}, {"shrink", shrunk},
+        {"again", mapped_again}, {"open", mapped_again_open}, {"back", mapped_back}, {"twice", mapped_twice}, {"move", moved}, {"shrink", shrunk},
         {"private", private}, {"msync", synchronized}, {"kill", killed}, {"wait", waiting}, {"abort", aborted}, {"unknown", unknown},
         {"neighbours", neighbours}, {"locked", locked}, {"talk", talking}, {"mark", marking}, {"request", requesting}, {"take", taking}, {"turn", turning}, {"ask", asking}, {"nothing", nothing}};
     size_t i;
