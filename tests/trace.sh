@@ -196,7 +196,10 @@ forks_and_exec() {
     ended 0 $? && durable 0x10000000 0x10000080 | same - "$room/forked.log" && durable 0x10000040 | same - "$room"/forked.log.[0-9]* &&
         grep -Eq "^trace: process [0-9]+ is a fork, and its log is $room/forked.log.[0-9]+\$" "$scratch/told" || return
     traced 0 'STORE;0x10000000;0x0;0x8
-PMT.PERSIST;0x10000000;0x4000' 'trace: /bin/true is started by exec: it is not traced' lives exec --persist-at-end
+PMT.PERSIST;0x10000000;0x4000' 'trace: /bin/true is started by exec: it is not traced' lives exec --persist-at-end &&
+        traced 0 'STORE;0x10000000;0x0;0x8' 'trace: the range from 0x10000000 on is moved to 0x10100000: the log takes its bytes for others
+trace: /bin/true is started by exec: it is not traced
+trace: a verdict could be wrong, as is told above; the status will be that of /bin/true all the same' lives moveexec
 }
 
 # The status is the program's own, and so is what it writes.

@@ -57,6 +57,11 @@ void say_fault(const HChar *format, ...)
     va_end(words);
 }
 
+Bool had_a_fault(void)
+{
+    return has_fault;
+}
+
 void *room(SizeT size)
 {
     void *made = VG_(malloc)("pmfarm", size);
@@ -124,7 +129,7 @@ Bool is_fork(void)
 /* A fork has a log of its own where the log is a file, from its first record on, and else none. */
 void open_log_of_fork(void)
 {
-    HChar path[1024];
+    HChar path[VKI_PATH_MAX + 16];
     SysRes opened;
 
     if (!settings.log)

@@ -103,6 +103,8 @@ static void before_exec(const HChar *path)
     records_end();
     if (is_first(is_fork() ? EXEC_OF_FORK : EXEC))
         say("%s is started by exec: it is not traced", path);
+    if (had_a_fault())
+        say("a verdict could be wrong, as is told above; the status will be that of %s all the same", path);
 }
 
 void before_call(ThreadId tid, UInt number, UWord *words, UInt count)

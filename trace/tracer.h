@@ -27,6 +27,7 @@ void say(const HChar *format, ...) PRINTF_CHECK(1, 2);
 
 /* A verdict could be wrong by this: the run ends in status 4. */
 void say_fault(const HChar *format, ...) PRINTF_CHECK(1, 2);
+Bool had_a_fault(void);
 
 /* Whether it is the first time for this of the subjects that are told once. */
 enum subject { EXEC, EXEC_OF_FORK, UNKNOWN_INSTRUCTION, STRANGE_WRITE_BACK, SHARED_SECTION, NUMBERED_TRANSACTION, MOVED, ALIAS, REUSED, FORKED,

@@ -37,6 +37,14 @@ static void started(void)
     execl("/bin/true", "true", NULL);
 }
 
+/* (what is told of the log before has no status of its own then) */
+static void moved_and_started(void)
+{
+    store(pool, 1);
+    mremap(pool, POOL_SIZE, POOL_SIZE, MREMAP_MAYMOVE | MREMAP_FIXED, POOL + 0x100000);
+    execl("/bin/true", "true", NULL);
+}
+
 static void *in_thread(void *at)
 {
     make_durable(at, 1);
@@ -271,7 +279,7 @@ int main(int count, char **words)
     static const struct {
         const char *name;
         void (*run)(void);
-    } cases[] = {{"fork", forked}, {"exec", started}, {"threads", threads}, {"line", one_line}, {"unmap", unmapped},
+    } cases[] = {{"fork", forked}, {"exec", started}, {"moveexec", moved_and_started}, {"threads", threads}, {"line", one_line}, {"unmap", unmapped},
         {"again", mapped_again}, {"open", mapped_again_open}, {"back", mapped_back}, {"twice", mapped_twice}, {"move", moved}, {"shrink", shrunk},
         {"private", private}, {"msync", synchronized}, {"kill", killed}, {"wait", waiting}, {"abort", aborted}, {"unknown", unknown},
         {"neighbours", neighbours}, {"locked", locked}, {"talk", talking}, {"mark", marking}, {"request", requesting}, {"take", taking}, {"turn", turning}, {"ask", asking}, {"nothing", nothing}};
