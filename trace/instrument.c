@@ -5,6 +5,7 @@
 #include "pub_tool_debuginfo.h"
 #include "pub_tool_libcassert.h"
 #include "pub_tool_libcbase.h"
+#include "pub_tool_libcprint.h"
 #include "pub_tool_machine.h"
 
 /* A block on its way, with the instruction that is current in it. */
@@ -50,11 +51,15 @@ static VG_REGPARM(1) void lock_is_taken(Addr place)
 
 static VG_REGPARM(1) void instruction_is_unknown(Addr place)
 {
-    const UChar *at = (const UChar *)place;
+    HChar bytes[6 * 3 + 1] = "";
+    UInt i;
 
-    if (is_first(UNKNOWN_INSTRUCTION))
-        say_fault("an instruction that this Valgrind does not know: %02x %02x %02x %02x %02x %02x, in %s", at[0], at[1], at[2],
-            at[3], at[4], at[5], place_text(place));
+    if (!is_first(UNKNOWN_INSTRUCTION))
+        return;
+    /* (the page behind it may not be there) */
+    for (i = 0; i < 6 && (i == 0 || (place + i) % PAGE != 0); i++)
+        VG_(sprintf)(bytes + 3 * i, " %02x", *((const UChar *)place + i));
+    say_fault("an instruction that this Valgrind does not know:%s, in %s", bytes, place_text(place));
 }
 
 static VG_REGPARM(1) void write_back_is_strange(Addr place)
