@@ -29,9 +29,7 @@ places-moved f roll n placed moved same all by = subst (λ xs. IsPermutation xs 
 
 -- and a queue that is made of them is one of the roll
 pub queue-of : {P : Type 0} (f : P → Trace) (g : P → ℕ) (roll : List Slotted) (placed yielded : List P) (sections : List Trace) (places : List ℕ) → map (λ p. p) yielded ≡ placed → sections ≡ map f yielded → places ≡ map g yielded → IsPermutation (with_places roll) (map (λ p. (f p, g p)) placed) → IsQueueOf roll sections places
-queue-of f g roll placed yielded sections places all first second moved =
-    let both : zip sections places ≡ map (λ p. (f p, g p)) placed = rw (first, second) (zip-maps f g yielded) ∙ sym (map-map (λ p. (f p, g p)) (λ p. p) yielded) ∙ ap (map (λ p. (f p, g p))) all in
-    subst (IsPermutation (with_places roll)) (sym both) moved
+queue-of f g roll placed yielded sections places all first second moved = grind (arith, common_steps, zip-maps, map-map)
 
 -- where one element changes, and each other is related to itself
 all_zip-same : {X : Type 0} (R : X → X → Type 0) (xs : List X) → ((i : ℕ) (d : X) → i < length xs → R (get_or xs i d) (get_or xs i d)) → AllZip R xs xs
@@ -58,11 +56,7 @@ not_less a b found tells before = grind (arith, common_steps, before-itself, bef
 module _ (verdict : Checked) (roll : List Slotted) where
   -- a slot of another section keeps nothing
   keeps-other : (s : Slotted) → name_in s ≢ verdict.section.name → Keeps verdict s s
-  keeps-other s other = record {
-    checked = refl;
-    place = refl;
-    filled = (inl, λ e. elim e [ inl full ↦ full | inr is ↦ absurd (other (ap (λ (c : Checked). c.section.name) (sym is))) ]);
-  }
+  keeps-other s other = grind (arith, common_steps)
 
   told : (d : Slotted) (k : ℕ) (o : Ordering) → compared (name_in (get_or roll k d)) verdict.section.name ≡ o → Tells (name_in (get_or roll k d)) verdict.section.name o
   told d k o is = subst (Tells (name_in (get_or roll k d)) verdict.section.name) is (compares_tells (name_in (get_or roll k d)) verdict.section.name)
@@ -98,10 +92,7 @@ stays-then_keeps verdict [] [] (z ∷ c) first second = absurd second
 stays-then_keeps verdict [] (y ∷ b) c first second = absurd first
 stays-then_keeps verdict (x ∷ a) [] c first second = absurd first
 stays-then_keeps verdict (x ∷ a) (y ∷ b) [] first second = absurd second
-stays-then_keeps verdict (x ∷ a) (y ∷ b) (z ∷ c) first second = (
-  record { checked = second.0.checked ∙ first.0.checked; place = second.0.place ∙ first.0.place; filled = λ full. second.0.filled.1 (inl (first.0.filled full)) },
-  stays-then_keeps verdict a b c first.1 second.1,
-)
+stays-then_keeps verdict (x ∷ a) (y ∷ b) (z ∷ c) first second = grind (arith, common_steps, stays-then_keeps verdict a b c first.1 second.1)
 
 pub stays-checks : (a b : List Slotted) → AllZip Stays a b → checks b ≡ checks a
 stays-checks [] [] stays = refl

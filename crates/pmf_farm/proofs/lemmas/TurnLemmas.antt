@@ -1,5 +1,6 @@
 -- In which order a worker takes sections.
-use Rattle.std.{proofs.Common.{◌≡◌, ℕ, suc, ◌+◌, ◌-◌, ◌*◌, ◌%◌, ◌<◌, ◌≤◌, ◌⊎◌, inl, inr, ⊎_elim, cond, Result, Ok, Err, List, [], ◌∷◌, ◌++◌, length, All, AllPairs, refl, sym, ◌∙◌, ap, subst, arith, append_assoc, append-nil}, proofs.lemmas.Bool.{cases_lt, le-leb, lt-leb}, proofs.lemmas.Nat.{mod_below, mod-mul-add}, proofs.lemmas.List.Elements.{All-append, All-push}, proofs.lemmas.List.Quantifiers.{all_pairs_push}}
+use Rattle.std.proofs.lemmas.Grind.{common_steps}
+use Rattle.std.{proofs.Common.{◌≡◌, ℕ, suc, ◌+◌, ◌-◌, ◌*◌, ◌%◌, ◌<◌, ◌≤◌, ◌⊎◌, inl, inr, ⊎_elim, cond, Result, Ok, Err, List, [], ◌∷◌, ◌++◌, length, All, AllPairs, refl, sym, ◌∙◌, ap, subst, arith, append_assoc, append-nil}, proofs.lemmas.Bool.{cases_lt}, proofs.lemmas.Bool.Decides.{nat_tests}, proofs.Math.Nat.{mod-lt, mod-eq_of_lt, mod_self, zero-mod}, proofs.lemmas.List.Elements.{All-append, All-push}, proofs.lemmas.List.Quantifiers.{all_pairs_push}}
 use Rattle.pmf_board.{specs.Calls.{Marks, PassesOver, PassesOverAll, Stays, Takes, round_from}, specs.declared.task.Task.{Task}, specs.declared.view.View.{View}, specs.Views.{HasSeenClosed, HasSeenDone, NeverFalls, most_seen}, proofs.lemmas.CallLemmas.{NeverFalls-both, closed-later, round-round}}
 use Rattle.pmf_farm.specs.{declared.gate.Turn.{Turn}, declared.gate.Turn.TheVariants.{Go, Lost}, Working.{AreInTurn, TakesAgain, TakesFresh, TakesInTurn, TakesLater, Took}}
 
@@ -7,59 +8,20 @@ use Rattle.pmf_farm.specs.{declared.gate.Turn.{Turn}, declared.gate.Turn.TheVari
 abbrev Lies : ℕ → ℕ → ℕ → ℕ → Type 0
 Lies n w p far = (p ≡ w + far) ⊎ (p + n ≡ w + far)
 
--- where s lies behind w
-round-is : (n w s : ℕ) → ((w ≤ s) × (round_from n w s ≡ s - w)) ⊎ ((s < w) × (round_from n w s ≡ s + n - w))
-round-is n w s = ⊎_elim (λ less. inr (less, round-round n w s less)) (λ up. inl (up, ap (λ b. cond b (s - w) (s + n - w)) (le-leb w s up))) (cases_lt s w)
-
 -- what lies behind p lies behind w, by as much more as p does
 apart : (n w p s far : ℕ) → w < n → p < n → s < n → Lies n w p far → far ≤ round_from n w s → round_from n p s + far ≡ round_from n w s
-apart n w p s far lw lp ls at le = by at (round-is n w s) (round-is n p s)
-  where
-    by : Lies n w p far → ((w ≤ s) × (round_from n w s ≡ s - w)) ⊎ ((s < w) × (round_from n w s ≡ s + n - w)) → ((p ≤ s) × (round_from n p s ≡ s - p)) ⊎ ((s < p) × (round_from n p s ≡ s + n - p)) → round_from n p s + far ≡ round_from n w s
-    by (inl a) (inl b) (inl c) = omega (arith, a, b.0, b.1, c.0, c.1, le, lw, lp, ls)
-    by (inl a) (inl b) (inr c) = omega (arith, a, b.0, b.1, c.0, c.1, le, lw, lp, ls)
-    by (inl a) (inr b) (inl c) = omega (arith, a, b.0, b.1, c.0, c.1, le, lw, lp, ls)
-    by (inl a) (inr b) (inr c) = omega (arith, a, b.0, b.1, c.0, c.1, le, lw, lp, ls)
-    by (inr a) (inl b) (inl c) = omega (arith, a, b.0, b.1, c.0, c.1, le, lw, lp, ls)
-    by (inr a) (inl b) (inr c) = omega (arith, a, b.0, b.1, c.0, c.1, le, lw, lp, ls)
-    by (inr a) (inr b) (inl c) = omega (arith, a, b.0, b.1, c.0, c.1, le, lw, lp, ls)
-    by (inr a) (inr b) (inr c) = omega (arith, a, b.0, b.1, c.0, c.1, le, lw, lp, ls)
+apart n w p s far lw lp ls at le = grind (arith, nat_tests)
 
 -- no two lie as far behind w
 round-once : (n w s t : ℕ) → w < n → s < n → t < n → round_from n w s ≡ round_from n w t → s ≡ t
-round-once n w s t lw ls lt same = by (round-is n w s) (round-is n w t)
-  where
-    by : ((w ≤ s) × (round_from n w s ≡ s - w)) ⊎ ((s < w) × (round_from n w s ≡ s + n - w)) → ((w ≤ t) × (round_from n w t ≡ t - w)) ⊎ ((t < w) × (round_from n w t ≡ t + n - w)) → s ≡ t
-    by (inl a) (inl b) = omega (arith, a.0, a.1, b.0, b.1, same, lw, ls, lt)
-    by (inl a) (inr b) = omega (arith, a.0, a.1, b.0, b.1, same, lw, ls, lt)
-    by (inr a) (inl b) = omega (arith, a.0, a.1, b.0, b.1, same, lw, ls, lt)
-    by (inr a) (inr b) = omega (arith, a.0, a.1, b.0, b.1, same, lw, ls, lt)
+round-once n w s t lw ls lt same = grind (arith, nat_tests)
 
 round-below : (n w s : ℕ) → w < n → s < n → round_from n w s < n
-round-below n w s lw ls = ⊎_elim (λ a. omega (arith, a.0, a.1, lw, ls)) (λ a. omega (arith, a.0, a.1, lw, ls)) (round-is n w s)
-
-mod-small : (n s : ℕ) → s < n → s % n ≡ s
-mod-small n s lt = let is : s ≡ 0 * n + s = omega arith in ap (λ m. m % n) is ∙ mod-mul-add 0 n s lt
+round-below n w s lw ls = grind (arith, nat_tests)
 
 -- the next one lies one further
 lies-next : (n w t : ℕ) → w < n → t < n → Lies n w ((t + 1) % n % n) (round_from n w t + 1)
-lies-next n w t lw lt = by (cases_lt (t + 1) n) (round-is n w t)
-  where
-    some : 0 < n
-    some = omega (arith, lw)
-
-    twice : (t + 1) % n % n ≡ (t + 1) % n
-    twice = mod-small n ((t + 1) % n) (mod_below (t + 1) n some)
-
-    by : (t + 1 < n) ⊎ (n ≤ t + 1) → ((w ≤ t) × (round_from n w t ≡ t - w)) ⊎ ((t < w) × (round_from n w t ≡ t + n - w)) → Lies n w ((t + 1) % n % n) (round_from n w t + 1)
-    by (inl less) (inl a) = let is = twice ∙ mod-small n (t + 1) less in inl (omega (arith, is, a.0, a.1))
-    by (inl less) (inr a) = let is = twice ∙ mod-small n (t + 1) less in inr (omega (arith, is, a.0, a.1, lw))
-    by (inr last) (inl a) =
-        let end : t + 1 ≡ 1 * n + 0 = omega (arith, last, lt) in
-        let is = twice ∙ ap (λ m. m % n) end ∙ mod-mul-add 1 n 0 some in
-        inr (omega (arith, is, end, a.0, a.1))
-    by (inr last) (inr a) =
-        let end : t + 1 ≡ 1 * n + 0 = omega (arith, last, lt) in absurd (omega (arith, a.0, lw, end))
+lies-next n w t lw lt = grind (arith, common_steps, cases_lt, mod-eq_of_lt, nat_tests, mod_self, zero-mod)
 
 -- the worker took sections in turn, and the next one lies so far from the start that each nearer one was seen handed out or done
 pub record TakesTo (n start next : ℕ) (old new : View) : Type 0 where
@@ -132,10 +94,10 @@ TakesTo-taken n start next old mid new t there taken passes takes = record {
     p = next % n
 
     lw : w < n
-    lw = mod_below start n some
+    lw = mod-lt start some
 
     lp : p < n
-    lp = mod_below next n some
+    lp = mod-lt next some
 
     reach : takes.far ≤ round_from n w t.section
     reach = ⊎_elim (λ less. absurd (fresh-open mid new t taken (takes.closed t.section there less))) (λ le. le) (cases_lt (round_from n w t.section) takes.far)
@@ -152,20 +114,10 @@ pub TakesTo-fresh : (n start next : ℕ) (old new : View) → TakesTo n start ne
 TakesTo-fresh n start next old new takes = record { tasks = takes.tasks; took = takes.took; in_turn = takes.in_turn }
 
 pub TakesAgain-none : (n : ℕ) (v : View) → TakesAgain n v v
-TakesAgain-none n v all = record {
-  tasks = [];
-  took = sym (append-nil v.took);
-  later = λ k d lt. absurd (omega (arith, lt));
-  never_falls = record { most = λ s. omega arith; done = λ s d. d; frozen = λ s d. refl };
-}
+TakesAgain-none n v all = grind (arith, common_steps, append-nil)
 
 pub TakesAgain-later : (n : ℕ) (old mid new : View) → new.took ≡ mid.took → NeverFalls mid new → TakesAgain n old mid → TakesAgain n old new
-TakesAgain-later n old mid new same falls takes all = let before = takes all in record {
-  tasks = before.tasks;
-  took = same ∙ before.took;
-  later = before.later;
-  never_falls = NeverFalls-both old mid new before.never_falls falls;
-}
+TakesAgain-later n old mid new same falls takes all = grind (arith, common_steps, NeverFalls-both)
 
 -- what was seen handed out is handed out again
 pub TakesAgain-taken : (n limit : ℕ) (old mid new : View) (t : Task) → t.section < n → Takes limit mid t new → TakesAgain n old mid → TakesAgain n old new
@@ -195,13 +147,7 @@ TakesInTurn-from n start old mid next new fresh all first second =
 
 -- who only took in turn took nothing again
 pub TakesInTurn-fresh : (n start : ℕ) (old new : View) → TakesFresh n start old new → TakesInTurn n start old new
-TakesInTurn-fresh n start old new fresh = record {
-  fresh = fresh.tasks;
-  again = [];
-  took = fresh.took ∙ sym (append-nil (old.took ++ fresh.tasks)) ∙ append_assoc old.took fresh.tasks [];
-  in_turn = fresh.in_turn;
-  later = λ k d lt. absurd (omega (arith, lt));
-}
+TakesInTurn-fresh n start old new fresh = grind (arith, common_steps, append-nil, append_assoc)
 
 -- a turn that is lost, or want of memory, is none to go on
 pub lost-not_go : {E : Type 0} (t : Turn) → t ≡ Lost → ◌≡◌ {A = Result Turn E} (Ok t) (Ok Go) → ⊥

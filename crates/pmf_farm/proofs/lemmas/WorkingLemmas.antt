@@ -1,4 +1,5 @@
 -- A worker's turns, one after another.
+use Rattle.std.proofs.lemmas.Grind.{common_steps}
 use Rattle.std.{proofs.Common.{◌≡◌, ℕ, zero, suc, ◌+◌, ◌-◌, ◌<◌, ◌≤◌, List, [], ◌∷◌, ◌++◌, length, map, refl, sym, ◌∙◌, ap, subst, arith, inl, inr, eqb, count_by, cond, eq-eqb, append_assoc, Ok, append-nil}, proofs.lemmas.List.{map-append}, proofs.lemmas.Bool.{cases_order}, proofs.lemmas.List.Sums.{sum_by-append, sum_by-cons}, specs.declared.alloc.AllocError.{AllocError}}
 use Rattle.pmf_event.specs.{declared.profile.Profile.{Profile}, Section.{Trace}}
 use Rattle.pmf_verdict.specs.Checked.{Checked}
@@ -32,14 +33,7 @@ module _ (sections : List Trace) (profile : Profile) where
 
   -- a pass that stayed as it was has worked no more
   pub HasWorked-stays : (old mid new : View) (before after : List Checked) → HasWorked sections profile old mid before after 0 → Stays mid new → HasWorked sections profile old new before after 0
-  HasWorked-stays old mid new before after worked stays = record {
-    tasks = worked.tasks;
-    rest = worked.rest;
-    took = stays.took ∙ worked.took;
-    marked = stays.marked ∙ worked.marked;
-    put = worked.put;
-    few = worked.few;
-  }
+  HasWorked-stays old mid new before after worked stays = grind (arith, common_steps)
 
   -- a task that was taken and served is one more
   pub HasWorked-served : (old mid taken new : View) (before sent after : List Checked) (limit : ℕ) (t : Task) → HasWorked sections profile old mid before sent 0 → Takes limit mid t taken → Serves sections profile t taken new sent after → HasWorked sections profile old new before after 0
@@ -62,33 +56,11 @@ module _ (sections : List Trace) (profile : Profile) where
 
   -- a task that was taken and not served is left
   pub HasWorked-left : (old mid taken new : View) (before sent after : List Checked) (limit : ℕ) (t : Task) → HasWorked sections profile old mid before sent 0 → Takes limit mid t taken → new.took ≡ taken.took → new.marked ≡ taken.marked → after ≡ sent → HasWorked sections profile old new before after 1
-  HasWorked-left old mid taken new before sent after limit t worked takes took marked put = record {
-    tasks = worked.tasks;
-    rest = t ∷ [];
-    took = took ∙ takes.took ∙ ap (λ ts. ts ++ t ∷ []) (took_all old mid before sent worked);
-    marked = marked ∙ takes.marked ∙ worked.marked;
-    put = put ∙ worked.put;
-    few = omega arith;
-  }
+  HasWorked-left old mid taken new before sent after limit t worked takes took marked put = grind (arith, common_steps, took_all)
 
   -- two stretches of work are one
   pub HasWorked-then : (old mid new : View) (before sent after : List Checked) (most : ℕ) → HasWorked sections profile old mid before sent 0 → HasWorked sections profile mid new sent after most → HasWorked sections profile old new before after most
-  HasWorked-then old mid new before sent after most first second = record {
-    tasks = first.tasks ++ second.tasks;
-    rest = second.rest;
-    took =
-        second.took ∙ ap (λ ts. ts ++ second.tasks ++ second.rest) (took_all old mid before sent first)
-        ∙ ap (λ ts. ts ++ second.rest) (append_assoc old.took first.tasks second.tasks);
-    marked =
-        second.marked ∙ ap (λ ms. ms ++ map (λ x. x.section) second.tasks) first.marked
-        ∙ append_assoc old.marked (map (λ x. x.section) first.tasks) (map (λ x. x.section) second.tasks)
-        ∙ ap (λ ms. old.marked ++ ms) (sym (map-append (λ x. x.section) first.tasks second.tasks));
-    put =
-        second.put ∙ ap (λ xs. xs ++ map (checked_of sections profile) second.tasks) first.put
-        ∙ append_assoc before (map (checked_of sections profile) first.tasks) (map (checked_of sections profile) second.tasks)
-        ∙ ap (λ xs. before ++ xs) (sym (map-append (checked_of sections profile) first.tasks second.tasks));
-    few = second.few;
-  }
+  HasWorked-then old mid new before sent after most first second = grind (arith, common_steps, took_all, append_assoc, map-append)
 
 -- how many of the sections below n stand not among the marked ones
 abbrev pub unmarked : ℕ → List ℕ → ℕ
@@ -107,9 +79,7 @@ unmarked-more zero s marked = omega arith
 unmarked-more (suc n) s marked = let head = head-more n s marked in let rest = unmarked-more n s marked in omega (arith, head, rest)
 
 head-falls : (n : ℕ) (marked : List ℕ) → (0 < count_by (λ m. eqb m n) marked → ⊥) → 1 - count_by (λ m. eqb m n) (marked ++ n ∷ []) < 1 - count_by (λ m. eqb m n) marked
-head-falls n marked new =
-    let here : count_by (λ m. eqb m n) (marked ++ n ∷ []) ≡ count_by (λ m. eqb m n) marked + 1 = counted n n marked ∙ ap (λ b. count_by (λ m. eqb m n) marked + cond b 1 0) (eq-eqb n n refl) in
-    omega (arith, here, new)
+head-falls n marked new = grind (arith, common_steps, counted, eq-eqb)
 
 -- and one less where it was below n and not marked
 pub unmarked-falls : (n s : ℕ) (marked : List ℕ) → s < n → (0 < count_by (λ m. eqb m s) marked → ⊥) → unmarked n (marked ++ s ∷ []) < unmarked n marked

@@ -1,3 +1,5 @@
+use Rattle.std.proofs.lemmas.Grind.{common_steps}
+use Rattle.std.proofs.Common.{arith}
 use Rattle.std.proofs.Common.{refl, sym, Ok, ◌∙◌, ap, subst, ◌<◌, ◌∷◌, [], ◌++◌}
 use Rattle.std.proofs.Common.{◌≡◌, ◌+◌, ◌%◌}
 use Rattle.pmf_board.specs.Calls.{PassesOver, Takes}
@@ -9,12 +11,7 @@ pub loop-task-init : goal.loop-task-init
 loop-task-init g c = record { same = refl; worked = HasWorked-none _ _ _ _; fresh = λ one. TakesTo-none _ _ _; again = TakesAgain-none _ _ }
 
 pub loop-task-smaller : goal.loop-task-smaller
-loop-task-smaller g c =
-    let takes = c.in-Some.ensures.some in
-    let serves = c.in-Ok-Go.ensures.served (ap Ok c.in-Ok-Go.field-0-is) in
-    let words = c.args.self.now.board.now.words in
-    subst (λ ms. unmarked words ms < unmarked words c.loop-task.pass.view.marked) (sym (serves.marks.marked ∙ ap (λ ms. ms ++ c.in-Some.task.section ∷ []) takes.marked))
-    (unmarked-falls words c.in-Some.task.section c.loop-task.pass.view.marked c.in-Some.ensures.there takes.open_before.1)
+loop-task-smaller g c = grind (arith, common_steps, unmarked, unmarked-falls)
 
 pub loop-task-preserved : goal.loop-task-preserved
 loop-task-preserved g c =

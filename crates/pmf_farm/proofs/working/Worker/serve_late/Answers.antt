@@ -1,3 +1,5 @@
+use Rattle.std.proofs.lemmas.Grind.{common_steps}
+use Rattle.std.proofs.Common.{arith}
 use Rattle.std.proofs.Common.{refl, sym, ◌∙◌, ap, subst, Ok}
 use Rattle.pmf_board.proofs.lemmas.CallLemmas.{Stays-both}
 use Rattle.pmf_farm.specs.Working.{TakesAgain}
