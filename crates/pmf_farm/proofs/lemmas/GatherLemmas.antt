@@ -1,6 +1,4 @@
 -- A ledger that gains the sections of a roll one after another.
-use Rattle.std.proofs.lemmas.Grind.{common_steps}
-use Rattle.std.proofs.Common.{arith}
 use Rattle.std.proofs.{Common.{map, refl, ◌≡◌, List, ◌∷◌, [], ◌++◌, sym, ◌∙◌, ap, subst, inl, inr, IsPermutation}, lemmas.List.{map-append}, lemmas.List.Sorted.{Contains-permutation, IsPermutation-map, IsPermutation-sym}, lemmas.List.Elements.{Contains-append_left, Contains-append_right, Contains-append_cases}}
 use Rattle.pmf_event.specs.{declared.profile.Profile.{Profile}, Section.{Trace}}
 use Rattle.pmf_verdict.specs.Checked.{Checked, checked_by}

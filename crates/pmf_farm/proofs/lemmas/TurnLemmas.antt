@@ -1,6 +1,5 @@
 -- In which order a worker takes sections.
-use Rattle.std.proofs.lemmas.Grind.{common_steps}
-use Rattle.std.{proofs.Common.{◌≡◌, ℕ, suc, ◌+◌, ◌-◌, ◌*◌, ◌%◌, ◌<◌, ◌≤◌, ◌⊎◌, inl, inr, ⊎_elim, cond, Result, Ok, Err, List, [], ◌∷◌, ◌++◌, length, All, AllPairs, refl, sym, ◌∙◌, ap, subst, arith, append_assoc, append-nil}, proofs.lemmas.Bool.{cases_lt}, proofs.lemmas.Bool.Decides.{nat_tests}, proofs.Math.Nat.{mod-lt, mod-eq_of_lt, mod_self, zero-mod}, proofs.lemmas.List.Elements.{All-append, All-push}, proofs.lemmas.List.Quantifiers.{all_pairs_push}}
+use Rattle.std.{proofs.Common.{◌≡◌, ℕ, suc, ◌+◌, ◌-◌, ◌*◌, ◌%◌, ◌<◌, ◌≤◌, ◌⊎◌, inl, inr, ⊎_elim, cond, Result, Ok, Err, List, [], ◌∷◌, ◌++◌, length, All, AllPairs, refl, sym, ◌∙◌, ap, subst, arith, append_assoc, append-nil}, proofs.lemmas.Bool.{cases_lt}, proofs.lemmas.Bool.Decides.{nat_tests}, proofs.Math.Nat.{mod-lt, mod-eq_of_lt, mod_self, zero-mod}, proofs.lemmas.List.Elements.{All-append, All-push}, proofs.lemmas.List.Quantifiers.{all_pairs_push}, proofs.lemmas.Grind.{common_steps}}
 use Rattle.pmf_board.{specs.Calls.{Marks, PassesOver, PassesOverAll, Stays, Takes, round_from}, specs.declared.task.Task.{Task}, specs.declared.view.View.{View}, specs.Views.{HasSeenClosed, HasSeenDone, NeverFalls, most_seen}, proofs.lemmas.CallLemmas.{NeverFalls-both, closed-later, round-round}}
 use Rattle.pmf_farm.specs.{declared.gate.Turn.{Turn}, declared.gate.Turn.TheVariants.{Go, Lost}, Working.{AreInTurn, TakesAgain, TakesFresh, TakesInTurn, TakesLater, Took}}
 
@@ -16,9 +15,6 @@ apart n w p s far lw lp ls at le = grind (arith, nat_tests)
 round-once : (n w s t : ℕ) → w < n → s < n → t < n → round_from n w s ≡ round_from n w t → s ≡ t
 round-once n w s t lw ls lt same = grind (arith, nat_tests)
 
-round-below : (n w s : ℕ) → w < n → s < n → round_from n w s < n
-round-below n w s lw ls = grind (arith, nat_tests)
-
 -- the next one lies one further
 lies-next : (n w t : ℕ) → w < n → t < n → Lies n w ((t + 1) % n % n) (round_from n w t + 1)
 lies-next n w t lw lt = grind (arith, common_steps, cases_lt, mod-eq_of_lt, nat_tests, mod_self, zero-mod)
@@ -29,7 +25,6 @@ pub record TakesTo (n start next : ℕ) (old new : View) : Type 0 where
   pub took : Took old tasks new
   pub in_turn : AreInTurn n start tasks new
   pub far : ℕ
-  pub within : far ≤ n
   pub at : Lies n (start % n) (next % n) far
   pub below : All (λ (t : Task). round_from n (start % n) t.section < far) tasks
   pub closed : (s : ℕ) → s < n → round_from n (start % n) s < far → HasSeenClosed 1 new s
@@ -40,7 +35,6 @@ TakesTo-none n start v = record {
   took = sym (append-nil v.took);
   in_turn = record { first = λ k d lt. absurd (omega (arith, lt)); rise = λ i j d lt within. absurd (omega (arith, within)); passed = λ k d lt. absurd (omega (arith, lt)) };
   far = 0;
-  within = omega arith;
   at = inl (omega arith);
   below = λ k d lt. absurd (omega (arith, lt));
   closed = λ s there less. absurd (omega (arith, less));
@@ -57,61 +51,44 @@ TakesTo-later n start next old mid new same falls takes = record {
   took = same ∙ takes.took;
   in_turn = record { first = takes.in_turn.first; rise = takes.in_turn.rise; passed = passed-later n start takes.tasks mid new falls takes.in_turn.passed };
   far = takes.far;
-  within = takes.within;
   at = takes.at;
   below = takes.below;
   closed = λ s there less. closed-later 1 mid new s falls (takes.closed s there less);
 }
 
--- a section that was never handed out is seen neither done nor handed out
-fresh-open : (mid new : View) (t : Task) → Takes 1 mid t new → HasSeenClosed 1 mid t.section → ⊥
-fresh-open mid new t takes = ⊎_elim takes.open_before.0 (λ most. omega (arith, most, takes.above, takes.number.1))
-
 -- the next one in turn is one more
-pub TakesTo-taken : (n start next : ℕ) (old mid new : View) (t : Task) → t.section < n → Takes 1 mid t new → PassesOver 1 n next t.section new → TakesTo n start next old mid → TakesTo n start ((t.section + 1) % n) old new
-TakesTo-taken n start next old mid new t there taken passes takes = record {
-  tasks = takes.tasks ++ t ∷ [];
-  took = taken.took ∙ ap (λ ts. ts ++ t ∷ []) takes.took ∙ append_assoc old.took takes.tasks (t ∷ []);
-  in_turn = record {
-    first = All-push (λ (x : Task). x.number ≡ 1) takes.tasks t takes.in_turn.first (omega (arith, taken.number.0, taken.number.1));
-    rise = all_pairs_push (λ (x : Task) (y : Task). round_from n w x.section < round_from n w y.section) takes.tasks t takes.in_turn.rise (λ k d lt. omega (arith, takes.below k d lt, reach));
-    passed = All-push (λ (x : Task). PassesOver 1 n start x.section new) takes.tasks t (passed-later n start takes.tasks mid new taken.never_falls takes.in_turn.passed) nearer;
-  };
-  far = round_from n w t.section + 1;
-  within = omega (arith, round-below n w t.section lw there);
-  at = lies-next n w t.section lw there;
-  below = All-push (λ (x : Task). round_from n w x.section < round_from n w t.section + 1) takes.tasks t (λ k d lt. omega (arith, takes.below k d lt, reach)) (omega arith);
-  closed = λ s less before. ⊎_elim (nearer s less) (λ on. seen-here s (round-once n w s t.section lw less there (omega (arith, on, before)))) (cases_lt (round_from n w s) (round_from n w t.section));
-}
-  where
-    some : 0 < n
-    some = omega (arith, there)
+pub TakesTo-taken : (n limit start next : ℕ) (old mid new : View) (t : Task) → limit ≡ 1 → t.section < n → Takes limit mid t new → PassesOver limit n next t.section new → TakesTo n start next old mid →
+    TakesTo n start ((t.section + 1) % n) old new
+TakesTo-taken n limit start next old mid new t one there taken passes takes =
+    let w = start % n in
+    let lw : w < n = mod-lt start (omega (arith, there)) in
+    let lp : next % n < n = mod-lt next (omega (arith, there)) in
+    let reach : takes.far ≤ round_from n w t.section = grind (arith, takes.closed t.section there, taken.open_before.0, taken.above, taken.number.1) in
+    let nearer : (s : ℕ) → s < n → round_from n w s < round_from n w t.section → HasSeenClosed 1 new s = λ s less before. ⊎_elim (λ near. closed-later 1 mid new s taken.never_falls (takes.closed s less near))
+        (λ on. subst (λ k. HasSeenClosed k new s) one (passes s less (omega (arith, before, apart n w (next % n) s takes.far lw lp less takes.at on, apart n w (next % n) t.section takes.far lw lp there takes.at reach))))
+        (cases_lt (round_from n w s) takes.far) in
+    record {
+      tasks = takes.tasks ++ t ∷ [];
+      took = taken.took ∙ ap (λ ts. ts ++ t ∷ []) takes.took ∙ append_assoc old.took takes.tasks (t ∷ []);
+      in_turn = record {
+        first = All-push (λ (x : Task). x.number ≡ 1) takes.tasks t takes.in_turn.first (omega (arith, taken.number.0, taken.number.1));
+        rise = all_pairs_push (λ (x : Task) (y : Task). round_from n w x.section < round_from n w y.section) takes.tasks t takes.in_turn.rise (λ k d lt. omega (arith, takes.below k d lt, reach));
+        passed = All-push (λ (x : Task). PassesOver 1 n start x.section new) takes.tasks t (passed-later n start takes.tasks mid new taken.never_falls takes.in_turn.passed) nearer;
+      };
+      far = round_from n w t.section + 1;
+      at = lies-next n w t.section lw there;
+      below = All-push (λ (x : Task). round_from n w x.section < round_from n w t.section + 1) takes.tasks t (λ k d lt. omega (arith, takes.below k d lt, reach)) (omega arith);
+      closed = λ s less before. ⊎_elim (nearer s less)
+          (λ on. subst (HasSeenClosed 1 new) (sym (round-once n w s t.section lw less there (omega (arith, on, before)))) (inr (omega (arith, taken.seen.0, taken.number.0))))
+          (cases_lt (round_from n w s) (round_from n w t.section));
+    }
 
-    w : ℕ
-    w = start % n
-
-    p : ℕ
-    p = next % n
-
-    lw : w < n
-    lw = mod-lt start some
-
-    lp : p < n
-    lp = mod-lt next some
-
-    reach : takes.far ≤ round_from n w t.section
-    reach = ⊎_elim (λ less. absurd (fresh-open mid new t taken (takes.closed t.section there less))) (λ le. le) (cases_lt (round_from n w t.section) takes.far)
-
-    nearer : (s : ℕ) → s < n → round_from n w s < round_from n w t.section → HasSeenClosed 1 new s
-    nearer s less before = ⊎_elim (λ near. closed-later 1 mid new s taken.never_falls (takes.closed s less near))
-        (λ on. passes s less (omega (arith, before, apart n w p s takes.far lw lp less takes.at on, apart n w p t.section takes.far lw lp there takes.at reach)))
-        (cases_lt (round_from n w s) takes.far)
-
-    seen-here : (s : ℕ) → s ≡ t.section → HasSeenClosed 1 new s
-    seen-here s is = subst (HasSeenClosed 1 new) (sym is) (inr (omega (arith, taken.seen.0, taken.number.0)))
-
-pub TakesTo-fresh : (n start next : ℕ) (old new : View) → TakesTo n start next old new → TakesFresh n start old new
-TakesTo-fresh n start next old new takes = record { tasks = takes.tasks; took = takes.took; in_turn = takes.in_turn }
+-- so it is where the task is in its hand
+pub TakesFresh-left : (n limit start next : ℕ) (old mid new seen : View) (t : Task) → seen ≡ new → limit ≡ 1 → t.section < n → Takes limit mid t new → PassesOver limit n next t.section new → TakesTo n start next old mid →
+    TakesFresh n start old seen
+TakesFresh-left n limit start next old mid new seen t same one there taken passes before =
+    let takes = TakesTo-taken n limit start next old mid new t one there taken passes before in
+    subst (TakesFresh n start old) (sym same) (record { tasks = takes.tasks; took = takes.took; in_turn = takes.in_turn })
 
 pub TakesAgain-none : (n : ℕ) (v : View) → TakesAgain n v v
 TakesAgain-none n v all = grind (arith, common_steps, append-nil)
@@ -120,14 +97,14 @@ pub TakesAgain-later : (n : ℕ) (old mid new : View) → new.took ≡ mid.took 
 TakesAgain-later n old mid new same falls takes all = grind (arith, common_steps, NeverFalls-both)
 
 -- what was seen handed out is handed out again
-pub TakesAgain-taken : (n limit : ℕ) (old mid new : View) (t : Task) → t.section < n → Takes limit mid t new → TakesAgain n old mid → TakesAgain n old new
-TakesAgain-taken n limit old mid new t there taken takes all = let before = takes all in record {
+pub TakesAgain-taken : (n limit : ℕ) (old mid new seen : View) (t : Task) → seen ≡ new → t.section < n → Takes limit mid t new → TakesAgain n old mid → TakesAgain n old seen
+TakesAgain-taken n limit old mid new seen t same there taken takes all = let before = takes all in subst (TakesLater old) (sym same) (record {
   tasks = before.tasks ++ t ∷ [];
   took = taken.took ∙ ap (λ ts. ts ++ t ∷ []) before.took ∙ append_assoc old.took before.tasks (t ∷ []);
   later = All-push (λ (x : Task). 2 ≤ x.number) before.tasks t before.later
       (⊎_elim (λ done. absurd (taken.open_before.0 done)) (λ most. omega (arith, most, taken.above)) (closed-later 1 old mid t.section before.never_falls (all t.section there)));
   never_falls = NeverFalls-both old mid new before.never_falls taken.never_falls;
-}
+})
 
 -- first in turn, and then twice what was handed out before
 pub TakesInTurn-from : (n start : ℕ) (old mid next new : View) → TakesFresh n start old mid → PassesOverAll 1 n mid → TakesAgain n mid next → TakesAgain n next new → TakesInTurn n start old new
@@ -144,14 +121,3 @@ TakesInTurn-from n start old mid next new fresh all first second =
       in_turn = record { first = fresh.in_turn.first; rise = fresh.in_turn.rise; passed = passed-later n start fresh.tasks mid new falls fresh.in_turn.passed };
       later = All-append (λ (x : Task). 2 ≤ x.number) one.tasks two.tasks one.later two.later;
     }
-
--- who only took in turn took nothing again
-pub TakesInTurn-fresh : (n start : ℕ) (old new : View) → TakesFresh n start old new → TakesInTurn n start old new
-TakesInTurn-fresh n start old new fresh = grind (arith, common_steps, append-nil, append_assoc)
-
--- a turn that is lost, or want of memory, is none to go on
-pub lost-not_go : {E : Type 0} (t : Turn) → t ≡ Lost → ◌≡◌ {A = Result Turn E} (Ok t) (Ok Go) → ⊥
-lost-not_go t is same = let z : ◌≡◌ {A = ℕ} 0 1 = cc in omega (arith, z)
-
-pub err-not_go : {E : Type 0} (e : E) → ◌≡◌ {A = Result Turn E} (Err e) (Ok Go) → ⊥
-err-not_go e same = let z : ◌≡◌ {A = ℕ} 0 1 = cc in omega (arith, z)

@@ -1,6 +1,5 @@
 -- A worker's turns, one after another.
-use Rattle.std.proofs.lemmas.Grind.{common_steps}
-use Rattle.std.{proofs.Common.{◌≡◌, ℕ, zero, suc, ◌+◌, ◌-◌, ◌<◌, ◌≤◌, List, [], ◌∷◌, ◌++◌, length, map, refl, sym, ◌∙◌, ap, subst, arith, inl, inr, eqb, count_by, cond, eq-eqb, append_assoc, Ok, append-nil}, proofs.lemmas.List.{map-append}, proofs.lemmas.Bool.{cases_order}, proofs.lemmas.List.Sums.{sum_by-append, sum_by-cons}, specs.declared.alloc.AllocError.{AllocError}}
+use Rattle.std.{proofs.Common.{◌≡◌, ℕ, zero, suc, ◌+◌, ◌-◌, ◌<◌, ◌≤◌, List, [], ◌∷◌, ◌++◌, length, map, refl, sym, ◌∙◌, ap, subst, arith, inl, inr, eqb, count_by, cond, eq-eqb, append_assoc, Ok, append-nil}, proofs.lemmas.List.{map-append}, proofs.lemmas.Bool.{cases_order}, proofs.lemmas.List.Sums.{sum_by-append, sum_by-cons}, specs.declared.alloc.AllocError.{AllocError}, proofs.lemmas.Grind.{common_steps}}
 use Rattle.pmf_event.specs.{declared.profile.Profile.{Profile}, Section.{Trace}}
 use Rattle.pmf_verdict.specs.Checked.{Checked}
 use Rattle.pmf_board.specs.{Calls.{Stays, Takes}, declared.task.Task.{Task}, declared.view.View.{View}}

@@ -1,5 +1,4 @@
-use Rattle.std.proofs.lemmas.Grind.{common_steps}
-use Rattle.std.proofs.Common.{arith}
+use Rattle.std.proofs.{Common.{arith}, lemmas.Grind.{common_steps}}
 use Rattle.pmf_farm.proofs.lemmas.RollLemmas.{places-moved}
 use Rattle.pmf_farm.proofs.queue.longest_first.Goals as goal
 

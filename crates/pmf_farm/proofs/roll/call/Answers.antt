@@ -1,5 +1,3 @@
-use Rattle.std.proofs.lemmas.Grind.{common_steps}
-use Rattle.std.proofs.Common.{arith}
 use Rattle.std.{proofs.Common.{map, subst, rules, Option, IsPermutation, MatchOption}, proofs.lemmas.List.Sorted.{answers_always}}
 use Rattle.pmf_event.specs.declared.name.Name.{Name}
 use Rattle.pmf_ledger.specs.Repeats.{HaveOwnNames, IsLeastTwice}

@@ -1,5 +1,3 @@
-use Rattle.std.proofs.lemmas.Grind.{common_steps}
-use Rattle.std.proofs.Common.{arith}
 use Rattle.std.{proofs.Common.{◌≡◌, subst, get_or, rules, Equal}, proofs.lemmas.List.Sorted.{answers_always}}
 use Rattle.pmf_ledger.proofs.lemmas.NameLemmas.{compared}
 use Rattle.pmf_farm.{specs.Rolls.{Slotted}, proofs.lemmas.RollLemmas.{keeps-found, keeps-none, name_in}}

@@ -1,5 +1,3 @@
-use Rattle.std.proofs.lemmas.Grind.{common_steps}
-use Rattle.std.proofs.Common.{arith}
 use Rattle.std.proofs.Common.{rules}
 use Rattle.pmf_farm.proofs.lemmas.RollLemmas.{slots_more}
 use Rattle.pmf_farm.proofs.roll.slots_of.Goals as goal

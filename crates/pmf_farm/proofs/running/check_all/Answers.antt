@@ -1,5 +1,3 @@
-use Rattle.std.proofs.lemmas.Grind.{common_steps}
-use Rattle.std.proofs.Common.{arith}
 use Rattle.std.proofs.{Common.{map, subst, IsPermutation}, lemmas.List.Sorted.{IsPermutation-map}}
 use Rattle.pmf_ledger.specs.Gathered.{IsLedgerOf}
 use Rattle.pmf_verdict.specs.Checked.{checked_by}

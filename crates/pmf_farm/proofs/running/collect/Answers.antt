@@ -1,5 +1,4 @@
-use Rattle.std.proofs.lemmas.Grind.{common_steps}
-use Rattle.std.proofs.Common.{arith}
+use Rattle.std.proofs.{Common.{arith}, lemmas.Grind.{common_steps}}
 use Rattle.std.{proofs.Common.{subst, sym, ◌∙◌}, specs.List.{AllZip}, proofs.lemmas.List.{with_items_is}, proofs.lemmas.List.Elements.{length_all_zip}}
 use Rattle.pmf_farm.{specs.Rolls.{Keeps, RollRises, Stays}, proofs.lemmas.RollLemmas.{stays-itself, stays-rises, stays-then_keeps}}
 use Rattle.pmf_farm.proofs.running.collect.Goals as goal

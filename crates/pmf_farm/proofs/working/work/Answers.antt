@@ -1,5 +1,3 @@
-use Rattle.std.proofs.lemmas.Grind.{common_steps}
-use Rattle.std.proofs.Common.{arith}
 use Rattle.std.proofs.Common.{refl, ap, Ok}
 use Rattle.pmf_farm.proofs.lemmas.{WorkingLemmas.{HasWorked-all, HasWorked-then}, TurnLemmas.{TakesAgain-none, TakesInTurn-from}}
 use Rattle.pmf_farm.proofs.working.work.Goals as goal

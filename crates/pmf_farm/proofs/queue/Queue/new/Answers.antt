@@ -1,5 +1,3 @@
-use Rattle.std.proofs.lemmas.Grind.{common_steps}
-use Rattle.std.proofs.Common.{arith}
 use Rattle.std.proofs.{Common.{◌∙◌}, lemmas.Iterator.Adapters.{YieldsList-from_vec}, lemmas.Iterator.Consumers.{YieldsList-end}}
 use Rattle.pmf_farm.proofs.lemmas.RollLemmas.{queue-of}
 use Rattle.pmf_farm.proofs.queue.Queue.new.Goals as goal

@@ -1,10 +1,9 @@
-use Rattle.std.proofs.lemmas.Grind.{common_steps}
-use Rattle.std.proofs.Common.{arith}
+use Rattle.std.proofs.{Common.{arith}, lemmas.Grind.{common_steps}}
 use Rattle.std.proofs.Common.{refl, sym, Ok, ◌∙◌, ap, subst, ◌<◌, ◌∷◌, [], ◌++◌}
 use Rattle.std.proofs.Common.{◌≡◌, ◌+◌, ◌%◌}
 use Rattle.pmf_board.specs.Calls.{PassesOver, Takes}
 use Rattle.pmf_farm.specs.Working.{TakesAgain, TakesFresh}
-use Rattle.pmf_farm.proofs.lemmas.{WorkingLemmas.{HasWorked-left, HasWorked-none, HasWorked-served, unmarked, unmarked-falls}, TurnLemmas.{TakesAgain-later, TakesAgain-none, TakesAgain-taken, TakesTo, TakesTo-fresh, TakesTo-later, TakesTo-none, TakesTo-taken, err-not_go, lost-not_go}}
+use Rattle.pmf_farm.proofs.lemmas.{WorkingLemmas.{HasWorked-left, HasWorked-none, HasWorked-served, unmarked, unmarked-falls}, TurnLemmas.{TakesAgain-later, TakesAgain-none, TakesAgain-taken, TakesFresh-left, TakesTo, TakesTo-later, TakesTo-none, TakesTo-taken}}
 use Rattle.pmf_farm.proofs.working.Worker.serve_all.Goals as goal
 
 pub loop-task-init : goal.loop-task-init
@@ -21,39 +20,28 @@ loop-task-preserved g c =
       same = c.serve.ensures.same ∙ c.take.ensures.same ∙ c.loop-task.invariant.same;
       worked = HasWorked-served _ _ _ _ _ _ _ _ _ _ _ c.loop-task.invariant.worked c.in-Some.ensures.some (c.in-Ok-Go.ensures.served (ap Ok c.in-Ok-Go.field-0-is));
       fresh = λ one. subst (λ n. TakesTo c.args.self.now.board.now.words c.args.self.now.number n c.args.pass.now.view c.serve.new.pass.view) next (TakesTo-later _ _ _ _ _ _ marks.took marks.never_falls
-          (TakesTo-taken _ _ _ _ _ _ _ c.in-Some.ensures.there (subst (λ k. Takes k c.loop-task.pass.view c.in-Some.task c.take.new.pass.view) one taken)
-          (subst (λ k. PassesOver k c.args.self.now.board.now.words c.loop-task.start c.in-Some.task.section c.take.new.pass.view) one c.in-Some.ensures.passed) (c.loop-task.invariant.fresh one)));
-      again = TakesAgain-later _ _ _ _ marks.took marks.never_falls (TakesAgain-taken _ _ _ _ _ _ c.in-Some.ensures.there taken c.loop-task.invariant.again);
+          (TakesTo-taken _ _ _ _ _ _ _ _ one c.in-Some.ensures.there taken c.in-Some.ensures.passed (c.loop-task.invariant.fresh one)));
+      again = TakesAgain-later _ _ _ _ marks.took marks.never_falls (TakesAgain-taken _ _ _ _ _ _ _ refl c.in-Some.ensures.there taken c.loop-task.invariant.again);
     }
 
 pub returns-in-Ok-Lost-clause-worked : goal.returns-in-Ok-Lost-clause-worked
 returns-in-Ok-Lost-clause-worked g c =
-    let left = c.in-Ok-Lost.ensures.left (lost-not_go _ c.in-Ok-Lost.field-0-is) in
+    let left = c.in-Ok-Lost.ensures.left (λ same. cc) in
     HasWorked-left _ _ _ _ _ _ _ _ _ _ _ c.loop-task.invariant.worked c.in-Some.ensures.some (ap (λ p. p.view.took) left.0) (ap (λ p. p.view.marked) left.0) left.1
 
 pub returns-in-Ok-Lost-clause-fresh : goal.returns-in-Ok-Lost-clause-fresh
 returns-in-Ok-Lost-clause-fresh g c one =
-    let left = c.in-Ok-Lost.ensures.left (lost-not_go _ c.in-Ok-Lost.field-0-is) in
-    subst (λ p. TakesFresh c.args.self.now.board.now.words c.args.self.now.number c.args.pass.now.view p.view) (sym left.0) (TakesTo-fresh _ _ _ _ _
-    (TakesTo-taken _ _ _ _ _ _ _ c.in-Some.ensures.there (subst (λ k. Takes k c.loop-task.pass.view c.in-Some.task c.take.new.pass.view) one c.in-Some.ensures.some)
-    (subst (λ k. PassesOver k c.args.self.now.board.now.words c.loop-task.start c.in-Some.task.section c.take.new.pass.view) one c.in-Some.ensures.passed) (c.loop-task.invariant.fresh one)))
+    TakesFresh-left _ _ _ _ _ _ _ _ _ (ap (λ p. p.view) (c.in-Ok-Lost.ensures.left (λ same. cc)).0) one c.in-Some.ensures.there c.in-Some.ensures.some c.in-Some.ensures.passed (c.loop-task.invariant.fresh one)
 
 pub returns-in-Err-clause-fresh : goal.returns-in-Err-clause-fresh
 returns-in-Err-clause-fresh g c one =
-    let left = c.in-Err.ensures.left (err-not_go _) in
-    subst (λ p. TakesFresh c.args.self.now.board.now.words c.args.self.now.number c.args.pass.now.view p.view) (sym left.0) (TakesTo-fresh _ _ _ _ _
-    (TakesTo-taken _ _ _ _ _ _ _ c.in-Some.ensures.there (subst (λ k. Takes k c.loop-task.pass.view c.in-Some.task c.take.new.pass.view) one c.in-Some.ensures.some)
-    (subst (λ k. PassesOver k c.args.self.now.board.now.words c.loop-task.start c.in-Some.task.section c.take.new.pass.view) one c.in-Some.ensures.passed) (c.loop-task.invariant.fresh one)))
+    TakesFresh-left _ _ _ _ _ _ _ _ _ (ap (λ p. p.view) (c.in-Err.ensures.left (λ same. cc)).0) one c.in-Some.ensures.there c.in-Some.ensures.some c.in-Some.ensures.passed (c.loop-task.invariant.fresh one)
 
 pub returns-in-Ok-Lost-clause-again : goal.returns-in-Ok-Lost-clause-again
-returns-in-Ok-Lost-clause-again g c =
-    let left = c.in-Ok-Lost.ensures.left (lost-not_go _ c.in-Ok-Lost.field-0-is) in
-    subst (λ p. TakesAgain c.args.self.now.board.now.words c.args.pass.now.view p.view) (sym left.0) (TakesAgain-taken _ _ _ _ _ _ c.in-Some.ensures.there c.in-Some.ensures.some c.loop-task.invariant.again)
+returns-in-Ok-Lost-clause-again g c = TakesAgain-taken _ _ _ _ _ _ _ (ap (λ p. p.view) (c.in-Ok-Lost.ensures.left (λ same. cc)).0) c.in-Some.ensures.there c.in-Some.ensures.some c.loop-task.invariant.again
 
 pub returns-in-Err-clause-again : goal.returns-in-Err-clause-again
-returns-in-Err-clause-again g c =
-    let left = c.in-Err.ensures.left (err-not_go _) in
-    subst (λ p. TakesAgain c.args.self.now.board.now.words c.args.pass.now.view p.view) (sym left.0) (TakesAgain-taken _ _ _ _ _ _ c.in-Some.ensures.there c.in-Some.ensures.some c.loop-task.invariant.again)
+returns-in-Err-clause-again g c = TakesAgain-taken _ _ _ _ _ _ _ (ap (λ p. p.view) (c.in-Err.ensures.left (λ same. cc)).0) c.in-Some.ensures.there c.in-Some.ensures.some c.loop-task.invariant.again
 
 pub returns-clause-again : goal.returns-clause-again
 returns-clause-again g c = TakesAgain-later _ _ _ _ c.in_default.ensures.none.took c.in_default.ensures.none.never_falls c.loop-task.invariant.again
