@@ -115,9 +115,7 @@ TakesInTurn-from n start old mid next new fresh all first second =
     record {
       fresh = fresh.tasks;
       again = one.tasks ++ two.tasks;
-      took = two.took ∙ ap (λ ts. ts ++ two.tasks) (one.took ∙ ap (λ ts. ts ++ one.tasks) fresh.took)
-          ∙ ap (λ ts. ts ++ two.tasks) (append_assoc old.took fresh.tasks one.tasks) ∙ append_assoc old.took (fresh.tasks ++ one.tasks) two.tasks
-          ∙ ap (λ ts. old.took ++ ts) (append_assoc fresh.tasks one.tasks two.tasks);
+      took = grind (arith, common_steps);
       in_turn = record { first = fresh.in_turn.first; rise = fresh.in_turn.rise; passed = passed-later n start fresh.tasks mid new falls fresh.in_turn.passed };
       later = All-append (λ (x : Task). 2 ≤ x.number) one.tasks two.tasks one.later two.later;
     }

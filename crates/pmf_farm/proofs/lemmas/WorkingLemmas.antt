@@ -1,5 +1,5 @@
 -- A worker's turns, one after another.
-use Rattle.std.{proofs.Common.{◌≡◌, ℕ, zero, suc, ◌+◌, ◌-◌, ◌<◌, ◌≤◌, List, [], ◌∷◌, ◌++◌, length, map, refl, sym, ◌∙◌, ap, subst, arith, inl, inr, eqb, count_by, cond, eq-eqb, append_assoc, Ok, append-nil}, proofs.lemmas.List.{map-append}, proofs.lemmas.Bool.{cases_order}, proofs.lemmas.List.Sums.{sum_by-append, sum_by-cons}, specs.declared.alloc.AllocError.{AllocError}, proofs.lemmas.Grind.{common_steps}}
+use Rattle.std.{proofs.Common.{◌≡◌, ℕ, zero, suc, ◌+◌, ◌-◌, ◌<◌, ◌≤◌, List, [], ◌∷◌, ◌++◌, length, map, refl, sym, ◌∙◌, ap, subst, arith, inl, inr, eqb, count_by, cond, eq-eqb, append_assoc, Ok, append-nil}, proofs.lemmas.List.{nil_from_length}, proofs.lemmas.Bool.{cases_order}, proofs.lemmas.List.Sums.{sum_by-append, sum_by-cons}, specs.declared.alloc.AllocError.{AllocError}, proofs.lemmas.Grind.{common_steps}}
 use Rattle.pmf_event.specs.{declared.profile.Profile.{Profile}, Section.{Trace}}
 use Rattle.pmf_verdict.specs.Checked.{Checked}
 use Rattle.pmf_board.specs.{Calls.{Stays, Takes}, declared.task.Task.{Task}, declared.view.View.{View}}
@@ -21,14 +21,8 @@ module _ (sections : List Trace) (profile : Profile) where
   pub HasWorked-all : (old new : View) (before after : List Checked) (e : Ended) → e ≡ All → HasWorked sections profile old new before after (most_left {E = AllocError} (Ok e)) → HasWorked sections profile old new before after 0
   HasWorked-all old new before after e is worked = subst (λ x. HasWorked sections profile old new before after (most_left {E = AllocError} (Ok x))) is worked
 
-  -- a list of at most no element is empty
-  none_left : (xs : List Task) → length xs ≤ 0 → xs ≡ []
-  none_left [] few = refl
-  none_left (x ∷ xs) few = absurd (omega (arith, few))
-
   took_all : (old new : View) (before after : List Checked) (worked : HasWorked sections profile old new before after 0) → new.took ≡ old.took ++ worked.tasks
-  took_all old new before after worked =
-      worked.took ∙ ap (λ rest. old.took ++ worked.tasks ++ rest) (none_left worked.rest worked.few) ∙ append-nil (old.took ++ worked.tasks)
+  took_all old new before after worked = let none = nil_from_length worked.rest (omega (arith, worked.few)) in grind (arith, common_steps)
 
   -- a pass that stayed as it was has worked no more
   pub HasWorked-stays : (old mid new : View) (before after : List Checked) → HasWorked sections profile old mid before after 0 → Stays mid new → HasWorked sections profile old new before after 0
@@ -39,17 +33,9 @@ module _ (sections : List Trace) (profile : Profile) where
   HasWorked-served old mid taken new before sent after limit t worked takes serves = record {
     tasks = worked.tasks ++ t ∷ [];
     rest = [];
-    took =
-        serves.marks.took ∙ takes.took ∙ ap (λ ts. ts ++ t ∷ []) (took_all old mid before sent worked) ∙ append_assoc old.took worked.tasks (t ∷ [])
-        ∙ sym (append-nil (old.took ++ (worked.tasks ++ t ∷ [])));
-    marked =
-        serves.marks.marked ∙ ap (λ ms. ms ++ t.section ∷ []) (takes.marked ∙ worked.marked)
-        ∙ append_assoc old.marked (map (λ x. x.section) worked.tasks) (t.section ∷ [])
-        ∙ ap (λ ms. old.marked ++ ms) (sym (map-append (λ x. x.section) worked.tasks (t ∷ [])));
-    put =
-        serves.put ∙ ap (λ xs. xs ++ checked_of sections profile t ∷ []) worked.put
-        ∙ append_assoc before (map (checked_of sections profile) worked.tasks) (checked_of sections profile t ∷ [])
-        ∙ ap (λ xs. before ++ xs) (sym (map-append (checked_of sections profile) worked.tasks (t ∷ [])));
+    took = grind (arith, common_steps, took_all);
+    marked = grind (arith, common_steps);
+    put = grind (arith, common_steps);
     few = omega arith;
   }
 
@@ -59,7 +45,7 @@ module _ (sections : List Trace) (profile : Profile) where
 
   -- two stretches of work are one
   pub HasWorked-then : (old mid new : View) (before sent after : List Checked) (most : ℕ) → HasWorked sections profile old mid before sent 0 → HasWorked sections profile mid new sent after most → HasWorked sections profile old new before after most
-  HasWorked-then old mid new before sent after most first second = grind (arith, common_steps, took_all, append_assoc, map-append)
+  HasWorked-then old mid new before sent after most first second = grind (arith, common_steps, took_all)
 
 -- how many of the sections below n stand not among the marked ones
 abbrev pub unmarked : ℕ → List ℕ → ℕ
