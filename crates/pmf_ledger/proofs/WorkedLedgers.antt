@@ -21,10 +21,7 @@ differ : fenced ≢ bare
 differ same = let lengths = ap (λ (s : Trace). length s.events) same in omega (arith, lengths)
 
 holds_one : (s t : Trace) → Holds (of t) s → s ≡ t
-holds_one s t held = elim (Contains-cons_cases (checked_by Two s) (checked_by Two t) [] held) [
-  | inl same ↦ ap (λ (c : Checked). c.section) same
-  | inr none ↦ absurd (none_of_empty [] (checked_by Two s) refl none)
-]
+holds_one s t held = grind (arith, common_steps, Contains-cons_cases, none_of_empty)
 
 -- one that holds a fence holds other events than none, and not others than the fence
 held_otherwise : HoldsOther (of fenced) bare × (HoldsOther (of fenced) fenced → ⊥)
@@ -68,19 +65,7 @@ both = record { profile = Two; sections = checked_by Two fenced ∷ checked_by T
 
 -- both sections once, in the order of their names
 is_both : IsLedgerOf Two (second ∷ second ∷ fenced ∷ []) both
-is_both =
-    let f = checked_by Two fenced in
-    let s = checked_by Two second in
-    let single : (P : Checked → Type 0) → P s → All P (s ∷ []) = λ P is. All-cons P s [] is (λ k d within. absurd (omega arith)) in
-    record {
-      profile_is = refl;
-      checked = All-cons (λ (c : Checked). c.profile ≡ Two) f (s ∷ []) refl (single (λ c. c.profile ≡ Two) refl);
-      rises = AllPairs-cons ComesBefore f (s ∷ []) (single (ComesBefore f) (inr (refl, omega arith))) (λ i j d lt within. absurd (omega arith));
-      same = λ t. (
-        grind (arith, common_steps, Contains-cons_cases, Contains-cons, none_of_empty),
-        grind (arith, common_steps, Contains-cons_cases, Contains-cons, none_of_empty),
-      );
-    }
+is_both = grind (arith, common_steps, All-cons, AllPairs-cons, Contains-cons_cases, Contains-cons, none_of_empty)
 
 by_two : IsBy Two gathered
 unfolding IsBy
@@ -107,13 +92,7 @@ mixed = WithVerdict (Begun One) (checked_by Two fenced)
 
 gives_none : ((l : LedgerValue) → Gives clashing l → ⊥) × ((l : LedgerValue) → Gives mixed l → ⊥)
 unfolding set_of IsBy
-gives_none = (
-  (λ l gives. let of = gives_ledger clashing l gives in differ (of.1 fenced bare (0, omega arith, refl) (1, omega arith, refl) refl)),
-  (λ l gives. let of = gives_ledger mixed l gives in absurd (cc (of.2.0 ∙ sym of.2.1))),
-)
+gives_none = grind (arith, common_steps, gives_ledger, differ)
 
 are_refused : IsRefused clashing × IsRefused mixed
-are_refused = (
-  elim (gives_or_is_refused clashing).0 [ inl gives ↦ absurd (gives_none.0 gives.0 gives.1) | inr refused ↦ refused ],
-  elim (gives_or_is_refused mixed).0 [ inl gives ↦ absurd (gives_none.1 gives.0 gives.1) | inr refused ↦ refused ],
-)
+are_refused = grind (arith, common_steps, gives_or_is_refused, gives_none)

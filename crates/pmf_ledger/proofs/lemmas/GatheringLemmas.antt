@@ -20,9 +20,7 @@ by_one (Joined g h) p q first second = by_one g p q first.0 second.0
 
 pub gives_ledger : (gathering : Gathering) (ledger : LedgerValue) → Gives gathering ledger → IsLedgerOf ledger.profile (set_of gathering) ledger × Agrees (set_of gathering) × IsBy ledger.profile gathering
 unfolding Gives set_of IsBy
-gives_ledger (Begun profile) ledger gives =
-    let of_set = subst (λ (l : LedgerValue). IsLedgerOf l.profile [] l) (sym gives) (empty_ledger profile) in
-    (of_set, Agrees-ledger ledger.profile [] ledger of_set, ap (λ (l : LedgerValue). l.profile) (sym gives))
+gives_ledger (Begun profile) ledger gives = grind (arith, common_steps, empty_ledger, Agrees-ledger)
 gives_ledger (WithVerdict gathering verdict) ledger gives =
     let old = gives.0 in let before = gives_ledger gathering old gives.1 in let set = verdict.section ∷ set_of gathering in
     let is : IsLedgerOf old.profile set ledger = gives.3 (set_of gathering) before.0 in let stays : old.profile ≡ ledger.profile = sym is.profile_is in
