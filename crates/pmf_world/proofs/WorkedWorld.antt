@@ -1,5 +1,5 @@
 -- Worked examples of a world of two sections, two workers and two ledgers, stepped by hand, and of schedules, by the definitions alone.
-use Rattle.std.proofs.Common.{◌≡◌, ℕ, true, false, List, [], ◌∷◌, Some, Ok, Err, codes, refl, inl, inr}
+use Rattle.std.proofs.{Common.{◌≡◌, ℕ, true, false, List, [], ◌∷◌, Some, Ok, Err, codes, refl, inl, inr, arith}, lemmas.Grind.{common_steps}}
 use Rattle.pmf_board.specs.{declared.entry.Entry.{Entry}, Machine.{entry, untouched}}
 use Rattle.pmf_storelog.specs.Numbers.{is_numeral}
 use Rattle.pmf_world.specs.{declared.doing.Doing.{Doing}, declared.step.WorldStep.{WorldStep}, Steps.{WorldState, opening_of, stepped, after}, Laws.{IsGathered}, Schedule.{number_of, step_of_one, step_of_two, step_of_line, steps_of_lines, schedule_of}}
@@ -21,18 +21,9 @@ world e d messages sets = record {
 abbrev nothing : List (List ℕ)
 nothing = [] ∷ [] ∷ []
 
-abbrev tasked : WorldState
-tasked = world (entry 1 false) (doing.HasTask 0) [] nothing
-
-abbrev checked : WorldState
-checked = world (entry 1 false) (doing.HasVerdict 0) [] nothing
-
-abbrev posted : WorldState
-posted = world (entry 1 false) (doing.HasSent 0) (0 ∷ []) nothing
-
--- section 0 was handed out once, and worker 0 does so
-abbrev once : Doing → WorldState
-once d = world (entry 1 false) d [] nothing
+-- section 0 was handed out once, worker 0 does so, and these messages were sent
+abbrev once : Doing → List ℕ → WorldState
+once d messages = world (entry 1 false) d messages nothing
 
 -- section 0 is done, and its message was sent
 abbrev done : List (List ℕ) → WorldState
@@ -40,13 +31,13 @@ done sets = world (entry 1 true) doing.Idle (0 ∷ []) sets
 
 turns :
     (first ≡ world untouched doing.Idle [] nothing)
-    × (stepped first (Fresh 0 0) ≡ Ok (answer.Task 0 1, tasked))
-    × (stepped tasked (Check 0) ≡ Ok (answer.Checked, checked))
-    × (stepped checked (Send 0) ≡ Ok (answer.Sent 0, posted))
-    × (stepped posted (Mark 0) ≡ Ok (answer.Marked, done nothing))
-    × (stepped tasked (Lose 0) ≡ Ok (answer.WorkerLost, once doing.Gone))
-    × (stepped (once doing.Idle) (Fresh 0 0) ≡ Ok (answer.NoTask, once doing.Idle))
-    × (stepped (once doing.Idle) (Again 0 0) ≡ Ok (answer.Task 0 2, world (entry 2 false) (doing.HasTask 0) [] nothing))
+    × (stepped first (Fresh 0 0) ≡ Ok (answer.Task 0 1, once (doing.HasTask 0) []))
+    × (stepped (once (doing.HasTask 0) []) (Check 0) ≡ Ok (answer.Checked, once (doing.HasVerdict 0) []))
+    × (stepped (once (doing.HasVerdict 0) []) (Send 0) ≡ Ok (answer.Sent 0, once (doing.HasSent 0) (0 ∷ [])))
+    × (stepped (once (doing.HasSent 0) (0 ∷ [])) (Mark 0) ≡ Ok (answer.Marked, done nothing))
+    × (stepped (once (doing.HasTask 0) []) (Lose 0) ≡ Ok (answer.WorkerLost, once doing.Gone []))
+    × (stepped (once doing.Idle []) (Fresh 0 0) ≡ Ok (answer.NoTask, once doing.Idle []))
+    × (stepped (once doing.Idle []) (Again 0 0) ≡ Ok (answer.Task 0 2, world (entry 2 false) (doing.HasTask 0) [] nothing))
 turns = (refl, refl, refl, refl, refl, refl, refl, refl)
 
 -- the message arrives at ledger 1, and again; ledger 1 is joined into ledger 0
@@ -61,9 +52,9 @@ refusals :
     × (stepped first (Again 0 2) ≡ Err fault.NoSuchSection)
     × (stepped first (Arrive 0 2) ≡ Err fault.NoSuchMessage)  -- this comes before the ledger
     × (stepped first (Join 0 2) ≡ Err fault.NoSuchLedger)
-    × (stepped (once doing.Gone) (Check 0) ≡ Err fault.Gone)
+    × (stepped (once doing.Gone []) (Check 0) ≡ Err fault.Gone)
     × (stepped first (Send 0) ≡ Err fault.Misplaced)
-    × (stepped tasked (Fresh 0 1) ≡ Err fault.Misplaced)
+    × (stepped (once (doing.HasTask 0) []) (Fresh 0 1) ≡ Err fault.Misplaced)
 refusals = (refl, refl, refl, refl, refl, refl, refl)
 
 -- ---- what was gathered
@@ -82,10 +73,7 @@ gathered = (inl (inr (refl, (refl, refl))), inr (refl, (refl, inr (refl, (refl, 
 -- nothing is gathered before a message arrives
 none_sent : (k s : ℕ) → IsGathered first sent k s → ⊥
 unfolding IsGathered
-none_sent k s g = elim g [
-  | inl g ↦ elim g [ inl g ↦ elim g [ inl g ↦ g | inr fresh ↦ fresh.1 ] | inr check ↦ check.1 ]
-  | inr send ↦ send.1
-]
+none_sent k s g = grind (arith, common_steps)
 
 -- the message brings its own section to the one ledger at which it arrives
 one_arrived : (k s : ℕ) → IsGathered first (Arrive 0 0 ∷ sent) k s → (0 ≡ k) × (Some 0 ≡ Some s)
@@ -95,10 +83,7 @@ one_arrived k s g = elim g [ inl g ↦ absurd (none_sent k s g) | inr arrive ↦
 -- section 1, which did not arrive, is gathered nowhere, and at ledger 1 nothing is before the join
 not_gathered : ((k : ℕ) → IsGathered first joined k 1 → ⊥) × (IsGathered first (Arrive 0 0 ∷ sent) 1 0 → ⊥)
 unfolding IsGathered after
-not_gathered = (
-  (λ k g. elim g [ inl g ↦ absurd (cc (one_arrived k 1 g).1) | inr join ↦ absurd (cc (one_arrived 0 1 join.1.1).1) ]),
-  (λ g. absurd (cc (one_arrived 1 0 g).0)),
-)
+not_gathered = grind (arith, common_steps, one_arrived)
 
 -- ---- schedules
 
