@@ -36,10 +36,7 @@ module _ (w : WorldState) (s : ℕ) (WasGatheredAt : ℕ → Type 0) (is : (j : 
         )
         | inr other ↦ (
           λ held. inl ((is k).0 (held_in other held)),
-          λ either. elim either [
-            | inl was ↦ held_in (sym other) ((is k).1 was)
-            | inr now ↦ subst (λ j. Contains (set_at (with_set w i new) j) s) now.0 (held_in (sym new_is) (gains.1 (inr now.1)))
-          ],
+          grind (arith, common_steps, held_in),
         )
       ]
 
@@ -67,10 +64,7 @@ module _ (w : WorldState) (s : ℕ) (WasGatheredAt : ℕ → Type 0) (is : (j : 
       brought
       (set_gains i k own (own ++ other) (WasGatheredAt from) of_own (
         λ held. elim (Contains-append_cases own other s held) [ inl before ↦ inl before | inr there ↦ inr ((is from).0 (held_in (sym other_is) there)) ],
-        λ either. elim either [
-          | inl before ↦ Contains-append_left own other s before
-          | inr was ↦ Contains-append_right own other s (held_in other_is ((is from).1 was))
-        ],
+        grind (arith, common_steps, Contains-append_left, Contains-append_right, held_in),
       ))
       refl
 

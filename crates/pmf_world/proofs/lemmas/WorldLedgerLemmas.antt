@@ -112,9 +112,7 @@ arrive-steps old new m k v t own sent there takes =
             with_set state k (s ∷ gathered),
             ap (λ o. arrive_found state k o (slice_get state.sets k)) message ∙ ap (arrive_found state k (Some s)) (there_is old state stands k there)
                 ∙ ap (λ a. Ok (a, with_set state k (s ∷ gathered))) (answers old state stands k s there here own t repeat),
-            StandsFor-set old state k takes.ledger (s ∷ gathered) there
-                (subst (λ p. IsLedgerOf p (sections_at old.sections (s ∷ gathered)) takes.ledger) ((stands.ledgers k there).profile_is) is)
-                (All-cons (λ n. n < length old.sections) s gathered here (within_at old state stands k there)) stands,
+            grind (arith, common_steps, StandsFor-set, All-cons, within_at),
           );
     })
 

@@ -28,10 +28,7 @@ loop-line-preserved c =
     let turn =
     turned c.into_iter-line-iterator.result _ c.loop-line.yielded _ c.loop-line.yielded_by _ _ c.in-Some.line c.in-Some.is c.next.ensures.steps
     (YieldsList-from_slice_split {s = c.into_iter-line-iterator.result} _ is_line_end c.args.text.now (cc) (cc) (cc) (λ x r q k. search (rules, tests))) in
-    elim c.if-not-is_empty.branch [
-      | then-not-is_empty+in-Some-read_step+in_ok-push-in-Some-read_step w ↦ grind (arith, common_steps, then-not-is_empty+in-Some-read_step+in_ok-push-in-Some-read_step, nat_tests, at_step, length_push)
-      | else-not-is_empty w ↦ grind (arith, common_steps, nat_tests, length_push, else-not-is_empty, at_empty)
-    ]
+    grind (arith, common_steps, then-not-is_empty+in-Some-read_step+in_ok-push-in-Some-read_step, nat_tests, at_step, length_push, else-not-is_empty, at_empty)
 
 pub returns : goal.returns
 returns c =
