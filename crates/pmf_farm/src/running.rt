@@ -100,6 +100,7 @@ fn work_on_thread<'a, R: Wait, G: Gate>(
 }
 
 // The roll with the verdicts that arrive until no sender is left.
+#[tactic(auto, using(std::proofs::lemmas::Grind::common_steps, crate::proofs::lemmas::RollLemmas::stays_itself))]
 fn collect<R: Wait>(rt: &R, channel: &Receiver<Verdict, Global>, mut roll: Vec<Slot>) -> Vec<Slot>
     requires { RollRises roll.items }
     ensures { AllZip Stays roll.items result.items }

@@ -84,6 +84,7 @@ impl<'a, G: Gate> Worker<'a, G> {
     }
 
     // Looks for a while, in proportion to the section's events, whether another worker is done with it.
+    #[tactic(auto, using(std::proofs::lemmas::Grind::common_steps, crate::proofs::lemmas::WorkingLemmas::stays))]
     fn is_done_soon(&self, pass: &mut Pass, section: u32) -> bool
         requires own { pass.old.board ≡ self.now.board.now }
         requires all { length self.now.sections.now ≡ self.now.board.now.words }
@@ -119,6 +120,7 @@ impl<'a, G: Gate> Worker<'a, G> {
     }
 
     // Takes sections and serves them, until there is none.
+    #[tactic(auto, using(std::proofs::lemmas::Grind::common_steps, crate::proofs::lemmas::WorkingLemmas::HasWorked_none, crate::proofs::lemmas::TurnLemmas::TakesTo_none, crate::proofs::lemmas::TurnLemmas::TakesAgain_none))]
     fn serve_all<O: Outbox>(
         &self,
         pass: &mut Pass,
@@ -153,6 +155,7 @@ impl<'a, G: Gate> Worker<'a, G> {
     }
 
     // Takes each section again that isn't done after a while, and serves it.
+    #[tactic(auto, using(std::proofs::lemmas::Grind::common_steps, crate::proofs::lemmas::WorkingLemmas::HasWorked_none, crate::proofs::lemmas::TurnLemmas::TakesAgain_none))]
     fn serve_late<O: Outbox>(&self, pass: &mut Pass, outbox: &mut O) -> Result<Ended, AllocError>
         requires own { pass.old.board ≡ self.now.board.now }
         requires all { length self.now.sections.now ≡ self.now.board.now.words }
@@ -186,6 +189,7 @@ impl<'a, G: Gate> Worker<'a, G> {
 ///
 /// At `Lost` its gate ended it, after want of memory the section in its hand is taken and not marked; in both cases each
 /// section that it put is marked. Takes the memory of the verdicts, one at a time, and what its outbox takes.
+#[tactic(auto, using(std::proofs::lemmas::Grind::common_steps, crate::proofs::lemmas::WorkingLemmas::HasWorked_then, crate::proofs::lemmas::WorkingLemmas::HasWorked_all))]
 pub fn work<O: Outbox, G: Gate>(
     alloc: Global,
     board: &Board,

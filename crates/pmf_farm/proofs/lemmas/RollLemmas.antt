@@ -82,9 +82,9 @@ module _ (verdict : Checked) (roll : List Slotted) where
       ]))
 
 -- what stays
-pub stays-itself : (roll : List Slotted) → AllZip Stays roll roll
-stays-itself [] = tt
-stays-itself (s ∷ ss) = (record { checked = refl; place = refl; filled = λ full. full }, stays-itself ss)
+pub stays_itself : (roll : List Slotted) → AllZip Stays roll roll
+stays_itself [] = tt
+stays_itself (s ∷ ss) = (record { checked = refl; place = refl; filled = λ full. full }, stays_itself ss)
 
 pub stays-then_keeps : (verdict : Checked) (a b c : List Slotted) → AllZip Stays a b → AllZip (Keeps verdict) b c → AllZip Stays a c
 stays-then_keeps verdict [] [] [] first second = tt

@@ -29,8 +29,8 @@ pub record TakesTo (n start next : ℕ) (old new : View) : Type 0 where
   pub below : All (λ (t : Task). round_from n (start % n) t.section < far) tasks
   pub closed : (s : ℕ) → s < n → round_from n (start % n) s < far → HasSeenClosed 1 new s
 
-pub TakesTo-none : (n start : ℕ) (v : View) → TakesTo n start start v v
-TakesTo-none n start v = record {
+pub TakesTo_none : (n start : ℕ) (v : View) → TakesTo n start start v v
+TakesTo_none n start v = record {
   tasks = [];
   took = sym (append-nil v.took);
   in_turn = record { first = λ k d lt. absurd (omega (arith, lt)); rise = λ i j d lt within. absurd (omega (arith, within)); passed = λ k d lt. absurd (omega (arith, lt)) };
@@ -90,8 +90,8 @@ TakesFresh-left n limit start next old mid new seen t same one there taken passe
     let takes = TakesTo-taken n limit start next old mid new t one there taken passes before in
     subst (TakesFresh n start old) (sym same) (record { tasks = takes.tasks; took = takes.took; in_turn = takes.in_turn })
 
-pub TakesAgain-none : (n : ℕ) (v : View) → TakesAgain n v v
-TakesAgain-none n v all = grind (arith, common_steps, append-nil)
+pub TakesAgain_none : (n : ℕ) (v : View) → TakesAgain n v v
+TakesAgain_none n v all = grind (arith, common_steps, append-nil)
 
 pub TakesAgain-later : (n : ℕ) (old mid new : View) → new.took ≡ mid.took → NeverFalls mid new → TakesAgain n old mid → TakesAgain n old new
 TakesAgain-later n old mid new same falls takes all = grind (arith, common_steps, NeverFalls-both)

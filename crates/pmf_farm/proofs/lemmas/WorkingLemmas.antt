@@ -2,13 +2,16 @@
 use Rattle.std.{proofs.Common.{◌≡◌, ℕ, zero, suc, ◌+◌, ◌-◌, ◌<◌, ◌≤◌, List, [], ◌∷◌, ◌++◌, length, map, refl, sym, ◌∙◌, ap, subst, arith, inl, inr, eqb, count_by, cond, eq-eqb, append_assoc, Ok, append-nil}, proofs.lemmas.List.{nil_from_length}, proofs.lemmas.Bool.{cases_order}, proofs.lemmas.List.Sums.{sum_by-append, sum_by-cons}, specs.declared.alloc.AllocError.{AllocError}, proofs.lemmas.Grind.{common_steps}}
 use Rattle.pmf_event.specs.{declared.profile.Profile.{Profile}, Section.{Trace}}
 use Rattle.pmf_verdict.specs.Checked.{Checked}
-use Rattle.pmf_board.specs.{Calls.{Stays, Takes}, declared.task.Task.{Task}, declared.view.View.{View}}
+use Rattle.pmf_board.{specs.Calls.{Stays, Takes}, specs.declared.task.Task.{Task}, specs.declared.view.View.{View}, proofs.lemmas.CallLemmas.{Stays-both}}
 use Rattle.pmf_farm.specs.{declared.working.Ended.{Ended}, declared.working.Ended.TheVariants.{All}, Working.{HasWorked, Serves, checked_of, most_left}}
+
+-- for what stays in two steps
+pub ruleset stays = (Stays-both)
 
 module _ (sections : List Trace) (profile : Profile) where
   -- who did nothing has worked
-  pub HasWorked-none : (v : View) (xs : List Checked) → HasWorked sections profile v v xs xs 0
-  HasWorked-none v xs = record {
+  pub HasWorked_none : (v : View) (xs : List Checked) → HasWorked sections profile v v xs xs 0
+  HasWorked_none v xs = record {
     tasks = [];
     rest = [];
     took = sym (append-nil v.took) ∙ sym (append-nil (v.took ++ []));
@@ -18,8 +21,8 @@ module _ (sections : List Trace) (profile : Profile) where
   }
 
   -- who ended with all left nothing
-  pub HasWorked-all : (old new : View) (before after : List Checked) (e : Ended) → e ≡ All → HasWorked sections profile old new before after (most_left {E = AllocError} (Ok e)) → HasWorked sections profile old new before after 0
-  HasWorked-all old new before after e is worked = subst (λ x. HasWorked sections profile old new before after (most_left {E = AllocError} (Ok x))) is worked
+  pub HasWorked_all : (old new : View) (before after : List Checked) (e : Ended) → e ≡ All → HasWorked sections profile old new before after (most_left {E = AllocError} (Ok e)) → HasWorked sections profile old new before after 0
+  HasWorked_all old new before after e is worked = subst (λ x. HasWorked sections profile old new before after (most_left {E = AllocError} (Ok x))) is worked
 
   took_all : (old new : View) (before after : List Checked) (worked : HasWorked sections profile old new before after 0) → new.took ≡ old.took ++ worked.tasks
   took_all old new before after worked = let none = nil_from_length worked.rest (omega (arith, worked.few)) in grind (arith, common_steps)
@@ -44,8 +47,8 @@ module _ (sections : List Trace) (profile : Profile) where
   HasWorked-left old mid taken new before sent after limit t worked takes took marked put = grind (arith, common_steps, took_all)
 
   -- two stretches of work are one
-  pub HasWorked-then : (old mid new : View) (before sent after : List Checked) (most : ℕ) → HasWorked sections profile old mid before sent 0 → HasWorked sections profile mid new sent after most → HasWorked sections profile old new before after most
-  HasWorked-then old mid new before sent after most first second = grind (arith, common_steps, took_all)
+  pub HasWorked_then : (old mid new : View) (before sent after : List Checked) (most : ℕ) → HasWorked sections profile old mid before sent 0 → HasWorked sections profile mid new sent after most → HasWorked sections profile old new before after most
+  HasWorked_then old mid new before sent after most first second = grind (arith, common_steps, took_all)
 
 -- how many of the sections below n stand not among the marked ones
 abbrev pub unmarked : ℕ → List ℕ → ℕ

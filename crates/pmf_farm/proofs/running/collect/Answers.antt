@@ -1,10 +1,7 @@
 use Rattle.std.proofs.{Common.{arith}, lemmas.Grind.{common_steps}}
 use Rattle.std.{proofs.Common.{subst, sym, ◌∙◌}, specs.List.{AllZip}, proofs.lemmas.List.{with_items_is}, proofs.lemmas.List.Elements.{length_all_zip}}
-use Rattle.pmf_farm.{specs.Rolls.{Keeps, RollRises, Stays}, proofs.lemmas.RollLemmas.{stays-itself, stays-rises, stays-then_keeps}}
+use Rattle.pmf_farm.{specs.Rolls.{Keeps, RollRises, Stays}, proofs.lemmas.RollLemmas.{stays_itself, stays-rises, stays-then_keeps}}
 use Rattle.pmf_farm.proofs.running.collect.Goals as goal
-
-pub loop-verdict-init : goal.loop-verdict-init
-loop-verdict-init g c = stays-itself c.args.roll.items
 
 pub keep-requires : goal.keep-requires
 keep-requires g c = subst RollRises (sym c.as_mut_slice.ensures.value) (stays-rises c.args.roll.items c.loop-verdict.roll.items c.loop-verdict.invariant c.requires)

@@ -3,11 +3,8 @@ use Rattle.std.proofs.Common.{refl, sym, Ok, ◌∙◌, ap, subst, ◌<◌, ◌�
 use Rattle.std.proofs.Common.{◌≡◌, ◌+◌, ◌%◌}
 use Rattle.pmf_board.specs.Calls.{PassesOver, Takes}
 use Rattle.pmf_farm.specs.Working.{TakesAgain, TakesFresh}
-use Rattle.pmf_farm.proofs.lemmas.{WorkingLemmas.{HasWorked-left, HasWorked-none, HasWorked-served, unmarked, unmarked-falls}, TurnLemmas.{TakesAgain-later, TakesAgain-none, TakesAgain-taken, TakesFresh-left, TakesTo, TakesTo-later, TakesTo-none, TakesTo-taken}}
+use Rattle.pmf_farm.proofs.lemmas.{WorkingLemmas.{HasWorked-left, HasWorked_none, HasWorked-served, unmarked, unmarked-falls}, TurnLemmas.{TakesAgain-later, TakesAgain_none, TakesAgain-taken, TakesFresh-left, TakesTo, TakesTo-later, TakesTo_none, TakesTo-taken}}
 use Rattle.pmf_farm.proofs.working.Worker.serve_all.Goals as goal
-
-pub loop-task-init : goal.loop-task-init
-loop-task-init g c = record { same = refl; worked = HasWorked-none _ _ _ _; fresh = λ one. TakesTo-none _ _ _; again = TakesAgain-none _ _ }
 
 pub loop-task-smaller : goal.loop-task-smaller
 loop-task-smaller g c = grind (arith, common_steps, unmarked, unmarked-falls)

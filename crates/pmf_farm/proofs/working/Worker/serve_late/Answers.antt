@@ -1,11 +1,8 @@
 use Rattle.std.proofs.Common.{refl, sym, ◌∙◌, ap, subst, Ok}
 use Rattle.pmf_board.proofs.lemmas.CallLemmas.{Stays-both}
 use Rattle.pmf_farm.specs.Working.{TakesAgain}
-use Rattle.pmf_farm.proofs.lemmas.{WorkingLemmas.{HasWorked-left, HasWorked-none, HasWorked-served, HasWorked-stays}, TurnLemmas.{TakesAgain-later, TakesAgain-none, TakesAgain-taken}}
+use Rattle.pmf_farm.proofs.lemmas.{WorkingLemmas.{HasWorked-left, HasWorked_none, HasWorked-served, HasWorked-stays}, TurnLemmas.{TakesAgain-later, TakesAgain_none, TakesAgain-taken}}
 use Rattle.pmf_farm.proofs.working.Worker.serve_late.Goals as goal
-
-pub loop-section-init : goal.loop-section-init
-loop-section-init g c = record { same = refl; worked = HasWorked-none _ _ _ _; again = TakesAgain-none _ _ }
 
 pub loop-section-preserved : goal.loop-section-preserved
 loop-section-preserved g c =
