@@ -2,7 +2,7 @@
 use Rattle.std.proofs.{Common.{◌≡◌, ℕ, ◌<◌, ◌≤◌, List, [], ◌∷◌, ◌++◌, length, zero, suc, refl, sym, ◌∙◌, ap, subst, arith, inl, inr, get_or, ◌⊎◌, Contains, insert}, lemmas.List.Elements.{Contains-append_cases, Contains-append_left, Contains-append_right, Contains-get_or}, lemmas.Grind.{common_steps}}
 use Rattle.pmf_event.specs.{declared.name.Name.{Name}, declared.profile.Profile.{Profile}, Section.{Trace}}
 use Rattle.pmf_verdict.specs.Checked.{Checked, checked_by}
-use Rattle.pmf_ledger.{specs.Gathered.{Gathers, GathersBoth, Holds, IsLedgerOf}, specs.Gathering.{Agrees, Begun, Gathering, Gives, IsBy, IsRefused, Joined, RefusesJoin, RefusesVerdict, WithVerdict, set_of}, specs.LedgerValue.{LedgerValue}, specs.Names.{IsBefore, Rises}, specs.Places.{HasName, IsPlaceOf, LacksName}, proofs.lemmas.AddingLemmas.{All-insert, Contains-cons, Contains-cons_cases, Gains-held, Gains-insert, Gathers-gains, Rises-insert}, proofs.lemmas.GatheringLemmas.{agrees_within, empty_ledger, gives_ledger, refuses_for_cause}, proofs.lemmas.JoiningLemmas.{AreBy, Holds-section}, proofs.lemmas.MergingLemmas.{none_of_empty}, proofs.lemmas.NameLemmas.{before-itself, before-total, before-trans}, proofs.lemmas.UniqueLemmas.{Rises-first, Rises-rest}}
+use Rattle.pmf_ledger.{specs.Gathered.{Gathers, GathersBoth, Holds, IsLedgerOf}, specs.Gathering.{Agrees, Begun, Gathering, Gives, IsBy, IsRefused, Joined, RefusesJoin, RefusesVerdict, WithVerdict, set_of}, specs.LedgerValue.{LedgerValue}, specs.Names.{IsBefore, Rises}, specs.Places.{HasName, IsPlaceOf, LacksName}, proofs.lemmas.AddingLemmas.{across, appended, All-insert, Contains-cons, Contains-cons_cases, Gains-held, Gains-insert, Gathers-gains, Rises-insert}, proofs.lemmas.GatheringLemmas.{agrees_within, empty_ledger, gives_ledger, refuses_for_cause}, proofs.lemmas.JoiningLemmas.{AreBy, Holds-section}, proofs.lemmas.MergingLemmas.{none_of_empty}, proofs.lemmas.NameLemmas.{before-itself, before-total, before-trans}, proofs.lemmas.ReadingLemmas.{IsLedgerOf-members}, proofs.lemmas.UniqueLemmas.{Rises-first, Rises-rest}}
 
 -- where a name belongs that none has
 record Place (sections : List Checked) (name : Name) : Type 0 where
@@ -95,21 +95,9 @@ set_once p q xs ys ledger of_xs of_ys s found = (of_ys.same s).0 ((of_xs.same s)
 
 -- the ledger of two ledgers' sets together is that of any sets of which they are the ledgers
 gathers_union : (a b new : LedgerValue) (xs ys : List Trace) → IsLedgerOf a.profile xs a → IsLedgerOf b.profile ys b → IsLedgerOf a.profile (xs ++ ys) new → GathersBoth a b new
-gathers_union a b new xs ys of_a of_b is = λ us vs to_a to_b. record {
-  profile_is = is.profile_is;
-  checked = is.checked;
-  rises = is.rises;
-  same = λ s. (
-    λ held. elim (Contains-append_cases xs ys s ((is.same s).0 held)) [
-      | inl first ↦ Contains-append_left us vs s (set_once a.profile a.profile xs us a of_a to_a s first)
-      | inr second ↦ Contains-append_right us vs s (set_once b.profile a.profile ys vs b of_b to_b s second)
-    ],
-    λ found. (is.same s).1 (elim (Contains-append_cases us vs s found) [
-      | inl first ↦ Contains-append_left xs ys s (set_once a.profile a.profile us xs a to_a of_a s first)
-      | inr second ↦ Contains-append_right xs ys s (set_once a.profile b.profile vs ys b to_b of_b s second)
-    ]),
-  );
-}
+gathers_union a b new xs ys of_a of_b is = λ us vs to_a to_b. IsLedgerOf-members a.profile (xs ++ ys) (us ++ vs) new is (λ s. across (appended xs ys s)
+    (set_once a.profile a.profile xs us a of_a to_a s, set_once a.profile a.profile us xs a to_a of_a s) (set_once b.profile a.profile ys vs b of_b to_b s, set_once a.profile b.profile vs ys b to_b of_b s)
+    (appended us vs s))
 
 pub gives_where_it_may : (gathering : Gathering) (profile : Profile) → Agrees (set_of gathering) → IsBy profile gathering → (ledger : LedgerValue) × Gives gathering ledger
 unfolding Gives IsRefused set_of IsBy

@@ -1,8 +1,8 @@
 -- What two ledgers hold together, said of their lists.
-use Rattle.std.proofs.{Common.{◌≡◌, List, sym, ◌∙◌, ap, subst, inl, inr, get_or, Contains, MatchOption, Option, None, Some, IfOk, Result, Ok, Err, All}, lemmas.List.Elements.{All-contains, Contains-append_cases, Contains-append_left, Contains-append_right, Contains-get_or}}
+use Rattle.std.proofs.{Common.{◌≡◌, ◌⊎◌, ◌↔◌, List, sym, ◌∙◌, ap, subst, inl, inr, get_or, Contains, MatchOption, Option, None, Some, IfOk, Result, Ok, Err, All}, lemmas.List.Elements.{All-contains, Contains-append_cases, Contains-append_left, Contains-append_right, Contains-get_or}}
 use Rattle.pmf_event.specs.declared.{name.Name.{Name}, profile.Profile.{Profile}}
 use Rattle.pmf_verdict.specs.Checked.{Checked, checked_by}
-use Rattle.pmf_ledger.{specs.Gathered.{GathersBoth, Holds, IsLeastClash, Unites}, specs.Joining.{Agree, AgreeInNames, AgreeTogether, IsLeastDiffering, IsMerged}, specs.LedgerValue.{LedgerValue}, specs.Names.{IsBefore, Rises}, proofs.lemmas.NameLemmas.{before-total}}
+use Rattle.pmf_ledger.{specs.Gathered.{GathersBoth, Holds, IsLeastClash, Unites}, specs.Joining.{Agree, AgreeInNames, AgreeTogether, IsLeastDiffering, IsMerged}, specs.LedgerValue.{LedgerValue}, specs.Names.{IsBefore, Rises}, proofs.lemmas.AddingLemmas.{across, appended}, proofs.lemmas.NameLemmas.{before-total}}
 
 -- each was checked by the profile
 abbrev pub AreBy : Profile → List Checked → Type 0
@@ -48,18 +48,8 @@ AreBy-merged p xs ys merged is first second = λ k d inside. elim ((is.holds (ge
 pub Unites-merged : (a b new : LedgerValue) → a.profile ≡ b.profile → new.profile ≡ a.profile → IsMerged a.sections b.sections new.sections → Unites a b new
 Unites-merged a b new even stays merged = record {
   profile_stays = stays;
-  holds = λ s.
-      let here = merged.holds (checked_by new.profile s) in
-      let to_b : new.profile ≡ b.profile = stays ∙ even in (
-        λ held. elim (here.0 held) [
-          | inl first ↦ inl (subst (λ p. Contains a.sections (checked_by p s)) stays first)
-          | inr second ↦ inr (subst (λ p. Contains b.sections (checked_by p s)) to_b second)
-        ],
-        λ held. here.1 (elim held [
-          | inl first ↦ inl (subst (λ p. Contains a.sections (checked_by p s)) (sym stays) first)
-          | inr second ↦ inr (subst (λ p. Contains b.sections (checked_by p s)) (sym to_b) second)
-        ]),
-      );
+  holds = λ s. subst (λ p. Holds new s ↔ (Contains a.sections (checked_by p s) ⊎ Holds b s)) stays
+      (subst (λ p. Holds new s ↔ (Contains a.sections (checked_by new.profile s) ⊎ Contains b.sections (checked_by p s))) (stays ∙ even) (merged.holds (checked_by new.profile s)));
 }
 
 GathersBoth-unites : (a b new : LedgerValue) → Unites a b new → Rises new.sections → AreBy new.profile new.sections → GathersBoth a b new
@@ -67,10 +57,7 @@ GathersBoth-unites a b new unites rises by = λ xs ys of_a of_b. record {
   profile_is = unites.profile_stays;
   checked = subst (λ p. AreBy p new.sections) unites.profile_stays by;
   rises = rises;
-  same = λ s. (
-    λ held. elim ((unites.holds s).0 held) [ inl first ↦ Contains-append_left xs ys s ((of_a.same s).0 first) | inr second ↦ Contains-append_right xs ys s ((of_b.same s).0 second) ],
-    λ found. (unites.holds s).1 (elim (Contains-append_cases xs ys s found) [ inl first ↦ inl ((of_a.same s).1 first) | inr second ↦ inr ((of_b.same s).1 second) ]),
-  );
+  same = λ s. across (unites.holds s) (of_a.same s) (of_b.same s) (appended xs ys s);
 }
 
 pub IfOk_gathers : {E : Type 0} (a b : LedgerValue) (result : Result LedgerValue E) → IfOk result (Unites a b) → IfOk result (λ (l : LedgerValue). Rises l.sections) →

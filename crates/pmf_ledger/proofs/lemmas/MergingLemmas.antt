@@ -1,5 +1,5 @@
 -- Two rising lists, while they are merged from their ends, and once they are.
-use Rattle.std.proofs.{Common.{◌≡◌, ◌-◌, ◌<◌, List, [], ◌∷◌, ◌++◌, length, reverse, sym, ◌∙◌, ap, subst, arith, inl, inr, get_or, ◌⊎◌, Contains, AllPairs, length-append, rules}, lemmas.Bool.{cases_order}, lemmas.List.{get_or_append_left, get_or_default, get_or_push, get_or-reverse, length-reverse, reverse-reverse}, lemmas.List.Elements.{Contains-append_left, Contains-get_or, Contains-push, Contains-push_cases}, lemmas.List.Sorted.{Contains-permutation, IsPermutation-reverse}, lemmas.List.Quantifiers.{all_pairs_push}, lemmas.Grind.{common_steps}}
+use Rattle.std.proofs.{Common.{◌≡◌, ◌-◌, ◌<◌, List, [], ◌∷◌, ◌++◌, length, reverse, sym, ◌∙◌, ap, subst, arith, inl, inr, get_or, ◌⊎◌, ◌↔◌, Contains, AllPairs, length-append, rules}, lemmas.Bool.{cases_order}, lemmas.List.{get_or_append_left, get_or_default, get_or_push, get_or-reverse, length-reverse, reverse-reverse}, lemmas.List.Elements.{Contains-append_left, Contains-get_or, Contains-push, Contains-push_cases}, lemmas.List.Sorted.{Contains-permutation, IsPermutation-reverse}, lemmas.List.Quantifiers.{all_pairs_push}, lemmas.Grind.{common_steps}}
 use Rattle.pmf_verdict.specs.Checked.{Checked}
 use Rattle.pmf_ledger.{specs.Joining.{IsMerged, IsMerging}, specs.Names.{ComesBefore, Rises}, proofs.lemmas.NameLemmas.{before-trans}}
 
@@ -41,13 +41,24 @@ all_before xs read x rises is before c found = elim (before_last xs read c rises
 pub read_is_held : (xs : List Checked) (read : Checked) → read ≡ get_or xs (length xs - 1) read → length xs - 1 < length xs → Contains xs read
 read_is_held xs read is inside = subst (Contains xs) (sym is) (Contains-get_or xs (length xs - 1) read inside)
 
+-- what has one element more behind has just that more
+pushed : {X : Type 0} (xs : List X) (x c : X) → Contains (xs ++ x ∷ []) c ↔ (Contains xs c ⊎ (x ≡ c))
+pushed xs x c = (Contains-push_cases xs x c, λ has. elim has [ inl inside ↦ Contains-append_left xs (x ∷ []) c inside | inr here ↦ subst (Contains (xs ++ x ∷ [])) here (Contains-push xs x) ])
+
+-- of what is in one of three, where one is changed for another and what that lacks
+moved : {K A B C D E H : Type 0} → K ↔ ((A ⊎ B) ⊎ C) → A ↔ (D ⊎ H) → E ↔ (C ⊎ H) → K ↔ ((D ⊎ B) ⊎ E)
+moved k a e = grind (arith, common_steps)
+
+dropped : {K A B C D H : Type 0} → K ↔ ((A ⊎ B) ⊎ C) → A ↔ (D ⊎ H) → (H → B) → K ↔ ((D ⊎ B) ⊎ C)
+dropped k a h = grind (arith, common_steps)
+
+turned : {K L A B C : Type 0} → (K ⊎ L) ↔ ((A ⊎ B) ⊎ C) → (L ⊎ K) ↔ ((B ⊎ A) ⊎ C)
+turned k = grind (arith, common_steps)
+
 -- the two lists are on a par
 Merging-turned : (xs ys left right merged : List Checked) → IsMerging xs ys left right merged → IsMerging ys xs right left merged
 Merging-turned xs ys left right merged so_far = record {
-  kept = λ c. (
-    λ has. elim ((so_far.kept c).0 (elim has [ inl y ↦ inr y | inr x ↦ inl x ])) [ inl rest ↦ inl (elim rest [ inl l ↦ inr l | inr r ↦ inl r ]) | inr done ↦ inr done ],
-    λ has. elim ((so_far.kept c).1 (elim has [ inl rest ↦ inl (elim rest [ inl r ↦ inr r | inr l ↦ inl l ]) | inr done ↦ inr done ])) [ inl x ↦ inr x | inr y ↦ inl y ],
-  );
+  kept = λ c. turned (so_far.kept c);
   left_rises = so_far.right_rises;
   right_rises = so_far.left_rises;
   agree = λ x y in_right in_left same. sym (so_far.agree y x in_left in_right (sym same));
@@ -56,64 +67,23 @@ Merging-turned xs ys left right merged so_far = record {
   right_before = so_far.left_before;
 }
 
-module _ (xs ys left right merged : List Checked) (x : Checked) (so_far : IsMerging xs ys (left ++ x ∷ []) right merged) where
-  -- the last of the left is merged, where all of the right come before it
-  Merging-moved : ((c : Checked) → Contains right c → ComesBefore c x) → IsMerging xs ys left right (merged ++ x ∷ [])
-  Merging-moved after = record {
-    kept = λ c. (
-      λ has. elim ((so_far.kept c).0 has) [
-        | inl rest ↦ elim rest [
-          | inl l ↦ elim (Contains-push_cases left x c l) [ inl before ↦ inl (inl before) | inr here ↦ inr (subst (Contains (merged ++ x ∷ [])) here (Contains-push merged x)) ]
-          | inr r ↦ inl (inr r)
-        ]
-        | inr done ↦ inr (Contains-append_left merged (x ∷ []) c done)
-      ],
-      λ has. (so_far.kept c).1 (elim has [
-        | inl rest ↦ elim rest [ inl l ↦ inl (inl (Contains-append_left left (x ∷ []) c l)) | inr r ↦ inl (inr r) ]
-        | inr done ↦ elim (Contains-push_cases merged x c done) [ inl before ↦ inr before | inr here ↦ inl (inl (subst (Contains (left ++ x ∷ [])) here (Contains-push left x))) ]
-      ]),
-    );
-    left_rises = AllPairs-front ComesBefore left (x ∷ []) so_far.left_rises;
-    right_rises = so_far.right_rises;
-    agree = λ c d in_left in_right same. so_far.agree c d (Contains-append_left left (x ∷ []) c in_left) in_right same;
-    falls = all_pairs_push (λ (later : Checked) (earlier : Checked). ComesBefore earlier later) merged x so_far.falls
-        (λ k d inside. so_far.left_before x (get_or merged k d) (Contains-push left x) (Contains-get_or merged k d inside));
-    left_before = λ c d in_left done. elim (Contains-push_cases merged x d done) [
-      | inl before ↦ so_far.left_before c d (Contains-append_left left (x ∷ []) c in_left) before
-      | inr here ↦ subst (ComesBefore c) here (AllPairs-last ComesBefore left x so_far.left_rises c in_left)
-    ];
-    right_before = λ c d in_right done. elim (Contains-push_cases merged x d done) [
-      | inl before ↦ so_far.right_before c d in_right before
-      | inr here ↦ subst (ComesBefore c) here (after c in_right)
-    ];
-  }
-
-  -- the last of the left is dropped, where the right has it
-  Merging-dropped : Contains right x → IsMerging xs ys left right merged
-  Merging-dropped there = record {
-    kept = λ c. (
-      λ has. elim ((so_far.kept c).0 has) [
-        | inl rest ↦ elim rest [
-          | inl l ↦ elim (Contains-push_cases left x c l) [ inl before ↦ inl (inl before) | inr here ↦ inl (inr (subst (Contains right) here there)) ]
-          | inr r ↦ inl (inr r)
-        ]
-        | inr done ↦ inr done
-      ],
-      λ has. (so_far.kept c).1 (elim has [ inl rest ↦ elim rest [ inl l ↦ inl (inl (Contains-append_left left (x ∷ []) c l)) | inr r ↦ inl (inr r) ] | inr done ↦ inr done ]),
-    );
-    left_rises = AllPairs-front ComesBefore left (x ∷ []) so_far.left_rises;
-    right_rises = so_far.right_rises;
-    agree = λ c d in_left in_right same. so_far.agree c d (Contains-append_left left (x ∷ []) c in_left) in_right same;
-    falls = so_far.falls;
-    left_before = λ c d in_left done. so_far.left_before c d (Contains-append_left left (x ∷ []) c in_left) done;
-    right_before = so_far.right_before;
-  }
-
 -- the left's last is merged, where the right is empty or its last comes before
 pub Merging-left : (xs ys old left right merged new : List Checked) (x : Checked) → old ≡ left ++ x ∷ [] → new ≡ merged ++ x ∷ [] →
     ((c : Checked) → Contains right c → ComesBefore c x) → IsMerging xs ys old right merged → IsMerging xs ys left right new
-Merging-left xs ys old left right merged new x is made after so_far =
-    subst (IsMerging xs ys left right) (sym made) (Merging-moved xs ys left right merged x (subst (λ zs. IsMerging xs ys zs right merged) is so_far) after)
+Merging-left xs ys old left right merged new x is made after before_it =
+    let so_far = subst (λ zs. IsMerging xs ys zs right merged) is before_it in subst (IsMerging xs ys left right) (sym made) (record {
+      kept = λ c. moved (so_far.kept c) (pushed left x c) (pushed merged x c);
+      left_rises = AllPairs-front ComesBefore left (x ∷ []) so_far.left_rises;
+      right_rises = so_far.right_rises;
+      agree = λ c d in_left in_right same. so_far.agree c d (Contains-append_left left (x ∷ []) c in_left) in_right same;
+      falls = all_pairs_push (λ (later : Checked) (earlier : Checked). ComesBefore earlier later) merged x so_far.falls
+          (λ k d inside. so_far.left_before x (get_or merged k d) (Contains-push left x) (Contains-get_or merged k d inside));
+      left_before = λ c d in_left done. elim (Contains-push_cases merged x d done) [
+        | inl before ↦ so_far.left_before c d (Contains-append_left left (x ∷ []) c in_left) before
+        | inr here ↦ subst (ComesBefore c) here (AllPairs-last ComesBefore left x so_far.left_rises c in_left)
+      ];
+      right_before = λ c d in_right done. elim (Contains-push_cases merged x d done) [ inl before ↦ so_far.right_before c d in_right before | inr here ↦ subst (ComesBefore c) here (after c in_right) ];
+    })
 
 pub Merging-right : (xs ys left old right merged new : List Checked) (x : Checked) → old ≡ right ++ x ∷ [] → new ≡ merged ++ x ∷ [] →
     ((c : Checked) → Contains left c → ComesBefore c x) → IsMerging xs ys left old merged → IsMerging xs ys left right new
@@ -125,7 +95,16 @@ pub Merging-drop : (xs ys old left right merged : List Checked) (x y : Checked) 
     IsMerging xs ys old right merged → IsMerging xs ys left right merged
 Merging-drop xs ys old left right merged x y is there same so_far =
     let now = subst (λ zs. IsMerging xs ys zs right merged) is so_far in
-    Merging-dropped xs ys left right merged x now (subst (Contains right) (sym (now.agree x y (Contains-push left x) there same)) there)
+    let has = subst (Contains right) (sym (now.agree x y (Contains-push left x) there same)) there in
+    record {
+      kept = λ c. dropped (now.kept c) (pushed left x c) (λ here. subst (Contains right) here has);
+      left_rises = AllPairs-front ComesBefore left (x ∷ []) now.left_rises;
+      right_rises = now.right_rises;
+      agree = λ c d in_left. now.agree c d (Contains-append_left left (x ∷ []) c in_left);
+      falls = now.falls;
+      left_before = λ c d in_left. now.left_before c d (Contains-append_left left (x ∷ []) c in_left);
+      right_before = now.right_before;
+    }
 
 pub Merged-turned : (xs ys merged : List Checked) → IsMerging xs ys [] [] merged → IsMerged xs ys (reverse merged)
 Merged-turned xs ys merged so_far = record {

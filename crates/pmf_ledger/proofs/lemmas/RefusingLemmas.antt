@@ -29,36 +29,30 @@ one_of_name t s = elim (before-total t.name s.name) [
   ]
 ]
 
--- so of all sections of a set
-among : (s : Trace) (set : List Trace) → ((t : Trace) × Contains set t × (t.name ≡ s.name) × (t ≢ s)) ⊎ ((t : Trace) → Contains set t → t.name ≡ s.name → t ≡ s)
-among s [] = inr (λ t found same. absurd (none_of_empty [] t refl found))
-among s (t ∷ set) = elim (one_of_name t s) [
-  | inl other ↦ inl (t, Contains-cons t t set (inl refl), other.0, other.1)
-  | inr one ↦ elim (among s set) [
-    | inl u ↦ inl (u.0, Contains-cons u.0 t set (inr u.1), u.2, u.3)
-    | inr all ↦ inr (λ u found same. elim (Contains-cons_cases u t set found) [ inl is ↦ is ∙ one (ap (λ (v : Trace). v.name) (sym is) ∙ same) | inr later ↦ all u later same ])
+-- what holds of each element or not holds of one of a list or of none
+some_or_all : {X : Type 0} (P Q : X → Type 0) → ((x : X) → P x ⊎ Q x) → (xs : List X) → ((x : X) × Contains xs x × P x) ⊎ ((x : X) → Contains xs x → Q x)
+some_or_all P Q each [] = inr (λ x found. absurd (none_of_empty [] x refl found))
+some_or_all P Q each (x ∷ xs) = elim (each x) [
+  | inl here ↦ inl (x, Contains-cons x x xs (inl refl), here)
+  | inr one ↦ elim (some_or_all P Q each xs) [
+    | inl u ↦ inl (u.0, Contains-cons u.0 x xs (inr u.1), u.2)
+    | inr all ↦ inr (λ u found. elim (Contains-cons_cases u x xs found) [ inl is ↦ subst Q (sym is) one | inr later ↦ all u later ])
   ]
 ]
+
+-- so of all sections of a set
+among : (s : Trace) (set : List Trace) → ((t : Trace) × Contains set t × ((t.name ≡ s.name) × (t ≢ s))) ⊎ ((t : Trace) → Contains set t → t.name ≡ s.name → t ≡ s)
+among s set = some_or_all (λ t. (t.name ≡ s.name) × (t ≢ s)) (λ t. t.name ≡ s.name → t ≡ s) (λ t. one_of_name t s) set
 
 -- and of those of two sets
-between_two : (xs ys : List Trace) → ((s : Trace) × (t : Trace) × Contains xs s × Contains ys t × (t.name ≡ s.name) × (t ≢ s)) ⊎ ((s t : Trace) → Contains xs s → Contains ys t → t.name ≡ s.name → t ≡ s)
-between_two [] ys = inr (λ s t found has same. absurd (none_of_empty [] s refl found))
-between_two (s ∷ xs) ys = elim (among s ys) [
-  | inl t ↦ inl (s, t.0, Contains-cons s s xs (inl refl), t.1, t.2, t.3)
-  | inr all ↦ elim (between_two xs ys) [
-    | inl u ↦ inl (u.0, u.1, Contains-cons u.0 s xs (inr u.2), u.3, u.4, u.5)
-    | inr rest ↦ inr (λ u t found has same. elim (Contains-cons_cases u s xs found) [
-      | inl is ↦ all t has (same ∙ ap (λ (v : Trace). v.name) is) ∙ sym is
-      | inr later ↦ rest u t later has same
-    ])
-  ]
-]
+between_two : (xs ys : List Trace) → ((s : Trace) × Contains xs s × ((t : Trace) × Contains ys t × ((t.name ≡ s.name) × (t ≢ s)))) ⊎ ((s : Trace) → Contains xs s → (t : Trace) → Contains ys t → t.name ≡ s.name → t ≡ s)
+between_two xs ys = some_or_all _ _ (λ s. among s ys) xs
 
 -- two sets that agree, and with each other, agree as one
-agree_as_one : (xs ys : List Trace) → Agrees xs → Agrees ys → ((s t : Trace) → Contains xs s → Contains ys t → t.name ≡ s.name → t ≡ s) → Agrees (xs ++ ys)
+agree_as_one : (xs ys : List Trace) → Agrees xs → Agrees ys → ((s : Trace) → Contains xs s → (t : Trace) → Contains ys t → t.name ≡ s.name → t ≡ s) → Agrees (xs ++ ys)
 agree_as_one xs ys first second each s t has_s has_t same = elim (Contains-append_cases xs ys s has_s) [
-  | inl s_first ↦ elim (Contains-append_cases xs ys t has_t) [ inl t_first ↦ first s t s_first t_first same | inr t_second ↦ sym (each s t s_first t_second (sym same)) ]
-  | inr s_second ↦ elim (Contains-append_cases xs ys t has_t) [ inl t_first ↦ each t s t_first s_second same | inr t_second ↦ second s t s_second t_second same ]
+  | inl s_first ↦ elim (Contains-append_cases xs ys t has_t) [ inl t_first ↦ first s t s_first t_first same | inr t_second ↦ sym (each s s_first t t_second (sym same)) ]
+  | inr s_second ↦ elim (Contains-append_cases xs ys t has_t) [ inl t_first ↦ each t t_first s s_second same | inr t_second ↦ second s t s_second t_second same ]
 ]
 
 -- what holds of one section holds of each in a set of it alone
@@ -75,11 +69,11 @@ refused_or_fair (WithVerdict gathering verdict) = elim (refused_or_fair gatherin
       let given = gives_where_it_may gathering fair.0 fair.1 fair.2 in let is = gives_ledger gathering given.0 given.1 in let s = verdict.section in
       elim (same_profile verdict.profile given.0.profile) [
         | inl even ↦ elim (among s (set_of gathering)) [
-          | inl t ↦ inl (inr (given.0, given.1, inr (t.0, (is.0.same t.0).1 t.1, t.2, t.3)))
+          | inl t ↦ inl (inr (given.0, given.1, inr (t.0, (is.0.same t.0).1 t.1, t.2.0, t.2.1)))
           | inr all ↦ inr (
             given.0.profile,
             agree_as_one (s ∷ []) (set_of gathering) (λ t u has_t has_u same. alone (λ v. v ≡ u) s (sym (alone (λ v. v ≡ s) s refl u has_u)) t has_t) is.1
-                (λ t u has_t has_u. alone (λ v. u.name ≡ v.name → u ≡ v) s (all u has_u) t has_t),
+                (λ t has_t u has_u. alone (λ v. u.name ≡ v.name → u ≡ v) s (all u has_u) t has_t),
             (is.2, even),
           )
         ]
@@ -95,7 +89,7 @@ refused_or_fair (Joined g h) = elim (refused_or_fair g) [
         let is_b = gives_ledger h b.0 b.1 in
         elim (same_profile a.0.profile b.0.profile) [
           | inl even ↦ elim (between_two (set_of g) (set_of h)) [
-            | inl u ↦ inl (inr (a.0, b.0, a.1, b.1, inr (u.0.name, (u.0, u.1, (is_a.0.same u.0).1 u.2, (is_b.0.same u.1).1 u.3, refl, u.4, (λ is. u.5 (sym is))))))
+            | inl u ↦ inl (inr (a.0, b.0, a.1, b.1, inr (u.0.name, (u.0, u.2.0, (is_a.0.same u.0).1 u.1, (is_b.0.same u.2.0).1 u.2.1, refl, u.2.2.0, (λ is. u.2.2.1 (sym is))))))
             | inr all ↦ inr (a.0.profile, agree_as_one (set_of g) (set_of h) is_a.1 is_b.1 all, (is_a.2, subst (λ p. IsBy p h) (sym even) is_b.2))
           ]
           | inr differ ↦ inl (inr (a.0, b.0, a.1, b.1, inl differ))

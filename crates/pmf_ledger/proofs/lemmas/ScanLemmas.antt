@@ -114,10 +114,7 @@ Scanned-ends xs ys i j scanned end x y in_first in_second same = elim (cases_ord
   | inr aside ↦ elim aside [
     | inl some ↦
         let is = in_second.2 in let inside = in_second.1 in
-        let all : length ys ≤ j = elim (cases_order j (length ys)) [
-          | inl even ↦ omega (arith, even)
-          | inr apart ↦ elim apart [ inl less ↦ absurd (end some less) | inr more ↦ omega (arith, more) ]
-        ] in
+        let all : length ys ≤ j = grind (arith, common_steps, cases_order) in
         sym (ap (λ (c : Checked). c.section) (sym is) ∙ scanned.second in_second.0 y x (omega (arith, inside, all)) in_first (ap (λ (c : Checked). c.section.name) is ∙ sym same))
     | inr more ↦ let within = scanned.first_within in absurd (omega (arith, more, within))
   ]
