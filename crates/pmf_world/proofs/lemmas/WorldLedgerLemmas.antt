@@ -1,7 +1,7 @@
 -- What one ledger of a world takes or is joined with, and the world after it.
 use Rattle.std.{proofs.Common.{rules, ◌≡◌, ℕ, zero, suc, ◌<◌, true, List, [], ◌∷◌, ◌++◌, length, set, get_or, slice_get, refl, sym, ◌∙◌, ap, subst, Some, Ok, inl, inr, arith, if◌then◌else◌, eqb, eqb-true, ◌↔◌, Contains, IfOk, IsOk, OnOk, OnErr, Result, Err, All, eq-eqb}, specs.List.{list_any}, proofs.lemmas.List.{get_or-map, get_or_default, length-map, map-append, set-get_or}, proofs.lemmas.List.Elements.{All-append, All-cons, All-get_or, Contains-append_cases, Contains-append_left}, proofs.lemmas.List.Folds.{Any-from_list_any, list_any_at}, proofs.lemmas.Option.{slice_get-get_or}, proofs.lemmas.Grind.{common_steps}}
 use Rattle.pmf_event.specs.{declared.name.Name.{Name}, declared.profile.Profile.{Profile}, Section.{Trace}}
-use Rattle.pmf_ledger.{specs.declared.taking.Taken.{Taken}, specs.Gathered.{ClashesAt, Gains, Gathers, GathersBoth, Holds, HoldsOther, IsLedgerOf, Unites}, specs.LedgerValue.{LedgerValue}, specs.Repeats.{HaveOwnNames, is_name, names_of, no_section, section_at}, proofs.lemmas.AddingLemmas.{from_map, to_map}, proofs.lemmas.RepeatLemmas.{is_name-yes, some_two}}
+use Rattle.pmf_ledger.{specs.declared.taking.Taken.{Taken}, specs.Gathered.{ClashesAt, Gains, Gathers, GathersBoth, Holds, HoldsOther, IsLedgerOf, Unites}, specs.LedgerValue.{LedgerValue}, specs.Repeats.{HaveOwnNames, is_name, names_of, no_section, section_at}, proofs.lemmas.AddingLemmas.{from_map, to_map}, proofs.lemmas.ReadingLemmas.{IsLedgerOf-members}, proofs.lemmas.RepeatLemmas.{is_name-yes, some_two}}
 use Rattle.pmf_verdict.specs.Checked.{Checked}
 use Rattle.pmf_world.{specs.Floors.{IsSent}, specs.Steps.{WorldState, set_at, stepped, with_set, arrive_found, join_found}, specs.Worlds.{IsOfWorld, StandsFor, Steps, WorldValue, ledger_at, sections_at}, specs.Gatherings.{JoinsAt, TakesAt, answer_of, with_ledger}, proofs.lemmas.WorldStandsLemmas.{StandsFor-set}}
 use Rattle.pmf_ledger.specs.declared.taking.Taken.TheVariants as taken
@@ -61,15 +61,8 @@ finds set s = grind (arith, common_steps, list_any_at, eq-eqb, Any-from_list_any
 
 -- the ledger of a set is that of the set with itself
 twice_over : (profile : Profile) (xs : List Trace) (l : LedgerValue) → IsLedgerOf profile xs l → IsLedgerOf profile (xs ++ xs) l
-twice_over profile xs l is = record {
-  profile_is = is.profile_is;
-  checked = is.checked;
-  rises = is.rises;
-  same = λ t. (
-    λ held. Contains-append_left xs xs t ((is.same t).0 held),
-    λ found. (is.same t).1 (elim (Contains-append_cases xs xs t found) [ inl one ↦ one | inr other ↦ other ]),
-  );
-}
+twice_over profile xs l is = IsLedgerOf-members profile xs (xs ++ xs) l is
+    (λ t. (Contains-append_left xs xs t, λ found. elim (Contains-append_cases xs xs t found) [ inl one ↦ one | inr other ↦ other ]))
 
 module _ (old : WorldValue) (state : WorldState) (stands : StandsFor old state) where
   is_ledger : (k : ℕ) → k < length old.ledgers → IsLedgerOf (ledger_at old k).profile (sections_at old.sections (set_at state k)) (ledger_at old k)
