@@ -58,15 +58,9 @@ blocks-one : (sections : List Checked) → AllByRecursion IsSpelled sections →
 blocks-one [] spelled = tt
 blocks-one (s ∷ sections) spelled = grind (arith, common_steps, each-append, block-one, blocks-one sections spelled.1)
 
-version-one : (profile : Profile) → OneLine (version_of profile)
-version-one profile = grind (arith, common_steps)
-
-end-one : (blocks : ℕ) → OneLine (end_line blocks)
-unfolding end_line
-end-one blocks = one-append (codes "end verdicts=") (decimal blocks) (search rules) (decimal-one blocks)
-
 ledger-one : (l : LedgerValue) → AllByRecursion IsSpelled l.sections → AllByRecursion OneLine (ledger_lines l)
-ledger-one l spelled = (version-one l.profile, each-append (flat_map block_lines l.sections) (end_line (length l.sections) ∷ []) (blocks-one l.sections spelled) (end-one (length l.sections), tt))
+unfolding end_line
+ledger-one l spelled = (grind (arith, common_steps), each-append (flat_map block_lines l.sections) (end_line (length l.sections) ∷ []) (blocks-one l.sections spelled) (one-append (codes "end verdicts=") (decimal (length l.sections)) (search rules) (decimal-one (length l.sections)), tt))
 
 -- numbers behind words
 pub number_behind-word : (word : List ℕ) (n : ℕ) (rest : List ℕ) → n < 2 ^ 64 → BeginsWithNoDigit rest → number_behind word (word ++ (decimal n ++ rest)) ≡ Some (n, rest)
@@ -193,7 +187,7 @@ module _ (profile : Profile) (blocks : List Trace) (section : Trace) (spelled : 
       (subst (λ e. Leads e (map text_without_end rows) (with_rows r section [])) (sym (rows_told r section (length rows) refl)) (leads-rows r section rows)))
 
 -- all blocks
-AllBy : Profile → List Checked → Type 0
+abbrev AllBy : Profile → List Checked → Type 0
 AllBy profile sections = AllByRecursion (λ (s : Checked). s.profile ≡ profile) sections
 
 abbrev traces : List Checked → List Trace
@@ -205,7 +199,6 @@ rows-few s = grind (arith, common_steps, length-append, length-map)
 
 leads-blocks : (profile : Profile) (done : List Trace) (sections : List Checked) → AllBy profile sections → AllByRecursion IsSpelled sections → length (flat_map block_lines sections) < 2 ^ 64 →
     Leads (after_blocks profile done) (flat_map block_lines sections) (after_blocks profile (done ++ traces sections))
-unfolding AllBy
 leads-blocks profile done [] by spelled few = rw (append-nil done) (leads-none (after_blocks profile done))
 leads-blocks profile done (s ∷ sections) by spelled few =
     let long = length-append (block_lines s) (flat_map block_lines sections) in let less = rows-few s in
@@ -240,10 +233,6 @@ unfolding profile_of
 profile_of-version profile = grind (arith, common_steps)
 
 module _ (l : LedgerValue) (rises : Rises l.sections) (checked : All (λ (c : Checked). c.profile ≡ l.profile) l.sections) (spelled : All IsSpelled l.sections) (short : length (text_of_ledger l) ≤ LEDGER_LIMIT) where
-  by_profile : AllBy l.profile l.sections
-  unfolding AllBy
-  by_profile = recursion_from_All (λ (c : Checked). c.profile ≡ l.profile) l.sections checked
-
   each_spelled : AllByRecursion IsSpelled l.sections
   each_spelled = recursion_from_All IsSpelled l.sections spelled
 
@@ -268,7 +257,7 @@ module _ (l : LedgerValue) (rises : Rises l.sections) (checked : All (λ (c : Ch
   leads-ledger =
       leads-cons unread (after_blocks l.profile []) whole (version_of l.profile) (flat_map block_lines l.sections ++ end_line (length l.sections) ∷ []) version-step
       (leads-append (after_blocks l.profile []) (after_blocks l.profile (traces l.sections)) whole (flat_map block_lines l.sections) (end_line (length l.sections) ∷ [])
-      (leads-blocks l.profile [] l.sections by_profile each_spelled (omega (arith, few_lines)))
+      (leads-blocks l.profile [] l.sections (recursion_from_All (λ (c : Checked). c.profile ≡ l.profile) l.sections checked) each_spelled (omega (arith, few_lines)))
       (leads-cons (after_blocks l.profile (traces l.sections)) whole whole (end_line (length l.sections)) [] end-step (leads-none whole)))
 
   reading_is : reading_of (text_of_ledger l) ≡ whole

@@ -9,9 +9,6 @@ use Rattle.pmf_ledger.{specs.declared.blocks.Blocks.{Blocks}, specs.declared.blo
 take_before : {X : Type 0} (x : X) (xs : List X) → 0 < length xs → take (length (x ∷ xs) - 1) (x ∷ xs) ≡ x ∷ take (length xs - 1) xs
 take_before x xs some = grind (arith, common_steps)
 
-last_before : {X : Type 0} (x d : X) (xs : List X) → 0 < length xs → get_or (x ∷ xs) (length (x ∷ xs) - 1) d ≡ get_or xs (length xs - 1) d
-last_before x d xs some = grind (arith, common_steps)
-
 parts_filled : (text : List ℕ) → 0 < length (parts_of text)
 unfolding parts_of
 parts_filled text = split_filled is_line_end text
@@ -25,7 +22,7 @@ module _ (rest : List ℕ) (end : ℕ) (found : IsFirstByte (is_byte 10) rest (S
   lines_more = rw parts_more (take_before (take end rest) (parts_of (drop (end + 1) rest)) (parts_filled (drop (end + 1) rest)))
 
   pub left_more : left_of rest ≡ left_of (drop (end + 1) rest)
-  left_more = rw parts_more (last_before (take end rest) [] (parts_of (drop (end + 1) rest)) (parts_filled (drop (end + 1) rest)))
+  left_more = let some = parts_filled (drop (end + 1) rest) in rw parts_more (grind (arith, common_steps))
 
 module _ (rest : List ℕ) (none : IsFirstByte (is_byte 10) rest None) where
   parts_none : parts_of rest ≡ rest ∷ []
@@ -172,12 +169,9 @@ module _ (text rest : List ℕ) (line : ℕ) (r : Reading) (here : IsAt text res
   count_is : length (parts_of text) ≡ line
   count_is = grind (arith, common_steps, lines_none)
 
-  left_is : left_of text ≡ rest
-  left_is = sym here.left ∙ left_none rest none
-
   fault_is : fault_of text ≡ fault_at_end r.stage line (length rest)
   unfolding fault_of
-  fault_is = rw (left_is, count_is, reading_is) refl
+  fault_is = rw (sym here.left ∙ left_none rest none, count_is, reading_is) refl
 
   over : (blocks : Blocks) (awaited : Next) → IsNext r awaited → is_over awaited rest ≡ true → fault_at_end r.stage line (length rest) ≡ None
   over blocks awaited comes is = grind (arith, common_steps)

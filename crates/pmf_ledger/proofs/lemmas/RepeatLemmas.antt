@@ -86,12 +86,6 @@ module _ (names : List Name) (d : Name) where
   stands_at : (name : Name) → StandsTwiceIn names name → (i : ℕ) × (j : ℕ) × (i < j) × (j < length names) × (name_at names d i ≡ name) × (name_at names d j ≡ name)
   stands_at name twice = let r = two_of (is_name name) names d twice in (r.0, r.1, r.2, r.3, is_name-is name (get_or names r.0 d) r.4, is_name-is name (get_or names r.1 d) r.5)
 
-  -- where all names rise none stands twice
-  own-names-at : RisesTo (length names) names → AreOwn names
-  own-names-at rises name twice =
-      let r = stands_at name twice in
-      before-itself name (subst (λ n. IsBefore n name) r.4 (subst (λ n. IsBefore (name_at names d r.0) n) r.5 (rises_between names d (length names) r.0 r.1 rises r.2 r.3)))
-
   -- of names that don't fall, the first that is repeated is the least that is
   pub least-twice : (k : ℕ) → DoNotFall names → RisesTo (k + 1) names → k + 1 < length names → name_at names d k ≡ name_at names d (k + 1) → IsLeastTwiceIn names (name_at names d (k + 1))
   least-twice k sorted rises inside same =
@@ -109,26 +103,19 @@ module _ (names : List Name) (d : Name) where
 
 -- where all names rise none stands twice
 pub own-names : (names : List Name) → RisesTo (length names) names → AreOwn names
-own-names [] rises name twice = omega (arith, twice)
-own-names (n ∷ ns) rises name twice = own-names-at (n ∷ ns) n rises name twice
+own-names names rises name twice =
+    let r = stands_at names name name twice in
+    before-itself name (subst (λ n. IsBefore n name) r.4 (subst (λ n. IsBefore (name_at names name r.0) n) r.5 (rises_between names name (length names) r.0 r.1 rises r.2 r.3)))
 
 -- in another order the same names stand twice
 module _ (given names : List Name) (moved : IsPermutation given names) where
   times-permuted : (name : Name) → count_by (is_name name) names ≡ count_by (is_name name) given
   times-permuted name = sum_by-IsPermutation (λ n. cond (is_name name n) 1 0) given names moved
 
-  own-permuted : AreOwn names → AreOwn given
-  own-permuted own name twice = own name (subst (λ n. 1 < n) (sym (times-permuted name)) twice)
-
-  twice-permuted : (name : Name) → IsLeastTwiceIn names name → IsLeastTwiceIn given name
-  twice-permuted name least = (
-    subst (λ n. 1 < n) (times-permuted name) least.0,
-    λ other twice. least.1 other (subst (λ n. 1 < n) (sym (times-permuted other)) twice),
-  )
-
   pub repeats-permuted : (found : Option Name) → MatchOption found (AreOwn names) (IsLeastTwiceIn names) → MatchOption found (AreOwn given) (IsLeastTwiceIn given)
-  repeats-permuted None own = own-permuted own
-  repeats-permuted (Some name) least = twice-permuted name least
+  repeats-permuted None own = λ name twice. own name (subst (λ n. 1 < n) (sym (times-permuted name)) twice)
+  repeats-permuted (Some name) least =
+      (subst (λ n. 1 < n) (times-permuted name) least.0, λ other twice. least.1 other (subst (λ n. 1 < n) (sym (times-permuted other)) twice))
 
 -- the names of shared sections are those of their values
 pub names-values : {S : Type 0} (value : S → Trace) (ss : List S) → map (λ s. (value s).name) ss ≡ names_of (map value ss)

@@ -27,9 +27,6 @@ module _ (w : WorldState) (worker : ℕ) (is : IsSent w.farm) where
   IsSent-take : (limit s : ℕ) (found : Option Doing) (section : Option Entry) → slice_get w.farm.board s ≡ section → IsSent (world_of w (turned w (take_found limit w.farm worker s found section))).farm
   IsSent-take limit s found section at = search (rules, done_still)
 
-  IsSent-check : (found : Option Doing) → IsSent (world_of w (turned w (check_where w.farm worker found))).farm
-  IsSent-check found = search rules
-
   IsSent-send : (found : Option Doing) → IsSent (world_of w (turned w (send_where w.farm worker found))).farm
   IsSent-send None = is
   IsSent-send (Some (doing.HasVerdict s)) =
@@ -44,24 +41,15 @@ module _ (w : WorldState) (worker : ℕ) (is : IsSent w.farm) where
   IsSent-mark : (found : Option Doing) → slice_get w.farm.workers worker ≡ found → IsSent (world_of w (turned w (mark_where w.farm worker found))).farm
   IsSent-mark found at = search (rules, slice_get_within, get_or_from_slice_get, done_still)
 
-  IsSent-lose : (found : Option Doing) → IsSent (world_of w (turned w (lose_where w.farm worker found))).farm
-  IsSent-lose found = search rules
-
-IsSent-arrive : (w : WorldState) (k : ℕ) (found : Option ℕ) (set_found : Option (List ℕ)) → IsSent w.farm → IsSent (world_of w (arrive_found w k found set_found)).farm
-IsSent-arrive w k found set_found is = grind (arith, common_steps)
-
-IsSent-join : (w : WorldState) (k : ℕ) (own other : Option (List ℕ)) → IsSent w.farm → IsSent (world_of w (join_found w k own other)).farm
-IsSent-join w k own other is = grind (arith, common_steps)
-
 step_sent : (w : WorldState) (newest : WorldStep) → IsSent w.farm → IsSent (world_of w (stepped w newest)).farm
 step_sent w (step.Fresh worker section) is = IsSent-take w worker is 1 section _ _ refl
 step_sent w (step.Again worker section) is = IsSent-take w worker is 8 section _ _ refl
-step_sent w (step.Check worker) is = IsSent-check w worker is _
+step_sent w (step.Check worker) is = search rules
 step_sent w (step.Send worker) is = IsSent-send w worker is _
 step_sent w (step.Mark worker) is = IsSent-mark w worker is _ refl
-step_sent w (step.Lose worker) is = IsSent-lose w worker is _
-step_sent w (step.Arrive message ledger) is = IsSent-arrive w ledger _ _ is
-step_sent w (step.Join into from) is = IsSent-join w into _ _ is
+step_sent w (step.Lose worker) is = search rules
+step_sent w (step.Arrive message ledger) is = grind (arith, common_steps)
+step_sent w (step.Join into from) is = grind (arith, common_steps)
 
 sent_after : (first : WorldState) → IsSent first.farm → (steps : List WorldStep) → IsSent (after first steps).farm
 unfolding after

@@ -29,21 +29,9 @@ module _ (w : WorldState) (worker : ℕ) where
   unfolding IsNext
   Hands-mark found = grind (arith, common_steps, get_or-set_cases)
 
-  Hands-lose : (found : Option Doing) → Hands w (turned w (lose_where w.farm worker found))
-  unfolding IsNext
-  Hands-lose found = grind (arith, common_steps)
-
-Hands-arrive : (w : WorldState) (k : ℕ) (found : Option ℕ) (set_found : Option (List ℕ)) → Hands w (arrive_found w k found set_found)
-unfolding IsNext
-Hands-arrive w k found set_found = grind (arith, common_steps)
-
-Hands-join : (w : WorldState) (k : ℕ) (own other : Option (List ℕ)) → Hands w (join_found w k own other)
-unfolding IsNext
-Hands-join w k own other = grind (arith, common_steps)
-
 step_hands : (w : WorldState) (newest : WorldStep) → Hands w (stepped w newest)
 unfolding IsNext
-step_hands w newest = grind (arith, common_steps, Hands-take, Hands-mark, Hands-lose, Hands-arrive, Hands-join)
+step_hands w newest = grind (arith, common_steps, Hands-take, Hands-mark)
 
 -- the task's number is not above the hand-outs of its section
 abbrev IsCounted : WorldState → ℕ × ℕ → Type 0
