@@ -1,5 +1,5 @@
 -- Worked examples of what a worker does, computed by the definitions.
-use Rattle.std.proofs.Common.{ℕ, List, [], ◌∷◌, ◌<◌, refl, arith}
+use Rattle.std.proofs.Common.{List, [], ◌∷◌, ◌<◌, refl, arith}
 use Rattle.pmf_event.specs.{declared.profile.Profile.{Profile}, Section.{Trace}}
 use Rattle.pmf_board.specs.{declared.view.View.{View}, Views.{task, view, first_view}}
 use Rattle.pmf_farm.specs.Working.{AreInTurn, HasWorked, checked_of}

@@ -1,8 +1,8 @@
 -- Worked examples of ledgers and of gatherings, of one name with different events too, and of a ledger's text lines.
-use Rattle.std.{specs.Fmt.{digits}, proofs.Common.{◌≡◌, ◌≢◌, [], ◌∷◌, length, codes, refl, sym, ◌∙◌, ap, subst, arith, inl, inr, All}, proofs.lemmas.{List.Elements.{All-cons}, List.Kept.{AllPairs-cons}, Grind.{common_steps}}}
+use Rattle.std.{specs.Fmt.{digits}, proofs.Common.{◌≡◌, ◌≢◌, [], ◌∷◌, length, codes, refl, sym, ◌∙◌, ap, subst, arith}, proofs.lemmas.{List.Elements.{All-cons}, List.Kept.{AllPairs-cons}, Grind.{common_steps}}}
 use Rattle.pmf_event.specs.{declared.event.Event.TheVariants.{Fence}, declared.name.Name.{Name}, declared.profile.Profile.TheVariants.{One, Two}, Section.{Trace}}
-use Rattle.pmf_verdict.specs.Checked.{Checked, checked_by}
-use Rattle.pmf_ledger.{specs.Gathered.{ClashesAt, Holds, HoldsOther, IsLeastClash, IsLedgerOf}, specs.Gathering.{Begun, Gathering, Gives, IsBy, IsRefused, Joined, WithVerdict, set_of}, specs.LedgerText.{text_of_end, text_of_head, text_of_ledger}, specs.LedgerValue.{LedgerValue}, specs.Report.{text_of_counts, text_of_totals}, specs.Names.{ComesBefore, IsBefore}, proofs.lemmas.AddingLemmas.{Contains-cons, Contains-cons_cases}, proofs.lemmas.GatheringLemmas.{by_one, gives_ledger}, proofs.lemmas.GivingLemmas.{gives_where_it_may}, proofs.lemmas.MergingLemmas.{none_of_empty}, proofs.lemmas.NameLemmas.{before-itself}, proofs.lemmas.RefusingLemmas.{gives_or_is_refused}, proofs.lemmas.UniqueLemmas.{Agrees-ledger, ledger_once}}
+use Rattle.pmf_verdict.specs.Checked.{checked_by}
+use Rattle.pmf_ledger.{specs.Gathered.{ClashesAt, Holds, HoldsOther, IsLeastClash, IsLedgerOf}, specs.Gathering.{Begun, Gathering, Gives, IsBy, IsRefused, Joined, WithVerdict, set_of}, specs.LedgerText.{text_of_end, text_of_head, text_of_ledger}, specs.LedgerValue.{LedgerValue}, specs.Report.{text_of_counts, text_of_totals}, specs.Names.{IsBefore}, proofs.lemmas.AddingLemmas.{Contains-cons, Contains-cons_cases}, proofs.lemmas.GatheringLemmas.{by_one, gives_ledger}, proofs.lemmas.GivingLemmas.{gives_where_it_may}, proofs.lemmas.MergingLemmas.{none_of_empty}, proofs.lemmas.NameLemmas.{before-itself}, proofs.lemmas.RefusingLemmas.{gives_or_is_refused}, proofs.lemmas.UniqueLemmas.{Agrees-ledger, ledger_once}}
 
 abbrev one : Name
 one = record { run = 0; number = 1 }

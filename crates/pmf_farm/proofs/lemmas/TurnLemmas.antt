@@ -1,7 +1,7 @@
 -- In which order a worker takes sections.
-use Rattle.std.{proofs.Common.{◌≡◌, ℕ, suc, ◌+◌, ◌-◌, ◌*◌, ◌%◌, ◌<◌, ◌≤◌, ◌⊎◌, inl, inr, ⊎_elim, cond, Result, Ok, Err, List, [], ◌∷◌, ◌++◌, length, All, AllPairs, refl, sym, ◌∙◌, ap, subst, arith, append_assoc, append-nil}, proofs.lemmas.Bool.{cases_lt}, proofs.lemmas.Bool.Decides.{nat_tests}, proofs.Math.Nat.{mod-lt, mod-eq_of_lt, mod_self, zero-mod}, proofs.lemmas.List.Elements.{All-append, All-push}, proofs.lemmas.List.Quantifiers.{all_pairs_push}, proofs.lemmas.Grind.{common_steps}}
-use Rattle.pmf_board.{specs.Calls.{Marks, PassesOver, PassesOverAll, Stays, Takes, round_from}, specs.declared.task.Task.{Task}, specs.declared.view.View.{View}, specs.Views.{HasSeenClosed, HasSeenDone, NeverFalls, most_seen}, proofs.lemmas.CallLemmas.{NeverFalls-both, closed-later, round-round}}
-use Rattle.pmf_farm.specs.{declared.gate.Turn.{Turn}, declared.gate.Turn.TheVariants.{Go, Lost}, Working.{AreInTurn, TakesAgain, TakesFresh, TakesInTurn, TakesLater, Took}}
+use Rattle.std.{proofs.Common.{◌≡◌, ℕ, ◌+◌, ◌%◌, ◌<◌, ◌≤◌, ◌⊎◌, inl, inr, ⊎_elim, List, [], ◌∷◌, ◌++◌, All, sym, ◌∙◌, ap, subst, arith, append_assoc, append-nil}, proofs.lemmas.Bool.{cases_lt}, proofs.lemmas.Bool.Decides.{nat_tests}, proofs.Math.Nat.{mod-lt, mod-eq_of_lt, mod_self, zero-mod}, proofs.lemmas.List.Elements.{All-append, All-push}, proofs.lemmas.List.Quantifiers.{all_pairs_push}, proofs.lemmas.Grind.{common_steps}}
+use Rattle.pmf_board.{specs.Calls.{PassesOver, PassesOverAll, Takes, round_from}, specs.declared.task.Task.{Task}, specs.declared.view.View.{View}, specs.Views.{HasSeenClosed, NeverFalls}, proofs.lemmas.CallLemmas.{NeverFalls-both, closed-later}}
+use Rattle.pmf_farm.specs.{Working.{AreInTurn, TakesAgain, TakesFresh, TakesInTurn, TakesLater, Took}}
 
 -- p lies so far behind w, upwards and round
 abbrev Lies : ℕ → ℕ → ℕ → ℕ → Type 0

@@ -1,9 +1,9 @@
 -- A worker's turns, one after another.
-use Rattle.std.{proofs.Common.{◌≡◌, ℕ, zero, suc, ◌+◌, ◌-◌, ◌<◌, ◌≤◌, List, [], ◌∷◌, ◌++◌, length, map, refl, sym, ◌∙◌, ap, subst, arith, inl, inr, eqb, count_by, cond, eq-eqb, append_assoc, Ok, append-nil}, proofs.lemmas.List.{nil_from_length}, proofs.lemmas.Bool.{cases_order}, proofs.lemmas.List.Sums.{sum_by-append, sum_by-cons}, specs.declared.alloc.AllocError.{AllocError}, proofs.lemmas.Grind.{common_steps}}
+use Rattle.std.{proofs.Common.{◌≡◌, ℕ, zero, suc, ◌+◌, ◌-◌, ◌<◌, ◌≤◌, List, [], ◌∷◌, ◌++◌, sym, ◌∙◌, subst, arith, inl, inr, eqb, count_by, cond, eq-eqb, Ok, append-nil}, proofs.lemmas.List.{nil_from_length}, proofs.lemmas.Bool.{cases_order}, proofs.lemmas.List.Sums.{sum_by-append, sum_by-cons}, specs.declared.alloc.AllocError.{AllocError}, proofs.lemmas.Grind.{common_steps}}
 use Rattle.pmf_event.specs.{declared.profile.Profile.{Profile}, Section.{Trace}}
 use Rattle.pmf_verdict.specs.Checked.{Checked}
 use Rattle.pmf_board.{specs.Calls.{Stays, Takes}, specs.declared.task.Task.{Task}, specs.declared.view.View.{View}, proofs.lemmas.CallLemmas.{Stays-both}}
-use Rattle.pmf_farm.specs.{declared.working.Ended.{Ended}, declared.working.Ended.TheVariants.{All}, Working.{HasWorked, Serves, checked_of, most_left}}
+use Rattle.pmf_farm.specs.{declared.working.Ended.{Ended}, declared.working.Ended.TheVariants.{All}, Working.{HasWorked, Serves, most_left}}
 
 -- for what stays in two steps
 pub ruleset stays = (Stays-both)

@@ -1,5 +1,5 @@
 -- What gatherings give.
-use Rattle.std.proofs.{Common.{◌≡◌, List, [], ◌∷◌, ◌++◌, refl, sym, ◌∙◌, ap, subst, arith, inl, inr, ◌≢◌, Contains}, lemmas.List.Elements.{Contains-append_left, Contains-append_right}, lemmas.Grind.{common_steps}}
+use Rattle.std.proofs.{Common.{◌≡◌, List, [], ◌∷◌, ◌++◌, refl, sym, ◌∙◌, subst, arith, inl, inr, ◌≢◌, Contains}, lemmas.List.Elements.{Contains-append_left, Contains-append_right}, lemmas.Grind.{common_steps}}
 use Rattle.pmf_event.specs.{declared.profile.Profile.{Profile}, Section.{Trace}}
 use Rattle.pmf_ledger.{specs.Gathered.{IsLedgerOf}, specs.Gathering.{Agrees, Begun, Gathering, Gives, IsBy, IsRefused, Joined, WithVerdict, set_of}, specs.LedgerValue.{LedgerValue}, proofs.lemmas.AddingLemmas.{Contains-cons}, proofs.lemmas.MergingLemmas.{none_of_empty}, proofs.lemmas.UniqueLemmas.{Agrees-ledger}}
 

@@ -1,5 +1,5 @@
 -- A gathering that is not refused gives a ledger.
-use Rattle.std.proofs.{Common.{◌≡◌, ℕ, ◌<◌, ◌≤◌, List, [], ◌∷◌, ◌++◌, length, zero, suc, refl, sym, ◌∙◌, ap, subst, arith, inl, inr, get_or, ◌⊎◌, Contains, insert}, lemmas.List.Elements.{Contains-append_cases, Contains-append_left, Contains-append_right, Contains-get_or}, lemmas.Grind.{common_steps}}
+use Rattle.std.proofs.{Common.{◌≡◌, ℕ, ◌<◌, ◌≤◌, List, [], ◌∷◌, ◌++◌, length, zero, suc, refl, sym, ◌∙◌, ap, subst, arith, inl, inr, get_or, ◌⊎◌, Contains, insert}, lemmas.List.Elements.{Contains-append_left, Contains-append_right, Contains-get_or}, lemmas.Grind.{common_steps}}
 use Rattle.pmf_event.specs.{declared.name.Name.{Name}, declared.profile.Profile.{Profile}, Section.{Trace}}
 use Rattle.pmf_verdict.specs.Checked.{Checked, checked_by}
 use Rattle.pmf_ledger.{specs.Gathered.{Gathers, GathersBoth, Holds, IsLedgerOf}, specs.Gathering.{Agrees, Begun, Gathering, Gives, IsBy, IsRefused, Joined, RefusesJoin, RefusesVerdict, WithVerdict, set_of}, specs.LedgerValue.{LedgerValue}, specs.Names.{IsBefore, Rises}, specs.Places.{HasName, IsPlaceOf, LacksName}, proofs.lemmas.AddingLemmas.{across, appended, All-insert, Contains-cons, Contains-cons_cases, Gains-held, Gains-insert, Gathers-gains, Rises-insert}, proofs.lemmas.GatheringLemmas.{agrees_within, empty_ledger, gives_ledger, refuses_for_cause}, proofs.lemmas.JoiningLemmas.{AreBy, Holds-section}, proofs.lemmas.MergingLemmas.{none_of_empty}, proofs.lemmas.NameLemmas.{before-itself, before-total, before-trans}, proofs.lemmas.ReadingLemmas.{IsLedgerOf-members}, proofs.lemmas.UniqueLemmas.{Rises-first, Rises-rest}}

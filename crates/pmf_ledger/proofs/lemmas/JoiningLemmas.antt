@@ -1,5 +1,5 @@
 -- What two ledgers hold together, said of their lists.
-use Rattle.std.proofs.{Common.{◌≡◌, ◌⊎◌, ◌↔◌, List, sym, ◌∙◌, ap, subst, inl, inr, get_or, Contains, MatchOption, Option, None, Some, IfOk, Result, Ok, Err, All}, lemmas.List.Elements.{All-contains, Contains-append_cases, Contains-append_left, Contains-append_right, Contains-get_or}}
+use Rattle.std.proofs.{Common.{◌≡◌, ◌⊎◌, ◌↔◌, List, sym, ◌∙◌, ap, subst, inl, inr, get_or, Contains, MatchOption, Option, None, Some, IfOk, Result, Ok, Err, All}, lemmas.List.Elements.{All-contains, Contains-get_or}}
 use Rattle.pmf_event.specs.declared.{name.Name.{Name}, profile.Profile.{Profile}}
 use Rattle.pmf_verdict.specs.Checked.{Checked, checked_by}
 use Rattle.pmf_ledger.{specs.Gathered.{GathersBoth, Holds, IsLeastClash, Unites}, specs.Joining.{Agree, AgreeInNames, AgreeTogether, IsLeastDiffering, IsMerged}, specs.LedgerValue.{LedgerValue}, specs.Names.{IsBefore, Rises}, proofs.lemmas.AddingLemmas.{across, appended}, proofs.lemmas.NameLemmas.{before-total}}

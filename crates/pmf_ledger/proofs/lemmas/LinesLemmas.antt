@@ -1,5 +1,5 @@
 -- A ledger text read text line by text line: what is left of it, and where the reading ends.
-use Rattle.std.proofs.{Common.{◌≡◌, ℕ, suc, ◌+◌, ◌-◌, ◌<◌, ◌≤◌, true, false, List, [], ◌∷◌, ◌++◌, length, take, drop, get_or, Bool, Some, None, refl, sym, ◌∙◌, ap, subst, arith, if◌then◌else◌, le-ltb, lt-ltb, append_assoc, append-nil, length-drop, length-take-le, rules}, lemmas.Grind.{common_steps}, lemmas.List.{length_push}}
+use Rattle.std.proofs.{Common.{◌≡◌, ℕ, suc, ◌+◌, ◌-◌, ◌<◌, ◌≤◌, true, false, List, [], ◌∷◌, ◌++◌, length, take, drop, Bool, Some, None, refl, sym, ◌∙◌, ap, subst, arith, if◌then◌else◌, le-ltb, lt-ltb, append_assoc, append-nil, length-drop, length-take-le, rules}, lemmas.Grind.{common_steps}, lemmas.List.{length_push}}
 use Rattle.memchr.specs.Find.{IsFirstByte, is_byte}
 use Rattle.pmf_event.specs.{declared.name.Name.{Name}, Section.{Trace}}
 use Rattle.pmf_storelog.proofs.SplitLemmas.{split_none, split_some, split_filled}

@@ -1,5 +1,5 @@
 -- A gathering gives a ledger or is refused: which of the two is decided step by step.
-use Rattle.std.{proofs.Common.{rules, ◌≡◌, ◌≢◌, ◌⊎◌, Bool, true, false, List, [], ◌∷◌, ◌++◌, refl, sym, ◌∙◌, ap, subst, inl, inr, Contains, Decides, arith}, specs.Cmp.Lexicographic.{pointwise}, proofs.lemmas.Bool.{true≢false}, proofs.lemmas.List.Elements.{Contains-append_cases, Contains-push_cases}, proofs.lemmas.Grind.{common_steps}, proofs.lemmas.Slice.Eq.{slice_eq-Decides}}
+use Rattle.std.{proofs.Common.{rules, ◌≡◌, ◌≢◌, ◌⊎◌, Bool, true, false, List, [], ◌∷◌, ◌++◌, refl, sym, ap, subst, inl, inr, Contains, Decides, arith}, specs.Cmp.Lexicographic.{pointwise}, proofs.lemmas.Bool.{true≢false}, proofs.lemmas.List.Elements.{Contains-append_cases, Contains-push_cases}, proofs.lemmas.Grind.{common_steps}, proofs.lemmas.Slice.Eq.{slice_eq-Decides}}
 use Rattle.pmf_event.specs.{declared.event.Event.{Event}, declared.profile.Profile.{Profile}, contracts.event.EventPartialEq.TheImpl.{eq-value}, Section.{Trace}}
 use Rattle.pmf_ledger.{specs.Gathering.{Agrees, Begun, Gathering, GivesOrIsRefused, IsBy, IsRefused, Joined, WithVerdict, set_of}, specs.Names.{IsBefore}, proofs.lemmas.AddingLemmas.{Contains-cons, Contains-cons_cases}, proofs.lemmas.GatheringLemmas.{gives_ledger, refuses_for_cause}, proofs.lemmas.GivingLemmas.{gives_where_it_may}, proofs.lemmas.MergingLemmas.{none_of_empty}, proofs.lemmas.NameLemmas.{before-itself, before-total}}
 

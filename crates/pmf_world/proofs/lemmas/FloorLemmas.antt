@@ -59,18 +59,12 @@ pub IsFloor-given : (profile : Profile) (sections : List Trace) (board : List En
 IsFloor-given profile sections board workers messages i s v is of floor =
     let w : Worker = record { doing = doing.HasVerdict s; verdict = Some v } in
     let had = worker-does workers i (doing.HasTask s) w is in
-    let there : s < length sections = (is-worker profile sections board workers messages i (doing.HasTask s) is floor).2 in
-    let fewer : ◌≡◌ {A = ℕ} (in_hand (get_or workers i w).doing) 1 = ap in_hand had in
-    IsFloor-worker profile sections board workers messages i w (worker_within workers i (doing.HasTask s) is) (there, ap Some of) (omega (arith, fewer)) floor
+    IsFloor-worker profile sections board workers messages i w (worker_within workers i (doing.HasTask s) is)
+    ((is-worker profile sections board workers messages i (doing.HasTask s) is floor).2, ap Some of) (omega (arith, ap in_hand had)) floor
 
 -- so few messages that a number below 2^32 names each
 pub few-messages : (profile : Profile) (sections : List Trace) (board : List Entry) (workers : List Worker) (messages : List Message) → IsFloor profile sections board workers messages → length messages ≤ 524288
-few-messages profile sections board workers messages floor =
-    let all = sum_by-le (λ (e : Entry). e.handouts) 8 board floor.handed in
-    let counted = floor.counted in
-    let many = floor.as_many in
-    let few = floor.few in
-    omega (arith, all, counted, many, few)
+few-messages profile sections board workers messages floor = omega (arith, sum_by-le (λ (e : Entry). e.handouts) 8 board floor.handed, floor.counted, floor.as_many, floor.few)
 
 -- a message of the list was sent
 pub is-sent : (profile : Profile) (sections : List Trace) (board : List Entry) (workers : List Worker) (messages : List Message) (k : ℕ) (m : Message) → slice_get messages k ≡ Some m →
@@ -87,15 +81,11 @@ IsFloor-posted profile sections board workers messages i s v is of old =
     let had = worker-does workers i (doing.HasVerdict s) w is in
     let there = worker_within workers i (doing.HasVerdict s) is in
     let here = (is-worker profile sections board workers messages i (doing.HasVerdict s) is old).2.0 in
-    let total = sum_by-set (λ (x : Worker). in_hand x.doing) workers i w w there in
-    let one : ◌≡◌ {A = ℕ} (in_hand (get_or workers i w).doing) 1 = ap in_hand had in
-    let counted = old.counted in
-    let long = length-append messages (m ∷ []) in
     record {
       few = old.few;
       as_many = old.as_many;
       handed = old.handed;
-      counted = omega (arith, total, one, counted, long);
+      counted = omega (arith, sum_by-set (λ (x : Worker). in_hand x.doing) workers i w w there, ap in_hand had, length-append messages (m ∷ []), old.counted);
       workers_are = All-set (IsWorker profile sections) workers i w here old.workers_are;
       messages_are = All-push (IsMessage profile sections) messages m old.messages_are (here, of);
     }
@@ -112,13 +102,12 @@ IsFloor_marked profile sections board workers messages s i e w read here there i
     let same : ◌≡◌ {A = ℕ} e.handouts (get_or board s e).handouts = ap (λ (x : Entry). x.handouts) read in
     let nothing : ◌≡◌ {A = ℕ} (in_hand w.doing) 0 = ap in_hand idle in
     let worked = IsFloor-worker profile sections board workers messages i w there (subst (HasWhatItSays profile sections w) (sym idle) tt) (omega (arith, nothing)) old in
-    let counted = worked.counted in
     let few : e.handouts ≤ 8 = subst (λ (x : Entry). x.handouts ≤ 8) (sym read) (All-get_or (λ (x : Entry). x.handouts ≤ 8) board s e here old.handed) in
     record {
       few = old.few;
       as_many = length-set board s (finished e) ∙ old.as_many;
       handed = All-set (λ (x : Entry). x.handouts ≤ 8) board s (finished e) few old.handed;
-      counted = omega (arith, total, same, counted);
+      counted = omega (arith, total, same, worked.counted);
       workers_are = worked.workers_are;
       messages_are = old.messages_are;
     }
@@ -128,8 +117,7 @@ pub has-verdict : (profile : Profile) (sections : List Trace) (board : List Entr
     w ≡ get_or workers i w → IsFloor profile sections board workers messages → (s < length sections) × (w.verdict ≡ Some (verdict_at profile sections s))
 has-verdict profile sections board workers messages i s w is read floor =
     let found = is-worker profile sections board workers messages i (doing.HasVerdict s) is floor in
-    let same = read ∙ get_or_from_slice_get workers i found.0 w found.1 in
-    (found.2.0, ap (λ (v : Worker). v.verdict) same ∙ found.2.1)
+    (found.2.0, ap (λ (v : Worker). v.verdict) (read ∙ get_or_from_slice_get workers i found.0 w found.1) ∙ found.2.1)
 
 -- what the workers do that all do the same
 pub doing-replicate : (n : ℕ) (w : Worker) → map (λ (v : Worker). v.doing) (replicate n w) ≡ replicate n w.doing

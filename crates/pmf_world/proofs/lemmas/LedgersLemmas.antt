@@ -2,7 +2,6 @@
 use Rattle.std.proofs.{Common.{◌≡◌, ℕ, suc, ◌+◌, List, [], ◌∷◌, ◌++◌, length, take, slice_get, Some, None, codes, refl, sym, ap, ◌∙◌, append_assoc, arith, decimal, append-nil, length-take-le}, lemmas.List.{take_more}, lemmas.Option.{slice_get_within, slice_get_cases, get_or_from_slice_get}, lemmas.Grind.{common_steps}}
 use Rattle.pmf_ledger.specs.{LedgerValue.{LedgerValue}, Report.{report_of}}
 use Rattle.pmf_world.specs.{declared.step.WorldStep.{WorldStep}, Steps.{WorldState, stepped, world_of, after}, Lines.{text_of_ledgers}}
-use Rattle.pmf_world.specs.declared.step.WorldStep.TheVariants as step
 
 -- the text line of ledger k, and its report
 abbrev text_of : ℕ → LedgerValue → List ℕ

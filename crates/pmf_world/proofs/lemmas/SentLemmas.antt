@@ -1,7 +1,7 @@
 -- Of each section that is done, and of each whose verdict a worker has just sent, a message was sent.
 use Rattle.std.proofs.{Common.{◌≡◌, ℕ, true, List, [], ◌∷◌, ◌++◌, set, Some, None, refl, ap, slice_get, Contains, Option, All, rules, arith}, lemmas.List.Elements.{All-replicate, All-set, All-weaker, Contains-append_left, Contains-push}, lemmas.Option.{slice_get_within, get_or_from_slice_get}, lemmas.Grind.{common_steps}}
 use Rattle.pmf_board.specs.{declared.entry.Entry.{Entry}, Machine.{untouched, entry_at}}
-use Rattle.pmf_world.{specs.declared.doing.Doing.{Doing}, specs.declared.step.WorldStep.{WorldStep}, specs.Turns.{FarmState, check_where, lose_where, mark_where, send_where, take_found}, specs.Steps.{WorldState, after, arrive_found, join_found, opening_of, stepped, turned, world_of}, specs.Laws.{DoneWasSent}, proofs.lemmas.GatheredLemmas.{get_or-set_cases, get_or-replicate_default}}
+use Rattle.pmf_world.{specs.declared.doing.Doing.{Doing}, specs.declared.step.WorldStep.{WorldStep}, specs.Turns.{FarmState, mark_where, send_where, take_found}, specs.Steps.{WorldState, after, opening_of, stepped, turned, world_of}, specs.Laws.{DoneWasSent}, proofs.lemmas.GatheredLemmas.{get_or-set_cases, get_or-replicate_default}}
 use Rattle.pmf_world.specs.declared.doing.Doing.TheVariants as doing
 use Rattle.pmf_world.specs.declared.step.WorldStep.TheVariants as step
 

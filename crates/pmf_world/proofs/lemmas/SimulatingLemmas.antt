@@ -1,5 +1,5 @@
 -- From a log and a schedule to the text of the simulation.
-use Rattle.std.proofs.{Common.{◌≡◌, ◌≤◌, ◌<◌, ℕ, suc, ◌+◌, ◌^◌, List, [], ◌∷◌, ◌++◌, length, take, subst, arith, Result, Ok, Err}, lemmas.List.{length-replicate}, lemmas.List.Splits.{length-slice_split}, lemmas.List.Sums.{count_by-le-length}, lemmas.Grind.{common_steps}}
+use Rattle.std.proofs.{Common.{◌≡◌, ◌≤◌, ◌<◌, ℕ, suc, ◌^◌, List, [], ◌∷◌, ◌++◌, length, take, subst, arith, Result, Ok, Err}, lemmas.List.{length-replicate}, lemmas.List.Splits.{length-slice_split}, lemmas.List.Sums.{count_by-le-length}, lemmas.Grind.{common_steps}}
 use Rattle.pmf_event.specs.{declared.profile.Profile.TheVariants.{One}, Section.{Trace}}
 use Rattle.pmf_storelog.specs.{LogText.{log_of}, LogValue.{LogValue}}
 use Rattle.pmf_ledger.{specs.Repeats.{StandsTwice}, proofs.lemmas.OwnNamesLemmas.{own_names, few_sections}}

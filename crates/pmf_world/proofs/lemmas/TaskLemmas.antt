@@ -1,10 +1,7 @@
 -- The numbers of tasks: a task's number is one above the hand-outs that its section had before, and hand-outs never fall.
-use Rattle.std.proofs.{Common.{◌≡◌, ℕ, ◌+◌, ◌<◌, ◌≤◌, List, [], ◌∷◌, ◌++◌, arith, ◌≢◌, slice_get, Option, All, AllPairs}, lemmas.List.Elements.{All-nil, All-cons, All-weaker}, lemmas.Option.{slice_get_within, get_or_from_slice_get}, lemmas.List.Kept.{AllPairs-cons}, lemmas.Grind.{common_steps}}
+use Rattle.std.proofs.{Common.{◌≡◌, ℕ, ◌<◌, ◌≤◌, List, [], ◌∷◌, ◌++◌, arith, ◌≢◌, slice_get, Option, All, AllPairs}, lemmas.List.Elements.{All-nil, All-cons, All-weaker}, lemmas.Option.{slice_get_within, get_or_from_slice_get}, lemmas.List.Kept.{AllPairs-cons}, lemmas.Grind.{common_steps}}
 use Rattle.pmf_board.specs.{declared.entry.Entry.{Entry}, Machine.{entry_at}}
-use Rattle.pmf_world.{specs.declared.doing.Doing.{Doing}, specs.declared.step.WorldStep.{WorldStep}, specs.Turns.{lose_where, mark_where, take_found}, specs.Steps.{WorldState, Stepped, after, arrive_found, join_found, opening_of, stepped, turned, world_of}, specs.Laws.{TasksDiffer, task_in, tasks_in}, proofs.lemmas.GatheredLemmas.{get_or-set_cases}}
-use Rattle.pmf_world.specs.declared.doing.Doing.TheVariants as doing
-use Rattle.pmf_world.specs.declared.step.WorldStep.TheVariants as step
-use Rattle.pmf_world.specs.declared.step.WorldAnswer.TheVariants as answer
+use Rattle.pmf_world.{specs.declared.doing.Doing.{Doing}, specs.declared.step.WorldStep.{WorldStep}, specs.Turns.{mark_where, take_found}, specs.Steps.{WorldState, Stepped, after, opening_of, stepped, turned, world_of}, specs.Laws.{TasksDiffer, task_in, tasks_in}, proofs.lemmas.GatheredLemmas.{get_or-set_cases}}
 
 abbrev handouts_at : WorldState → ℕ → ℕ
 handouts_at w s = (entry_at w.farm.board s).handouts

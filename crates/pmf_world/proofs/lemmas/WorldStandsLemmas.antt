@@ -2,7 +2,6 @@
 use Rattle.std.proofs.{Common.{ℕ, ◌<◌, List, [], length, set, sym, ◌∙◌, inl, inr, All, length-set, arith}, lemmas.Bool.{cases_eq}, lemmas.List.Elements.{All-set}, lemmas.Grind.{common_steps}}
 use Rattle.pmf_ledger.specs.{Gathered.{IsLedgerOf}, LedgerValue.{LedgerValue}}
 use Rattle.pmf_world.specs.{Steps.{WorldState, with_set}, Worlds.{WorldValue, StandsFor, sections_at}}
-use Rattle.pmf_world.specs.declared.step.WorldFault.TheVariants as fault
 
 -- a change of one ledger
 pub StandsFor-set : (old : WorldValue) (state : WorldState) (k : ℕ) (ledger : LedgerValue) (gathered : List ℕ) → k < length old.ledgers →

@@ -1,6 +1,6 @@
 use Rattle.std.proofs.{Common.{arith}, lemmas.Grind.{common_steps}}
-use Rattle.std.{proofs.Common.{subst, sym, ◌∙◌}, specs.List.{AllZip}, proofs.lemmas.List.{with_items_is}, proofs.lemmas.List.Elements.{length_all_zip}}
-use Rattle.pmf_farm.{specs.Rolls.{Keeps, RollRises, Stays}, proofs.lemmas.RollLemmas.{stays_itself, stays-rises, stays-then_keeps}}
+use Rattle.std.{proofs.Common.{subst, sym}, proofs.lemmas.List.{with_items_is}, proofs.lemmas.List.Elements.{length_all_zip}}
+use Rattle.pmf_farm.{specs.Rolls.{RollRises}, proofs.lemmas.RollLemmas.{stays-rises, stays-then_keeps}}
 use Rattle.pmf_farm.proofs.running.collect.Goals as goal
 
 pub keep-requires : goal.keep-requires

@@ -1,9 +1,7 @@
 use Rattle.std.proofs.{Common.{arith}, lemmas.Grind.{common_steps}}
-use Rattle.std.proofs.Common.{refl, sym, Ok, ◌∙◌, ap, subst, ◌<◌, ◌∷◌, [], ◌++◌}
+use Rattle.std.proofs.Common.{refl, sym, Ok, ◌∙◌, ap, subst}
 use Rattle.std.proofs.Common.{◌≡◌, ◌+◌, ◌%◌}
-use Rattle.pmf_board.specs.Calls.{PassesOver, Takes}
-use Rattle.pmf_farm.specs.Working.{TakesAgain, TakesFresh}
-use Rattle.pmf_farm.proofs.lemmas.{WorkingLemmas.{HasWorked-left, HasWorked_none, HasWorked-served, unmarked, unmarked-falls}, TurnLemmas.{TakesAgain-later, TakesAgain_none, TakesAgain-taken, TakesFresh-left, TakesTo, TakesTo-later, TakesTo_none, TakesTo-taken}}
+use Rattle.pmf_farm.proofs.lemmas.{WorkingLemmas.{HasWorked-left, HasWorked-served, unmarked, unmarked-falls}, TurnLemmas.{TakesAgain-later, TakesAgain-taken, TakesFresh-left, TakesTo, TakesTo-later, TakesTo-taken}}
 use Rattle.pmf_farm.proofs.working.Worker.serve_all.Goals as goal
 
 pub loop-task-smaller : goal.loop-task-smaller

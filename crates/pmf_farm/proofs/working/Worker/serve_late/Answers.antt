@@ -1,7 +1,6 @@
-use Rattle.std.proofs.Common.{refl, sym, ◌∙◌, ap, subst, Ok}
+use Rattle.std.proofs.Common.{refl, ◌∙◌, ap, Ok}
 use Rattle.pmf_board.proofs.lemmas.CallLemmas.{Stays-both}
-use Rattle.pmf_farm.specs.Working.{TakesAgain}
-use Rattle.pmf_farm.proofs.lemmas.{WorkingLemmas.{HasWorked-left, HasWorked_none, HasWorked-served, HasWorked-stays}, TurnLemmas.{TakesAgain-later, TakesAgain_none, TakesAgain-taken}}
+use Rattle.pmf_farm.proofs.lemmas.{WorkingLemmas.{HasWorked-left, HasWorked-served, HasWorked-stays}, TurnLemmas.{TakesAgain-later, TakesAgain-taken}}
 use Rattle.pmf_farm.proofs.working.Worker.serve_late.Goals as goal
 
 pub loop-section-preserved : goal.loop-section-preserved

@@ -1,6 +1,5 @@
 use Rattle.std.proofs.Common.{rules}
 use Rattle.pmf_world.proofs.lemmas.FloorLemmas.{IsFloor-given}
-use Rattle.pmf_world.specs.declared.doing.Doing.TheVariants as doing
 use Rattle.pmf_world.proofs.floor.Floor.give.Goals as goal
 
 pub invariant_of-self : goal.invariant_of-self

@@ -1,6 +1,5 @@
 use Rattle.std.proofs.Common.{rules, ◌<◌, subst, sym}
 use Rattle.pmf_world.proofs.lemmas.FloorLemmas.{section_within}
-use Rattle.pmf_world.specs.declared.doing.Doing.TheVariants as doing
 use Rattle.pmf_world.proofs.floor.Floor.mark.Goals as goal
 
 pub index_mut-requires : goal.index_mut-requires

@@ -1,6 +1,5 @@
 use Rattle.std.proofs.{Common.{rules, ◌≡◌, ◌++◌, [], ◌∷◌, map, set, ap, subst, sym, ◌∙◌, arith}, lemmas.List.{map-append}, lemmas.Option.{none-some, same_Some}, lemmas.Grind.{common_steps}}
 use Rattle.pmf_world.{specs.Floors.{IsFloor}, proofs.lemmas.FloorLemmas.{IsFloor-posted, alike, becomes, doing_set, few-messages, has-verdict, worker_within}}
-use Rattle.pmf_world.specs.declared.doing.Doing.TheVariants as doing
 use Rattle.pmf_world.proofs.floor.Floor.post.Goals as goal
 
 pub overflow_cast-number : goal.overflow_cast-number

@@ -1,7 +1,7 @@
 use Rattle.std.proofs.{Common.{arith}, lemmas.Grind.{common_steps}}
-use Rattle.std.proofs.Common.{rules, ◌≡◌, map, [], subst, sym, replicate, All}
+use Rattle.std.proofs.Common.{rules, ◌≡◌, map, [], subst, sym, replicate}
 use Rattle.pmf_ledger.specs.Repeats.{HaveOwnNames}
-use Rattle.pmf_world.{specs.Worlds.{IsOfWorld}, proofs.lemmas.TurningLemmas.{empties-ours}}
+use Rattle.pmf_world.{proofs.lemmas.TurningLemmas.{empties-ours}}
 use Rattle.pmf_world.proofs.world.World.new.Goals as goal
 
 pub invariant_of-result : goal.invariant_of-result
