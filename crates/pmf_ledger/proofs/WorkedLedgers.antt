@@ -76,10 +76,10 @@ gives_both : Gives gathered both × ((l : LedgerValue) → Gives gathered l → 
 unfolding set_of
 gives_both =
     let only : (l : LedgerValue) → Gives gathered l → l ≡ both = λ l gives.
-        let of = gives_ledger gathered l gives in
-        let by = by_one gathered l.profile Two of.2 by_two in
-        let of_l : IsLedgerOf Two (set_of gathered) l = subst (λ p. IsLedgerOf p (set_of gathered) l) by of.0 in
-        ledger_once Two (set_of gathered) (set_of gathered) l both of_l is_both (λ s. (λ has. has, λ has. has)) in
+    let of = gives_ledger gathered l gives in
+    let by = by_one gathered l.profile Two of.2 by_two in
+    let of_l : IsLedgerOf Two (set_of gathered) l = subst (λ p. IsLedgerOf p (set_of gathered) l) by of.0 in
+    ledger_once Two (set_of gathered) (set_of gathered) l both of_l is_both (λ s. (λ has. has, λ has. has)) in
     let some = gives_where_it_may gathered Two (Agrees-ledger Two (set_of gathered) both is_both) by_two in
     (subst (Gives gathered) (only some.0 some.1) some.1, only)
 

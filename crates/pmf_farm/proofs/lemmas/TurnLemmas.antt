@@ -65,8 +65,8 @@ TakesTo-taken n limit start next old mid new t one there taken passes takes =
     let lp : next % n < n = mod-lt next (omega (arith, there)) in
     let reach : takes.far ≤ round_from n w t.section = grind (arith, takes.closed t.section there, taken.open_before.0, taken.above, taken.number.1) in
     let nearer : (s : ℕ) → s < n → round_from n w s < round_from n w t.section → HasSeenClosed 1 new s = λ s less before. ⊎_elim (λ near. closed-later 1 mid new s taken.never_falls (takes.closed s less near))
-        (λ on. subst (λ k. HasSeenClosed k new s) one (passes s less (omega (arith, before, apart n w (next % n) s takes.far lw lp less takes.at on, apart n w (next % n) t.section takes.far lw lp there takes.at reach))))
-        (cases_lt (round_from n w s) takes.far) in
+    (λ on. subst (λ k. HasSeenClosed k new s) one (passes s less (omega (arith, before, apart n w (next % n) s takes.far lw lp less takes.at on, apart n w (next % n) t.section takes.far lw lp there takes.at reach))))
+    (cases_lt (round_from n w s) takes.far) in
     record {
       tasks = takes.tasks ++ t ∷ [];
       took = taken.took ∙ ap (λ ts. ts ++ t ∷ []) takes.took ∙ append_assoc old.took takes.tasks (t ∷ []);
