@@ -1,7 +1,7 @@
 -- Stretches of alike bytes: between two borders all bytes are alike, and alike bytes answer alike.
-use Rattle.std.{proofs.Common.{◌≡◌, ℕ, zero, suc, ◌+◌, ◌-◌, ◌<◌, ◌≤◌, not, ◌&&◌, nat_lt, List, length, refl, sym, ◌∙◌, ap, arith, inl, inr, Option, Some, None, nat_eq, get_or, ◌⊎◌}, specs.Option.{option_eq}, proofs.lemmas.Bool.{cases_lt, cases_eq}, proofs.lemmas.Option.{slice_get_past, slice_get_read}, proofs.Math.Path.{fun_ext}}
+use Rattle.std.{proofs.Common.{◌≡◌, ℕ, suc, ◌+◌, ◌-◌, ◌<◌, ◌≤◌, not, ◌&&◌, nat_lt, List, length, refl, sym, ◌∙◌, ap, arith, inl, inr, Option, Some, None, nat_eq, get_or, ◌⊎◌}, specs.Option.{option_eq}, proofs.lemmas.Bool.{cases_lt, cases_eq}, proofs.lemmas.Option.{slice_get_past, slice_get_read}, proofs.Math.Path.{fun_ext}, proofs.lemmas.Grind.{common_steps}}
 use Rattle.pmf_event.{specs.declared.event.Event.{Event}, specs.declared.event.Event.TheVariants.{Store, Flush, Exclude, Include}, specs.Span.{Extent, covers_byte}, specs.Line.{line_of_byte, meets_line}, specs.Places.{greatest, count, some_between}, specs.Store.{event_at, passes, at, stores, stores_line, flushes, is_fence, last, last_store}, specs.Exclusion.{excludes, marks, is_excluded, is_included}, specs.Persist.{is_checked}, specs.Transactions.{in_transaction, scope_at, in_scope, stores_inside, is_scoped}, proofs.EventLemmas.{at-is}}
-use Rattle.pmf_image.{specs.declared.certificate.Certificate.{Certificate}, specs.declared.questions.Question.{Question}, specs.declared.questions.Question.TheVariants.{FallsShort, IsShown, IsLost, ScopeFallsShort}, specs.Image.{count_of, is_fenced, floor_of, reach_of, reaches, shows}, specs.Certificate.{image_of, cut_in, shows_in}, specs.Borders.{AlikeAt, Alike}, specs.Questions.{is_asked, answer_of}, proofs.ImageLemmas.{reach-untorn}, proofs.CertificateLemmas.{cut-is}}
+use Rattle.pmf_image.{specs.declared.certificate.Certificate.{Certificate}, specs.declared.questions.Question.{Question}, specs.Image.{count_of, is_fenced, floor_of, reach_of, reaches, shows}, specs.Certificate.{image_of, cut_in, shows_in}, specs.Borders.{AlikeAt, Alike}, specs.Questions.{is_asked, answer_of}, proofs.ImageLemmas.{reach-untorn}, proofs.CertificateLemmas.{cut-is}}
 
 -- ---- bytes that an event doesn't tell apart
 
@@ -31,13 +31,7 @@ alike-other b x (Include s) no_store no_flush no_exclude no_include = absurd (no
 alike-other b x _ no_store no_flush no_exclude no_include = record { stored = refl; line_stored = refl; flushed = refl; excluded = refl; marked = refl }
 
 alike_at-from : (es : List Event) (b x k : ℕ) (o : Option Event) → event_at es k ≡ o → AlikeTo b x o → AlikeAt es b x k
-alike_at-from es b x k o here alike = record {
-  stored = at-is (stores b) es k o here ∙ alike.stored ∙ sym (at-is (stores x) es k o here);
-  line_stored = at-is (stores_line (line_of_byte b)) es k o here ∙ alike.line_stored ∙ sym (at-is (stores_line (line_of_byte x)) es k o here);
-  flushed = at-is (flushes (line_of_byte b)) es k o here ∙ alike.flushed ∙ sym (at-is (flushes (line_of_byte x)) es k o here);
-  excluded = at-is (excludes b) es k o here ∙ alike.excluded ∙ sym (at-is (excludes x) es k o here);
-  marked = at-is (marks b) es k o here ∙ alike.marked ∙ sym (at-is (marks x) es k o here);
-}
+alike_at-from es b x k o here alike = grind (arith, common_steps, at-is)
 
 alike_at-none : (es : List Event) (b x k : ℕ) → event_at es k ≡ None → AlikeAt es b x k
 alike_at-none es b x k here = alike_at-from es b x k None here (record { stored = refl; line_stored = refl; flushed = refl; excluded = refl; marked = refl })
@@ -49,8 +43,7 @@ event-read es i e below is = slice_get_read es (length es) i e refl below is
 
 event-none : (es : List Event) (k : ℕ) → length es < k → event_at es k ≡ None
 unfolding event_at
-event-none es zero past = refl
-event-none es (suc k) past = slice_get_past es k (omega arith)
+event-none es k past = grind (arith, common_steps, slice_get_past)
 
 event-zero : (es : List Event) → event_at es 0 ≡ None
 unfolding event_at
@@ -178,10 +171,7 @@ module _ (es : List Event) (c : Certificate) (b x : ℕ) (alike : Alike es c b x
 
   asked-alike : (q : Question) (p : ℕ) → is_asked q es p b ≡ is_asked q es p x
   unfolding is_asked
-  asked-alike FallsShort p = checked-alike p
-  asked-alike IsShown p = checked-alike p
-  asked-alike IsLost p = checked-alike p
-  asked-alike ScopeFallsShort p = ap (λ v. v && is_included es p b) (scoped-alike (p - 1)) ∙ ap (λ v. is_scoped es (p - 1) x && v) (included-alike p)
+  asked-alike q p = grind (arith, common_steps, checked-alike, scoped-alike, included-alike)
 
   pub answer-alike : (q : Question) (p : ℕ) → answer_of q es p c b ≡ answer_of q es p c x
   unfolding answer_of

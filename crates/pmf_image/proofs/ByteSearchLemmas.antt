@@ -1,7 +1,7 @@
 -- The search for a byte that answers yes.
-use Rattle.std.proofs.{Common.{◌≡◌, ℕ, ◌<◌, ◌≤◌, ◌-◌, Bool, true, false, not, ◌&&◌, nat_lt, List, refl, sym, ◌∙◌, ap, arith, inl, inr}, Math.Bool.{and-false}, lemmas.Bool.{cases_lt}}
-use Rattle.pmf_event.specs.{declared.event.Event.{Event}, Store.{last_store}, Exclusion.{is_excluded, is_included}, Persist.{is_checked}, Transactions.{is_scoped}}
-use Rattle.pmf_image.{specs.declared.certificate.Certificate.{Certificate}, specs.declared.questions.Question.{Question}, specs.declared.questions.Question.TheVariants.{FallsShort, IsShown, IsLost, ScopeFallsShort}, specs.Certificate.{shows_in}, specs.Borders.{Alike}, specs.Questions.{is_asked, compares, answer_of}, proofs.BorderLemmas.{answer-alike}}
+use Rattle.std.proofs.{Common.{◌≡◌, ℕ, ◌<◌, ◌≤◌, ◌-◌, Bool, true, false, ◌&&◌, nat_lt, List, ◌∙◌, ap, arith}, Math.Bool.{and-false}, lemmas.Bool.{cases_lt}, lemmas.Grind.{common_steps}}
+use Rattle.pmf_event.specs.{declared.event.Event.{Event}, Store.{last_store}, Exclusion.{is_included}, Persist.{is_checked}, Transactions.{is_scoped}}
+use Rattle.pmf_image.{specs.declared.certificate.Certificate.{Certificate}, specs.declared.questions.Question.{Question}, specs.declared.questions.Question.TheVariants.{ScopeFallsShort}, specs.Certificate.{shows_in}, specs.Borders.{Alike}, specs.Questions.{is_asked, compares, answer_of}, proofs.BorderLemmas.{answer-alike}}
 
 -- no byte from first on and below end passes the test
 pub record NoByte (test : ℕ → Bool) (first end : ℕ) : Type 0 where
@@ -12,29 +12,18 @@ pub record NoByte (test : ℕ → Bool) (first end : ℕ) : Type 0 where
 
 pub not_asked : (q : Question) (es : List Event) (p b : ℕ) → is_included es p b ≡ false → is_asked q es p b ≡ false
 unfolding is_asked is_checked is_included
-not_asked FallsShort es p b out = ap (λ v. nat_lt 0 (last_store es p b) && v) out ∙ and-false (nat_lt 0 (last_store es p b))
-not_asked IsShown es p b out = ap (λ v. nat_lt 0 (last_store es p b) && v) out ∙ and-false (nat_lt 0 (last_store es p b))
-not_asked IsLost es p b out = ap (λ v. nat_lt 0 (last_store es p b) && v) out ∙ and-false (nat_lt 0 (last_store es p b))
-not_asked ScopeFallsShort es p b out = ap (λ v. is_scoped es (p - 1) b && v) out ∙ and-false (is_scoped es (p - 1) b)
+not_asked q es p b out = grind (arith, common_steps, and-false)
 
 and-true_right : (u v : Bool) → v ≡ true → (u && v) ≡ u
-and-true_right true v is = is
-and-true_right false v is = refl
-
-checked-included : (es : List Event) (p b : ℕ) → is_included es p b ≡ true → is_checked es p b ≡ nat_lt 0 (last_store es p b)
-unfolding is_checked is_included
-checked-included es p b included = and-true_right (nat_lt 0 (last_store es p b)) (not (is_excluded es p b)) included
+and-true_right u v is = grind (arith, common_steps)
 
 pub asked-scoped : (q : Question) (es : List Event) (p b : ℕ) → q ≡ ScopeFallsShort → is_included es p b ≡ true → is_asked q es p b ≡ is_scoped es (p - 1) b
 unfolding is_asked
 asked-scoped q es p b is included = ap (λ k. is_asked k es p b) is ∙ and-true_right (is_scoped es (p - 1) b) (is_included es p b) included
 
 pub asked-checked : (q : Question) (es : List Event) (p b : ℕ) → (q ≡ ScopeFallsShort → ⊥) → is_included es p b ≡ true → is_asked q es p b ≡ nat_lt 0 (last_store es p b)
-unfolding is_asked
-asked-checked FallsShort es p b other included = checked-included es p b included
-asked-checked IsShown es p b other included = checked-included es p b included
-asked-checked IsLost es p b other included = checked-included es p b included
-asked-checked ScopeFallsShort es p b other included = absurd (other refl)
+unfolding is_asked is_checked is_included
+asked-checked q es p b other included = grind (arith, common_steps)
 
 pub answer-none : (q : Question) (es : List Event) (p : ℕ) (c : Certificate) (b : ℕ) → is_asked q es p b ≡ false → answer_of q es p c b ≡ false
 unfolding answer_of
@@ -50,10 +39,8 @@ answer-asked q es p c b asked = ap (λ v. v && compares q (shows_in es c b) (las
 -- where one byte of a stretch answers no, all do
 pub no_byte-stretch : (q : Question) (es : List Event) (p : ℕ) (c : Certificate) (first b end : ℕ) → NoByte (answer_of q es p c) first b →
     answer_of q es p c b ≡ false → b < end → ((x : ℕ) → b ≤ x → x < end → Alike es c b x) → NoByte (answer_of q es p c) first end
-no_byte-stretch q es p c first b end before other above alike = record {
-  from = let low = before.from in omega arith;
-  none = λ x low high. elim (cases_lt x b) [
-    | inl earlier ↦ before.none x low earlier
-    | inr from ↦ sym (answer-alike es c b x (alike x from high) q p) ∙ other
-  ];
-}
+no_byte-stretch q es p c first b end before other above alike = grind (arith, common_steps, cases_lt, answer-alike)
+
+pub ruleset asking = (not_asked, asked-scoped, asked-checked)
+
+pub ruleset passing = (answer-none, answer-asked)

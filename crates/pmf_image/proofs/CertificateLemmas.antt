@@ -1,16 +1,14 @@
 -- Certificates: what a pass over the events keeps of a line and of a byte, and what a certificate's image
 -- holds.
-use Rattle.std.{proofs.Common.{◌≡◌, ℕ, zero, suc, ◌+◌, ◌-◌, ◌<◌, ◌≤◌, Bool, true, false, ◌&&◌, ◌==◌, nat_lt, if◌then◌else◌, List, [], length, refl, sym, ◌∙◌, ap, arith, inl, inr, Option, Some, None, unwrap_or, get_or, take, nat_eq, length-take-le, get_or-take}, specs.Option.{option_eq}, proofs.lemmas.Bool.{cases_lt, cases_eq, ltb-true, false_from_ne_true}, proofs.Math.Bool.{and-true, and-false}, proofs.lemmas.Bool.Decides.{Decides-eqb}, proofs.lemmas.Option.{slice_get_read}}
-use Rattle.pmf_event.{specs.declared.event.Event.{Event}, specs.Line.{line_of_byte}, specs.Places.{greatest, count, some_between}, specs.Store.{event_at, at, stores, stores_line, flushes, is_fence, last, last_store}, proofs.PlacesLemmas.{SameUpTo, greatest-step, greatest-zero, greatest-bound, count-step, count-zero, count-le, some_between-here}, proofs.EventLemmas.{at-is, last-step, not_fence_and_flush}}
-use Rattle.pmf_image.{specs.declared.certificate.Certificate.{Certificate}, specs.declared.certificate.Kept.{Kept}, specs.Certificate.{full_cuts, image_of, cut_in, shows_in}, specs.Image.{Image, count_of, is_fenced, floor_of, value_of, cut_of, shows}, proofs.ImageLemmas.{reach-untorn, reached-shown, shown-reaches, last_store-stores, last_store-bound, last_store-above, count_of-here, count_of-mono}}
+use Rattle.std.{proofs.Common.{◌≡◌, ℕ, zero, suc, ◌+◌, ◌-◌, ◌<◌, ◌≤◌, Bool, true, false, ◌&&◌, nat_lt, if◌then◌else◌, List, [], length, refl, sym, ◌∙◌, ap, arith, Option, Some, unwrap_or, get_or, take, nat_eq, length-take-le, get_or-take}, specs.Option.{option_eq}, proofs.lemmas.Bool.{cases_lt, cases_eq, ltb-true, false_from_ne_true}, proofs.Math.Bool.{and-true, and-false}, proofs.lemmas.Option.{slice_get_read}, proofs.lemmas.Grind.{common_steps}}
+use Rattle.pmf_event.{specs.declared.event.Event.{Event}, specs.Line.{line_of_byte}, specs.Places.{greatest, some_between}, specs.Store.{event_at, at, stores, stores_line, flushes, is_fence, last, last_store}, proofs.PlacesLemmas.{SameUpTo, greatest-step, greatest-zero, greatest-bound, count-step, count-zero, count-le, some_between-here}, proofs.EventLemmas.{at-is, last-step, not_fence_and_flush}}
+use Rattle.pmf_image.{specs.declared.certificate.Certificate.{Certificate}, specs.declared.certificate.Kept.{Kept}, specs.Certificate.{full_cuts, cut_in, shows_in}, specs.Image.{Image, count_of, is_fenced, floor_of, value_of, cut_of, shows}, proofs.ImageLemmas.{reach-untorn, reached-shown, shown-reaches, last_store-stores, last_store-bound, last_store-above, count_of-here, count_of-mono}}
 
 -- the event at the next place, as a pass over the first n events reads it
 pub event-taken : (es : List Event) (n i : ℕ) (e : Event) → n ≤ length es → i < length (take n es) → e ≡ get_or (take n es) i e →
     event_at es (suc i) ≡ Some e
 unfolding event_at
-event-taken es n i e within below is =
-    let size = length-take-le n es within in
-    slice_get_read es (length es) i e refl (omega arith) (is ∙ get_or-take n es i e (omega arith))
+event-taken es n i e within below is = grind (arith, common_steps, length-take-le, slice_get_read, get_or-take)
 
 pub greatest-same : (s t : ℕ → Bool) (n : ℕ) → SameUpTo s t n → greatest s n ≡ greatest t n
 unfolding greatest
@@ -22,8 +20,7 @@ greatest-same s t (suc n) same =
 
 pub last_store-next : (es : List Event) (b i before after : ℕ) (e : Event) → before ≡ last_store es i b → event_at es (suc i) ≡ Some e →
     after ≡ (if stores b e then suc i else before) → after ≡ last_store es (suc i) b
-last_store-next es b i before after e so_far here is =
-    is ∙ ap (λ k. if stores b e then suc i else k) so_far ∙ sym (last-step (stores b) es i e here)
+last_store-next es b i before after e so_far here is = grind (arith, common_steps, last-step)
 
 -- ---- the floor after one more event
 
@@ -38,11 +35,7 @@ fenced-by_fence es n line k fence some within =
 greatest-at_fence : (es : List Event) (n line : ℕ) → at is_fence es (suc n) ≡ true →
     greatest (is_fenced es (suc n) line) (suc n) ≡ last (flushes line) es n
 unfolding last is_fenced
-greatest-at_fence es n line fence =
-    let at_fence = false_from_ne_true (at (flushes line) es (suc n)) (λ flush. not_fence_and_flush es line (suc n) fence flush) in
-    greatest-step (is_fenced es (suc n) line) n
-    ∙ ap (λ v. if v && some_between (at is_fence es) (suc n) (suc n + 1) then suc n else greatest (is_fenced es (suc n) line) n) at_fence
-    ∙ greatest-same (is_fenced es (suc n) line) (at (flushes line) es) n (λ k some within. fenced-by_fence es n line k fence some within)
+greatest-at_fence es n line fence = grind (arith, common_steps, false_from_ne_true, not_fence_and_flush, greatest-step, greatest-same, fenced-by_fence)
 
 -- another event fences nothing
 fenced-other : (es : List Event) (n line k : ℕ) → at is_fence es (suc n) ≡ false → is_fenced es (suc n) line k ≡ is_fenced es n line k
@@ -58,18 +51,11 @@ fenced-other es n line k other =
 
 not_fenced-past : (es : List Event) (n line : ℕ) → is_fenced es n line (suc n) ≡ false
 unfolding is_fenced some_between
-not_fenced-past es n line =
-    let bound = greatest-bound (at is_fence es) (n + 1 - 1) in
-    ap (λ v. at (flushes line) es (suc n) && v)
-    (false_from_ne_true (nat_lt (suc n) (greatest (at is_fence es) (n + 1 - 1))) (λ is. let above = ltb-true (suc n) (greatest (at is_fence es) (n + 1 - 1)) is in absurd (omega arith)))
-    ∙ and-false (at (flushes line) es (suc n))
+not_fenced-past es n line = grind (arith, common_steps, greatest-bound, false_from_ne_true, ltb-true, and-false)
 
 greatest-other : (es : List Event) (n line : ℕ) → at is_fence es (suc n) ≡ false →
     greatest (is_fenced es (suc n) line) (suc n) ≡ greatest (is_fenced es n line) n
-greatest-other es n line other =
-    greatest-step (is_fenced es (suc n) line) n
-    ∙ ap (λ v. if v then suc n else greatest (is_fenced es (suc n) line) n) (fenced-other es n line (suc n) other ∙ not_fenced-past es n line)
-    ∙ greatest-same (is_fenced es (suc n) line) (is_fenced es n line) n (λ k some within. fenced-other es n line k other)
+greatest-other es n line other = grind (arith, common_steps, greatest-step, fenced-other, not_fenced-past, greatest-same)
 
 -- ---- a pass over the events, for what is durable of a line
 
@@ -83,11 +69,7 @@ pub record Carried (es : List Event) (line : ℕ) (stored_by : ℕ → ℕ) (i :
 pub Carried-none : (es : List Event) (line : ℕ) (stored_by : ℕ → ℕ) → stored_by 0 ≡ 0 →
     Carried es line stored_by 0 (record { stored = 0; flushed = 0; durable = 0 })
 unfolding last
-Carried-none es line stored_by none = record {
-  stored_is = sym none;
-  flushed_is = sym (ap (λ k. stored_by (k - 1)) (greatest-zero (at (flushes line) es)) ∙ none);
-  durable_is = sym (ap (λ k. stored_by (k - 1)) (greatest-zero (is_fenced es 0 line)) ∙ none);
-}
+Carried-none es line stored_by none = grind (arith, common_steps, greatest-zero)
 
 -- one more event
 module _ (es : List Event) (line : ℕ) (stored_by : ℕ → ℕ) (i : ℕ) (kept : Kept) (e : Event)
@@ -101,11 +83,7 @@ module _ (es : List Event) (line : ℕ) (stored_by : ℕ → ℕ) (i : ℕ) (kep
       ∙ sym (ap (λ k. stored_by (k - 1)) (last-step (flushes line) es i e here))
 
   durable-step : (if is_fence e then kept.flushed else kept.durable) ≡ stored_by (greatest (is_fenced es (suc i) line) (suc i) - 1)
-  durable-step =
-      elim (is_fence e) as (λ v. at is_fence es (suc i) ≡ v → (if v then kept.flushed else kept.durable) ≡ stored_by (greatest (is_fenced es (suc i) line) (suc i) - 1)) [
-        | true ↦ λ fence. carried.flushed_is ∙ sym (ap (λ k. stored_by (k - 1)) (greatest-at_fence es i line fence))
-        | false ↦ λ other. carried.durable_is ∙ sym (ap (λ k. stored_by (k - 1)) (greatest-other es i line other))
-      ] (at-is is_fence es (suc i) (Some e) here)
+  durable-step = grind (arith, common_steps, greatest-at_fence, greatest-other, at-is)
 
   pub Carried-step : (new : Kept) → new.stored ≡ stored_by (suc i) → new.flushed ≡ (if flushes line e then kept.stored else kept.flushed) →
       new.durable ≡ (if is_fence e then kept.flushed else kept.durable) → Carried es line stored_by (suc i) new
@@ -117,34 +95,21 @@ pub count_of-none : (es : List Event) (line : ℕ) → count_of es 0 line ≡ 0
 unfolding count_of
 count_of-none es line = count-zero (at (stores_line line) es)
 
-count_of-step : (es : List Event) (line i : ℕ) (e : Event) → event_at es (suc i) ≡ Some e →
-    count_of es (suc i) line ≡ (if stores_line line e then suc (count_of es i line) else count_of es i line)
-unfolding count_of
-count_of-step es line i e here =
-    count-step (at (stores_line line) es) i
-    ∙ ap (λ v. if v then suc (count (at (stores_line line) es) i) else count (at (stores_line line) es) i) (at-is (stores_line line) es (suc i) (Some e) here)
-
 pub count_of-bound : (es : List Event) (line i : ℕ) → count_of es i line ≤ i
 unfolding count_of
 count_of-bound es line i = count-le (at (stores_line line) es) i
 
 pub count_of-next : (es : List Event) (line i before after : ℕ) (e : Event) → before ≡ count_of es i line → event_at es (suc i) ≡ Some e →
     after ≡ (if stores_line line e then suc before else before) → after ≡ count_of es (suc i) line
-count_of-next es line i before after e so_far here is =
-    is ∙ ap (λ k. if stores_line line e then suc k else k) so_far ∙ sym (count_of-step es line i e here)
+unfolding count_of
+count_of-next es line i before after e so_far here is = grind (arith, common_steps, count-step, at-is)
 
 -- ---- the cut of a certificate's image
 
 cut-of_map : (es : List Event) (n line : ℕ) (o : Option ℕ) →
     unwrap_or (value_of (full_cuts es n o) line) (floor_of es n line) ≡ (if option_eq nat_eq o (Some line) then count_of es n line else floor_of es n line)
 unfolding value_of
-cut-of_map es n line None = refl
-cut-of_map es n line (Some full) =
-    elim (full == line) as (λ v. (full == line) ≡ v →
-    unwrap_or (if v then Some (count_of es n full) else None) (floor_of es n line) ≡ (if v then count_of es n line else floor_of es n line)) [
-      | true ↦ λ is. ap (count_of es n) ((Decides-eqb full line).0 is)
-      | false ↦ λ is. refl
-    ] refl
+cut-of_map es n line o = grind (arith, common_steps)
 
 -- the count on the full line, and the floor elsewhere
 pub cut-is : (es : List Event) (c : Certificate) (line : ℕ) →
@@ -163,28 +128,7 @@ cut-carried es c line i kept carried end r is = rw (is, cut-is es c line, ← en
 -- where the cut of its line is the count at m, an untorn byte shows its last store at m
 shows-upto : (es : List Event) (n b m : ℕ) (image : Image) → image.torn ≡ [] → m ≤ n →
     cut_of es n image (line_of_byte b) ≡ count_of es m (line_of_byte b) → shows es n image b ≡ last_store es m b
-shows-upto es n b m image untorn within cut =
-    let line = line_of_byte b in
-    let reach = reach-untorn es n b image untorn in
-    let bound = last_store-bound es m b in
-    let low : last_store es m b ≤ shows es n image b = elim (cases_eq (last_store es m b) 0) [
-      | inl none ↦ omega arith
-      | inr some ↦
-          let fewer = count_of-mono es (last_store es m b) m (line_of_byte b) bound in
-          reached-shown es n b (last_store es m b) image (omega arith) (omega arith) (last_store-stores es m b (omega arith)) (omega arith)
-    ] in
-    let high : shows es n image b ≤ last_store es m b = elim (cases_eq (shows es n image b) 0) [
-      | inl none ↦ omega arith
-      | inr some ↦
-          let here = shown-reaches es n b image (omega arith) in
-          elim (cases_lt m (shows es n image b)) [
-            | inr before ↦ last_store-above es m b (shows es n image b) (omega arith) before here.0
-            | inl after ↦
-                let rise = count_of-here es b (shows es n image b) (omega arith) here.0 in
-                let fewer = count_of-mono es m (shows es n image b - 1) (line_of_byte b) (omega arith) in absurd (omega (arith, here.1))
-          ]
-    ] in
-    omega arith
+shows-upto es n b m image untorn within cut = grind (arith, common_steps, reach-untorn, last_store-bound, cases_eq, count_of-mono, reached-shown, last_store-stores, shown-reaches, cases_lt, last_store-above, count_of-here)
 
 -- its last store at the crash on the full line, and elsewhere that before the last write-back that a fence
 -- follows
@@ -192,16 +136,7 @@ pub shows-is : (es : List Event) (c : Certificate) (b : ℕ) →
     shows_in es c b ≡ (if option_eq nat_eq c.full_line (Some (line_of_byte b)) then last_store es c.crash b
     else last_store es (greatest (is_fenced es c.crash (line_of_byte b)) c.crash - 1) b)
 unfolding floor_of
-shows-is es c b =
-    elim (option_eq nat_eq c.full_line (Some (line_of_byte b))) as (λ v.
-    cut_in es c (line_of_byte b) ≡ (if v then count_of es c.crash (line_of_byte b) else floor_of es c.crash (line_of_byte b)) →
-    shows_in es c b ≡ (if v then last_store es c.crash b else last_store es (greatest (is_fenced es c.crash (line_of_byte b)) c.crash - 1) b)) [
-      | true ↦ λ cut. shows-upto es c.crash b c.crash (image_of es c) refl (omega arith) cut
-      | false ↦ λ cut.
-          let bound = greatest-bound (is_fenced es c.crash (line_of_byte b)) c.crash in
-          shows-upto es c.crash b (greatest (is_fenced es c.crash (line_of_byte b)) c.crash - 1) (image_of es c) refl (omega arith)
-          cut
-    ] (cut-is es c (line_of_byte b))
+shows-is es c b = grind (arith, common_steps, shows-upto, greatest-bound, cut-is)
 
 pub shows-carried : (es : List Event) (c : Certificate) (b i : ℕ) (kept : Kept) → Carried es (line_of_byte b) (λ k. last_store es k b) i kept → i ≡ c.crash →
     (r : ℕ) → r ≡ (if option_eq nat_eq c.full_line (Some (line_of_byte b)) then kept.stored else kept.durable) → r ≡ shows_in es c b

@@ -1,18 +1,12 @@
 -- What does not hold: contradicted assertions, certified pairs, and pairs of two bytes that one store wrote.
-use Rattle.std.proofs.{Common.{◌≡◌, ℕ, ◌+◌, ◌-◌, ◌≤◌, Bool, true, false, not, ◌&&◌, ◌||◌, if◌then◌else◌, List, length, refl, sym, ◌∙◌, ap, arith, inl, inr, subst, Option, Some, lt-ltb, ltb-false, nat_lt}, lemmas.Bool.{cases_lt, cases_eq, and_from, and_parts, false_from_ne_true}, lemmas.Bool.Decides.{Decides-eqb}}
-use Rattle.pmf_event.{specs.declared.event.Event.{Event}, specs.declared.event.Event.TheVariants.{Persist, Ordered, CheckEnd}, specs.declared.profile.Profile.{Profile}, specs.declared.profile.Profile.TheVariants.{Two}, specs.Line.{line_of_byte}, specs.Span.{Extent, covers_byte}, specs.Places.{greatest}, specs.Store.{event_at, last_store}, specs.Interval.{interval_at}, specs.Persist.{is_checked}, specs.Order.{precedes, share_line, is_stored_before, is_ordered, is_unordered, is_certified}, proofs.PlacesLemmas.{greatest-bound}}
-use Rattle.pmf_image.{specs.Image.{Image, count_of, is_fenced, floor_of, is_in, cut_of, reach_of, shows}, specs.declared.certificate.Certificate.{Certificate}, specs.Certificate.{image_of}, specs.Contradiction.{ContradictsEvent}, specs.Holds.{OrderedHolds, EventHolds}, specs.Laws.{ContradictedDoNotHold, CertifiedPairsDoNotHold, PairsAreOneByte, ProfileTwoIsExact, at_store}, proofs.ImageLemmas.{written-from_checked, last_store-stores, last_store-bound, shown-reaches, count_of-here, count_of-mono, reached-shown, allows_each_torn}, proofs.OrderedLemmas.{shown-ordered}, proofs.FailureLemmas.{certificates-allowed, pair-shown, unordered-parts, shows-bound}}
+use Rattle.std.proofs.{Common.{◌≡◌, ℕ, ◌+◌, ◌-◌, ◌≤◌, Bool, true, false, not, ◌&&◌, ◌||◌, if◌then◌else◌, List, length, refl, sym, ◌∙◌, ap, arith, inl, inr, subst, Option, lt-ltb, ltb-false, nat_lt}, lemmas.Bool.{cases_lt, cases_eq, and_from, and_parts, false_from_ne_true}, lemmas.Bool.Decides.{Decides-eqb}, lemmas.Grind.{common_steps}}
+use Rattle.pmf_event.{specs.declared.event.Event.{Event}, specs.declared.profile.Profile.{Profile}, specs.declared.profile.Profile.TheVariants.{Two}, specs.Line.{line_of_byte}, specs.Span.{Extent, covers_byte}, specs.Store.{event_at, last_store}, specs.Interval.{interval_at}, specs.Persist.{is_checked}, specs.Order.{precedes, share_line, is_stored_before, is_ordered, is_unordered, is_certified}, proofs.PlacesLemmas.{greatest-bound}}
+use Rattle.pmf_image.{specs.Image.{Image, count_of, floor_of, is_in, cut_of, reach_of, shows}, specs.declared.certificate.Certificate.{Certificate}, specs.Certificate.{image_of}, specs.Contradiction.{ContradictsEvent}, specs.Holds.{OrderedHolds, EventHolds}, specs.Laws.{ContradictedDoNotHold, CertifiedPairsDoNotHold, PairsAreOneByte, ProfileTwoIsExact, at_store}, proofs.ImageLemmas.{written-from_checked, last_store-stores, last_store-bound, shown-reaches, count_of-here, count_of-mono, reached-shown, holds-where_closed, allows_each_cut, allows_each_torn}, proofs.OrderedLemmas.{shown-ordered}, proofs.FailureLemmas.{not_holds-where_open, shown-where_open, certificates-allowed, pair-shown, unordered-parts, shows-bound}}
 
 -- ---- contradicted assertions
 
 not_holds-event : (es : List Event) (p : ℕ) (c : Certificate) → c.crash ≤ length es → (o : Option Event) → ContradictsEvent es p c o → EventHolds es p o → ⊥
-not_holds-event es p c within (Some (Persist s)) (later, b, covered, checked, less) holds =
-    let more = holds c.crash later within (image_of es c) (certificates-allowed es c) b covered checked in omega arith
-not_holds-event es p c within (Some (Ordered a b)) (earlier, x, y, in_a, in_b, x_checked, y_checked, shown, lost) holds =
-    lost (holds c.crash earlier (image_of es c) (certificates-allowed es c) x y in_a in_b x_checked y_checked shown)
-not_holds-event es p c within (Some CheckEnd) (in_scope, outside, later, b, below, scoped, included, less) holds =
-    let more = holds c.crash later within (image_of es c) (certificates-allowed es c) b below scoped included in omega arith
-not_holds-event es p c within _ contradicted holds = contradicted
+not_holds-event es p c within o contradicted holds = grind (arith, common_steps, certificates-allowed)
 
 pub not_holds-contradicted : ContradictedDoNotHold
 not_holds-contradicted es p c within contradicted holds = not_holds-event es p c within (event_at es p) contradicted holds
@@ -38,9 +32,7 @@ not_holds-certified profile es p a b x y in_a in_b certified holds =
 -- at a store of its line, the floor is below that store
 floor-below_store : (es : List Event) (k line : ℕ) → floor_of es k line ≤ count_of es (k - 1) line
 unfolding floor_of
-floor-below_store es k line =
-    let bound = greatest-bound (is_fenced es k line) k in
-    count_of-mono es (greatest (is_fenced es k line) k - 1) (k - 1) line (omega arith)
+floor-below_store es k line = grind (arith, common_steps, greatest-bound, count_of-mono)
 
 pub reach-torn : (es : List Event) (n b : ℕ) (image : Image) → is_in image.torn b ≡ true → reach_of es n image b ≡ cut_of es n image (line_of_byte b) + 1
 unfolding reach_of
@@ -107,10 +99,7 @@ not_holds-unordered es p a b x y in_a in_b unordered apart holds =
     ] refl
 
 one_byte-from_holds : (es : List Event) (p : ℕ) (a b : Extent) → OrderedHolds es p a b → PairsAreOneByte es p a b
-one_byte-from_holds es p a b holds x y in_a in_b unordered = elim (cases_eq x y) [
-  | inl same ↦ same
-  | inr apart ↦ absurd (not_holds-unordered es p a b x y in_a in_b unordered apart holds)
-]
+one_byte-from_holds es p a b holds x y in_a in_b unordered = grind (arith, common_steps, cases_eq, not_holds-unordered)
 
 unordered-from : (es : List Event) (p x y : ℕ) → is_checked es p x ≡ true → is_checked es p y ≡ true → is_ordered Two es p x y ≡ false → is_unordered Two es p x y ≡ true
 unfolding is_unordered
@@ -127,3 +116,6 @@ holds-from_one_byte es p a b each n within image allowed x y in_a in_b x_checked
 
 pub holds-by_profile_two : ProfileTwoIsExact
 holds-by_profile_two es p a b = (one_byte-from_holds es p a b, holds-from_one_byte es p a b)
+
+-- the laws
+pub ruleset laws = (holds-where_closed, not_holds-where_open, allows_each_cut, allows_each_torn, certificates-allowed, shown-where_open, pair-shown, not_holds-contradicted, not_holds-certified)

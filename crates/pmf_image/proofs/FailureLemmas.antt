@@ -1,6 +1,6 @@
 -- Failures are real: the image of a certificate that shows one.
-use Rattle.std.{proofs.Common.{◌≡◌, ℕ, ◌+◌, ◌-◌, ◌<◌, ◌≤◌, Bool, true, false, not, ◌&&◌, ◌||◌, ◌==◌, nat_lt, if◌then◌else◌, List, [], refl, sym, ◌∙◌, ap, arith, inl, inr, subst, Some, None, nat_eq, le-leb, ne_eqb}, specs.Option.{option_eq}, proofs.lemmas.Bool.{cases_lt, or_cases, and_parts, and_from, ltb-true, eqb-false, not-true}, proofs.lemmas.Bool.Decides.{Decides-eqb}}
-use Rattle.pmf_event.{specs.declared.event.Event.{Event}, specs.declared.interval.Interval.{Interval}, specs.declared.profile.Profile.{Profile}, specs.declared.profile.Profile.TheVariants.{One, Two}, specs.Line.{line_of_byte}, specs.Places.{greatest, least, count, some_between}, specs.Store.{at, stores, flushes, is_fence, last_store, epoch_of}, specs.Interval.{closes, closing_fence, epoch_after, interval_at, is_open}, specs.Order.{is_closed_by, precedes, share_line, is_stored_before, is_ordered, is_unordered, is_certified}, specs.Persist.{is_checked, is_exposed}, proofs.PlacesLemmas.{greatest-bound, least-below, least-passes, count-mono, count-here, some_between-here}, proofs.EventLemmas.{not_fence_and_store}, proofs.IntervalLemmas.{Closing, no_Closing-from_open}}
+use Rattle.std.{proofs.Common.{◌≡◌, ℕ, ◌+◌, ◌-◌, ◌<◌, ◌≤◌, Bool, true, false, not, ◌&&◌, ◌==◌, if◌then◌else◌, List, [], refl, sym, ◌∙◌, ap, arith, inl, inr, subst, Some, None, le-leb, ne_eqb}, proofs.lemmas.Bool.{cases_lt, or_cases, and_parts, and_from, ltb-true, eqb-false, not-true}, proofs.lemmas.Bool.Decides.{Decides-eqb}, proofs.lemmas.Grind.{common_steps}}
+use Rattle.pmf_event.{specs.declared.event.Event.{Event}, specs.declared.interval.Interval.{Interval}, specs.declared.profile.Profile.{Profile}, specs.Line.{line_of_byte}, specs.Places.{greatest, least, count, some_between}, specs.Store.{at, stores, flushes, is_fence, last_store, epoch_of}, specs.Interval.{closes, closing_fence, epoch_after, interval_at, is_open}, specs.Order.{is_closed_by, precedes, share_line, is_stored_before, is_ordered, is_unordered, is_certified}, specs.Persist.{is_checked, is_exposed}, proofs.PlacesLemmas.{greatest-bound, least-below, least-passes, count-mono, count-here, some_between-here}, proofs.EventLemmas.{not_fence_and_store}, proofs.IntervalLemmas.{Closing, no_Closing-from_open}}
 use Rattle.pmf_image.{proofs.CertificateLemmas.{cut-is}, specs.Image.{Image, count_of, is_fenced, floor_of, cut_of, reaches, shows}, specs.declared.certificate.Certificate.{Certificate}, specs.Certificate.{image_of, cut_in}, specs.Laws.{CertificatesAreAllowed, OpenIntervalsAreShown, OpenIntervalsDoNotHold, at_place, CertifiedPairsAreShown}, proofs.ImageLemmas.{written-from_checked, last_store-stores, last_store-bound, shown-reaches, count_of-here, count_of-mono, reached-shown, reach-untorn, Closing-from_fenced, floor-below_count, untorn-allowed}}
 
 -- ---- the image of a certificate
@@ -16,13 +16,7 @@ other-cut : (es : List Event) (n line other : ℕ) → (line == other) ≡ false
 other-cut es n line other apart = cut-is es (record { crash = n; full_line = Some line }) other ∙ ap (λ v. if v then count_of es n other else floor_of es n other) apart
 
 cut-within : (es : List Event) (c : Certificate) (line : ℕ) → (floor_of es c.crash line ≤ cut_in es c line) × (cut_in es c line ≤ count_of es c.crash line)
-cut-within es c line =
-    let below = floor-below_count es c.crash line in
-    elim (option_eq nat_eq c.full_line (Some line)) as (λ v. cut_in es c line ≡ (if v then count_of es c.crash line else floor_of es c.crash line) →
-    (floor_of es c.crash line ≤ cut_in es c line) × (cut_in es c line ≤ count_of es c.crash line)) [
-      | true ↦ λ is. (omega arith, omega arith)
-      | false ↦ λ is. (omega arith, omega arith)
-    ] (cut-is es c line)
+cut-within es c line = grind (arith, common_steps, floor-below_count, cut-is)
 
 pub certificates-allowed : CertificatesAreAllowed
 certificates-allowed es c = untorn-allowed es c.crash (image_of es c) refl (cut-within es c)
@@ -83,20 +77,14 @@ closed_by-closing es p x k within c before =
 
 precedes-from : (u v : Bool) (x y : Interval) → u ≡ false → v ≡ false → is_closed_by x.closes y.opens ≡ true →
     precedes (if u then None else Some x) (if v then None else Some y) ≡ true
-precedes-from false false x y one other is = is
-precedes-from false true x y one other is = let bad : true ≡ false = other in cc
-precedes-from true v x y one other is = let bad : true ≡ false = one in cc
+precedes-from u v x y one other is = grind (arith, common_steps)
 
 pub ordered-from_precedes : (profile : Profile) (es : List Event) (p x y : ℕ) → precedes (interval_at es p x) (interval_at es p y) ≡ true → is_ordered profile es p x y ≡ true
 unfolding is_ordered
-ordered-from_precedes One es p x y is = is
-ordered-from_precedes Two es p x y is = ap (λ v. v || (share_line x y && is_stored_before es p x y)) is
+ordered-from_precedes profile es p x y is = grind (arith, common_steps)
 
 pub unordered-parts : (u v w : Bool) → (u && v && not w) ≡ true → (u ≡ true) × (v ≡ true) × (w ≡ false)
-unordered-parts true true false is = (refl, refl, refl)
-unordered-parts true true true is = let bad : false ≡ true = is in cc
-unordered-parts true false w is = let bad : false ≡ true = is in cc
-unordered-parts false v w is = let bad : false ≡ true = is in cc
+unordered-parts u v w is = grind (arith, common_steps)
 
 pub shows-bound : (es : List Event) (n b : ℕ) (image : Image) → shows es n image b ≤ n
 unfolding shows
@@ -108,14 +96,7 @@ module _ (es : List Event) (p x y : ℕ) (x_written : 0 < last_store es p x) (y_
 
   y-shown : shows es (last_store es p y) at_y y ≡ last_store es p y
   unfolding at_y
-  y-shown =
-      let n = last_store es p y in
-      let image = image_of es (record { crash = n; full_line = Some (line_of_byte y) }) in
-      let reach = reach-untorn es n y image refl in
-      let cut = full-cut es n (line_of_byte y) in
-      let low = reached-shown es n y n image y_written (omega arith) (last_store-stores es p y y_written) (omega arith) in
-      let high : shows es n image y ≤ n = shows-bound es n y image in
-      omega arith
+  y-shown = grind (arith, common_steps, reach-untorn, full-cut, reached-shown, last_store-stores, shows-bound)
 
   -- x's last store isn't shown on another line, unless it was durable before y's
   x-shown : (line_of_byte y == line_of_byte x) ≡ false → shows es (last_store es p y) at_y x ≡ last_store es p x →
@@ -139,20 +120,4 @@ apart-other x y apart = ne_eqb _ _ (λ same. eqb-false (line_of_byte x) (line_of
 
 pub pair-shown : CertifiedPairsAreShown
 unfolding is_certified is_unordered at_y is_stored_before
-pair-shown profile es p x y certified =
-    let is = and_parts (is_unordered profile es p x y) (not (share_line x y) || nat_lt (last_store es p y) (last_store es p x)) certified in
-    let parts = unordered-parts (is_checked es p x) (is_checked es p y) (is_ordered profile es p x y) is.0 in
-    let x_written = written-from_checked es p x parts.0 in
-    let y_written = written-from_checked es p y parts.1 in
-    let n = last_store es p y in
-    let image = image_of es (record { crash = n; full_line = Some (line_of_byte y) }) in (
-      y-shown es p x y x_written y_written,
-      λ shown. elim (or_cases (not (share_line x y)) (nat_lt n (last_store es p x)) is.1) [
-        | inl apart ↦
-            let ordered = ordered-from_precedes profile es p x y (x-shown es p x y x_written y_written (apart-other x y apart) shown) in
-            let bad : true ≡ false = sym ordered ∙ parts.2 in cc
-        | inr later ↦
-            let after = ltb-true n (last_store es p x) later in
-            let bound = shows-bound es n x image in absurd (omega arith)
-      ],
-    )
+pair-shown profile es p x y certified = grind (arith, common_steps, and_parts, unordered-parts, written-from_checked, y-shown, or_cases, ordered-from_precedes, x-shown, apart-other, ltb-true, shows-bound)

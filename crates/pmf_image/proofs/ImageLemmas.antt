@@ -1,5 +1,5 @@
 -- Soundness of closed intervals, the two images that are always there, and the image of an open interval.
-use Rattle.std.proofs.{Common.{◌≡◌, ℕ, zero, suc, ◌+◌, ◌-◌, ◌<◌, ◌≤◌, true, false, List, [], ◌∷◌, if◌then◌else◌, refl, sym, ◌∙◌, ap, arith, inl, inr, ◌||◌, Some, unwrap_or, slice_get, ◌↔◌, le-leb, ne_eqb}, lemmas.Bool.{cases_eq, leb-true, and_parts, and_from, ltb-true}, lemmas.Bool.Decides.{Decides-eqb, eqb_tells}}
+use Rattle.std.proofs.{Common.{◌≡◌, ℕ, zero, suc, ◌+◌, ◌-◌, ◌<◌, ◌≤◌, true, false, List, [], ◌∷◌, refl, ◌∙◌, arith, inl, inr, slice_get, ◌↔◌, le-leb, ne_eqb}, lemmas.Bool.{cases_eq, leb-true, and_parts, and_from, ltb-true}, lemmas.Bool.Decides.{eqb_tells}, lemmas.Grind.{common_steps}}
 use Rattle.pmf_event.{specs.declared.event.Event.{Event}, specs.declared.event.Event.TheVariants.{Store}, specs.Line.{line_of_byte}, specs.Places.{greatest, count, some_between}, specs.Store.{event_at, passes, at, stores, stores_line, flushes, is_fence, last, last_store}, specs.Persist.{is_checked}, proofs.PlacesLemmas.{greatest-bound, greatest-passes, greatest-above, count-zero, count-mono, count-here, count-found, some_between-here, some_between-found}, proofs.LineLemmas.{stores-line, meets-bounds}, proofs.IntervalLemmas.{Closing, Closing-from_closed}}
 use Rattle.pmf_image.specs.{Image.{count_of, is_fenced, floor_of, Image, IsAllowed, value_of, is_in, cut_of, reach_of, reaches, shows}, Laws.{EachCutIsAllowed, EachByteMayBeTorn, ClosedIntervalsHold, AllowsCuts, EveryPlaceHasImages}}
 
@@ -22,8 +22,7 @@ cut-reaches es n b image = omega arith
 pub reached-shown : (es : List Event) (n b k : ℕ) (image : Image) → 0 < k → k ≤ n → at (stores b) es k ≡ true →
     count_of es k (line_of_byte b) ≤ reach_of es n image b → k ≤ shows es n image b
 unfolding shows reaches
-reached-shown es n b k image some within is reached =
-    greatest-above (reaches es n image b) n k some within (and_from _ _ is (le-leb (count_of es k (line_of_byte b)) (reach_of es n image b) reached))
+reached-shown es n b k image some within is reached = grind (arith, common_steps, greatest-above, and_from, le-leb)
 
 pub written-from_checked : (es : List Event) (p b : ℕ) → is_checked es p b ≡ true → 0 < last_store es p b
 unfolding is_checked
@@ -51,26 +50,16 @@ holds-where_closed es p s each n later within image allowed b covered checked =
 
 pub floor-below_count : (es : List Event) (n line : ℕ) → floor_of es n line ≤ count_of es n line
 unfolding floor_of count_of
-floor-below_count es n line =
-    let bound = greatest-bound (is_fenced es n line) n in
-    count-mono (at (stores_line line) es) (greatest (is_fenced es n line) n - 1) n (omega arith)
-
-pub is_in-empty : (b : ℕ) → is_in [] b ≡ true → ⊥
-unfolding is_in
-is_in-empty b some = let bad : false ≡ true = some in cc
+floor-below_count es n line = grind (arith, common_steps, greatest-bound, count-mono)
 
 pub untorn-allowed : (es : List Event) (n : ℕ) (image : Image) → image.torn ≡ [] →
     ((line : ℕ) → (floor_of es n line ≤ cut_of es n image line) × (cut_of es n image line ≤ count_of es n line)) → IsAllowed es n image
-untorn-allowed es n image untorn within = record {
-  low = λ line. (within line).0;
-  high = λ line. (within line).1;
-  torn = λ b some. absurd (is_in-empty b (ap (λ t. is_in t b) (sym untorn) ∙ some));
-}
+unfolding is_in
+untorn-allowed es n image untorn within = grind (arith, common_steps)
 
 allows-untorn : (es : List Event) (n : ℕ) (cut : ℕ → ℕ) (image : Image) → image.torn ≡ [] → ((line : ℕ) → cut_of es n image line ≡ cut line) →
     ((line : ℕ) → (floor_of es n line ≤ cut line) × (cut line ≤ count_of es n line)) → AllowsCuts es n cut
-allows-untorn es n cut image untorn cuts within =
-    record { image = image; untorn = untorn; cuts = cuts; allowed = untorn-allowed es n image untorn (λ line. rw (cuts line) (within line)) }
+allows-untorn es n cut image untorn cuts within = grind (arith, common_steps, untorn-allowed)
 
 allows_floors : (es : List Event) (n : ℕ) → AllowsCuts es n (floor_of es n)
 unfolding cut_of value_of
@@ -80,14 +69,12 @@ allows_floors es n = allows-untorn es n (floor_of es n) (record { cuts = []; tor
 pub cut-first : (es : List Event) (n line cut : ℕ) (cuts : List (ℕ × ℕ)) (torn : List ℕ) →
     cut_of es n (record { cuts = (line, cut) ∷ cuts; torn = torn }) line ≡ cut
 unfolding cut_of value_of
-cut-first es n line cut cuts torn =
-    ap (λ v. unwrap_or (if v then Some cut else value_of cuts line) (floor_of es n line)) ((Decides-eqb line line).1 refl)
+cut-first es n line cut cuts torn = grind (arith, common_steps)
 
 pub cut-rest : (es : List Event) (n line cut other : ℕ) (cuts : List (ℕ × ℕ)) (torn : List ℕ) → (other ≡ line → ⊥) →
     cut_of es n (record { cuts = (line, cut) ∷ cuts; torn = torn }) other ≡ cut_of es n (record { cuts = cuts; torn = torn }) other
 unfolding cut_of value_of
-cut-rest es n line cut other cuts torn apart =
-    ap (λ v. unwrap_or (if v then Some cut else value_of cuts other) (floor_of es n other)) (ne_eqb line other (λ same. apart (sym same)))
+cut-rest es n line cut other cuts torn apart = grind (arith, common_steps, ne_eqb)
 
 -- every line below m with its cut
 table : (ℕ → ℕ) → ℕ → List (ℕ × ℕ)
@@ -105,8 +92,7 @@ end_of (e ∷ es) = end_of_event e + end_of es
 
 event-below_end : (line : ℕ) (e : Event) → stores_line line e ≡ true → line < end_of_event e
 unfolding stores_line end_of_event
-event-below_end line (Store s) is = (meets-bounds s line is).2
-event-below_end line _ is = let bad : false ≡ true = is in cc
+event-below_end line e is = grind (arith, common_steps, meets-bounds)
 
 get-below_end : (line : ℕ) (es : List Event) (k : ℕ) → passes (stores_line line) (slice_get es k) ≡ true → line < end_of es
 unfolding end_of
@@ -116,8 +102,7 @@ get-below_end line (e ∷ es) (suc k) is = let later = get-below_end line es k i
 
 place-below_end : (line : ℕ) (es : List Event) (k : ℕ) → at (stores_line line) es k ≡ true → line < end_of es
 unfolding at event_at
-place-below_end line es zero is = let bad : false ≡ true = is in cc
-place-below_end line es (suc k) is = get-below_end line es k is
+place-below_end line es k is = grind (arith, common_steps, get-below_end)
 
 count-past_end : (es : List Event) (n line : ℕ) → end_of es ≤ line → count_of es n line ≡ 0
 unfolding count_of
@@ -156,10 +141,7 @@ pub within-first : (es : List Event) (n line cut : ℕ) (cuts : List (ℕ × ℕ
     × (cut_of es n (record { cuts = cuts; torn = torn }) other ≤ count_of es n other)) → (other : ℕ) →
     (floor_of es n other ≤ cut_of es n (record { cuts = (line, cut) ∷ cuts; torn = torn }) other)
     × (cut_of es n (record { cuts = (line, cut) ∷ cuts; torn = torn }) other ≤ count_of es n other)
-within-first es n line cut cuts torn low high within other = elim (cases_eq other line) [
-  | inl same ↦ rw (same, cut-first es n line cut cuts torn) (low, high)
-  | inr apart ↦ rw (cut-rest es n line cut other cuts torn apart) (within other)
-]
+within-first es n line cut cuts torn low high within other = grind (arith, common_steps, cases_eq, cut-first, cut-rest)
 
 abbrev one_cut : ℕ → ℕ → List ℕ → Image
 one_cut line cut torn = record { cuts = (line, cut) ∷ []; torn = torn }
@@ -181,10 +163,7 @@ allows_each_cut es n line cut low high = record {
 
 only-torn : (b other : ℕ) → (is_in (b ∷ []) other ≡ true) ↔ (other ≡ b)
 unfolding is_in
-only-torn b other = elim (eqb_tells b other) [
-  | inl same ↦ (λ some. sym same.1, λ is. ap (λ v. v || false) same.0)
-  | inr apart ↦ (λ some. let bad : false ≡ true = sym (ap (λ v. v || false) apart.0) ∙ some in cc, λ is. absurd (apart.1 (sym is)))
-]
+only-torn b other = grind (arith, common_steps, eqb_tells)
 
 pub allows_each_torn : EachByteMayBeTorn
 unfolding cut_of value_of
@@ -233,10 +212,7 @@ count_of-mono es m n line within = count-mono (at (stores_line line) es) m n wit
 pub shown-reaches : (es : List Event) (n b : ℕ) (image : Image) → 0 < shows es n image b →
     (at (stores b) es (shows es n image b) ≡ true) × (count_of es (shows es n image b) (line_of_byte b) ≤ reach_of es n image b) × (shows es n image b ≤ n)
 unfolding shows reaches
-shown-reaches es n b image some =
-    let k = greatest (reaches es n image b) n in
-    let is = and_parts _ _ (greatest-passes (reaches es n image b) n some) in
-    (is.0, leb-true (count_of es k (line_of_byte b)) (reach_of es n image b) is.1, greatest-bound (reaches es n image b) n)
+shown-reaches es n b image some = grind (arith, common_steps, and_parts, greatest-passes, leb-true, greatest-bound)
 
 pub reach-untorn : (es : List Event) (n b : ℕ) (image : Image) → image.torn ≡ [] → reach_of es n image b ≡ cut_of es n image (line_of_byte b)
 unfolding reach_of is_in

@@ -1,28 +1,20 @@
 -- Soundness of ordered pairs: what is durable before a store is shown wherever that store is.
-use Rattle.std.proofs.{Common.{◌≡◌, ℕ, ◌+◌, ◌-◌, ◌<◌, ◌≤◌, Bool, true, false, ◌&&◌, ◌==◌, if◌then◌else◌, List, sym, arith, inl, inr, subst, Some, None}, lemmas.Bool.{cases_lt, cases_eq, leb-true, or_cases, and_parts, ltb-true}, lemmas.Bool.Decides.{Decides-eqb, eqb_tells}}
-use Rattle.pmf_event.{specs.declared.event.Event.{Event}, specs.declared.interval.Interval.{Interval}, specs.declared.profile.Profile.{Profile}, specs.declared.profile.Profile.TheVariants.{One, Two}, specs.Line.{line_of_byte}, specs.Places.{some_between}, specs.Store.{at, stores, flushes, is_fence, last_store, epoch_of}, specs.Interval.{closes, closing_fence, epoch_after, interval_at}, specs.Order.{is_closed_by, precedes, share_line, is_stored_before, is_ordered}, proofs.PlacesLemmas.{least-passes, count-mono, some_between-found}, proofs.IntervalLemmas.{Closing}}
+use Rattle.std.proofs.{Common.{◌≡◌, ℕ, ◌+◌, ◌<◌, ◌≤◌, Bool, true, false, ◌==◌, if◌then◌else◌, List, arith, subst, Some, None}, lemmas.Bool.{cases_lt, cases_eq, leb-true, or_cases, and_parts, ltb-true}, lemmas.Bool.Decides.{eqb_tells}, lemmas.Grind.{common_steps}}
+use Rattle.pmf_event.{specs.declared.event.Event.{Event}, specs.declared.interval.Interval.{Interval}, specs.declared.profile.Profile.{Profile}, specs.Line.{line_of_byte}, specs.Places.{some_between}, specs.Store.{at, stores, flushes, is_fence, last_store, epoch_of}, specs.Interval.{closes, closing_fence, epoch_after, interval_at}, specs.Order.{is_closed_by, precedes, share_line, is_stored_before, is_ordered}, proofs.PlacesLemmas.{least-passes, count-mono, some_between-found}, proofs.IntervalLemmas.{Closing}}
 use Rattle.pmf_image.{specs.Image.{Image, IsAllowed, count_of, cut_of, is_in, reach_of, shows}, specs.Laws.{OrderedPairsHold}, proofs.ImageLemmas.{below_the_floor, cut-reaches, reached-shown, written-from_checked, last_store-stores, shown-reaches, last_store-above, count_of-here, count_of-mono}}
 
 -- ---- an interval that closes before a place
 
 precedes-parts : (u v : Bool) (x y : Interval) → precedes (if u then None else Some x) (if v then None else Some y) ≡ true → is_closed_by x.closes y.opens ≡ true
-precedes-parts true v x y is = let bad : false ≡ true = is in cc
-precedes-parts false true x y is = let bad : false ≡ true = is in cc
-precedes-parts false false x y is = is
+precedes-parts u v x y is = grind (arith, common_steps)
 
 closed_by-some : (es : List Event) (f epoch : ℕ) → is_closed_by (epoch_after es f) epoch ≡ true → (0 < f) × (epoch_of es f + 1 ≤ epoch)
-closed_by-some es f epoch is = elim (eqb_tells f 0) [
-  | inl none ↦ let bad : false ≡ true = rw none.0 at is in cc
-  | inr some ↦ (omega (arith, some.1), leb-true (epoch_of es f + 1) epoch (rw some.0 at is))
-]
+closed_by-some es f epoch is = grind (arith, common_steps, eqb_tells, leb-true)
 
 -- a fence in an earlier epoch than a place's stands before the place
 earlier-place : (es : List Event) (f k : ℕ) → epoch_of es f + 1 ≤ epoch_of es k → f < k
 unfolding epoch_of
-earlier-place es f k earlier = elim (cases_lt f k) [
-  | inl before ↦ before
-  | inr after ↦ let fewer = count-mono (at is_fence es) (k - 1) (f - 1) (omega arith) in absurd (omega arith)
-]
+earlier-place es f k earlier = grind (arith, common_steps, cases_lt, count-mono)
 
 -- the write-back and the fence that close x's interval by the epoch of place k stand before k
 closed_before : (es : List Event) (p x k n : ℕ) → is_closed_by (epoch_after es (closing_fence (stores x) (line_of_byte x) es p)) (epoch_of es k) ≡ true →
@@ -52,13 +44,6 @@ reach-bound : (es : List Event) (n b : ℕ) (image : Image) → reach_of es n im
 unfolding reach_of
 reach-bound es n b image = elim (is_in image.torn b) as (λ v. cut_of es n image (line_of_byte b) + (if v then 1 else 0) ≤ cut_of es n image (line_of_byte b) + 1) [ true ↦ omega arith | false ↦ omega arith ]
 
--- a store that is shown, or an earlier one
-shown-bound : (es : List Event) (n p b : ℕ) (image : Image) → n ≤ p → shows es n image b ≤ last_store es p b
-shown-bound es n p b image within = elim (cases_eq (shows es n image b) 0) [
-  | inl none ↦ omega arith
-  | inr some ↦ let here = shown-reaches es n b image (omega arith) in last_store-above es p b (shows es n image b) (omega arith) (omega (arith, here.2)) here.0
-]
-
 module _ (es : List Event) (p n : ℕ) (image : Image) (allowed : IsAllowed es n image) (within : n ≤ p)
     (x y : ℕ) (x_written : 0 < last_store es p x) (y_written : 0 < last_store es p y) (shown : shows es n image y ≡ last_store es p y) where
   -- where the store of y is shown, it was made
@@ -67,10 +52,7 @@ module _ (es : List Event) (p n : ℕ) (image : Image) (allowed : IsAllowed es n
 
   -- x's last store is shown where it reaches x
   shown-where_reached : last_store es p x ≤ n → count_of es (last_store es p x) (line_of_byte x) ≤ reach_of es n image x → shows es n image x ≡ last_store es p x
-  shown-where_reached before reached =
-      let low = reached-shown es n x (last_store es p x) image x_written before (last_store-stores es p x x_written) reached in
-      let high = shown-bound es n p x image within in
-      omega arith
+  shown-where_reached before reached = grind (arith, common_steps, reached-shown, last_store-stores, cases_eq, shown-reaches, last_store-above)
 
   shown-by_epochs : precedes (interval_at es p x) (interval_at es p y) ≡ true → shows es n image x ≡ last_store es p x
   shown-by_epochs ordered =
@@ -83,25 +65,11 @@ module _ (es : List Event) (p n : ℕ) (image : Image) (allowed : IsAllowed es n
 
   shown-by_lines : share_line x y ≡ true → is_stored_before es p x y ≡ true → shows es n image x ≡ last_store es p x
   unfolding is_stored_before
-  shown-by_lines share stored =
-      let same : line_of_byte x ≡ line_of_byte y = (Decides-eqb (line_of_byte x) (line_of_byte y)).0 share in
-      let before = ltb-true (last_store es p x) (last_store es p y) stored in
-      let rank = count_of-mono es (last_store es p x) (last_store es p y - 1) (line_of_byte y) (omega arith) in
-      let here = count_of-here es y (last_store es p y) y_written made.0 in
-      let bound = reach-bound es n y image in
-      let reach = cut-reaches es n x image in
-      let last = made.1 in
-      shown-where_reached (let end = made.2 in omega arith)
-      (subst (λ line. count_of es (last_store es p x) line ≤ reach_of es n image x) (sym same)
-      (let low : cut_of es n image (line_of_byte y) ≤ reach_of es n image x = subst (λ line. cut_of es n image line ≤ reach_of es n image x) same reach in omega arith))
+  shown-by_lines share stored = grind (arith, common_steps, ltb-true, count_of-mono, count_of-here, made, reach-bound, cut-reaches, shown-where_reached)
 
   pub shown-ordered : (profile : Profile) → is_ordered profile es p x y ≡ true → shows es n image x ≡ last_store es p x
   unfolding is_ordered
-  shown-ordered One ordered = shown-by_epochs ordered
-  shown-ordered Two ordered = elim (or_cases (precedes (interval_at es p x) (interval_at es p y)) (share_line x y && is_stored_before es p x y) ordered) [
-    | inl epochs ↦ shown-by_epochs epochs
-    | inr lines ↦ let both = and_parts (share_line x y) (is_stored_before es p x y) lines in shown-by_lines both.0 both.1
-  ]
+  shown-ordered profile ordered = grind (arith, common_steps, shown-by_epochs, or_cases, and_parts, shown-by_lines)
 
 pub holds-where_ordered : OrderedPairsHold
 holds-where_ordered profile es p a b each n within image allowed x y in_a in_b x_checked y_checked shown =

@@ -1,7 +1,7 @@
 -- Passes over the events, for what they say of transactions, of the scope and of one byte.
-use Rattle.std.proofs.Common.{◌≡◌, ℕ, suc, ◌-◌, Bool, true, false, not, ◌&&◌, ◌||◌, nat_lt, if◌then◌else◌, List, refl, sym, ◌∙◌, ap, arith, Some}
+use Rattle.std.proofs.{Common.{add-one, ◌≡◌, ℕ, suc, ◌-◌, Bool, true, false, not, ◌&&◌, ◌||◌, nat_lt, if◌then◌else◌, List, refl, sym, ◌∙◌, ap, arith, Some}, lemmas.Grind.{common_steps}}
 use Rattle.pmf_event.{specs.declared.event.Event.{Event}, specs.declared.event.Event.TheVariants.{Store, TxBegin, TxEnd, CheckStart, CheckEnd}, specs.Store.{event_at, at, stores, last}, specs.Exclusion.{excludes, marks, is_excluded, is_included}, specs.Transactions.{begins, ends, depth_at, in_transaction, opens_scope, closes_scope, scope_at, in_scope, is_scoped}, proofs.EventLemmas.{at-is, last-step, last-none}, proofs.TransactionLemmas.{depth-start, depth-begun, depth-ended, depth-kept, scope-start, scope-none, scope-some, scoped-from, unscoped-from, in_scope-same, scope-stays, scope-opened, scope-kept, scope-closed, scoped-opened, scoped-kept, scoped-stored, not_scoped}}
-use Rattle.pmf_image.specs.declared.transactions.Scope.{Scope}
+use Rattle.pmf_image.{specs.declared.transactions.Scope.{Scope}, proofs.CertificateLemmas.{event-taken}}
 
 -- ---- whether a byte is included
 
@@ -28,19 +28,12 @@ pub record Tracked (es : List Event) (b i : ℕ) (scope : Scope) : Type 0 where
   pub has_is : scope.has_byte ≡ is_scoped es i b
 
 pub tracked-none : (es : List Event) (b : ℕ) → Tracked es b 0 (record { depth = 0; is_open = false; has_byte = false })
-tracked-none es b =
-    let none = unscoped-from es 0 (scope-start es) in record {
-      depth_is = sym (depth-start es);
-      opened_is = sym none;
-      has_is = sym (not_scoped es 0 b none);
-    }
+tracked-none es b = grind (arith, common_steps, unscoped-from, scope-start, depth-start, not_scoped)
 
 -- a store in a transaction and in the scope makes the byte one of its; any other leaves it as it is
 scoped-store : (es : List Event) (b i : ℕ) (e : Event) → event_at es (suc i) ≡ Some e → scope_at es (suc i) ≡ scope_at es i → (u w : Bool) →
     (stores b e && in_transaction es (suc i)) ≡ u → in_scope es i ≡ w → ((u && w) || is_scoped es i b) ≡ is_scoped es (suc i) b
-scoped-store es b i e here same false w other _ = sym (scoped-kept es i e here b same other)
-scoped-store es b i e here same true true is some = sym (scoped-stored es i e here b same some is)
-scoped-store es b i e here same true false _ none = not_scoped es i b none ∙ sym (not_scoped es (suc i) b (in_scope-same es i (suc i) same ∙ none))
+scoped-store es b i e here same u w stored scoped = grind (arith, common_steps, scoped-kept, scoped-stored, not_scoped, in_scope-same)
 
 -- one more event, by its kind
 module _ (es : List Event) (b i : ℕ) (old new : Scope) (before : Tracked es b i old) where
@@ -94,3 +87,5 @@ module _ (es : List Event) (b i : ℕ) (old new : Scope) (before : Tracked es b 
       }
   tracked-step e here depth opened has =
       kept e here refl refl refl (depth ∙ before.depth_is ∙ sym (depth-kept es i e here refl refl)) opened has
+
+pub ruleset inclusion = (event-taken, add-one, included-start, included-step)

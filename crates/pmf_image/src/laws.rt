@@ -1,5 +1,7 @@
 //! Laws of the definitions, each the clause of an empty function.
 
+#![tactic(auto, using(crate::proofs::ExactLemmas::laws))]
+
 ghost use Rattle.pmf_image.specs.Laws.{CertificatesAreAllowed, CertifiedPairsAreShown, CertifiedPairsDoNotHold, ClosedIntervalsHold, ContradictedDoNotHold, EachByteMayBeTorn, EachCutIsAllowed, EveryPlaceHasImages, OpenIntervalsAreShown, OpenIntervalsDoNotHold, OrderedPairsHold, ProfileTwoIsExact, ScopesHoldForAllBytes};
 
 /// A persist assertion whose checked bytes all have closed intervals holds at every crash from its

@@ -26,6 +26,7 @@ pub enum Question {
 impl Question {
     // Whether the byte is asked, and the answer is yes. At most four passes over the events, and three but
     // for the question of a scope.
+    #[tactic(auto, using(crate::proofs::ByteSearchLemmas::passing))]
     pub fn passes(self, events: &[Event], place: u32, certificate: Certificate, byte: u64) -> bool
         requires fits { Fits events.now certificate }
         requires some { 0 < place }
@@ -38,6 +39,7 @@ impl Question {
     }
 
     // Whether the byte is one of those that are asked, by its last store. At most two passes over the events.
+    #[tactic(auto, using(crate::proofs::ByteSearchLemmas::asking))]
     fn is_asked(self, events: &[Event], place: u32, byte: u64, last: u32) -> bool
         requires some { 0 < place }
         requires within { place ≤ length events.now }

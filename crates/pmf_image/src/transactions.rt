@@ -67,6 +67,7 @@ impl Scope {
 }
 
 // Whether the byte is included at the place. One pass over the events.
+#[tactic(auto, using(std::proofs::lemmas::Grind::common_steps, crate::proofs::ScopeLemmas::inclusion))]
 pub fn is_included(events: &[Event], place: u32, byte: u64) -> bool
     requires { place ≤ length events.now }
     ensures { result ≡ is_included events.now place byte }

@@ -1,4 +1,4 @@
-use Rattle.std.proofs.Common.{◌≡◌, suc, arith, add-one, Some, length-take-le}
+use Rattle.std.proofs.{Common.{◌≡◌, suc, arith, add-one, Some, length-take-le}, lemmas.Grind.{common_steps}}
 use Rattle.pmf_event.specs.{Store.{event_at}}
 use Rattle.pmf_image.{specs.Image.{count_of}, proofs.CertificateLemmas.{event-taken, Carried-none, Carried-step, count_of-none, count_of-bound, count_of-next, cut-carried}}
 use Rattle.pmf_image.proofs.certificate.cut.Goals as goal
@@ -8,11 +8,7 @@ loop-event-init c =
     rw c.none-counts.ensures (Carried-none c.args.events.now c.args.line (λ k. count_of c.args.events.now k c.args.line) (count_of-none c.args.events.now c.args.line))
 
 pub overflow_add-next : goal.overflow_add-next
-overflow_add-next c =
-    let size = length-take-le c.args.certificate.crash c.args.events.now c.requires.fits.crash in
-    let rank = count_of-bound c.args.events.now c.args.line c.loop-event.event-index in
-    let stored = c.loop-event.invariant.stored_is in
-    let below = c.loop-event-test.true in omega arith
+overflow_add-next c = grind (arith, common_steps, length-take-le, count_of-bound)
 
 pub loop-event-preserved : goal.loop-event-preserved
 loop-event-preserved c =
@@ -29,6 +25,4 @@ loop-event-preserved c =
     new.flushed new.durable)
 
 pub returns : goal.returns
-returns c =
-    let size = length-take-le c.args.certificate.crash c.args.events.now c.requires.fits.crash in
-    cut-carried c.args.events.now c.args.certificate c.args.line c.loop-event.event-index c.loop-event.counts c.loop-event.invariant (omega arith) c.held.result c.held.ensures
+returns c = grind (arith, common_steps, length-take-le, cut-carried)

@@ -1,4 +1,4 @@
-use Rattle.std.proofs.Common.{◌≡◌, suc, arith, add-one, Some, length-take-le}
+use Rattle.std.proofs.{Common.{◌≡◌, suc, arith, add-one, Some, length-take-le}, lemmas.Grind.{common_steps}}
 use Rattle.pmf_event.{specs.Line.{line_of_byte}, specs.Store.{event_at, stores, last_store}, proofs.EventLemmas.{last-none}}
 use Rattle.pmf_image.proofs.CertificateLemmas.{event-taken, Carried-none, Carried-step, last_store-next, shows-carried}
 use Rattle.pmf_image.proofs.certificate.shows.Goals as goal
@@ -22,6 +22,4 @@ loop-index-preserved c =
     new.flushed new.durable)
 
 pub returns : goal.returns
-returns c =
-    let size = length-take-le c.args.certificate.crash c.args.events.now c.requires.fits.crash in
-    shows-carried c.args.events.now c.args.certificate c.args.byte c.loop-index.index c.loop-index.places c.loop-index.invariant (omega arith) c.held.result (rw c.line_of-line.ensures at c.held.ensures)
+returns c = grind (arith, common_steps, length-take-le, shows-carried)

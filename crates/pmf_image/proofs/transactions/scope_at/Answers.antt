@@ -1,4 +1,4 @@
-use Rattle.std.proofs.Common.{◌≡◌, suc, arith, add-one, Some, length-take-le}
+use Rattle.std.proofs.{Common.{◌≡◌, suc, arith, add-one, Some, length-take-le}, lemmas.Grind.{common_steps}}
 use Rattle.pmf_event.{specs.Store.{event_at}, proofs.TransactionLemmas.{depth-bound}}
 use Rattle.pmf_image.proofs.{CertificateLemmas.{event-taken}, ScopeLemmas.{tracked-none, tracked-step}}
 use Rattle.pmf_image.proofs.transactions.scope_at.Goals as goal
@@ -7,12 +7,7 @@ pub loop-event-init : goal.loop-event-init
 loop-event-init c = tracked-none c.args.events.now c.args.byte
 
 pub follow-requires : goal.follow-requires
-follow-requires c =
-    let size = length-take-le c.args.place c.args.events.now c.requires in
-    let bound = depth-bound c.args.events.now c.loop-event.event-index in
-    let deep = c.loop-event.invariant.depth_is in
-    let below = c.loop-event-test.true in
-    let place = c.ranges.place.fits in omega arith
+follow-requires c = grind (arith, common_steps, length-take-le, depth-bound)
 
 pub loop-event-preserved : goal.loop-event-preserved
 loop-event-preserved c =
