@@ -1,44 +1,26 @@
 -- Text lines that are one record, and what an event's canonical text line reads as.
-use Rattle.std.proofs.{Common.{◌≡◌, ℕ, ◌≤◌, true, false, List, [], ◌∷◌, ◌++◌, None, Some, Option, length, All, refl, sym, ◌∙◌, arith, length-append, Ok, nat_le, codes, bytes_eq, le-leb}, lemmas.List.Folds.{list_any_none, list_any_at}, lemmas.Slice.Eq.{bytes_eq-Decides}}
+use Rattle.std.proofs.{Common.{◌≡◌, ℕ, ◌≤◌, true, false, List, ◌++◌, None, Some, length, All, refl, arith, length-append, Ok, nat_le, codes, le-leb}, lemmas.List.Folds.{list_any_none, list_any_at}, lemmas.Slice.Eq.{bytes_eq-Decides}, lemmas.Grind.{common_steps}}
 use Rattle.memchr.specs.Find.{IsFirstByte, is_byte3}
 use Rattle.pmf_event.specs.declared.event.Event.{Event}
-use Rattle.pmf_storelog.{specs.declared.fault.TheConstants.{LOG_LIMIT}, specs.declared.record.Saying.TheVariants.{Happens}, specs.Separators.{is_separator}, specs.Records.{fields_of, record_of, saying_of, saying_of_fields, section_of_fields, section_of_number}, specs.Numbers.{number_of}, specs.Canonical.{name_of, fields_of_event}, specs.Lines.{is_one_record, names_a_section, names_a_section_first, event_of_record, event_of_line}, specs.Spelling.{AllValid}, proofs.PlainRecordLemmas.{IsPlain, trimmed-plain}, proofs.PlainLemmas.{text_of_event, text_of_event-plain}, proofs.RoundTripLemmas.{line-length}, proofs.SpellingLemmas.{record_of-event}, proofs.SplitLemmas.{none_pass}}
+use Rattle.pmf_storelog.{specs.declared.fault.TheConstants.{LOG_LIMIT}, specs.declared.record.Saying.TheVariants.{Happens}, specs.Separators.{is_separator}, specs.Records.{fields_of, record_of, saying_of, saying_of_fields, section_of_fields}, specs.Canonical.{name_of, fields_of_event}, specs.Lines.{is_one_record, names_a_section, names_a_section_first, event_of_record, event_of_line}, specs.Spelling.{AllValid}, proofs.PlainRecordLemmas.{IsPlain, trimmed-plain}, proofs.PlainLemmas.{text_of_event, text_of_event-plain}, proofs.RoundTripLemmas.{line-length}, proofs.SpellingLemmas.{record_of-event}, proofs.SplitLemmas.{none_pass}}
 
 -- what a search for a separator says of a text line
-pub one_record-none : (line : List ℕ) → IsFirstByte (is_byte3 124 10 13) line None → nat_le (length line) LOG_LIMIT ≡ is_one_record line
+pub one_record_none : (line : List ℕ) → IsFirstByte (is_byte3 124 10 13) line None → nat_le (length line) LOG_LIMIT ≡ is_one_record line
 unfolding is_one_record
-one_record-none line none = rw (list_any_none is_separator line (none_pass is_separator line none)) refl
+one_record_none line none = rw (list_any_none is_separator line (none_pass is_separator line none)) refl
 
-pub one_record-some : (line : List ℕ) (k : ℕ) → IsFirstByte (is_byte3 124 10 13) line (Some k) → false ≡ is_one_record line
+pub one_record_some : (line : List ℕ) (k : ℕ) → IsFirstByte (is_byte3 124 10 13) line (Some k) → false ≡ is_one_record line
 unfolding is_one_record
-one_record-some line k found = rw (list_any_at is_separator line k 0 found.0.high found.1) refl
+one_record_some line k found = rw (list_any_at is_separator line k 0 found.0.high found.1) refl
 
 -- a text line that is a record as it stands
 one_record-plain : (line : List ℕ) → IsPlain line → length line ≤ LOG_LIMIT → is_one_record line ≡ true
 unfolding is_one_record
 one_record-plain line plain short = rw (list_any_none is_separator line plain.whole, le-leb (length line) LOG_LIMIT short) refl
 
--- a marker with any fields says no event
-number-no_event : (event : Event) (found : Option ℕ) → section_of_number found ≡ Ok (Happens event) → ⊥
-number-no_event event None says = cc
-number-no_event event (Some number) says = cc
-
-marker-no_event : (event : Event) (fields : List (List ℕ)) → section_of_fields fields ≡ Ok (Happens event) → ⊥
-unfolding section_of_fields
-marker-no_event event [] says = cc
-marker-no_event event (number ∷ fields) says = number-no_event event (number_of number) says
-
-marker-says : (name : List ℕ) (fields : List (List ℕ)) → name ≡ codes "PMT.SECTION" → saying_of name fields ≡ section_of_fields fields
-unfolding saying_of
-marker-says name fields is = rw is refl
-
 unmarked : (event : Event) (fields : List (List ℕ)) → saying_of_fields fields ≡ Ok (Happens event) → names_a_section_first fields ≡ false
-unmarked event [] says = refl
-unmarked event (name ∷ fields) says =
-    elim (bytes_eq name (codes "PMT.SECTION")) as (λ v. bytes_eq name (codes "PMT.SECTION") ≡ v → v ≡ false) [
-      | true ↦ λ is. absurd (marker-no_event event fields (sym (marker-says name fields ((bytes_eq-Decides name (codes "PMT.SECTION")).0 is)) ∙ says))
-      | false ↦ λ is. refl
-    ] refl
+unfolding section_of_fields saying_of
+unmarked event fields says = grind (arith, common_steps, bytes_eq-Decides)
 
 names-no_section : (event : Event) (text : List ℕ) → record_of text ≡ Ok (Happens event) → names_a_section text ≡ false
 unfolding names_a_section record_of

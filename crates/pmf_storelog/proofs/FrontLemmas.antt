@@ -12,8 +12,7 @@ abbrev pub BeginsWithNoDigit : List ℕ → Type 0
 BeginsWithNoDigit text = BeginsWithNone 10 text
 
 digits_behind : (radix : ℕ) (rest : List ℕ) → BeginsWithNone radix rest → prefix_len (is_digit_in radix) rest ≡ 0
-digits_behind radix [] none = refl
-digits_behind radix (c ∷ rest) none = rw none refl
+digits_behind radix rest none = grind (arith, common_steps)
 
 pub digits-front : (radix : ℕ) (ds rest : List ℕ) → AllDigits radix ds → BeginsWithNone radix rest → prefix_len (is_digit_in radix) (ds ++ rest) ≡ length ds
 digits-front radix [] rest each none = digits_behind radix rest none

@@ -1,5 +1,5 @@
 -- The numbers of a list in order: they rise, are those of the list, and with one more are one insertion more.
-use Rattle.std.{proofs.Common.{◌≡◌, ℕ, zero, suc, ◌<◌, List, [], ◌∷◌, ◌++◌, length, get_or, refl, sym, ◌∙◌, ap, subst, arith, inl, inr, Less, Equal, Greater, ◌⊎◌, Contains, nat_cmp}, specs.Cmp.{nat_cmp_is}, proofs.lemmas.Bool.{cases_order}, specs.BTreeSet.{insert_key}, proofs.lemmas.Grind.{common_steps}}
+use Rattle.std.{proofs.Common.{◌≡◌, ℕ, zero, suc, ◌<◌, List, [], ◌∷◌, ◌++◌, length, get_or, refl, sym, ◌∙◌, ap, subst, arith, inl, inr, ◌⊎◌, Contains, nat_cmp}, proofs.lemmas.Bool.{cases_order}, specs.BTreeSet.{insert_key}, proofs.lemmas.Grind.{common_steps}}
 use Rattle.pmf_storelog.specs.{Rising.{IsBelow, Rises, with_number, in_order}, Laws.{InOrderIsTheSetInOrder}}
 
 -- the number is among them
@@ -15,37 +15,30 @@ has-above : (m n : ℕ) (xs : List ℕ) → IsBelow m xs → Has n xs → m < n
 has-above m n [] below has = absurd has
 has-above m n (x ∷ xs) below has = elim has [ inl is ↦ subst (λ y. m < y) (sym is) below.0 | inr later ↦ has-above m n xs below.1 later ]
 
--- how a number stands to another, as the order of keys says it
-order_of : (m n : ℕ) → ((nat_cmp m n ≡ Less) × (m < n)) ⊎ ((nat_cmp m n ≡ Equal) × (m ≡ n)) ⊎ ((nat_cmp m n ≡ Greater) × (n < m))
-order_of m n = elim (cases_order m n) [
-  | inl same ↦ inr (inl (sym (nat_cmp_is m n Equal same), same))
-  | inr other ↦ elim other [ inl less ↦ inl (sym (nat_cmp_is m n Less less), less) | inr more ↦ inr (inr (sym (nat_cmp_is m n Greater more), more)) ]
-]
-
 below-insert : (m n : ℕ) (xs : List ℕ) → m < n → IsBelow m xs → IsBelow m (insert_key nat_cmp xs n)
 below-insert m n [] less below = (less, tt)
-below-insert m n (x ∷ xs) less below = grind (arith, common_steps, order_of, below-insert m n xs less)
+below-insert m n (x ∷ xs) less below = grind (arith, common_steps, cases_order, below-insert m n xs less)
 
 rising-insert : (n : ℕ) (xs : List ℕ) → Rises xs → Rises (insert_key nat_cmp xs n)
 rising-insert n [] rising = (tt, tt)
-rising-insert n (x ∷ xs) rising = grind (arith, common_steps, order_of, below-less, below-insert, rising-insert n xs rising.1)
+rising-insert n (x ∷ xs) rising = grind (arith, common_steps, cases_order, below-less, below-insert, rising-insert n xs rising.1)
 
 pub has-insert : (n : ℕ) (xs : List ℕ) → Has n (insert_key nat_cmp xs n)
 has-insert n [] = inl refl
-has-insert n (x ∷ xs) = grind (arith, common_steps, order_of, has-insert n xs)
+has-insert n (x ∷ xs) = grind (arith, common_steps, cases_order, has-insert n xs)
 
 pub insert-present : (n : ℕ) (xs : List ℕ) → Rises xs → Has n xs → insert_key nat_cmp xs n ≡ xs
 insert-present n [] rising has = absurd has
-insert-present n (x ∷ xs) rising has = grind (arith, common_steps, order_of, has-above, insert-present n xs rising.1)
+insert-present n (x ∷ xs) rising has = grind (arith, common_steps, cases_order, has-above, insert-present n xs rising.1)
 
 -- the numbers with one more have those that were there, and that one
 has-kept : (k n : ℕ) (xs : List ℕ) → Has k xs → Has k (insert_key nat_cmp xs n)
 has-kept k n [] has = absurd has
-has-kept k n (x ∷ xs) has = grind (arith, common_steps, order_of, has-kept k n xs)
+has-kept k n (x ∷ xs) has = grind (arith, common_steps, cases_order, has-kept k n xs)
 
 has-either : (k n : ℕ) (xs : List ℕ) → Has k (insert_key nat_cmp xs n) → (k ≡ n) ⊎ Has k xs
 has-either k n [] has = has
-has-either k n (x ∷ xs) has = grind (arith, common_steps, order_of, has-either k n xs)
+has-either k n (x ∷ xs) has = grind (arith, common_steps, cases_order, has-either k n xs)
 
 pub in_order-rises : (ns : List ℕ) → Rises (in_order ns)
 in_order-rises [] = tt
@@ -70,21 +63,15 @@ has-contains n [] has = absurd has
 has-contains n (x ∷ xs) has = elim has [ inl is ↦ (0, omega arith, sym is) | inr later ↦ let there = has-contains n xs later in (suc there.0, omega (arith, there.1), there.2) ]
 
 pub the_set_in_order : InOrderIsTheSetInOrder
-the_set_in_order ns = (
-  in_order-rises ns,
-  λ n. (
-    λ c. has-contains n ns (in_order-has n ns (contains-has n (in_order ns) c.0 c.1 c.2)),
-    λ c. has-contains n (in_order ns) (has-in_order n ns (contains-has n ns c.0 c.1 c.2)),
-  ),
-)
+the_set_in_order ns = grind (arith, common_steps, in_order-rises, has-contains, in_order-has, contains-has, has-in_order)
 
 -- it is the same which of two numbers comes first
 low_first : (m n : ℕ) (xs : List ℕ) → m < n → with_number (with_number xs m) n ≡ with_number (with_number xs n) m
-low_first m n [] less = grind (arith, common_steps, order_of)
-low_first m n (x ∷ xs) less = grind (arith, common_steps, order_of, low_first m n xs less)
+low_first m n [] less = grind (arith, common_steps, cases_order)
+low_first m n (x ∷ xs) less = grind (arith, common_steps, cases_order, low_first m n xs less)
 
 either_first : (m n : ℕ) (xs : List ℕ) → with_number (with_number xs m) n ≡ with_number (with_number xs n) m
-either_first m n xs = grind (arith, common_steps, order_of, low_first)
+either_first m n xs = grind (arith, common_steps, cases_order, low_first)
 
 -- one number more at the end is one insertion more
 pub in_order-push : (ns : List ℕ) (n : ℕ) → in_order (ns ++ n ∷ []) ≡ with_number (in_order ns) n

@@ -1,15 +1,11 @@
 -- The sections, the skipped records and the first fault of a list of records that more records follow.
-use Rattle.std.proofs.{Common.{◌≡◌, ℕ, zero, suc, ◌+◌, ◌<◌, ◌≤◌, Bool, cond, map, List, [], ◌∷◌, ◌++◌, Option, Some, None, Result, Ok, Err, length, take, refl, sym, ap, ◌∙◌, arith, add-one, length-append, ⊎_elim, ◌==◌, filter, append_assoc, append-nil, take_at, take_all, lt-ltb, le-ltb}, lemmas.List.{map-append, take-append-le, get_or_append_left, get_or_at, length_push}, lemmas.List.Elements.{filter-append}, lemmas.List.Sums.{sum_by-append}, lemmas.Bool.{cases_lt}, lemmas.Grind.{common_steps}}
+use Rattle.std.proofs.{Common.{◌≡◌, ℕ, zero, suc, ◌+◌, ◌<◌, ◌≤◌, cond, map, List, [], ◌∷◌, ◌++◌, Option, Some, None, Result, Ok, Err, length, take, refl, sym, ap, ◌∙◌, arith, add-one, length-append, ⊎_elim, ◌==◌, filter, append_assoc, append-nil, take_at, take_all, lt-ltb, le-ltb}, lemmas.List.{map-append, take-append-le, get_or_append_left, get_or_at, length_push}, lemmas.List.Elements.{filter-append}, lemmas.List.Sums.{sum_by-append}, lemmas.Bool.{cases_lt}, lemmas.Grind.{common_steps}}
 use Rattle.pmf_event.specs.declared.event.Event.{Event}
 use Rattle.pmf_storelog.{specs.declared.fault.TheConstants.{LOG_LIMIT}, specs.declared.fault.Cause.{Cause}, specs.declared.fault.Cause.TheVariants.{TooLong}, specs.declared.fault.LogFault.{LogFault}, specs.declared.record.Saying.{Saying}, specs.declared.record.Saying.TheVariants.{Happens, Enters, Skipped}, specs.Records.{record_of}, specs.Sections.{with_event}, specs.Separators.{records_of, ended_records}, specs.LogText.{reading_at, number_after, current_at, current_of, numbered, numbered_among, numbered_events, events_in, entered, entered_among, entered_of, numbers_of, is_skipped, skipped_of, refusal_after, refusal_at, or_else, first_fault_among, first_fault, too_long, shown_within, fault_within, shown_fault, fault_of, IsFaultOfAll}, specs.Rising.{with_number, in_order}, proofs.InOrderLemmas.{in_order-push}, proofs.PartLemmas.{ended_records-more, records_of-unfinished, unfinished}}
 
 -- the events of a section among numbered ones
 abbrev pub in_section : ℕ → List (ℕ × Event) → List Event
 in_section number entries = map (λ entry. entry.1) (filter (λ entry. entry.0 == number) entries)
-
-one_event : (here : Bool) (number : ℕ) (events : List Event) (event : Event) →
-    events ++ map (λ (entry : ℕ × Event). entry.1) (cond here ((number, event) ∷ []) []) ≡ cond here (events ++ event ∷ []) events
-one_event here number events event = grind (arith, common_steps, append-nil)
 
 -- the numbers with that of the section that a reading is of
 abbrev pub numbers_with : Result Saying Cause → ℕ → List ℕ → List ℕ
@@ -19,10 +15,7 @@ numbers_with (Ok Skipped) current numbers = numbers
 numbers_with (Err cause) current numbers = numbers
 
 pub in_order-entered : (reading : Result Saying Cause) (current : ℕ) (before : List ℕ) → in_order (before ++ entered current reading) ≡ numbers_with reading current (in_order before)
-in_order-entered (Ok (Happens event)) current before = in_order-push before current
-in_order-entered (Ok (Enters number)) current before = in_order-push before number
-in_order-entered (Ok Skipped) current before = ap in_order (append-nil before)
-in_order-entered (Err cause) current before = ap in_order (append-nil before)
+in_order-entered reading current before = grind (arith, common_steps, in_order-push, append-nil)
 
 -- what the records before more of them say
 module _ (records more : List (List ℕ)) where
@@ -67,10 +60,6 @@ module _ (records : List (List ℕ)) (text : List ℕ) where
   unfolding current_of current_at
   current_of-push = grind (arith, common_steps, one_more, reading_at-last, current_at-append)
 
-  pub numbered_events-push : numbered_events (records ++ text ∷ []) ≡ numbered_events records ++ numbered (current_of records) (record_of text)
-  unfolding numbered_events numbered_among current_of
-  numbered_events-push = grind (arith, common_steps, one_more, reading_at-last, current_at-append, numbered_among-append)
-
   entered_of-push : entered_of (records ++ text ∷ []) ≡ entered_of records ++ entered (current_of records) (record_of text)
   unfolding entered_of entered_among current_of
   entered_of-push = grind (arith, common_steps, one_more, reading_at-last, current_at-append, entered_among-append)
@@ -91,12 +80,12 @@ module _ (records : List (List ℕ)) (text : List ℕ) where
 
   -- the events of each section, by what the record says
   pub events_in-push : (number : ℕ) → events_in (records ++ text ∷ []) number ≡ events_in records number ++ in_section number (numbered (current_of records) (record_of text))
-  unfolding events_in
-  events_in-push number = grind (arith, common_steps, numbered_events-push, filter-append, map-append)
+  unfolding events_in numbered_events numbered_among current_of
+  events_in-push number = grind (arith, common_steps, one_more, reading_at-last, current_at-append, numbered_among-append, filter-append, map-append)
 
   pub events_in-event : (event : Event) → record_of text ≡ Ok (Happens event) → (number : ℕ) →
       events_in (records ++ text ∷ []) number ≡ with_event (events_in records) (current_of records) event number
-  events_in-event event says number = grind (arith, common_steps, events_in-push, one_event)
+  events_in-event event says number = grind (arith, common_steps, events_in-push, append-nil)
 
   pub events_in-enter : (entered : ℕ) → record_of text ≡ Ok (Enters entered) → (number : ℕ) → events_in (records ++ text ∷ []) number ≡ events_in records number
   events_in-enter entered says number = grind (arith, common_steps, events_in-push, append-nil)
@@ -111,10 +100,6 @@ module _ (records : List (List ℕ)) (text : List ℕ) where
   pub skipped_of-enter : (number : ℕ) → record_of text ≡ Ok (Enters number) → skipped_of (records ++ text ∷ []) ≡ skipped_of records
   unfolding skipped_of is_skipped
   skipped_of-enter number says = rw (sum_by-append (λ x. cond (is_skipped x) 1 0) records (text ∷ []), says) (omega arith)
-
-  pub skipped_of-nothing : record_of text ≡ Ok Skipped → skipped_of (records ++ text ∷ []) ≡ skipped_of records + 1
-  unfolding skipped_of is_skipped
-  skipped_of-nothing says = rw (sum_by-append (λ x. cond (is_skipped x) 1 0) records (text ∷ []), says) (omega arith)
 
 -- a fault stays the first one, whatever follows
 pub first_fault-more : (records more : List (List ℕ)) (fault : LogFault) → first_fault records ≡ Some fault → first_fault (records ++ more) ≡ Some fault
@@ -131,9 +116,6 @@ first_fault-records xs ys fault is =
 
 or_else-none : (first : Option LogFault) → or_else first None ≡ first
 or_else-none first = grind (arith, common_steps)
-
-none_is_some : {fault : LogFault} → None ≡ Some fault → ⊥
-none_is_some same = cc
 
 -- the front of bytes that more bytes follow
 take_more_of : (limit : ℕ) (xs ys : List ℕ) → (zs : List ℕ) × (take limit (xs ++ ys) ≡ take limit xs ++ zs)

@@ -22,10 +22,6 @@ pub numeral_from-digit : (radix value c : ℕ) (text : List ℕ) → digit_value
 unfolding numeral_from
 numeral_from-digit radix value c text digit = rw (lt-ltb (digit_value c) radix digit) refl
 
-pub numeral_from-other : (radix value c : ℕ) (text : List ℕ) → radix ≤ digit_value c → numeral_from radix value (c ∷ text) ≡ None
-unfolding numeral_from
-numeral_from-other radix value c text other = rw (le-ltb (digit_value c) radix other) refl
-
 grows : (radix value digit last : ℕ) → 0 < radix → value * radix + digit ≤ last → value ≤ last
 grows radix value digit last some le = grind (arith, common_steps)
 
@@ -36,11 +32,6 @@ digits_value_after-ge radix value (c ∷ text) some =
     grows radix value (digit_value c) (digits_value_after radix (value * radix + digit_value c) text) some
     (digits_value_after-ge radix (value * radix + digit_value c) text some)
 
-pub numeral_from-large : (radix value : ℕ) (text : List ℕ) → 0 < radix → 2 ^ 64 ≤ value → numeral_from radix value text ≡ None
-unfolding numeral_from
-numeral_from-large radix value text some large =
-    rw (le-ltb (digits_value_after radix value text) (2 ^ 64) (omega (arith, digits_value_after-ge radix value text some)), and-false (list_all (is_digit_in radix) text)) refl
-
 pub numeral_from-end : (radix value : ℕ) → value < 2 ^ 64 → numeral_from radix value [] ≡ Some value
 unfolding numeral_from
 numeral_from-end radix value small = rw (lt-ltb value (2 ^ 64) small) refl
@@ -48,13 +39,15 @@ numeral_from-end radix value small = rw (lt-ltb value (2 ^ 64) small) refl
 -- where the loop over the digits stands: the rest after the value is the whole
 module _ (radix most value i : ℕ) (text : List ℕ) (filled : 0 < length text) (short : length text ≤ most) (left : numeral_from radix value (drop i text) ≡ numeral_from radix 0 text) where
   pub at_other : i < length text → radix ≤ digit_value (get_or text i 0) → None ≡ numeral_of radix most text
-  at_other within other = grind (arith, common_steps, numeral_of-from, drop_more, numeral_from-other)
+  unfolding numeral_from
+  at_other within other = grind (arith, common_steps, numeral_of-from, drop_more)
 
   pub at_digit : i < length text → digit_value (get_or text i 0) < radix → numeral_from radix (value * radix + digit_value (get_or text i 0)) (drop (i + 1) text) ≡ numeral_from radix 0 text
   at_digit within digit = sym (sym left ∙ ap (numeral_from radix value) (drop_more text i 0 within) ∙ numeral_from-digit radix value (get_or text i 0) (drop (i + 1) text) digit)
 
   pub at_large : 0 < radix → i < length text → digit_value (get_or text i 0) < radix → 2 ^ 64 ≤ value * radix + digit_value (get_or text i 0) → None ≡ numeral_of radix most text
-  at_large some within digit large = grind (arith, common_steps, numeral_of-from, at_digit, numeral_from-large)
+  unfolding numeral_from
+  at_large some within digit large = grind (arith, common_steps, numeral_of-from, at_digit, le-ltb, digits_value_after-ge, and-false)
 
   pub at_end : length text ≤ i → value < 2 ^ 64 → Some value ≡ numeral_of radix most text
   at_end past small = sym (numeral_of-from radix most text filled short ∙ sym left ∙ ap (numeral_from radix value) (drop_all i text past) ∙ numeral_from-end radix value small)

@@ -1,6 +1,6 @@
 -- The lines of the canonical text of a section have no separator and no blank.
 use Rattle.std.{proofs.Common.{◌≡◌, ℕ, ◌^◌, ◌<◌, ◌≤◌, Bool, false, List, ◌++◌, length, refl, arith, rules, length-append, codes}, specs.Fmt.{digits}, specs.Char.{digit_value}, specs.List.{AllByRecursion}, proofs.lemmas.Fmt.{digits_is_IsNumeral}, proofs.lemmas.List.Elements.{All-from_recursion}, proofs.lemmas.Grind.{common_steps}}
-use Rattle.pmf_event.specs.{declared.event.Event.{Event}, Span.{Extent, IsValidExtent}, Address.{address}}
+use Rattle.pmf_event.specs.{declared.event.Event.{Event}, Address.{address}}
 use Rattle.pmf_storelog.{specs.Separators.{is_separator, is_blank}, specs.Canonical.{field_of, fields_of_span, fields_of_event, name_of}, specs.Spelling.{AllValid}, proofs.CanonicalLemmas.{not_digit, each-digits, each-append, fits_of}, proofs.PlainRecordLemmas.{IsPlain}}
 
 -- no byte passes
@@ -21,13 +21,9 @@ module _ (p : ℕ → Bool) (digit : (c : ℕ) → digit_value c < 36 → p c �
   unfolding field_of
   none-field n small = (semicolon, none-address n small)
 
-  none-span : (s : Extent) → IsValidExtent s.first s.size → NoneIn p (fields_of_span s)
-  unfolding fields_of_span
-  none-span s valid = grind (arith, common_steps, fits_of, each-append, none-field)
-
   none-fields : (event : Event) → AllValid event → NoneIn p (fields_of_event event)
-  unfolding fields_of_event
-  none-fields event fit = grind (arith, common_steps, each-append, none-field, none-span, fits_of, digit)
+  unfolding fields_of_event fields_of_span
+  none-fields event fit = grind (arith, common_steps, each-append, none-field, fits_of, digit)
 
   none-text : (event : Event) → AllValid event → NoneIn p (text_of_event event)
   none-text event fit = each-append _ (name_of event) (fields_of_event event) (named event) (none-fields event fit)

@@ -29,8 +29,7 @@ module _ (run : ℕ) (bytes : List ℕ) (old : Progress) (parsed : HasParsed run
 -- a fault that a front of the piece shows is shown by the piece
 pub shown_by_front : (bytes front piece rest : List ℕ) (fault : LogFault) → front ++ rest ≡ piece →
     IsShown fault (first_fault (ended_records (bytes ++ front))) → IsShown fault (first_fault (ended_records (bytes ++ piece)))
-shown_by_front bytes front piece rest fault whole shown = λ memory.
-    ap (λ all. first_fault (ended_records all)) (ap (λ all. bytes ++ all) (sym whole) ∙ sym (append_assoc bytes front rest)) ∙ first_fault-ended (bytes ++ front) rest fault (shown memory)
+shown_by_front bytes front piece rest fault whole shown = grind (arith, common_steps, append_assoc, first_fault-ended)
 
 -- with nothing kept, what `take_part` answers of the bytes before the separator is said of the piece
 module _ (run : ℕ) (bytes : List ℕ) (old : Progress) (parsed : HasParsed run bytes old) (piece end : List ℕ) where

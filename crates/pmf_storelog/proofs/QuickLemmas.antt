@@ -142,14 +142,11 @@ part_found text event len found within ends =
 
 -- what a text doesn't begin with, its first field doesn't either, and is not
 module _ (text name rest : List ℕ) (whole : text ≡ name ++ rest) (front : List ℕ) (other : starts_with nat_eq text front ≡ false) where
-  never_begins : (more : List ℕ) → text ≡ front ++ more → ⊥
-  never_begins more is = let both : true ≡ false = sym ((starts_is Decides-eqb text front (starts_with nat_eq text front) refl).1 more is) ∙ other in cc
-
   not_named : (more : List ℕ) → bytes_eq name (front ++ more) ≡ false
-  not_named more = grind (arith, common_steps, false_from_ne_true, bytes_eq-Decides, append_assoc, never_begins)
+  not_named more = grind (arith, common_steps, false_from_ne_true, bytes_eq-Decides, append_assoc)
 
   not_begun : starts_with nat_eq name front ≡ false
-  not_begun = grind (arith, common_steps, false_from_ne_true, begins_with, append_assoc, never_begins)
+  not_begun = grind (arith, common_steps, false_from_ne_true, begins_with, append_assoc)
 
 saying_of-other : (text name rest : List ℕ) (others : List (List ℕ)) → text ≡ name ++ rest →
     starts_with nat_eq text (codes "STORE") ≡ false → starts_with nat_eq text (codes "FLUSH") ≡ false → starts_with nat_eq text (codes "FENCE") ≡ false → starts_with nat_eq text (codes "PMT.") ≡ false →
@@ -160,11 +157,11 @@ saying_of-other text name rest others whole store flush fence marker =
     rw (not_named text name rest whole (codes "STORE") store [], not_named text name rest whole (codes "FLUSH") flush [], not_named text name rest whole (codes "FENCE") fence [], marked (codes "PERSIST"), marked (codes "ORDERED"), marked (codes "EXCLUDE"), marked (codes "INCLUDE"), marked (codes "SECTION"), marked (codes "TXBEGIN"), marked (codes "TXADD"), marked (codes "TXEND"), marked (codes "CHECKSTART"), marked (codes "CHECKEND"), not_begun text name rest whole (codes "PMT.") marker) refl
 
 -- a record that begins as none of the names does is skipped
-pub record_of-other : (text : List ℕ) →
+pub record_of_other : (text : List ℕ) →
     starts_with nat_eq text (codes "STORE") ≡ false → starts_with nat_eq text (codes "FLUSH") ≡ false → starts_with nat_eq text (codes "FENCE") ≡ false → starts_with nat_eq text (codes "PMT.") ≡ false →
     record_of text ≡ Ok Skipped
 unfolding record_of fields_of
-record_of-other text store flush fence marker = by_fields (slice_split is_field_end text) (join_with_byte-slice_split 59 text)
+record_of_other text store flush fence marker = by_fields (slice_split is_field_end text) (join_with_byte-slice_split 59 text)
   where
     by_fields : (fields : List (List ℕ)) → join_with_byte 59 fields ≡ text → saying_of_fields fields ≡ Ok Skipped
     by_fields [] whole = refl

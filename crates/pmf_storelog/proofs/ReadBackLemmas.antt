@@ -1,7 +1,7 @@
 -- What is written of a section is a log that says the section alone.
-use Rattle.std.{proofs.Common.{Equal, ◌≡◌, ℕ, suc, ◌+◌, ◌^◌, ◌<◌, ◌≤◌, List, [], ◌∷◌, ◌++◌, None, Ok, length, map, take, All, refl, sym, ap, ◌∙◌, arith, flat_map, append_assoc, append-nil, take_all, ne_eqb}, proofs.lemmas.List.{length_push}, proofs.lemmas.Bool.Decides.{Decides-eqb}, specs.Cmp.{nat_cmp_is}, specs.Ordering.{match_ordering}, proofs.lemmas.Grind.{common_steps}}
+use Rattle.std.{proofs.Common.{◌≡◌, ℕ, suc, ◌+◌, ◌^◌, ◌<◌, ◌≤◌, List, [], ◌∷◌, ◌++◌, None, Ok, length, map, take, All, refl, ap, ◌∙◌, arith, flat_map, append_assoc, append-nil, take_all}, proofs.lemmas.List.{length_push}, proofs.lemmas.Bool.Decides.{Decides-eqb}, proofs.lemmas.Grind.{common_steps}}
 use Rattle.pmf_event.specs.{declared.event.Event.{Event}, declared.section.TheConstants.{EVENT_LIMIT}, Section.{Trace}}
-use Rattle.pmf_storelog.{specs.declared.record.Saying.TheVariants.{Happens, Enters}, specs.Separators.{records_of}, specs.Records.{record_of}, specs.Sections.{with_event}, specs.LogText.{current_of, current_at, entered_of, entered_among, numbers_of, events_in, numbered_events, numbered_among, skipped_of, first_fault, first_fault_among, refusal_after, number_after, sections_of, value_of, fault_of, log_of}, specs.Rising.{with_number}, specs.Canonical.{canonical_text, line_of_event, line_of_marker}, specs.Spelling.{AllValid}, proofs.LogLemmas.{numbers_with, current_of-push, numbers_of-push, events_in-event, events_in-enter, skipped_of-event, skipped_of-enter, first_fault-push, fault_within-short}, proofs.PlainLemmas.{text_of_event, text_of_marker}, proofs.RoundTripLemmas.{EachValid, canonical_records, records_of-canonical, canonical-length}, proofs.SpellingLemmas.{record_of-event, record_of-marker}, specs.LogValue.{LogValue}}
+use Rattle.pmf_storelog.{specs.declared.record.Saying.TheVariants.{Happens, Enters}, specs.Separators.{records_of}, specs.Records.{record_of}, specs.Sections.{with_event}, specs.LogText.{current_of, current_at, entered_of, entered_among, numbers_of, events_in, numbered_events, numbered_among, skipped_of, first_fault, first_fault_among, refusal_after, number_after, sections_of, value_of, fault_of, log_of}, specs.Canonical.{canonical_text, line_of_event, line_of_marker}, specs.Spelling.{AllValid}, proofs.LogLemmas.{numbers_with, current_of-push, numbers_of-push, events_in-event, events_in-enter, skipped_of-event, skipped_of-enter, first_fault-push, fault_within-short}, proofs.PlainLemmas.{text_of_event, text_of_marker}, proofs.RoundTripLemmas.{EachValid, canonical_records, records_of-canonical, canonical-length}, proofs.SpellingLemmas.{record_of-event, record_of-marker}, specs.LogValue.{LogValue}}
 
 -- these records say one section, with this number and these events
 record Says (number : ℕ) (events : List Event) (records : List (List ℕ)) : Type 0 where
@@ -13,9 +13,6 @@ record Says (number : ℕ) (events : List Event) (records : List (List ℕ)) : T
 
 log_value : List Trace → ℕ → LogValue
 log_value sections skipped = record { sections = sections; skipped = skipped }
-
-same_number : (n : ℕ) → with_number (n ∷ []) n ≡ n ∷ []
-same_number n = ap (λ o. match_ordering o (n ∷ n ∷ []) (n ∷ []) (n ∷ n ∷ [])) (sym (nat_cmp_is n n Equal refl))
 
 no_refusal_at_marker : (n : ℕ) (text : List ℕ) → record_of text ≡ Ok (Enters n) → refusal_after [] (record_of text) ≡ None
 unfolding refusal_after entered_of entered_among
@@ -32,15 +29,12 @@ says-marker n text says = record {
 }
 
 module _ (n : ℕ) (events : List Event) (records : List (List ℕ)) (has : Says n events records) (event : Event) (text : List ℕ) (says : record_of text ≡ Ok (Happens event)) where
-  no_refusal : length events < EVENT_LIMIT → refusal_after records (record_of text) ≡ None
-  unfolding refusal_after
-  no_refusal few = rw (says, has.current, has.events_are, ne_eqb (length events) EVENT_LIMIT (λ full. omega (arith, full, few))) refl
-
   here : with_event (events_in records) n event n ≡ events ++ event ∷ []
   here = rw (has.events_are, (Decides-eqb n n).1 refl) refl
 
   says-event : length events < EVENT_LIMIT → Says n (events ++ event ∷ []) (records ++ text ∷ [])
-  says-event few = grind (arith, common_steps, current_of-push, numbers_of-push, events_in-event, skipped_of-event, first_fault-push, no_refusal, same_number, here)
+  unfolding refusal_after
+  says-event few = grind (arith, common_steps, current_of-push, numbers_of-push, events_in-event, skipped_of-event, first_fault-push, here)
 
 says-events : (n : ℕ) (done left : List Event) (records : List (List ℕ)) → Says n done records → EachValid left → length done + length left ≤ EVENT_LIMIT →
     Says n (done ++ left) (records ++ map text_of_event left)
@@ -60,22 +54,14 @@ module _ (section : Trace) (small : section.name.number < 2 ^ 64) (valid : EachV
   records_are : records_of (canonical_text section) ≡ canonical_records section
   records_are = records_of-canonical section small valid
 
-  no_fault_in_text : fault_of (canonical_text section) ≡ None
-  unfolding fault_of
-  no_fault_in_text = grind (arith, common_steps, fault_within-short, canonical-length, records_are, says-section)
-
-  sections_are : sections_of section.name.run (canonical_records section) ≡ section ∷ []
-  unfolding sections_of
-  sections_are = grind (arith, common_steps, says-section)
-
   value_is : value_of section.name.run (canonical_text section) ≡ record { sections = section ∷ []; skipped = 0 }
-  unfolding value_of log_value
-  value_is = grind (arith, common_steps, records_are, sections_are, says-section)
+  unfolding value_of log_value sections_of
+  value_is = grind (arith, common_steps, records_are, says-section)
 
   -- the log with the text of a section says the section, and nothing else
   pub log_of-canonical : log_of section.name.run (canonical_text section) ≡ Ok (record { sections = section ∷ []; skipped = 0 })
-  unfolding log_of
-  log_of-canonical = grind (arith, common_steps, no_fault_in_text, value_is)
+  unfolding log_of fault_of
+  log_of-canonical = grind (arith, common_steps, fault_within-short, canonical-length, records_are, says-section, value_is)
 
 -- the same, by places
 each_valid : (events : List Event) → All AllValid events → EachValid events

@@ -160,19 +160,16 @@ module _ (run : ℕ) (numbers : List ℕ) (events : ℕ → List Event) (current
   -- what `open` answers, said of the numbers
   pub begun_ok : (number : ℕ) (new : OpenSections) (r : Result (Unit {0}) Cause) → get nat_cmp old.places number ≡ None → OnOk r (Opens number old new) →
       OnOk r (HasSections run (with_number numbers number) events number new)
-  begun_ok number new (Ok done) none opens = begun number new none opens
-  begun_ok number new (Err cause) none opens = tt
+  begun_ok number new r none opens = grind (arith, common_steps, begun)
 
   pub begun_room : (number : ℕ) (new : OpenSections) (r : Result (Unit {0}) Cause) → get nat_cmp old.places number ≡ None → OnOk r (Opens number old new) →
       OnOk r (length (with_number numbers number) ≤ SECTION_LIMIT)
-  begun_room number new (Ok done) none opens = omega (arith, longer number none, opens.room, has.count)
-  begun_room number new (Err cause) none opens = tt
+  begun_room number new r none opens = grind (arith, common_steps, longer)
 
   pub begun_err : (number : ℕ) (r : Result (Unit {0}) Cause) → get nat_cmp old.places number ≡ None →
       IfErr r (λ cause. cause ≢ OutOfMemory → (cause ≡ TooManySections) × (SECTION_LIMIT ≤ length old.sections.items)) →
       IfErr r (λ cause. cause ≢ OutOfMemory → (cause ≡ TooManySections) × (SECTION_LIMIT < length (with_number numbers number)))
-  begun_err number (Ok done) none full = tt
-  begun_err number (Err cause) none full = λ memory. ((full memory).0, omega (arith, longer number none, (full memory).1, has.count))
+  begun_err number r none full = grind (arith, common_steps, longer)
 
   -- before the first section 0 is current, and its section begins
   pub first_begun : (mid : OpenSections) → length old.sections.items ≡ 0 → Opens 0 old mid → HasSections run (with_number numbers 0) events 0 mid
@@ -184,15 +181,9 @@ module _ (run : ℕ) (numbers : List ℕ) (events : ℕ → List Event) (current
 
 -- what the first section's event answers is said of no section before it
 module _ (run : ℕ) (numbers : List ℕ) (events : ℕ → List Event) (current : ℕ) (old mid : OpenSections) (has : HasSections run numbers events current old) (empty : length old.sections.items ≡ 0) (opens : Opens 0 old mid) where
-  first_numbers : with_number (with_number numbers 0) 0 ≡ with_number numbers current
-  first_numbers =
-      same_numbers run (with_number numbers 0) events 0 mid (first_begun run numbers events current old has mid empty opens) 0 _ opens.updates.1
-      ∙ ap (with_number numbers) (sym (has.before empty))
-
   pub first_ok : (event : Event) (new : OpenSections) (r : Result (Unit {0}) Cause) → OnOk r (HasSections run (with_number (with_number numbers 0) 0) (with_event events 0 event) 0 new) →
       OnOk r (HasSections run (with_number numbers current) (with_event events current event) current new)
-  first_ok event new (Err cause) holds = tt
-  first_ok event new (Ok done) holds = sections_as run _ _ _ _ _ _ new first_numbers (λ n. ap (λ c. with_event events c event n) (has.before empty)) (sym (has.before empty)) holds
+  first_ok event new r holds = grind (arith, common_steps, sections_as, same_numbers, first_begun)
 
 -- a list by entries is a list by their numbers
 by_number : (entries : List (ℕ × ℕ)) (f : ℕ × ℕ → Trace) (g : ℕ → Trace) → ((k : ℕ) (d : ℕ × ℕ) → k < length entries → f (get_or entries k d) ≡ g (get_or entries k d).0) →
@@ -217,8 +208,7 @@ listed_ok value (Ok list) run numbers events current opened has shared same is =
 -- one turn of the walk over the entries: what is listed, and what is left
 pub next_listed : (of_entry : ℕ × ℕ → Trace) (list longer all : List Trace) (entry : ℕ × ℕ) (left rest : List (ℕ × ℕ)) → list ++ map of_entry left ≡ all → left ≡ entry ∷ rest →
     longer ≡ list ++ of_entry entry ∷ [] → longer ++ map of_entry rest ≡ all
-next_listed of_entry list longer all entry left rest so_far is next =
-    ap (λ (l : List Trace). l ++ map of_entry rest) next ∙ append_assoc list (of_entry entry ∷ []) (map of_entry rest) ∙ ap (λ l. list ++ map of_entry l) (sym is) ∙ so_far
+next_listed of_entry list longer all entry left rest so_far is next = grind (arith, common_steps, append_assoc)
 
 -- the end of the walk
 pub all_listed : (of_entry : ℕ × ℕ → Trace) (list all : List Trace) (left : List (ℕ × ℕ)) → list ++ map of_entry left ≡ all → left ≡ [] → list ≡ all

@@ -1,11 +1,8 @@
 -- The tally with one more record, and with one more part.
-use Rattle.std.proofs.{Common.{◌≡◌, ◌≢◌, ℕ, ◌+◌, ◌<◌, ◌≤◌, List, [], ◌∷◌, ◌++◌, Some, None, Result, Ok, Err, OnOk, IsOk, IfErr, length, length-append, refl, sym, ◌∙◌, arith, lt-ltb, le-ltb, eq-eqb, ne_eqb, append-nil}, lemmas.Grind.{common_steps}}
+use Rattle.std.proofs.{Common.{◌≡◌, ◌≢◌, ℕ, ◌+◌, ◌<◌, ◌≤◌, List, [], ◌∷◌, ◌++◌, Some, Result, Ok, Err, OnOk, IsOk, IfErr, length, length-append, refl, arith, lt-ltb, le-ltb, eq-eqb, ne_eqb, append-nil}, lemmas.Grind.{common_steps}}
 use Rattle.pmf_event.specs.declared.{event.Event.{Event}, section.TheConstants.{EVENT_LIMIT}}
-use Rattle.pmf_storelog.{specs.declared.fault.Cause.{Cause}, specs.declared.fault.Cause.TheVariants.{OutOfMemory, TooManyEvents, TooManySections}, specs.declared.fault.LogFault.{LogFault}, specs.declared.fault.TheConstants.{SECTION_LIMIT}, specs.declared.record.Saying.TheVariants.{Happens, Enters, Skipped}, specs.declared.tally.Tally.{Tally}, specs.Separators.{trimmed, records_in}, specs.Records.{record_of}, specs.LogText.{current_at, current_of, numbered_among, numbered_events, entered_among, entered_of, events_in, numbers_of, skipped_of, first_fault, first_fault_among, refusal_after, cause_after, fault_at, out_of_memory}, specs.Rising.{with_number, in_order}, specs.Answers.{IsShown}, specs.Sections.{HasSections, with_event}, specs.Tally.{HasTaken, AddsRecord, AddsSkipped, IsFaultFor}, proofs.LogLemmas.{current_of-push, numbers_of-push, events_in-event, events_in-enter, events_in-nothing, skipped_of-event, skipped_of-enter, skipped_of-nothing, first_fault-push}, proofs.SectionLemmas.{sections_as}}
-
-numbers_of-nil : numbers_of [] ≡ []
-unfolding numbers_of entered_of entered_among
-numbers_of-nil = refl
+use Rattle.pmf_storelog.{specs.declared.fault.Cause.{Cause}, specs.declared.fault.Cause.TheVariants.{OutOfMemory, TooManyEvents, TooManySections}, specs.declared.fault.LogFault.{LogFault}, specs.declared.fault.TheConstants.{SECTION_LIMIT}, specs.declared.record.Saying.TheVariants.{Happens, Enters, Skipped}, specs.declared.tally.Tally.{Tally}, specs.Separators.{trimmed, records_in}, specs.Records.{record_of}, specs.LogText.{current_at, current_of, numbered_among, numbered_events, entered_among, entered_of, events_in, numbers_of, skipped_of, first_fault, first_fault_among, refusal_after, cause_after, fault_at, out_of_memory}, specs.Rising.{with_number, in_order}, specs.Answers.{IsShown}, specs.Sections.{HasSections, with_event}, specs.Tally.{HasTaken, AddsRecord, AddsSkipped, IsFaultFor}, proofs.LogLemmas.{current_of-push, numbers_of-push, events_in-event, events_in-enter, events_in-nothing, skipped_of-event, skipped_of-enter, first_fault-push}, proofs.SectionLemmas.{sections_as}}
+use Rattle.pmf_storelog.specs.LogText.{is_skipped}
 
 pub current_of-nil : current_of [] ≡ 0
 unfolding current_of current_at
@@ -15,21 +12,9 @@ pub events_in-nil : (number : ℕ) → events_in [] number ≡ []
 unfolding events_in numbered_events numbered_among
 events_in-nil number = refl
 
-skipped_of-nil : skipped_of [] ≡ 0
-unfolding skipped_of
-skipped_of-nil = refl
-
-first_fault-nil : first_fault [] ≡ None
-unfolding first_fault first_fault_among
-first_fault-nil = refl
-
 pub taken_none : (run : ℕ) (tally : Tally) → HasSections run [] (λ _. []) 0 tally.sections → tally.records ≡ 0 → tally.skipped ≡ 0 → HasTaken run [] tally
-taken_none run tally sections count skipped = record {
-  faultless = first_fault-nil;
-  sections = sections_as run _ _ _ _ _ _ tally.sections (sym numbers_of-nil) events_in-nil (sym current_of-nil) sections;
-  count = count;
-  skipped = skipped ∙ sym skipped_of-nil;
-}
+unfolding first_fault first_fault_among numbers_of entered_of entered_among skipped_of
+taken_none run tally sections count skipped = grind (arith, common_steps, sections_as, events_in-nil, current_of-nil)
 
 -- what holds of one answer that another says was Ok
 said_ok : {S R N T : Type 0} (one : Result (Unit {0}) Cause) (r : Result (Unit {0}) LogFault) → OnOk one S → OnOk one R → OnOk r (IsOk one × N) → (S → R → N → T) → OnOk r T
@@ -56,7 +41,8 @@ module _ (run : ℕ) (records : List (List ℕ)) (text : List ℕ) (old : Tally)
   taken_enter number new says sections room count skipped = grind (arith, common_steps, new_fault, sections_as, numbers_of-push, events_in-enter, current_of-push, length-append, skipped_of-enter, le-ltb, one_entered)
 
   pub taken_nothing : (new : Tally) → record_of text ≡ Ok Skipped → AddsSkipped old new → HasTaken run (records ++ text ∷ []) new
-  taken_nothing new says adds = grind (arith, common_steps, new_fault, sections_as, numbers_of-push, events_in-nothing, current_of-push, length-append, skipped_of-nothing)
+  unfolding skipped_of is_skipped
+  taken_nothing new says adds = grind (arith, common_steps, new_fault, sections_as, numbers_of-push, events_in-nothing, current_of-push, length-append)
 
   pub shown_cause : (cause : Cause) → record_of text ≡ Err cause → first_fault (records ++ text ∷ []) ≡ Some (record { at = old.records + 1; cause = cause })
   shown_cause cause says = rw (new_fault, says) refl
@@ -80,8 +66,7 @@ module _ (run : ℕ) (records : List (List ℕ)) (text : List ℕ) (old : Tally)
       OnOk entered (HasSections run (with_number (numbers_of records) number) (events_in records) number mid.sections) →
       OnOk entered (length (with_number (numbers_of records) number) ≤ SECTION_LIMIT) →
       OnOk r (IsOk entered × AddsRecord mid new) → OnOk r (HasTaken run (records ++ text ∷ []) new)
-  entered_ok number mid new entered r says count skipped sections room adds = said_ok entered r sections room adds (λ there few more.
-      taken_enter number new says (rw more.sections there) few (omega (arith, more.count, count)) (more.skipped ∙ skipped))
+  entered_ok number mid new entered r says count skipped sections room adds = grind (arith, common_steps, said_ok, taken_enter)
 
   pub entered_err : (number : ℕ) (mid : Tally) (entered : Result (Unit {0}) Cause) (r : Result (Unit {0}) LogFault) → record_of text ≡ Ok (Enters number) → mid.records ≡ old.records →
       IfErr entered (λ cause. cause ≢ OutOfMemory → (cause ≡ TooManySections) × (SECTION_LIMIT < length (with_number (numbers_of records) number))) →

@@ -63,6 +63,7 @@ pub(crate) fn cut(text: &[u8]) -> (&[u8], Option<&[u8]>)
 }
 
 #[inline]
+#[tactic(auto, using(crate::proofs::FieldLemmas::field_end_found))]
 fn field_end(text: &[u8]) -> Option<usize>
     ensures cases { MatchOption result (fields_of text.now ≡ text.now ∷ [])
         (λ end. fields_of text.now

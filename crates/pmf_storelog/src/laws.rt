@@ -4,6 +4,7 @@ ghost use Rattle.pmf_storelog.specs.Laws.{InOrderIsTheSetInOrder, SectionNumbers
 
 /// The numbers of the sections of a log rise strictly, whatever the order of its markers and however
 /// often a section comes again.
+#[tactic(auto, using(crate::proofs::RisingLemmas::sections_rise))]
 pub fn section_numbers_rise()
     ensures { SectionNumbersRise }
 {}

@@ -31,6 +31,7 @@ pub fn read_event(line: &[u8]) -> Result<Event, LineFault>
     event_of(trim(line))
 }
 
+#[tactic(auto, using(std::proofs::lemmas::Grind::common_steps, crate::proofs::EventLineLemmas::one_record_none, crate::proofs::EventLineLemmas::one_record_some))]
 fn is_one_record(line: &[u8]) -> bool
     ensures { result ≡ is_one_record line.now }
 {

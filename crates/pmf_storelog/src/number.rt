@@ -77,6 +77,7 @@ const DIGITS: [u8; 256] = [
 
 // The value of a digit or of a letter of either case; 36 for any other byte.
 #[inline]
+#[tactic(auto, using(crate::proofs::DigitLemmas::table_value))]
 pub(crate) fn digit_of(byte: u8) -> u64
     ensures value { result ≡ digit_value byte }
 {

@@ -100,6 +100,7 @@ pub fn next_part(text: &[u8]) -> Option<(usize, Option<Event>)>
 
 // Where the first separator stands.
 #[inline]
+#[tactic(auto, using(crate::proofs::PartLemmas::separator_found))]
 fn next_separator(text: &[u8]) -> Option<usize>
     ensures cases { MatchOption result (parts_of text.now ≡ text.now ∷ [])
         (λ end. parts_of (take (end + 1) text.now)

@@ -27,6 +27,7 @@ pub(crate) fn read_quickly(text: &[u8]) -> Option<Saying>
 /// The event of the text's first part, and how long the part is, if it is a record of the usual
 /// spelling that isn't refused, has no blanks around it, and is ended by a separator.
 #[inline]
+#[tactic(auto, using(std::proofs::lemmas::Grind::common_steps, crate::proofs::QuickLemmas::part_found))]
 pub(crate) fn read_part(text: &[u8]) -> Option<(Event, usize)>
     ensures { IfSome result (λ found. BeginsWithPart text.now found.0 found.1) }
 {
@@ -77,6 +78,7 @@ fn read_event(text: &[u8]) -> Option<(Event, usize)>
 
 // A record whose text doesn't even begin as one of the names does, without a search for its name.
 #[inline]
+#[tactic(auto, using(std::proofs::lemmas::Grind::common_steps, crate::proofs::QuickLemmas::record_of_other))]
 fn read_other(text: &[u8]) -> Option<Saying>
     ensures { IfSome result (λ saying. record_of text.now ≡ Ok saying) }
 {
@@ -91,6 +93,7 @@ fn read_other(text: &[u8]) -> Option<Saying>
 
 // The span of a store's fields, and how long they are.
 #[inline]
+#[tactic(auto, using(std::proofs::lemmas::Grind::common_steps, crate::proofs::QuickLemmas::stored_found))]
 fn read_stored(text: &[u8]) -> Option<(Span, usize)>
     ensures { IfSome result (λ found. BeginsWithFields stored_span text.now found.0 found.1) }
 {
@@ -105,6 +108,7 @@ fn read_stored(text: &[u8]) -> Option<(Span, usize)>
 
 // The span of a record's two fields, and how long they are.
 #[inline]
+#[tactic(auto, using(std::proofs::lemmas::Grind::common_steps, crate::proofs::QuickLemmas::span_found))]
 fn read_span(text: &[u8]) -> Option<(Span, usize)>
     ensures { IfSome result (λ found. BeginsWithFields span_of_fields text.now found.0 found.1) }
 {
@@ -118,6 +122,7 @@ fn read_span(text: &[u8]) -> Option<(Span, usize)>
 
 // The order of the two spans of four fields, and how long these are.
 #[inline]
+#[tactic(auto, using(std::proofs::lemmas::Grind::common_steps, crate::proofs::QuickLemmas::order_found))]
 fn read_order(text: &[u8]) -> Option<(Event, usize)>
     ensures { IfSome result (λ found. BeginsWithFields order_of_fields text.now (Happens found.0) found.1) }
 {
@@ -144,6 +149,7 @@ fn after_field(text: &[u8]) -> Option<&[u8]>
 
 // The text after a field of letters and digits, and after the semicolon that ends it.
 #[inline]
+#[tactic(auto, using(std::proofs::lemmas::Grind::common_steps, std::proofs::lemmas::Int::Digits::digits_more))]
 fn skip_field(text: &[u8]) -> Option<&[u8]>
     ensures { IfSome result (λ rest. BeginsWithField text.now rest.now) }
 {

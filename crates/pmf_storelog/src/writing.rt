@@ -97,6 +97,7 @@ fn push_marker(text: &mut String, number: u64) -> Result<(), AllocError>
 
 /// The canonical text of the section: its marker, and one text line for each event. The text is a log
 /// that says this section and nothing else. Takes memory for the text alone.
+#[tactic(auto, using(std::proofs::lemmas::Grind::common_steps, crate::proofs::ReadBackLemmas::read_back))]
 pub fn write_section(alloc: Global, section: &Section) -> Result<Vec<u8>, AllocError>
     ensures text { IfOk result (λ text. text.items ≡ canonical_text section.now) }
     ensures reads_back { IfOk result (λ text. log_of section.now.name.run text.items
