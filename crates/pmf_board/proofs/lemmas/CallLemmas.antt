@@ -1,5 +1,5 @@
 -- What the calls do to what a pass knows, of one step and of several.
-use Rattle.std.proofs.{Common.{◌≡◌, ℕ, ◌+◌, ◌-◌, ◌%◌, ◌<◌, ◌≤◌, true, false, cond, ◌&&◌, eqb, count_by, ◌⊎◌, inl, inr, ⊎_elim, [], ◌∷◌, ◌++◌, refl, sym, ◌∙◌, ap, subst, arith, Option, Some, None, is_some, IfSome, IfNone, eq-eqb, le-leb}, lemmas.Bool.{lt-leb, cases_lt, true≢false}, lemmas.List.Elements.{Contains-append_left, Contains-append_right}}
+use Rattle.std.proofs.{Common.{◌≡◌, ℕ, ◌+◌, ◌-◌, ◌%◌, ◌<◌, ◌≤◌, true, false, cond, ◌&&◌, eqb, count_by, ◌⊎◌, inl, inr, ⊎_elim, [], ◌∷◌, ◌++◌, refl, sym, ◌∙◌, ap, subst, arith, Option, Some, None, is_some, IfSome, IfNone, eq-eqb, le-leb}, lemmas.Bool.{lt-leb, cases_lt, true≢false}, lemmas.List.Elements.{Contains-append_left, Contains-append_right}, lemmas.Grind.{common_steps}}
 use Rattle.pmf_board.{specs.declared.entry.Entry.{Entry}, specs.declared.task.Task.{Task}, specs.declared.view.View.{View}, specs.Machine.{entry}, specs.Views.{task, both, most_seen, seen, took, marked, HasSeenDone, HasSeenClosed, IsFrozen, NeverFalls}, specs.Rule.{Agrees, entry_of}, specs.Calls.{Marks, Stays, Takes, round_from}, proofs.lemmas.KeepLemmas.{bit, times-took, dones-both}, proofs.lemmas.SightLemmas.{most-le, most-of, dones-found, most-append_left, most-append_right, most-more, most-here, dones-more, dones-here, dones-cons}}
 
 pub NeverFalls-step : (v w : View) (s : ℕ) (e : Entry) → (HasSeenDone v s → e.handouts ≤ most_seen s v) → w.saw ≡ (seen v s e).saw → NeverFalls v w
@@ -74,10 +74,7 @@ pub record Known (v : View) (s word : ℕ) : Type 0 where
   pub done : 16 ≤ word → HasSeenDone v s
 
 pub Known-seen : (v w : View) (s word : ℕ) → w ≡ seen v s (entry_of word) → Agrees v s (entry_of word) → Known w s word
-Known-seen v w s word is agrees = record {
-  most = omega (arith, seen-most v w s (entry_of word) is agrees.most);
-  done = λ high. seen-done v w s (entry_of word) is (le-leb 16 word high);
-}
+Known-seen v w s word is agrees = grind (arith, common_steps, seen-most, seen-done, le-leb)
 
 -- a word that is not below the limit is of a section that isn't on offer
 pub closed-known : (limit : ℕ) (v : View) (s word : ℕ) → limit ≤ 8 → Known v s word → limit ≤ word → HasSeenClosed limit v s
@@ -121,18 +118,15 @@ all-round limit n first u v falls up round s there = by (cases_lt s first)
 
 module _ {A P : Type 0} where
   pub IfNone-of : (r : Option A) → is_some r ≡ false → IfNone r P → P
-  IfNone-of None e p = p
-  IfNone-of (Some x) e p = absurd (true≢false e)
+  IfNone-of r none told = grind (arith, common_steps)
 
 module _ {A P Q : Type 0} where
   pub IfNone-then : (r : Option A) → (P → Q) → IfNone r P → IfNone r Q
-  IfNone-then None f p = f p
-  IfNone-then (Some x) f p = p
+  IfNone-then r then told = grind (arith, common_steps)
 
 module _ {A : Type 0} {P Q : A → Type 0} where
   pub IfSome-then : (r : Option A) → ((x : A) → P x → Q x) → IfSome r P → IfSome r Q
-  IfSome-then None f p = p
-  IfSome-then (Some x) f p = f x p
+  IfSome-then r then told = grind (arith, common_steps)
 
 -- what either of two joined passes saw never falls
 pub NeverFalls-left : (v w : View) → IsFrozen (both v w) → NeverFalls v (both v w)

@@ -1,5 +1,5 @@
 -- Each kind of change of the board and of the views keeps the rule.
-use Rattle.std.proofs.{Common.{◌≡◌, ℕ, zero, suc, ◌+◌, ◌<◌, ◌≤◌, ◌≢◌, Bool, true, false, cond, ◌&&◌, eqb, leb, ◌⊎◌, inl, inr, ⊎_elim, ◌↔◌, List, [], ◌∷◌, ◌++◌, length, set, count_by, sum_by, refl, sym, ◌∙◌, ap, subst, arith, eq-eqb, ne_eqb, get_or-set_same}, lemmas.Bool.{cases_eq, cases_lt, true≢false}, lemmas.Bool.Decides.{nat_tests}, lemmas.List.Sums.{sum_by-append}, lemmas.List.Elements.{Contains-append_cases}}
+use Rattle.std.proofs.{Common.{◌≡◌, ℕ, zero, suc, ◌+◌, ◌<◌, ◌≤◌, ◌≢◌, Bool, true, false, cond, ◌&&◌, eqb, leb, ◌⊎◌, inl, inr, ⊎_elim, ◌↔◌, List, [], ◌∷◌, ◌++◌, length, set, count_by, sum_by, refl, sym, ◌∙◌, ap, subst, arith, eq-eqb, ne_eqb, get_or-set_same}, lemmas.Bool.{cases_eq, cases_lt, true≢false}, lemmas.Bool.Decides.{nat_tests}, lemmas.List.Sums.{sum_by-append}, lemmas.List.Elements.{Contains-append_cases}, lemmas.Grind.{common_steps}}
 use Rattle.atomic_table.proofs.Lists.{at_set, at_snoc, set_else}
 use Rattle.pmf_board.{specs.declared.entry.Entry.{Entry}, specs.declared.task.Task.{Task}, specs.declared.view.Sight.{Sight}, specs.declared.view.View.{View}, specs.Machine.{entry, entry_at, opening, untouched, handed_out, finished, hand_out, mark}, specs.Views.{task, sight, view, times, marks, dones, most_seen, HasSeenDone, HasMarked, seen, took, marked, kept, given, both, spent, first_view, is_hand_out, tells_done, IsFrozen}, specs.Rule.{Fits, IsKept, Agrees, due}, proofs.lemmas.TotalLemmas.{total-set, total-at, total-snoc, total-alone}, proofs.lemmas.WordLemmas.{opening-at}, proofs.lemmas.SightLemmas.{dones-more, dones-here, entry-set, most-le, most-of, dones-found, first-or_behind, none-in_none, most-append_le}}
 use mathlib.Core.Option.{some, some-injective, some-ne-none}
@@ -284,8 +284,7 @@ pub frozen-at : (board : List Entry) (views : List View) (id : ℕ) (v : View) �
 frozen-at board views id v is at x found d = let fits = is.fits id v at in omega (arith, fits.most x.section, ap (λ (e : Entry). e.handouts) (fits.done x found d))
 
 due-le : (b : Bool) → bit b ≤ 1
-due-le true = omega arith
-due-le false = omega arith
+due-le b = grind (arith, common_steps)
 
 pub times-le : (board : List Entry) (views : List View) (id : ℕ) (v : View) → IsKept board views → get_elem? views id ≡ some v → (s k : ℕ) → times s k v ≤ 1
 times-le board views id v is at s k = omega (arith, total-at (times s k) views id v at, is.once s k, due-le (leb 1 k && leb k (entry_at board s).handouts))

@@ -1,10 +1,9 @@
 -- The board machine, and the words and views of a board.
-use Rattle.std.proofs.{Common.{◌≡◌, ◌+◌, Bool, true, false, not, ltb, if◌then◌else◌, Some, None, map, set, refl, sym, ◌∙◌, ap, subst, arith}, lemmas.Bool.{ltb-true, not-true, and_parts}, lemmas.List.{map-set}, lemmas.Option.{same_Some, none-some, slice_get-get_or}}
+use Rattle.std.proofs.{Common.{◌≡◌, ◌+◌, Bool, true, false, not, ltb, if◌then◌else◌, Some, None, map, set, refl, sym, ◌∙◌, ap, subst, arith}, lemmas.Bool.{ltb-true, not-true, and_parts}, lemmas.List.{map-set}, lemmas.Option.{same_Some, none-some, slice_get-get_or}, lemmas.Grind.{common_steps}}
 use Rattle.pmf_board.{specs.declared.entry.Entry.{Entry}, specs.Machine.{untouched, entry_at, is_on_offer, handed_out, finished, hand_out, mark, taken}, specs.Views.{task, took, marked}, specs.Rule.{IsKept, word_of}, specs.Laws.{ChangesAreStepsOnWords, ChangesKeepTheRule, DoneIsFrozen}, proofs.lemmas.WordLemmas.{word-handed_out, word-finished}, proofs.lemmas.KeepLemmas.{IsKept-moves, Moves-took, Moves-marked, hand_out-stays, mark-stays}}
 
 if_some : {X : Type 0} (b : Bool) (x y : X) → (if b then Some x else None) ≡ Some y → (b ≡ true) × (x ≡ y)
-if_some true x y same = (refl, same_Some x y same)
-if_some false x y same = absurd (none-some y same)
+if_some b x y same = grind (arith, common_steps, same_Some, none-some)
 
 pub steps_on_words : ChangesAreStepsOnWords
 steps_on_words board s = (

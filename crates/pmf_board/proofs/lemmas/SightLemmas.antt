@@ -1,6 +1,6 @@
 -- What a view saw, and what stands.
 use Rattle.std.proofs.{Common.{◌≡◌, ℕ, ◌<◌, ◌≤◌, ◌≢◌, max, Bool, true, false, cond, ◌&&◌, eqb, ◌⊎◌, inl, inr, ⊎_elim, List, [], ◌∷◌, ◌++◌, length, set, count_by, refl, sym, ◌∙◌, ap, subst, arith, get_or-set_same, get_or-set_other, eqb-true, eq-eqb, Contains}, lemmas.Grind.{common_steps}, lemmas.List.Elements.{Contains-append_cases, Contains-append_left, Contains-append_right, Contains-push, Contains-push_cases}, lemmas.List.Sums.{sum_by-cons}, lemmas.Bool.{cases_eq}}
-use Rattle.pmf_board.specs.{declared.entry.Entry.{Entry}, declared.view.Sight.{Sight}, Machine.{untouched, entry_at}, Views.{most_in, tells_done, sight}}
+use Rattle.pmf_board.specs.{declared.entry.Entry.{Entry}, declared.view.Sight.{Sight}, Machine.{entry_at}, Views.{most_in, tells_done, sight}}
 
 abbrev bit : Bool → ℕ
 bit b = cond b 1 0
@@ -8,10 +8,7 @@ bit b = cond b 1 0
 module _ (board : List Entry) (s : ℕ) (x : Entry) where
   -- what is true of the entry set and of all others before is true of all
   pub entry-set : (P : ℕ → Entry → Type 0) → s < length board → P s x → ((t : ℕ) → t ≢ s → P t (entry_at board t)) → (t : ℕ) → P t (entry_at (set board s x) t)
-  entry-set P within here other t = ⊎_elim
-      (λ (same : t ≡ s). subst (λ (k : ℕ). P k (entry_at (set board s x) k)) (sym same) (subst (P s) (sym (get_or-set_same board s x untouched within)) here))
-      (λ (else : t ≢ s). subst (P t) (sym (get_or-set_other board s t x untouched else)) (other t else))
-      (cases_eq t s)
+  entry-set P within here other t = grind (arith, common_steps, ⊎_elim, get_or-set_same, get_or-set_other, cases_eq)
 
 module _ (s t n : ℕ) (x : Entry) (xs : List Sight) where
   pub most-le : (s ≡ t → x.handouts ≤ n) → most_in t xs ≤ n → most_in t (sight s x ∷ xs) ≤ n
@@ -32,9 +29,7 @@ module _ (s : ℕ) (x : Entry) (xs : List Sight) where
   dones-more t = omega (arith, sum_by-cons (λ y. cond (tells_done t y) 1 0) (sight s x) xs)
 
   pub dones-here : x.done ≡ true → 0 < count_by (tells_done s) (sight s x ∷ xs)
-  dones-here done =
-      let one : bit (eqb s s && x.done) ≡ 1 = (λ i. bit (eq-eqb s s refl i && done i)) in
-      omega (arith, one, sum_by-cons (λ y. cond (tells_done s y) 1 0) (sight s x) xs)
+  dones-here done = grind (arith, common_steps, eq-eqb, sum_by-cons)
 
   pub dones-cons : (t : ℕ) → 0 < count_by (tells_done t) (sight s x ∷ xs) → ((s ≡ t) × (x.done ≡ true)) ⊎ (0 < count_by (tells_done t) xs)
   dones-cons t some = by (eqb s t) x.done refl refl
