@@ -2,7 +2,7 @@
 use Rattle.std.{specs.Fmt.{digits}, proofs.Common.{◌≡◌, ◌≢◌, [], ◌∷◌, length, codes, refl, sym, ◌∙◌, ap, subst, arith}, proofs.lemmas.{List.Elements.{All-cons}, List.Kept.{AllPairs-cons}, Grind.{common_steps}}}
 use Rattle.pmf_event.specs.{declared.event.Event.TheVariants.{Fence}, declared.name.Name.{Name}, declared.profile.Profile.TheVariants.{One, Two}, Section.{Trace}}
 use Rattle.pmf_verdict.specs.Checked.{checked_by}
-use Rattle.pmf_ledger.{specs.Gathered.{ClashesAt, Holds, HoldsOther, IsLeastClash, IsLedgerOf}, specs.Gathering.{Begun, Gathering, Gives, IsBy, IsRefused, Joined, WithVerdict, set_of}, specs.LedgerText.{text_of_end, text_of_head, text_of_ledger}, specs.LedgerValue.{LedgerValue}, specs.Report.{text_of_counts, text_of_totals}, specs.Names.{IsBefore}, proofs.lemmas.AddingLemmas.{Contains-cons, Contains-cons_cases}, proofs.lemmas.GatheringLemmas.{by_one, gives_ledger}, proofs.lemmas.GivingLemmas.{gives_where_it_may}, proofs.lemmas.MergingLemmas.{none_of_empty}, proofs.lemmas.NameLemmas.{before-itself}, proofs.lemmas.RefusingLemmas.{gives_or_is_refused}, proofs.lemmas.UniqueLemmas.{Agrees-ledger, ledger_once}}
+use Rattle.pmf_ledger.{specs.Gathered.{ClashesAt, Holds, HoldsOther, IsLeastClash, IsLedgerOf}, specs.Gathering.{Begun, Gathering, Gives, IsBy, IsRefused, Joined, WithVerdict, set_of}, specs.LedgerText.{text_of_end, text_of_head, text_of_ledger}, specs.LedgerValue.{LedgerValue}, specs.Report.{text_of_counts, text_of_totals}, specs.Names.{IsBefore}, specs.Repeats.{IsLeastTwiceIn}, proofs.lemmas.AddingLemmas.{Contains-cons, Contains-cons_cases}, proofs.lemmas.GatheringLemmas.{by_one, gives_ledger}, proofs.lemmas.GivingLemmas.{gives_where_it_may}, proofs.lemmas.MergingLemmas.{none_of_empty}, proofs.lemmas.NameLemmas.{before-itself}, proofs.lemmas.RefusingLemmas.{gives_or_is_refused}, proofs.lemmas.UniqueLemmas.{Agrees-ledger, ledger_once}}
 
 abbrev one : Name
 one = record { run = 0; number = 1 }
@@ -96,3 +96,7 @@ gives_none = grind (arith, common_steps, gives_ledger, differ)
 
 are_refused : IsRefused clashing × IsRefused mixed
 are_refused = grind (arith, common_steps, gives_or_is_refused, gives_none)
+
+-- of the names 0.2, 0.1, 0.1 and 0.2 both stand twice, and 0.1 is the least that does
+least_twice : IsLeastTwiceIn (second.name ∷ one ∷ one ∷ second.name ∷ []) one
+least_twice = (omega arith, (λ other twice before. grind (arith, twice, before)))
