@@ -80,6 +80,32 @@ const UNFENCED_CUT: &[u8] =
     b"STORE;0x0;1;8|FLUSH;0x0;1|STORE;0x4;1;8|FENCE|STORE;0x44;1;60|FLUSH;0x40;1|STORE;0x70;1;1|\
 PMT.SECTION;9|STORE;0x44;0x0;0x3c|FLUSH;0x40;0x40|STORE;0x4;0x0;0x8|STORE;0x70;0x0;0x1|STORE;0x100;1;1";
 
+// More than half of the next part is open where the cut is overdue: it waits for the eighth event.
+const WAITS: &[u8] =
+    b"STORE;0x0;1;1|STORE;0x40;1;1|STORE;0x80;1;1|STORE;0xc0;1;1|STORE;0x100;1;1|FENCE|FENCE|STORE;0x140;1;1|FENCE";
+
+const WAITS_CUT: &[u8] =
+    b"STORE;0x0;1;1|STORE;0x40;1;1|STORE;0x80;1;1|STORE;0xc0;1;1|STORE;0x100;1;1|FENCE|FENCE|STORE;0x140;1;1|PMT.SECTION;9|\
+STORE;0x0;0x0;0x1|STORE;0x40;0x0;0x1|STORE;0x80;0x0;0x1|STORE;0xc0;0x0;0x1|STORE;0x100;0x0;0x1|STORE;0x140;0x0;0x1|FENCE";
+
+// A head would leave no room behind the eighth event: the cut is made where nothing is open.
+const CROWDED: &[u8] =
+    b"STORE;0x0;1;1|STORE;0x40;1;1|STORE;0x80;1;1|STORE;0xc0;1;1|STORE;0x100;1;1|STORE;0x140;1;1|STORE;0x180;1;1|STORE;0x1c0;1;1|\
+FLUSH;0x0;512|FENCE|STORE;0x0;2;1";
+
+const CROWDED_CUT: &[u8] =
+    b"STORE;0x0;1;1|STORE;0x40;1;1|STORE;0x80;1;1|STORE;0xc0;1;1|STORE;0x100;1;1|STORE;0x140;1;1|STORE;0x180;1;1|STORE;0x1c0;1;1|\
+FLUSH;0x0;512|FENCE|PMT.SECTION;9|STORE;0x0;2;1";
+
+#[test]
+fn a_cut_waits_for_room(rt: HostRuntime) -> Result<(), Fail> {
+    let crowded =
+        "section 0, event 9: the piece has more than 8 events: what is excluded or not durable takes about 8 events";
+    assert!(rt; is_cut(rt.alloc(), WAITS, 8, 9, WAITS_CUT, None)?);
+    assert!(rt; is_cut(rt.alloc(), CROWDED, 8, 9, CROWDED_CUT, Some(crowded))?);
+    Ok(())
+}
+
 #[test]
 fn what_is_open_is_told_again(rt: HostRuntime) -> Result<(), Fail> {
     assert!(rt; is_cut(rt.alloc(), DURABLE, 4, 1000, DURABLE_CUT, None)?);
