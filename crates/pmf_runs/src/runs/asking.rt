@@ -39,8 +39,8 @@ impl<S: State> RunMap<S> {
         }
     }
 
-    /// How many runs have a state that passes. Where two leaves meet, neighbouring ones may have one state. It takes a step for each run
-    /// of the leaves in which a state may pass.
+    /// How many runs have a state that passes: the one in front of the first change, which may have no number, too. Where two leaves
+    /// meet, neighbouring ones may have one state. It takes a step for each run of the leaves in which a state may pass.
     pub fn count_runs<T: Test<S>>(&self, test: &T) -> usize {
         match &self.root {
             None => usize::from(test.passes(self.gap)),

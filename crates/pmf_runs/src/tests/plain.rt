@@ -54,14 +54,15 @@ impl Plain {
         None
     }
 
-    /// How many runs pass, the last of which has no end.
+    /// How many runs pass: the first is red and may have no place, and the last has no end.
     pub(super) fn count_runs(&self, test: Is) -> usize {
-        let mut count = usize::from(test.passes(self.at(0)));
-        for place in 0..self.places() {
-            let next = place.saturating_add(1);
-            if test.passes(self.at(next)) && !test.passes(self.at(place)) {
+        let mut before = Colour::Red;
+        let mut count = usize::from(test.passes(before));
+        for place in 0..self.places().saturating_add(1) {
+            if test.passes(self.at(place)) && !test.passes(before) {
                 count = count.saturating_add(1);
             }
+            before = self.at(place);
         }
         count
     }
