@@ -208,7 +208,7 @@ pub fn work<O: Outbox, G: Gate>(
     ensures worked { HasWorked (map (λ s. s.value) sections.now) profile
         pass.old.view pass.new.view (O.sent outbox.old) (O.sent outbox.new) (most_left result) }
 
-    // It begins at the section of its own number, and takes none again before each was seen handed out or done.
+    // It takes fresh sections in turn from its own number on, and then none but such as had been handed out before.
     ensures turns { TakesInTurn board.now.words worker pass.old.view pass.new.view }
 
     // At Lost its gate lost it, by its own number, over a section that it took.
