@@ -5,5 +5,8 @@ pub use Rattle.pmf_event.specs.Section
 pub use Rattle.pmf_verdict.specs.Rows
 pub use Rattle.pmf_verdict.specs.Checked
 pub use Rattle.pmf_verdict.specs.Outcome
+pub use Rattle.pmf_runs.specs.Runs
 pub mod Cause
-pub mod Laws
+pub mod Changed
+pub mod Changing
+pub mod Cure

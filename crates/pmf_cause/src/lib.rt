@@ -1,20 +1,15 @@
 //! Why a section's rows are no PASS, and what would cure them.
-//!
-//! The [`Cause`] of a row looks back over the section's events (`specs/Cause`): what the row's byte lacks that had to be durable, or
-//! which event is missing or too many. Each row that counts as fail or as a warning has exactly one ([`laws`]).
-//!
-//! Not promised here: that a cure is found wherever there is one.
 #![tactic(auto)]
 
 mod cause;
-mod causes;
-pub mod laws;
+mod changing;
+mod edit;
 mod lack;
 mod need;
-#[cfg(test)]
-mod tests;
+mod trial;
 
 pub use cause::Cause;
-pub use causes::causes;
+pub use edit::Edit;
 pub use lack::Lack;
 pub use need::Need;
+pub use trial::{Trial, try_edits};

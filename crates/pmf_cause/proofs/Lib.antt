@@ -1,0 +1,2 @@
+pub mod ChangedLemmas
+pub mod TrialLemmas
