@@ -7,14 +7,12 @@
 #![tactic(auto)]
 
 mod cause;
-mod causes;
-pub mod laws;
 mod lack;
+mod marks;
 mod need;
-#[cfg(test)]
-mod tests;
+mod past;
+mod states;
 
 pub use cause::Cause;
-pub use causes::causes;
 pub use lack::Lack;
 pub use need::Need;

@@ -1,0 +1,2 @@
+pub mod MarksLemmas
+pub mod PastLemmas
