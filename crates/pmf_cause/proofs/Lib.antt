@@ -1,2 +1,3 @@
 pub mod MarksLemmas
 pub mod PastLemmas
+pub mod LawLemmas

@@ -1,6 +1,6 @@
 -- The transactions and scopes of one more event.
-use Rattle.std.proofs.{Common.{◌≡◌, ℕ, suc, ◌+◌, ◌-◌, ◌<◌, ◌≤◌, Bool, true, false, ◌&&◌, ◌==◌, nat_lt, not, if◌then◌else◌, List, Some, refl, sym, ap, ◌∙◌, arith}, lemmas.Grind.{common_steps}}
-use Rattle.pmf_event.{specs.declared.event.Event.{Event}, specs.Places.{greatest}, specs.Store.{event_at, last}, specs.Transactions.{begins, ends, opens_scope, closes_scope, depth_at, in_transaction, is_outside, scope_at}, proofs.PlacesLemmas.{greatest-step, greatest-zero}, proofs.EventLemmas.{last-step, last-none}, proofs.TransactionLemmas.{depth-start, scope-start, depth-begun, depth-ended, depth-kept, scope-stays, scope-opened, scope-kept, scope-closed, inside-from, outside-from}}
+use Rattle.std.proofs.{Common.{◌≡◌, ℕ, suc, ◌+◌, ◌-◌, ◌<◌, ◌≤◌, true, false, ◌==◌, if◌then◌else◌, List, Some, sym, ap, ◌∙◌, arith}, lemmas.Grind.{common_steps}}
+use Rattle.pmf_event.{specs.declared.event.Event.{Event}, specs.Places.{greatest}, specs.Store.{event_at}, specs.Transactions.{begins, ends, opens_scope, closes_scope, depth_at, in_transaction, is_outside, scope_at}, proofs.PlacesLemmas.{greatest-step, greatest-zero}, proofs.EventLemmas.{last-step, last-none}, proofs.TransactionLemmas.{depth-start, scope-start, depth-begun, depth-ended, depth-kept, scope-stays, scope-opened, scope-kept, scope-closed}}
 use Rattle.pmf_cause.specs.{declared.marks.Marks.{Marks}, Past.{AreMarks}}
 
 -- what begins a transaction ends none

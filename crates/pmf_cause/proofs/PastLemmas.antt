@@ -1,6 +1,6 @@
 -- What is kept of one more event.
-use Rattle.std.proofs.{Common.{◌≡◌, ℕ, suc, ◌+◌, ◌-◌, ◌<◌, ◌≤◌, ◌%◌, Bool, true, false, ◌&&◌, ◌==◌, nat_lt, nat_le, if◌then◌else◌, List, Option, Some, None, refl, sym, ap, ◌∙◌, arith, inl, inr, length, get_or}, lemmas.Bool.{cases_lt, ltb-true, and_parts}, lemmas.Grind.{common_steps}, lemmas.Option.{slice_get_read}}
-use Rattle.pmf_event.{specs.declared.event.Event.{Event}, specs.declared.event.Event.TheVariants.{Store, Flush, TxAdd}, specs.Span.{Extent}, specs.Line.{line_of_byte, meets_line}, specs.Places.{greatest, least}, specs.Store.{at, event_at, flushes, last, last_store, passes, stores}, specs.Interval.{writes_back, first_write_back}, specs.Transactions.{adds}, proofs.PlacesLemmas.{greatest-passes, greatest-zero, least-none_behind, least-zero}, proofs.EventLemmas.{last-here, last-none, last-other, last-step}, proofs.WriteBackLemmas.{first_write_back-next, or-zero}}
+use Rattle.std.proofs.{Common.{◌≡◌, ℕ, suc, ◌+◌, ◌-◌, ◌<◌, ◌%◌, Bool, true, false, ◌&&◌, ◌==◌, nat_lt, nat_le, if◌then◌else◌, List, Option, Some, None, refl, sym, ap, ◌∙◌, arith, inl, inr, length, get_or}, lemmas.Bool.{cases_lt, ltb-true, and_parts}, lemmas.Grind.{common_steps}, lemmas.Option.{slice_get_read}}
+use Rattle.pmf_event.{specs.declared.event.Event.{Event}, specs.declared.event.Event.TheVariants.{Store, Flush, TxAdd}, specs.Span.{Extent}, specs.Line.{line_of_byte, meets_line}, specs.Places.{greatest, least}, specs.Store.{at, event_at, flushes, last, last_store, passes, stores}, specs.Interval.{writes_back, first_write_back}, specs.Transactions.{adds}, proofs.PlacesLemmas.{greatest-passes, least-none_behind, least-zero}, proofs.EventLemmas.{last-here, last-none, last-other, last-step}, proofs.WriteBackLemmas.{first_write_back-next, or-zero}}
 use Rattle.pmf_runs.specs.{declared.runs.RunMap.{RunMap}, Runs.{is_between, state_at, ChangesBetween}}
 use Rattle.pmf_cause.specs.{declared.states.{Place.{Place}, Stored.{Stored}}, States.{stored_at, written_back_at}, Past.{AreAdds, AreFlushes, AreStores}}
 use Rattle.pmf_cause.specs.contracts.states.PlaceState.TheImpl as places

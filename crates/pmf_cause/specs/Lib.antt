@@ -2,6 +2,10 @@ pub use Rattle.pmf_event.specs.Store
 pub use Rattle.pmf_event.specs.Interval
 pub use Rattle.pmf_event.specs.Transactions
 pub use Rattle.pmf_event.specs.Section
+pub use Rattle.pmf_verdict.specs.Rows
+pub use Rattle.pmf_verdict.specs.Checked
+pub use Rattle.pmf_verdict.specs.Outcome
 pub mod Cause
+pub mod Laws
 pub mod States
 pub mod Past

@@ -8,6 +8,7 @@
 
 mod cause;
 mod lack;
+pub mod laws;
 mod marks;
 mod need;
 mod past;

@@ -1,4 +1,4 @@
-use Rattle.std.proofs.Common.{suc, ◌==◌, if◌then◌else◌, ◌∙◌, ap}
+use Rattle.std.proofs.Common.{◌==◌, if◌then◌else◌, ◌∙◌, ap}
 use Rattle.pmf_event.specs.Transactions.{closes_scope, ends}
 use Rattle.pmf_cause.proofs.MarksLemmas.{next}
 use Rattle.pmf_cause.proofs.marks.Marks.after.Goals as goal

@@ -1,4 +1,4 @@
-use Rattle.std.proofs.Common.{◌≡◌, ◌-◌, ◌≤◌}
+use Rattle.std.proofs.Common.{◌-◌, ◌≤◌}
 use Rattle.pmf_cause.specs.Past.{IsPast}
 use Rattle.pmf_cause.proofs.past.Past.go_to.Given as goal
 
