@@ -1,2 +1,10 @@
+pub mod PlaceLemmas
+pub mod StoredLemmas
+pub mod MarksLemmas
+pub mod PastLemmas
+pub mod LaterLemmas
+pub mod ListLemmas
+pub mod LawLemmas
 pub mod ChangedLemmas
 pub mod TrialLemmas
+pub mod ReachLemmas

@@ -38,13 +38,13 @@ lack_of es n =
     let w = write_back_after es (line_of_byte n.byte) n.last in
     lack_by n.last n.due w (fence_after es w)
 
--- what the row at p asks for: its byte, the last store of that, and the place by which it had to be durable: that of the assertion, or
--- the last store of the byte that had to come after
+-- what the row at p asks for: its byte, the last store of that in front of p, and the place by which it had to be durable: that of the
+-- assertion, or the last store of the byte that had to come after
 unfoldable pub need_at : List Event → ℕ → Finding → Option Need
-need_at es p (finding.PersistFail byte) = Some (record { byte = byte; last = last_store es p byte; due = p })
-need_at es p (finding.CheckFail byte) = Some (record { byte = byte; last = last_store es p byte; due = p })
-need_at es p (finding.OrderedFail byte after crash) = Some (record { byte = byte; last = last_store es p byte; due = last_store es p after })
-need_at es p (finding.OrderedSameLine byte after) = Some (record { byte = byte; last = last_store es p byte; due = last_store es p after })
+need_at es p (finding.PersistFail byte) = Some (record { byte = byte; last = last_store es (p - 1) byte; due = p })
+need_at es p (finding.CheckFail byte) = Some (record { byte = byte; last = last_store es (p - 1) byte; due = p })
+need_at es p (finding.OrderedFail byte after crash) = Some (record { byte = byte; last = last_store es (p - 1) byte; due = last_store es (p - 1) after })
+need_at es p (finding.OrderedSameLine byte after) = Some (record { byte = byte; last = last_store es (p - 1) byte; due = last_store es (p - 1) after })
 need_at es p _ = None
 
 -- ---- which event is missing, or too many

@@ -7,6 +7,10 @@ pub use Rattle.pmf_verdict.specs.Checked
 pub use Rattle.pmf_verdict.specs.Outcome
 pub use Rattle.pmf_runs.specs.Runs
 pub mod Cause
+pub mod Laws
+pub mod States
+pub mod Past
 pub mod Changed
 pub mod Changing
 pub mod Cure
+pub mod Reaching

@@ -1,0 +1,228 @@
+//! Cures of worked sections, and of random ones.
+
+use crate::edit::Edit;
+use crate::proposing::propose;
+use crate::trial::try_edits;
+use pmf_event::{Event, Finding, Name, Profile, Section, Span, SpanFault};
+use pmf_fixtures::{FENCE, FLUSH, Numbers, OTHER, STORE, Step, events_of};
+use pmf_verdict::{Outcome, Verdict, check, outcome_of};
+use std::alloc::{AllocError, Global};
+use std::sync::Arc;
+use std::test::Fail;
+
+const NAME: Name = Name { run: 0, number: 0 };
+
+fn verdict_of(alloc: Global, events: &[Event], profile: Profile) -> Result<Verdict, AllocError> {
+    let mut section = Section::new(alloc, NAME);
+    for event in events {
+        match section.push(*event) {
+            Ok(()) => {}
+            Err(_) => return Err(AllocError),
+        }
+    }
+    match check(alloc, Arc::new(alloc, section)?, profile) {
+        Ok(verdict) => Ok(verdict),
+        Err(_) => Err(AllocError),
+    }
+}
+
+fn put(before: u32, step: Step) -> Result<Edit, SpanFault> {
+    let event = step.event()?;
+    Ok(Edit::Put { before, event })
+}
+
+// Of the first row that is bad: what is proposed for it, and whether that cures it.
+fn cure_of(alloc: Global, steps: &[Step]) -> Result<(Vec<Edit>, bool), Fail> {
+    let events = events_of(alloc, steps)?;
+    let verdict = verdict_of(alloc, &events, Profile::One)?;
+    let mut index = 0;
+    while index + 1 < verdict.rows().len() && !is_bad(verdict.rows()[index].finding) {
+        index += 1;
+    }
+    let place = match verdict.rows().get(index) {
+        Some(row) => row.place,
+        None => 0,
+    };
+    let mut own = propose(alloc, &verdict, &[index])?.own;
+    let edits = own.pop().unwrap_or(Vec::new(alloc));
+    let cured = match try_edits(alloc, &verdict, &edits)? {
+        Some(trial) => trial.is_cured(place),
+        None => false,
+    };
+    Ok((edits, cured))
+}
+
+fn is_bad(finding: Finding) -> bool {
+    matches!(outcome_of(finding), Outcome::Fail | Outcome::Warn)
+}
+
+const PERSIST: Step = Step::Persist(0x1000, 8);
+const IN_ORDER: Step = Step::Ordered((0x1000, 8), (0x2000, 8));
+const WIDE: Step = Step::Store(0x1000, 0x100);
+const ADD: Step = Step::TxAdd(0x1000, 8);
+
+#[test]
+fn a_byte_is_written_back_and_fenced_as_far_as_it_lacks(rt: HostRuntime) -> Result<(), Fail> {
+    let wide = Step::Persist(0x1000, 0x100);
+    let lines = Step::Flush(0x1000, 0x100);
+    let apart = [STORE, Step::Store(0x1080, 8), wide];
+    let early = Step::Flush(0x1080, 0x40);
+    for (steps, want) in [
+        ([STORE, PERSIST].as_slice(), [put(2, FLUSH)?, put(2, FENCE)?].as_slice()),
+        ([STORE, FLUSH, PERSIST].as_slice(), [put(3, FENCE)?].as_slice()),
+        ([STORE, FENCE, PERSIST].as_slice(), [put(2, FLUSH)?].as_slice()),
+        ([STORE, FLUSH, OTHER, IN_ORDER].as_slice(), [put(3, FENCE)?].as_slice()),
+        ([STORE, OTHER, FLUSH, FENCE, IN_ORDER].as_slice(), [put(2, FLUSH)?, put(2, FENCE)?].as_slice()),
+        ([WIDE, wide].as_slice(), [put(2, lines)?, put(2, FENCE)?].as_slice()),
+        (apart.as_slice(), [put(3, FLUSH)?, put(3, early)?, put(3, FENCE)?].as_slice()),
+    ] {
+        let (edits, cured) = cure_of(rt.alloc(), steps)?;
+        assert!(rt; edits.as_slice() == want, "{steps:?}: {edits:?}");
+        assert!(rt; cured, "{steps:?}");
+    }
+    Ok(())
+}
+
+#[test]
+fn what_comes_in_the_wrong_order_has_no_cure(rt: HostRuntime) -> Result<(), Fail> {
+    let both = Step::Store(0x1000, 0x10);
+    let one_store = Step::Ordered((0x1000, 8), (0x1008, 8));
+    for steps in [
+        [OTHER, STORE, FLUSH, FENCE, IN_ORDER].as_slice(),
+        [both, one_store].as_slice(),
+    ] {
+        let (edits, cured) = cure_of(rt.alloc(), steps)?;
+        assert!(rt; edits.is_empty(), "{steps:?}: {edits:?}");
+        assert!(rt; !cured, "{steps:?}");
+    }
+    Ok(())
+}
+
+#[test]
+fn an_event_is_put_in_or_left_out(rt: HostRuntime) -> Result<(), Fail> {
+    let (start, end) = (Step::CheckStart, Step::CheckEnd);
+    let (begin, commit) = (Step::TxBegin, Step::TxEnd);
+    let out = |place| Edit::LeaveOut { place };
+    let closed = [start, begin, ADD, STORE, commit, FLUSH, FENCE];
+    let early = [start, begin, end, commit];
+    let never = [start, begin, end];
+    for (steps, want) in [
+        ([start, begin, STORE, FLUSH, commit, FENCE, end].as_slice(), [put(3, ADD)?].as_slice()),
+        ([start, begin, ADD, STORE, commit, end].as_slice(), [put(6, FLUSH)?, put(6, FENCE)?].as_slice()),
+        (closed.as_slice(), [put(8, end)?].as_slice()),
+        (early.as_slice(), [out(3), put(5, end)?].as_slice()),
+        (never.as_slice(), [put(3, commit)?].as_slice()),
+        ([ADD].as_slice(), [out(1)].as_slice()),
+        ([commit].as_slice(), [out(1)].as_slice()),
+        ([start, start, end].as_slice(), [out(2)].as_slice()),
+        ([end].as_slice(), [out(1)].as_slice()),
+        ([FLUSH].as_slice(), [out(1)].as_slice()),
+        ([STORE, FLUSH, FLUSH].as_slice(), [out(3)].as_slice()),
+        ([start, begin, ADD, ADD, commit, end].as_slice(), [out(4)].as_slice()),
+    ] {
+        let (edits, cured) = cure_of(rt.alloc(), steps)?;
+        assert!(rt; edits.as_slice() == want, "{steps:?}: {edits:?}");
+        assert!(rt; cured, "{steps:?}");
+    }
+    Ok(())
+}
+
+#[test]
+fn a_change_that_spoils_another_row_is_no_cure(rt: HostRuntime) -> Result<(), Fail> {
+    let alloc = rt.alloc();
+    let events = events_of(alloc, &[STORE, FLUSH, FENCE, PERSIST, FLUSH])?;
+    let verdict = verdict_of(alloc, &events, Profile::One)?;
+    let spoils = [Edit::LeaveOut { place: 2 }];
+    assert!(rt; try_edits(alloc, &verdict, &spoils)?.is_none());
+    let falls = [Edit::LeaveOut { place: 5 }, put(1, FENCE)?];
+    assert!(rt; try_edits(alloc, &verdict, &falls)?.is_none());
+    let cures = [Edit::LeaveOut { place: 5 }];
+    let trial = try_edits(alloc, &verdict, &cures)?;
+    assert!(rt; trial.is_some_and(|trial| trial.is_cured(5)));
+    Ok(())
+}
+
+// An event of an unruly section over some cache lines.
+fn event_of(numbers: &mut Numbers) -> Result<Event, SpanFault> {
+    let first = 0x1000 + 8 * numbers.below(24);
+    let size = 8 + 8 * numbers.below(6);
+    let a = Span::make(first, size)?;
+    let b = Span::make(0x1000 + 8 * numbers.below(24), 8)?;
+    Ok(match numbers.below(20) {
+        0..=4 => Event::Store(b),
+        5..=7 => Event::Flush(a),
+        8 | 9 => Event::Fence,
+        10 | 11 => Event::Persist(a),
+        12 | 13 => Event::Ordered(b, a),
+        14 => Event::TxBegin,
+        15 | 16 => Event::TxAdd(b),
+        17 => Event::TxEnd,
+        18 => Event::CheckStart,
+        _ => Event::CheckEnd,
+    })
+}
+
+#[test]
+fn what_is_proposed_for_random_rows_cures_them(rt: HostRuntime) -> Result<(), Fail> {
+    let alloc = rt.alloc();
+    let mut numbers = Numbers::of(36);
+    let (mut tried, mut cured) = (0u32, 0u32);
+    for _section in 0..300 {
+        let mut events = Vec::new(alloc);
+        for _event in 0..4 + numbers.below(30) {
+            events.push(event_of(&mut numbers)?)?;
+        }
+        let verdict = verdict_of(alloc, &events, Profile::One)?;
+        for index in 0..verdict.rows().len() {
+            let row = verdict.rows()[index];
+            let kind = row.finding;
+            if !matches!(kind, Finding::PersistFail { .. } | Finding::OrderedFail { .. } | Finding::NoBackup { .. } | Finding::CheckFail { .. }) {
+                continue;
+            }
+            let mut own = propose(alloc, &verdict, &[index])?.own;
+            let edits = own.pop().unwrap_or(Vec::new(alloc));
+            if edits.is_empty() {
+                continue;
+            }
+            tried += 1;
+            match try_edits(alloc, &verdict, &edits)? {
+                Some(trial) if trial.is_cured(row.place) => cured += 1,
+                _ => assert!(rt; false, "{events:?}: {row:?} by {edits:?}"),
+            }
+        }
+    }
+    assert!(rt; tried > 200 && cured == tried, "{cured} of {tried}");
+    Ok(())
+}
+
+#[test]
+fn all_cures_together_leave_no_row_that_has_one(rt: HostRuntime) -> Result<(), Fail> {
+    let alloc = rt.alloc();
+    let mut numbers = Numbers::of(37);
+    for _section in 0..300 {
+        let mut events = Vec::new(alloc);
+        for _event in 0..4 + numbers.below(40) {
+            let event = event_of(&mut numbers)?;
+            if matches!(event, Event::Store(_) | Event::Flush(_) | Event::Fence | Event::Persist(_) | Event::Ordered(_, _)) {
+                events.push(event)?;
+            }
+        }
+        let verdict = verdict_of(alloc, &events, Profile::One)?;
+        let mut wanted = Vec::new(alloc);
+        for index in 0..verdict.rows().len() {
+            wanted.push(index)?;
+        }
+        let proposal = propose(alloc, &verdict, &wanted)?;
+        let Some(trial) = try_edits(alloc, &verdict, &proposal.all)? else {
+            assert!(rt; false, "{events:?}: {proposal:?}");
+            return Ok(());
+        };
+        for (index, row) in verdict.rows().iter().enumerate() {
+            let has_one = proposal.own.get(index).is_some_and(|own| !own.is_empty());
+            if matches!(outcome_of(row.finding), Outcome::Fail) && has_one {
+                assert!(rt; trial.is_cured(row.place), "{events:?}: {row:?} by {proposal:?}");
+            }
+        }
+    }
+    Ok(())
+}

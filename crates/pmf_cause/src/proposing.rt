@@ -1,0 +1,293 @@
+//! Changes that may cure the rows of a verdict: what is proposed here is told only where a check of the changed section confirms it.
+
+ghost use Rattle.std.specs.Prelude.{◌≤◌, length};
+ghost use Rattle.pmf_event.specs.declared.section.TheConstants.{EVENT_LIMIT};
+ghost use Rattle.pmf_cause.specs.Reaching.{IsReached};
+
+use crate::edit::Edit;
+use crate::plan::Plan;
+use crate::reach::{Lacking, Reach};
+use pmf_event::{Event, Finding, LINE_SIZE, Row, Span};
+use pmf_verdict::{Outcome, Verdict, outcome_of};
+use std::alloc::{AllocError, Global};
+
+/// The most changes that are proposed for one row.
+const MOST: usize = 64;
+
+/// Changes that may cure rows. The places of each list rise.
+#[derive(Debug, Drop)]
+pub struct Proposal {
+    /// For all rows of the verdict together.
+    pub all: Vec<Edit>,
+    /// For each row that was asked for, what it needs alone; nothing where nothing was found.
+    pub own: Vec<Vec<Edit>>,
+}
+
+/// Proposes changes for the rows of the verdict, and for each wanted one, by its index in rising order, those that it needs alone.
+///
+/// A byte that lacks a write-back or a fence is written back and fenced in front of the place that asks for it; where a fence stands
+/// between its last store and that place, it is written back in front of that fence. A byte without a backup is added in front of
+/// its store. An event that is too many is left out, and one that is missing is put in. Not more than 64 changes are proposed for a row.
+///
+/// Takes time in proportion to the events and the rows, but for a logarithm: after some steps for each of them no more is
+/// proposed. Takes memory for what is kept of the events, and for what is proposed.
+pub fn propose(
+    alloc: Global,
+    verdict: &Verdict,
+    wanted: &[usize],
+) -> Result<Proposal, AllocError> {
+    let events = verdict.section().events();
+    let mut seeker = Seeker::new(alloc, events.len(), verdict.rows().len());
+    let mut reach = Reach::new(alloc);
+    let mut plan = Plan::new(alloc);
+    let mut own = Vec::new(alloc);
+    let mut left = wanted;
+    for (index, row) in verdict.rows().iter().enumerate() {
+        reach.go_to(events, row.place.saturating_sub(1))?;
+        seeker.seek(&reach, events, row)?;
+        if !plan.cures(&seeker.needs, &seeker.edits) {
+            plan.take(&seeker.edits)?;
+        }
+        if left.first() == Some(&index) {
+            own.push(copied(alloc, &seeker.edits)?)?;
+            left = &left[1..];
+        }
+    }
+    Ok(Proposal {
+        all: plan.sorted()?,
+        own,
+    })
+}
+
+// Looks for the cure of one row after another.
+#[derive(Drop)]
+struct Seeker {
+    alloc: Global,
+    // How many more steps over runs of bytes are taken.
+    steps: u32,
+    needs: Vec<Lacking>,
+    edits: Vec<Edit>,
+}
+
+impl Seeker {
+    fn new(alloc: Global, events: usize, rows: usize) -> Seeker {
+        let steps = events.saturating_add(rows).saturating_mul(8);
+        Seeker {
+            alloc,
+            steps: u32::try_from(steps)
+                .unwrap_or(u32::MAX)
+                .saturating_add(65_536),
+            needs: Vec::new(alloc),
+            edits: Vec::new(alloc),
+        }
+    }
+
+    // The changes for the row, where there are any: what is kept stands in front of its place.
+    fn seek(&mut self, reach: &Reach, events: &[Event], row: &Row) -> Result<(), AllocError> {
+        self.needs.clear();
+        self.edits.clear();
+        if matches!(outcome_of(row.finding), Outcome::Pass | Outcome::Empty) {
+            return Ok(());
+        }
+        match events.get(row.place.saturating_sub(1) as usize) {
+            Some(event) => self.seek_at(reach, events, event, row)?,
+            None => self.close(reach, row.place)?,
+        }
+        if self.edits.len() > MOST {
+            self.edits.clear();
+        }
+        Ok(())
+    }
+
+    // The same, for a row of an event.
+    fn seek_at(
+        &mut self,
+        reach: &Reach,
+        events: &[Event],
+        event: &Event,
+        row: &Row,
+    ) -> Result<(), AllocError> {
+        let place = row.place;
+        match event {
+            Event::Persist(span) => {
+                reach.find_open(span.first(), span.end(), &mut self.needs, &mut self.steps)?;
+                self.make_durable(reach, place)
+            }
+            Event::Ordered(before, after) => self.order(reach, *before, *after),
+            Event::Store(span) => self.back_up(reach, place, *span),
+            Event::Flush(span) if does_nothing(reach, *span) => self.leave_out(place, event),
+            Event::TxAdd(span) if adds_nothing(reach, *span) => self.leave_out(place, event),
+            Event::CheckEnd => self.check_end(reach, events, event, row),
+            Event::TxEnd | Event::CheckStart => self.leave_out(place, event),
+            _ => Ok(()),
+        }
+    }
+
+    fn check_end(
+        &mut self,
+        reach: &Reach,
+        events: &[Event],
+        event: &Event,
+        row: &Row,
+    ) -> Result<(), AllocError> {
+        match row.finding {
+            Finding::CheckFail { .. } => {
+                reach.find_open_of_scope(&mut self.needs, &mut self.steps)?;
+                self.make_durable(reach, row.place)
+            }
+            Finding::TxStillOpen { depth } => {
+                match end_of_transaction(events, row.place, depth) {
+                    Some(end) => {
+                        self.leave_out(row.place, event)?;
+                        self.put(end.saturating_add(1), Event::CheckEnd)
+                    }
+                    None => self.end_all(row.place, depth),
+                }
+            }
+            _ => self.leave_out(row.place, event),
+        }
+    }
+
+    fn put(&mut self, before: u32, event: Event) -> Result<(), AllocError> {
+        self.edits.push(Edit::Put { before, event })?;
+        Ok(())
+    }
+
+    fn leave_out(&mut self, place: u32, _event: &Event) -> Result<(), AllocError> {
+        self.edits.push(Edit::LeaveOut { place })?;
+        Ok(())
+    }
+
+    // Each checked byte of the first span has to be durable by the first of the last stores of the second.
+    fn order(&mut self, reach: &Reach, before: Span, after: Span) -> Result<(), AllocError> {
+        let due = reach.first_of_last_stores(after, &mut self.steps);
+        match reach.find_late(before, due, &mut self.needs, &mut self.steps)? {
+            Some(()) => self.make_durable(reach, due),
+            None => Ok(()),
+        }
+    }
+
+    // Writes back what has no write-back, and fences, in front of the place: or in front of the last fence before it, where that
+    // comes behind all of the stores and no write-back waits for a fence.
+    fn make_durable(&mut self, reach: &Reach, due: u32) -> Result<(), AllocError> {
+        let fence = reach.fence_before(due);
+        let mut last = 0;
+        let mut waits = self.needs.is_empty();
+        for need in &self.needs {
+            last = need.last.max(last);
+            waits = waits || need.written_back > 0;
+        }
+        if self.needs.is_empty() {
+            return Ok(());
+        }
+        if !waits && last < fence {
+            return self.write_back(fence);
+        }
+        self.write_back(due)?;
+        self.put(due, Event::Fence)
+    }
+
+    // Puts a write-back in front of the place for each run of lines that lack one.
+    fn write_back(&mut self, before: u32) -> Result<(), AllocError> {
+        let mut first = 0;
+        let mut end = 0;
+        for index in 0..self.needs.len() {
+            let Some(need) = self.needs.get(index).copied() else {
+                break;
+            };
+            if need.written_back > 0 {
+                continue;
+            }
+            if need.first <= end && first < end {
+                end = end.max(need.end);
+                continue;
+            }
+            self.flush(before, first, end)?;
+            first = need.first;
+            end = need.end;
+        }
+        self.flush(before, first, end)
+    }
+
+    fn flush(&mut self, before: u32, first: u64, end: u64) -> Result<(), AllocError> {
+        match span_between(first, end) {
+            Some(span) => self.put(before, Event::Flush(span)),
+            None => Ok(()),
+        }
+    }
+
+    // Adds the bytes of the store that have no backup.
+    fn back_up(&mut self, reach: &Reach, place: u32, span: Span) -> Result<(), AllocError> {
+        let mut from = span.first();
+        while from < span.end() && self.edits.len() <= MOST {
+            let Some((first, end)) = reach.not_backed(from, span.end()) else {
+                return Ok(());
+            };
+            match span_between(first, end) {
+                Some(span) if end > from => self.put(place, Event::TxAdd(span))?,
+                _ => return Ok(()),
+            }
+            from = end;
+        }
+        Ok(())
+    }
+
+    fn end_all(&mut self, before: u32, depth: u32) -> Result<(), AllocError> {
+        for _ in 0..depth.min(MOST as u32 + 1) {
+            self.put(before, Event::TxEnd)?;
+        }
+        Ok(())
+    }
+
+    // Closes the scope at the section's end, with what it needs for that.
+    fn close(&mut self, reach: &Reach, place: u32) -> Result<(), AllocError> {
+        reach.find_open_of_scope(&mut self.needs, &mut self.steps)?;
+        self.make_durable(reach, place)?;
+        self.end_all(place, reach.depth())?;
+        self.put(place, Event::CheckEnd)
+    }
+}
+
+// Whether each line of the span is clean, or waits for a fence already.
+fn does_nothing(reach: &Reach, span: Span) -> bool {
+    let lines = reach.shadow.flush_lines(span);
+    let pending = lines.pending.map_or(0, |lines| lines.count);
+    let clean = lines.clean.map_or(0, |lines| lines.count);
+    let all = (span.end() - 1) / LINE_SIZE - span.first() / LINE_SIZE + 1;
+    pending.saturating_add(clean) == all
+}
+
+// Whether no transaction runs, or it has backed up each byte of the span.
+fn adds_nothing(reach: &Reach, span: Span) -> bool {
+    reach.depth() == 0 || reach.not_backed(span.first(), span.end()).is_none()
+}
+
+// The span of these bytes, if they are some that a span may have.
+fn span_between(first: u64, end: u64) -> Option<Span> {
+    let size = end.checked_sub(first)?;
+    Span::make(first, size).ok()
+}
+
+// The place behind this one at which so many transactions have ended, if no scope begins or ends on the way.
+fn end_of_transaction(events: &[Event], place: u32, depth: u32) -> Option<u32> {
+    let mut left = depth;
+    let behind = events.get(place as usize..)?;
+    for (index, event) in behind.iter().enumerate() {
+        match event {
+            Event::TxBegin => left = left.saturating_add(1),
+            Event::TxEnd => left = left.saturating_sub(1),
+            Event::CheckStart | Event::CheckEnd => return None,
+            _ => {}
+        }
+        if left == 0 {
+            return u32::try_from(index).ok()?.checked_add(place)?.checked_add(1);
+        }
+    }
+    None
+}
+
+fn copied(alloc: Global, edits: &[Edit]) -> Result<Vec<Edit>, AllocError> {
+    let mut copy = Vec::with_capacity(alloc, edits.len())?;
+    copy.extend_from_slice(edits)?;
+    Ok(copy)
+}

@@ -1,0 +1,287 @@
+//! What cures look at of the events up to a place.
+
+ghost use Rattle.std.specs.Prelude.{◌≡◌, ◌<◌, ◌≤◌, ℕ, suc, List, Some, length, OnOk};
+ghost use Rattle.pmf_event.specs.{declared.event.Event.{Event}, declared.section.TheConstants.{EVENT_LIMIT}, Store.{event_at}};
+ghost use Rattle.pmf_cause.specs.Reaching.{IsReached};
+
+use crate::past::Past;
+use crate::places::Place;
+use pmf_event::{ADDRESS_LIMIT, Event, LINE_SIZE, Span, line_of};
+use pmf_runs::{IsIn, IsOut, PutIn, RunMap, Test};
+use pmf_shadow::{Shadow, Standing};
+use std::alloc::{AllocError, Global};
+
+/// What is kept of the first events of a section.
+#[derive(Debug, Drop)]
+pub(crate) struct Reach {
+    alloc: Global,
+    pub(crate) past: Past,
+    pub(crate) shadow: Shadow,
+    /// The bytes that the scope's transactions stored to.
+    scoped: RunMap<bool>,
+    /// The fences.
+    fences: Vec<u32>,
+}
+
+/// Some bytes that are not durable in time, and alike.
+#[derive(Clone, Copy, Debug)]
+pub(crate) struct Lacking {
+    /// The first byte of their first line.
+    pub(crate) first: u64,
+    /// The byte behind their last line.
+    pub(crate) end: u64,
+    /// The last store of these bytes.
+    pub(crate) last: u32,
+    /// The write-back behind that store and in front of the place that asks for it, or 0.
+    pub(crate) written_back: u32,
+}
+
+impl Reach {
+    /// Of no event.
+    pub(crate) fn new(alloc: Global) -> Reach
+        ensures { (es : List Event) → IsReached result es }
+    {
+        Reach {
+            alloc,
+            past: Past::new(alloc),
+            shadow: Shadow::new(alloc),
+            scoped: RunMap::new(alloc, false),
+            fences: Vec::new(alloc),
+        }
+    }
+
+    /// Goes on to the place, or as far as there are events.
+    pub(crate) fn go_to(&mut self, events: &[Event], place: u32) -> Result<(), AllocError>
+        requires reached { IsReached self.old events.now }
+        requires few { length events.now ≤ EVENT_LIMIT }
+        ensures { OnOk result (IsReached self.new events.now) }
+    {
+        let end = place.min(events.len() as u32);
+        while self.past.place < end {
+            let place = self.past.place as usize;
+            self.follow(events, &events[place])?;
+        }
+        Ok(())
+    }
+
+    // Goes on over the next of the events.
+    fn follow(&mut self, events: &[Event], event: &Event) -> Result<(), AllocError>
+        requires reached { IsReached self.old events.now }
+        requires here { event_at events.now (suc self.old.past.place) ≡ Some event.now }
+        requires within { self.old.past.place < length events.now }
+        requires few { length events.now ≤ EVENT_LIMIT }
+        ensures reached { OnOk result (IsReached self.new events.now) }
+        ensures place { OnOk result (self.new.past.place ≡ suc self.old.past.place) }
+    {
+        let place = self.past.place + 1;
+        self.shadow.follow(place, *event)?;
+        self.past.go_to(events, place)?;
+        self.note(event)?;
+        Ok(())
+    }
+
+    // Notes a fence, and what a scope is of.
+    fn note(&mut self, event: &Event) -> Result<(), AllocError>
+        ensures past { self.new.past ≡ self.old.past }
+        ensures shadow { self.new.shadow ≡ self.old.shadow }
+    {
+        match *event {
+            Event::Fence => self.fences.push(self.past.place)?,
+            Event::Store(span) if self.past.marks.scope > 0 && self.past.marks.depth > 0 => {
+                self.scoped.change(span.first(), span.end(), &PutIn)?
+            }
+            Event::CheckStart | Event::CheckEnd => self.scoped = RunMap::new(self.alloc, false),
+            _ => {}
+        }
+        Ok(())
+    }
+
+    /// The last fence in front of the place, or 0.
+    pub(crate) fn fence_before(&self, place: u32) -> u32 {
+        let count = self.fences.partition_point(|fence| *fence < place);
+        match count.checked_sub(1) {
+            Some(index) => self.fences.get(index).copied().unwrap_or(0),
+            None => 0,
+        }
+    }
+
+    /// Whether a transaction runs.
+    pub(crate) fn depth(&self) -> u32 {
+        self.past.marks.depth
+    }
+
+    /// The bytes of the span that are checked and not durable, put behind the others as long as there are steps left.
+    pub(crate) fn find_open(
+        &self,
+        first: u64,
+        end: u64,
+        found: &mut Vec<Lacking>,
+        steps: &mut u32,
+    ) -> Result<(), AllocError> {
+        let mut from = first;
+        while from < end && end <= ADDRESS_LIMIT {
+            let Some(byte) = self.shadow.least_open(Span::between(from, end)) else {
+                return Ok(());
+            };
+            if *steps == 0 || byte < from || byte >= end {
+                return Ok(());
+            }
+            *steps -= 1;
+            let (standing, until) = self.shadow.standing_from(byte, end);
+            let last = standing.last.unwrap_or(0);
+            let written_back = self.past.last_store(byte).written_back;
+            found.push(lines_lacking(byte, until, last, written_back))?;
+            from = until;
+        }
+        Ok(())
+    }
+
+    /// The same of the bytes of the scope.
+    pub(crate) fn find_open_of_scope(
+        &self,
+        found: &mut Vec<Lacking>,
+        steps: &mut u32,
+    ) -> Result<(), AllocError> {
+        let mut from = 0;
+        while from < ADDRESS_LIMIT {
+            let Some(first) = self.scoped.first_where(from, ADDRESS_LIMIT, &IsIn) else {
+                return Ok(());
+            };
+            let end = match self.scoped.first_where(first, ADDRESS_LIMIT, &IsOut) {
+                Some(end) => end,
+                None => ADDRESS_LIMIT,
+            };
+            if *steps == 0 || end <= from {
+                return Ok(());
+            }
+            *steps -= 1;
+            self.find_open(first, end, found, steps)?;
+            from = end;
+        }
+        Ok(())
+    }
+
+    /// The first of the last stores of the span's checked bytes, or 0 where there is none or the steps are used up.
+    pub(crate) fn first_of_last_stores(&self, span: Span, steps: &mut u32) -> u32 {
+        let mut least = 0;
+        let mut from = span.first();
+        while from < span.end() {
+            if *steps == 0 {
+                return 0;
+            }
+            *steps -= 1;
+            let (standing, until) = self.shadow.standing_from(from, span.end());
+            if let Some(last) = checked(standing) {
+                if least == 0 || last < least {
+                    least = last;
+                }
+            }
+            from = until;
+        }
+        least
+    }
+
+    /// The checked bytes of the span that are not durable by the place. None where one of them was stored to at the place or behind it,
+    /// or the steps are used up.
+    pub(crate) fn find_late(
+        &self,
+        span: Span,
+        due: u32,
+        found: &mut Vec<Lacking>,
+        steps: &mut u32,
+    ) -> Result<Option<()>, AllocError> {
+        let fence = self.fence_before(due);
+        let mut from = span.first();
+        while from < span.end() {
+            if *steps == 0 {
+                return Ok(None);
+            }
+            *steps -= 1;
+            let (standing, until) = self.shadow.standing_from(from, span.end());
+            if let Some(last) = checked(standing) {
+                if last >= due {
+                    return Ok(None);
+                }
+                let by = self.past.last_store(from).written_back;
+                let in_time = if by < due { by } else { 0 };
+                if in_time == 0 || fence < in_time {
+                    found.push(lines_lacking(from, until, last, in_time))?;
+                }
+            }
+            from = until;
+        }
+        Ok(Some(()))
+    }
+
+    /// The first byte of a range that the running transaction has not backed up, and the byte up to which it has not.
+    pub(crate) fn not_backed(&self, first: u64, end: u64) -> Option<(u64, u64)> {
+        let begin = self.past.marks.outside.saturating_add(2);
+        let start = self
+            .past
+            .added
+            .first_where(first, end, &Before { place: begin })?;
+        let until = self
+            .past
+            .added
+            .first_where(start, end, &From { place: begin });
+        Some((start, until.unwrap_or(end)))
+    }
+}
+
+// The last store of bytes that stand so, where they are checked.
+fn checked(standing: Standing) -> Option<u32> {
+    if standing.excluded {
+        return None;
+    }
+    standing.last
+}
+
+// Bytes from the first one on, with the lines that they lie on.
+fn lines_lacking(first: u64, until: u64, last: u32, written_back: u32) -> Lacking {
+    Lacking {
+        first: line_of(first),
+        end: line_of(until.saturating_sub(1)).saturating_add(LINE_SIZE),
+        last,
+        written_back,
+    }
+}
+
+/// Whether the place lies before another.
+#[derive(Clone, Copy, Debug, Drop)]
+pub(crate) struct Before {
+    pub(crate) place: u32,
+}
+
+impl Test<Place> for Before {
+    ghost use Rattle.std.specs.Prelude.{nat_lt};
+
+    ghost passes = { λ test state. nat_lt state.of test.place };
+
+    fn passes(&self, state: Place) -> bool {
+        state.of < self.place
+    }
+
+    fn may_pass(&self, _summary: ()) -> bool {
+        true
+    }
+}
+
+/// Whether the place is this one or behind it.
+#[derive(Clone, Copy, Debug, Drop)]
+pub(crate) struct From {
+    pub(crate) place: u32,
+}
+
+impl Test<Place> for From {
+    ghost use Rattle.std.specs.Prelude.{nat_le};
+
+    ghost passes = { λ test state. nat_le test.place state.of };
+
+    fn passes(&self, state: Place) -> bool {
+        self.place <= state.of
+    }
+
+    fn may_pass(&self, _summary: ()) -> bool {
+        true
+    }
+}
