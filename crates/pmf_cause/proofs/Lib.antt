@@ -1,3 +1,9 @@
+pub mod PlaceLemmas
+pub mod StoredLemmas
 pub mod MarksLemmas
 pub mod PastLemmas
+pub mod LaterLemmas
+pub mod ListLemmas
+pub mod JudgingLemmas
+pub mod RowOrderLemmas
 pub mod LawLemmas

@@ -9,3 +9,4 @@ pub mod Cause
 pub mod Laws
 pub mod States
 pub mod Past
+pub mod Later

@@ -1,23 +1,14 @@
 -- What the walk from a section's first event to its last keeps. No public clause cites this.
 use Rattle.std.specs.Prelude.{◌≡◌, ℕ, Bool, List}
-use Rattle.pmf_event.specs.{declared.event.Event.{Event}, Line.{line_of_byte}, Places.{greatest}, Store.{flushes, last, last_store, stores}, Interval.{first_write_back}, Transactions.{adds, closes_scope, depth_at, ends, is_outside, scope_at}}
+use Rattle.pmf_event.specs.{declared.event.Event.{Event}, Line.{line_of_byte}, Places.{greatest}, Store.{last, last_store, stores}, Interval.{first_write_back}, Transactions.{closes_scope, depth_at, ends, is_outside, scope_at}}
 use Rattle.pmf_runs.specs.{declared.runs.RunMap.{RunMap}, Runs.{state_at}}
-use Rattle.pmf_cause.specs.{declared.marks.Marks.{Marks}, declared.past.Past.{Past}, declared.states.{Place.{Place}, Stored.{Stored}}}
-use Rattle.pmf_cause.specs.contracts.states.PlaceState.TheImpl as places
-use Rattle.pmf_cause.specs.contracts.states.StoredState.TheImpl as stores_kept
+use Rattle.pmf_cause.specs.{declared.marks.Marks.{Marks}, declared.past.Past.{Past}, declared.stored.Stored.{Stored}, Cause.{last_add, last_flush}}
+use Rattle.pmf_cause.specs.contracts.stored.StoredState.TheImpl as stores_kept
 
 -- the last store of each byte at p, and the first write-back of its line behind it
 pub record AreStores (runs : RunMap Stored Bool stores_kept.ghosts) (es : List Event) (p : ℕ) : Type 0 where
   pub last : (b : ℕ) → (state_at runs b).last ≡ last_store es p b
   pub written_back : (b : ℕ) → (state_at runs b).written_back ≡ first_write_back (stores b) (line_of_byte b) es p
-
--- the last write-back of each byte's line at p
-pub record AreFlushes (runs : RunMap Place (Unit {0}) places.ghosts) (es : List Event) (p : ℕ) : Type 0 where
-  pub each : (b : ℕ) → (state_at runs b).of ≡ last (flushes (line_of_byte b)) es p
-
--- the last TXADD of each byte at p
-pub record AreAdds (runs : RunMap Place (Unit {0}) places.ghosts) (es : List Event) (p : ℕ) : Type 0 where
-  pub each : (b : ℕ) → (state_at runs b).of ≡ last (adds b) es p
 
 -- where transactions and scopes began and ended, at p
 pub record AreMarks (marks : Marks) (es : List Event) (p : ℕ) : Type 0 where
@@ -30,6 +21,6 @@ pub record AreMarks (marks : Marks) (es : List Event) (p : ℕ) : Type 0 where
 -- all that is kept of the first events of a list
 pub record IsPast (past : Past) (es : List Event) : Type 0 where
   pub stored : AreStores past.stored es past.place
-  pub flushed : AreFlushes past.flushed es past.place
-  pub added : AreAdds past.added es past.place
+  pub flushed : (b : ℕ) → (state_at past.flushed b).of ≡ last_flush es past.place (line_of_byte b)
+  pub added : (b : ℕ) → (state_at past.added b).of ≡ last_add es past.place b
   pub marks : AreMarks past.marks es past.place

@@ -1,6 +1,6 @@
 -- What the walks of this crate keep of a byte or of a line. No public clause cites this.
 use Rattle.std.specs.Prelude.{ℕ, Bool, not, ◌||◌, ◌==◌, if◌then◌else◌}
-use Rattle.pmf_cause.specs.declared.states.Stored.{Stored}
+use Rattle.pmf_cause.specs.declared.stored.Stored.{Stored}
 
 -- whether no write-back follows
 abbrev pub lacks_write_back : Stored → Bool

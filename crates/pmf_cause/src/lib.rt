@@ -7,13 +7,18 @@
 #![tactic(auto)]
 
 mod cause;
+mod judging;
 mod lack;
+mod later;
 pub mod laws;
 mod marks;
 mod need;
 mod past;
-mod states;
+mod places;
+mod stored;
+mod walk;
 
 pub use cause::Cause;
 pub use lack::Lack;
 pub use need::Need;
+pub use walk::causes;

@@ -1,9 +1,10 @@
 //! Where transactions and scopes began and ended.
 
-ghost use Rattle.std.specs.Prelude.{◌≡◌, ◌<◌, ℕ, suc, List, Some, if◌then◌else◌};
+ghost use Rattle.std.specs.Prelude.{◌≡◌, ◌<◌, ℕ, suc, List, Some};
 ghost use Rattle.pmf_event.specs.{declared.event.Event.{Event}, declared.section.TheConstants.{EVENT_LIMIT}, Store.{event_at}, Transactions.{begins, closes_scope, depth_at, ends, opens_scope, scope_at}};
 ghost use Rattle.pmf_cause.specs.Past.{AreMarks};
 
+use crate::places::place_if;
 use pmf_event::Event;
 
 /// What is kept of the transactions and scopes of some events. Places are 0 where there is none.
@@ -84,13 +85,6 @@ fn scope_after(scope: u32, place: u32, event: &Event) -> u32
         return place;
     }
     0
-}
-
-// The place where the one holds, else that before it.
-fn place_if(holds: bool, place: u32, before: u32) -> u32
-    ensures { result ≡ (if holds then place else before) }
-{
-    if holds { place } else { before }
 }
 
 #[tactic(auto, unfolding(pmf_event::specs::Transactions::begins))]

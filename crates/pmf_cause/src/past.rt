@@ -1,13 +1,13 @@
 //! What is kept of the events up to a place.
 
-ghost use Rattle.std.specs.Prelude.{◌≡◌, ◌-◌, ◌<◌, ◌≤◌, ℕ, suc, true, List, Some, length, OnOk};
-ghost use Rattle.pmf_event.specs.{declared.event.Event.{Event}, declared.section.TheConstants.{EVENT_LIMIT}, Line.{line_of_byte, meets_line}, Store.{event_at, last_store}};
-ghost use Rattle.pmf_runs.specs.Runs.{is_between};
-ghost use Rattle.pmf_cause.specs.{Cause.{last_add, last_flush}, Past.{AreAdds, AreFlushes, AreStores, IsPast}};
+ghost use Rattle.std.specs.Prelude.{◌≡◌, ◌<◌, ◌≤◌, ℕ, suc, List, Some, length, OnOk};
+ghost use Rattle.pmf_event.specs.{declared.event.Event.{Event}, declared.section.TheConstants.{EVENT_LIMIT}, Line.{line_of_byte}, Interval.{first_write_back}, Store.{event_at, last_store, stores}};
+ghost use Rattle.pmf_cause.specs.{Cause.{last_add, last_flush}, Past.{AreStores, IsPast}};
 
 use crate::marks::Marks;
-use crate::states::{NO_PLACE, Place, Put, Stored, StoredAt, UNTOUCHED, WrittenBackAt};
-use pmf_event::{Event, LINE_SIZE, Span, line_of};
+use crate::places::{NO_PLACE, Place, back_up, lines_of, write_back};
+use crate::stored::{Stored, StoredAt, UNTOUCHED, WrittenBackAt};
+use pmf_event::{Event, LINE_SIZE};
 use pmf_runs::RunMap;
 use std::alloc::{AllocError, Global};
 
@@ -74,12 +74,14 @@ impl Past {
     /// The last store of the byte, and the first write-back of its line behind that.
     pub(crate) fn last_store(&self, byte: u64) -> Stored
         ensures last { (es : List Event) → IsPast self.now es → result.last ≡ last_store es self.now.place byte }
+        ensures written_back { (es : List Event) → IsPast self.now es
+            → result.written_back ≡ first_write_back (stores byte) (line_of_byte byte) es self.now.place }
     {
         self.stored.at(byte)
     }
 
     /// The last write-back of the line.
-    #[tactic(auto, using(crate::proofs::PastLemmas::no_line))]
+    #[tactic(auto, using(crate::proofs::PlaceLemmas::no_line))]
     pub(crate) fn last_flush(&self, line: u64) -> u32
         ensures { (es : List Event) → IsPast self.now es → result ≡ last_flush es self.now.place line }
     {
@@ -99,7 +101,7 @@ impl Past {
 }
 
 // Follows a store or a write-back at the place.
-#[tactic(auto, using(crate::proofs::PastLemmas::stored, crate::proofs::PastLemmas::written_back, crate::proofs::PastLemmas::stores_kept_on))]
+#[tactic(auto, using(crate::proofs::StoredLemmas::stores_kept_on))]
 fn store(stored: &mut RunMap<Stored>, place: u32, event: &Event) -> Result<(), AllocError>
     ensures { (es : List Event) (p : ℕ) → event_at es (suc p) ≡ Some event.now → place ≡ suc p
         → AreStores stored.old es p → OnOk result (AreStores stored.new es (suc p)) }
@@ -116,44 +118,4 @@ fn store(stored: &mut RunMap<Stored>, place: u32, event: &Event) -> Result<(), A
         }
         _ => Ok(()),
     }
-}
-
-// Follows a write-back at the place.
-#[tactic(auto, using(crate::proofs::PastLemmas::flushed, crate::proofs::PastLemmas::flushes_kept))]
-fn write_back(flushed: &mut RunMap<Place>, place: u32, event: &Event) -> Result<(), AllocError>
-    ensures { (es : List Event) (p : ℕ) → event_at es (suc p) ≡ Some event.now → place ≡ suc p
-        → AreFlushes flushed.old es p → OnOk result (AreFlushes flushed.new es (suc p)) }
-{
-    match event {
-        Event::Flush(span) => {
-            let (first, end) = lines_of(span);
-            flushed.change(first, end, &Put { place })?;
-            Ok(())
-        }
-        _ => Ok(()),
-    }
-}
-
-// Follows a TXADD at the place.
-#[tactic(auto, using(crate::proofs::PastLemmas::added, crate::proofs::PastLemmas::adds_kept))]
-fn back_up(added: &mut RunMap<Place>, place: u32, event: &Event) -> Result<(), AllocError>
-    ensures { (es : List Event) (p : ℕ) → event_at es (suc p) ≡ Some event.now → place ≡ suc p
-        → AreAdds added.old es p → OnOk result (AreAdds added.new es (suc p)) }
-{
-    match event {
-        Event::TxAdd(span) => {
-            added.change(span.first(), span.end(), &Put { place })?;
-            Ok(())
-        }
-        _ => Ok(()),
-    }
-}
-
-/// The first byte of the first line that the span meets, and the byte behind the last line.
-#[tactic(auto, using(crate::proofs::PastLemmas::lines_met))]
-pub(crate) fn lines_of(span: &Span) -> (u64, u64)
-    ensures { (b : ℕ) → is_between result.0 result.1 b ≡ meets_line span.now (line_of_byte b) }
-{
-    let last = span.end() - 1;
-    (line_of(span.first()), line_of(last) + LINE_SIZE)
 }

@@ -1,6 +1,6 @@
 use Rattle.std.proofs.Common.{ap, ◌∙◌, Some}
 use Rattle.pmf_event.specs.declared.event.Event.{Event}
-use Rattle.pmf_cause.proofs.PastLemmas.{stored, written_back}
+use Rattle.pmf_cause.proofs.StoredLemmas.{stored, written_back}
 use Rattle.pmf_cause.proofs.past.store.Goals as goal
 
 pub returns-in_ok-change-in-Store : goal.returns-in_ok-change-in-Store

@@ -1,10 +1,11 @@
-use Rattle.pmf_cause.proofs.PastLemmas.{no_adds, no_flushes, no_stores}
+use Rattle.pmf_event.specs.{Line.{line_of_byte}, Store.{flushes}, Transactions.{adds}}
+use Rattle.pmf_cause.proofs.{PlaceLemmas.{last_from_none}, StoredLemmas.{no_stores}}
 use Rattle.pmf_cause.proofs.past.Past.new.Goals as goal
 
 pub returns-clause-past : goal.returns-clause-past
 returns-clause-past c = λ es. record {
   stored = no_stores c.new.result c.new.ensures.states es;
-  flushed = no_flushes c.new-2.result c.new-2.ensures.states es;
-  added = no_adds c.new-3.result c.new-3.ensures.states es;
+  flushed = λ b. last_from_none c.new-2.result b (flushes (line_of_byte b)) (c.new-2.ensures.states b) es;
+  added = λ b. last_from_none c.new-3.result b (adds b) (c.new-3.ensures.states b) es;
   marks = c.new-4.ensures es;
 }

@@ -1,73 +1,8 @@
-//! What is kept of a byte or of a cache line while a section is walked: the place of an event, or two.
+//! What is kept of a byte: its last store, and the first write-back behind that.
 
-ghost use Rattle.std.specs.Prelude.{true};
 ghost use Rattle.pmf_cause.specs.States.{lacks_write_back, may_be, stored_at, written_back_at};
 
 use pmf_runs::{Change, Effect, State};
-
-/// The place of an event, or 0.
-#[derive(Clone, Copy, Debug, PartialEq, Eq)]
-pub(crate) struct Place {
-    pub(crate) of: u32,
-}
-
-/// No place.
-pub(crate) const NO_PLACE: Place = Place { of: 0 };
-
-/// A summary says nothing: a change sets all places of its range to one.
-impl State for Place {
-    type Summary = ();
-
-    ghost covers = { λ summary state. true };
-
-    ghost unsettled = { λ state. true };
-
-    fn summary(&self) {}
-
-    fn joined(_one: (), _other: ()) {}
-
-    fn is_unsettled(&self) -> bool {
-        true
-    }
-
-    fn may_be_unsettled(_summary: ()) -> bool {
-        true
-    }
-
-    fn settled(_summary: ()) {}
-
-    fn is_same(&self, other: Place) -> bool {
-        *self == other
-    }
-
-    fn are_alike(_one: (), _other: ()) -> bool {
-        true
-    }
-}
-
-/// Sets the place of each.
-#[derive(Clone, Copy, Debug, Drop)]
-pub(crate) struct Put {
-    pub(crate) place: u32,
-}
-
-impl Change<Place> for Put {
-    ghost changed = { λ put state. record { of = put.place } };
-
-    fn changed(&self, _state: Place) -> Place {
-        Place { of: self.place }
-    }
-
-    fn may_alter(&self, _summary: ()) -> bool {
-        true
-    }
-
-    fn widened(&self, _summary: ()) {}
-
-    fn effect(&self, _summary: (), _state: Place) -> Effect {
-        Effect::Widens
-    }
-}
 
 /// The last store of a byte, and the first write-back of its line behind it, or behind no store; 0 for no place.
 #[derive(Clone, Copy, Debug, PartialEq, Eq)]
