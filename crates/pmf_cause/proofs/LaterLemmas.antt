@@ -1,6 +1,6 @@
 -- The first place behind another that passes a test: of one more event, and in two parts.
-use Rattle.std.proofs.{Common.{◌≡◌, ℕ, suc, ◌+◌, ◌-◌, ◌<◌, ◌≤◌, Bool, true, false, ◌&&◌, nat_lt, if◌then◌else◌, List, length, Some, refl, sym, ap, ◌∙◌, arith, inl, inr, lt-ltb, le-ltb}, lemmas.Bool.{and_from, and_parts, cases_lt, cases_eq, ltb-true}, lemmas.Grind.{common_steps}}
-use Rattle.pmf_event.{specs.declared.event.Event.{Event}, specs.Places.{least}, specs.Store.{at, event_at, flushes, is_fence}, specs.Interval.{writes_back}, proofs.PlacesLemmas.{least-below, least-bound, least-none, least-none_behind, least-passes, least-step}, proofs.EventLemmas.{at-is}}
+use Rattle.std.proofs.{Common.{◌≡◌, ℕ, suc, ◌<◌, ◌≤◌, Bool, true, false, ◌&&◌, nat_lt, if◌then◌else◌, List, length, Some, sym, ap, ◌∙◌, arith, inl, inr, lt-ltb, le-ltb}, lemmas.Bool.{and_from, and_parts, cases_lt, ltb-true}}
+use Rattle.pmf_event.{specs.declared.event.Event.{Event}, specs.Places.{least}, specs.Store.{at, event_at, flushes, is_fence}, specs.Interval.{writes_back}, proofs.PlacesLemmas.{least-below, least-bound, least-none, least-none_behind, least-passes}, proofs.EventLemmas.{at-is}}
 use Rattle.pmf_cause.specs.Cause.{fence_after, fences_after, write_back_after}
 
 module _ (t : ℕ → Bool) where
@@ -45,11 +45,11 @@ module _ (t : ℕ → Bool) where
             let low = all.1 in let high = back.1 in omega arith
         | inr nothing ↦
             let never : 0 < least (behind l) n → ⊥ = λ some.
-                let is = least-passes (behind l) n some in
-                let later = past (least (behind l) n) some is in
-                let top = least-bound (behind l) n in
-                let found = (least-below (behind p) n (least (behind l) n) some top (behind-from p (least (behind l) n) later (behind-parts l (least (behind l) n) is).1)).0 in
-                omega arith in
+            let is = least-passes (behind l) n some in
+            let later = past (least (behind l) n) some is in
+            let top = least-bound (behind l) n in
+            let found = (least-below (behind p) n (least (behind l) n) some top (behind-from p (least (behind l) n) later (behind-parts l (least (behind l) n) is).1)).0 in
+            omega arith in
             let none_all = least-none (behind l) n never in omega arith
       ]
 
@@ -63,11 +63,11 @@ module _ (t : ℕ → Bool) where
   step-none : (p n : ℕ) → p < n → t (suc p) ≡ false → least (behind p) n ≡ least (behind (suc p)) n
   step-none p n within other =
       let never : 0 < least (behind p) (suc p) → ⊥ = λ some.
-          let parts = behind-parts p (least (behind p) (suc p)) (least-passes (behind p) (suc p) some) in
-          let bound = least-bound (behind p) (suc p) in
-          let after = parts.0 in
-          let same : least (behind p) (suc p) ≡ suc p = omega arith in
-          let bad : false ≡ true = sym other ∙ ap t (sym same) ∙ parts.1 in cc in
+      let parts = behind-parts p (least (behind p) (suc p)) (least-passes (behind p) (suc p) some) in
+      let bound = least-bound (behind p) (suc p) in
+      let after = parts.0 in
+      let same : least (behind p) (suc p) ≡ suc p = omega arith in
+      let bad : false ≡ true = sym other ∙ ap t (sym same) ∙ parts.1 in cc in
       split-none p (suc p) n (omega arith) within (least-none (behind p) (suc p) never)
 
   pub step : (p n : ℕ) (c : Bool) → p < n → t (suc p) ≡ c → least (behind p) n ≡ (if c then suc p else least (behind (suc p)) n)

@@ -43,10 +43,17 @@ unfolding event_at
 still es zero b e here other = let bad : None ≡ Some e = here in cc
 still es (suc q) b e here other = let before : suc q - 1 ≡ q = omega arith in ap (λ k. last_store es k b) before ∙ sym (last-other (stores b) es q e here other)
 
+placed : (es : List Event) (p : ℕ) (e : Event) → event_at es p ≡ Some e → suc (p - 1) ≡ p
+unfolding event_at
+placed es zero e here = let bad : None ≡ Some e = here in cc
+placed es (suc q) e here = omega arith
+
 open-lacks : (es : List Event) (p b : ℕ) (e : Event) → event_at es p ≡ Some e → stores b e ≡ false → is_open (interval_at es p b) ≡ true →
-    is_some (of_need es (Some (record { byte = b; last = last_store es (p - 1) b; due = p }))) ≡ true
-open-lacks es p b e here other gap =
-    lacks-unless es _ (λ closing. no_Closing-from_open es p b gap (subst (λ k. Closing es (line_of_byte b) k p) (still es p b e here other) closing))
+    is_some (of_need es (Some (record { byte = b; last = last_store es (p - 1) b; due = suc (p - 1) }))) ≡ true
+open-lacks es p b e here other gap = lacks-unless es _ (λ closing.
+    no_Closing-from_open es p b gap
+    (subst (λ k. Closing es (line_of_byte b) (last_store es p b) k) (placed es p e here)
+    (subst (λ k. Closing es (line_of_byte b) k (suc (p - 1))) (still es p b e here other) closing)))
 
 -- ---- a persist assertion, and the end of a scope
 
@@ -161,7 +168,7 @@ module _ (profile : Profile) (es : List Event) (p : ℕ) (a b : Extent) (x y : �
 
 -- ---- the law
 
-each : (profile : Profile) (es : List Event) (p : ℕ) (f : Finding) → Contains (rows_of profile es) (record { place = p; finding = f }) → is_some (cause_at es p f) ≡ asks_why (outcome_of f)
+each : (profile : Profile) (es : List Event) (p : ℕ) (f : Finding) → Contains (rows_of profile es) (record { place = p; finding = f }) → is_some (cause_at es (p - 1) f) ≡ asks_why (outcome_of f)
 unfolding cause_at need_at stores
 each profile es p (PersistFail b) found =
     let own = persist-from_rows profile es p (PersistFail b) found refl in

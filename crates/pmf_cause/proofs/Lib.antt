@@ -4,6 +4,8 @@ pub mod MarksLemmas
 pub mod PastLemmas
 pub mod LaterLemmas
 pub mod ListLemmas
+pub mod JudgingLemmas
+pub mod RowOrderLemmas
 pub mod LawLemmas
 pub mod ChangedLemmas
 pub mod TrialLemmas

@@ -1,5 +1,5 @@
 -- Lists that are built from the last one on.
-use Rattle.std.proofs.{Common.{◌≡◌, ℕ, ◌<◌, ◌≤◌, List, [], ◌∷◌, ◌++◌, length, get_or, refl, sym, ap, ◌∙◌, arith, inl, inr}, lemmas.Bool.{cases_eq}, lemmas.List.{get_or_append_left, get_or_default, get_or_push}}
+use Rattle.std.proofs.{Common.{◌≡◌, ℕ, ◌<◌, ◌≤◌, List, [], ◌∷◌, ◌++◌, length, get_or, refl, sym, ap, ◌∙◌, arith, inl, inr}, lemmas.Bool.{cases_eq}, lemmas.List.{get_or_append_left, get_or_push}}
 
 -- each number above p has its value in the old list, and p has it in the new one, which is longer by one
 pub one_more : (value index : ℕ → ℕ) (p top x : ℕ) (old new : List ℕ) → new ≡ old ++ x ∷ [] → index p ≡ length old → x ≡ value p →
@@ -12,7 +12,3 @@ one_more value index p top x old new longer at_end is within before k d low high
       ∙ get_or_append_left old (x ∷ []) d (index k) (within k (omega arith) high)
       ∙ before k d (omega arith) high
 ]
-
--- what stands at an index, whatever is said for none
-pub stands_at : {X : Type 0} (xs : List X) (k : ℕ) (x d : X) → k < length xs → x ≡ get_or xs k x → get_or xs k d ≡ x
-stands_at xs k x d within is = get_or_default xs k d x within ∙ sym is

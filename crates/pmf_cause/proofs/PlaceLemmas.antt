@@ -1,6 +1,6 @@
 -- Places that one more event puts.
-use Rattle.std.proofs.{Common.{◌≡◌, ℕ, suc, ◌+◌, ◌-◌, ◌<◌, ◌≤◌, ◌%◌, Bool, true, false, ◌&&◌, ◌==◌, nat_lt, nat_le, if◌then◌else◌, List, Option, Some, None, refl, sym, ap, ◌∙◌, arith, inl, inr, length, get_or}, lemmas.Bool.{cases_lt}, lemmas.Grind.{common_steps}, lemmas.Option.{slice_get_read}}
-use Rattle.pmf_event.{specs.declared.event.Event.{Event}, specs.declared.event.Event.TheVariants.{Store, Flush, TxAdd}, specs.Span.{Extent}, specs.Line.{line_of_byte, meets_line}, specs.Places.{greatest}, specs.Store.{at, event_at, flushes, last, passes, stores}, specs.Transactions.{adds}, proofs.PlacesLemmas.{greatest-passes}, proofs.EventLemmas.{last-none, last-step}}
+use Rattle.std.proofs.{Common.{◌≡◌, ℕ, suc, ◌+◌, ◌-◌, ◌<◌, ◌%◌, Bool, true, false, ◌&&◌, ◌==◌, nat_lt, nat_le, if◌then◌else◌, List, Option, Some, None, refl, sym, ap, ◌∙◌, arith, inl, inr, length, get_or}, lemmas.Bool.{cases_lt}, lemmas.Grind.{common_steps}, lemmas.Option.{slice_get_read}}
+use Rattle.pmf_event.{specs.declared.event.Event.{Event}, specs.declared.event.Event.TheVariants.{Flush, TxAdd}, specs.Span.{Extent}, specs.Line.{line_of_byte, meets_line}, specs.Places.{greatest}, specs.Store.{at, event_at, flushes, last, passes}, specs.Transactions.{adds}, proofs.PlacesLemmas.{greatest-passes}, proofs.EventLemmas.{last-none, last-step}}
 use Rattle.pmf_runs.specs.{declared.runs.RunMap.{RunMap}, Runs.{is_between, state_at, ChangesBetween}}
 use Rattle.pmf_cause.specs.declared.places.Place.{Place}
 use Rattle.pmf_cause.specs.contracts.places.PlaceState.TheImpl as places

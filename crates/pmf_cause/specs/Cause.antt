@@ -38,13 +38,13 @@ lack_of es n =
     let w = write_back_after es (line_of_byte n.byte) n.last in
     lack_by n.last n.due w (fence_after es w)
 
--- what the row at p asks for: its byte, the last store of that in front of p, and the place by which it had to be durable: that of the
--- assertion, or the last store of the byte that had to come after
+-- what is asked for where this is found of the event behind place p: a byte, the last store of it, and the place by which it had to
+-- be durable: that of the event, or the last store of the byte that had to come after
 unfoldable pub need_at : List Event → ℕ → Finding → Option Need
-need_at es p (finding.PersistFail byte) = Some (record { byte = byte; last = last_store es (p - 1) byte; due = p })
-need_at es p (finding.CheckFail byte) = Some (record { byte = byte; last = last_store es (p - 1) byte; due = p })
-need_at es p (finding.OrderedFail byte after crash) = Some (record { byte = byte; last = last_store es (p - 1) byte; due = last_store es (p - 1) after })
-need_at es p (finding.OrderedSameLine byte after) = Some (record { byte = byte; last = last_store es (p - 1) byte; due = last_store es (p - 1) after })
+need_at es p (finding.PersistFail byte) = Some (record { byte = byte; last = last_store es p byte; due = suc p })
+need_at es p (finding.CheckFail byte) = Some (record { byte = byte; last = last_store es p byte; due = suc p })
+need_at es p (finding.OrderedFail byte after crash) = Some (record { byte = byte; last = last_store es p byte; due = last_store es p after })
+need_at es p (finding.OrderedSameLine byte after) = Some (record { byte = byte; last = last_store es p byte; due = last_store es p after })
 need_at es p _ = None
 
 -- ---- which event is missing, or too many
@@ -78,20 +78,20 @@ abbrev pub of_need : List Event → Option Need → Option Cause
 of_need es None = None
 of_need es (Some need) = not_durable need (lack_of es need)
 
--- the cause of what is found at p, from the events in front of it; none of a PASS or EMPTY
+-- the cause of what is found of the event behind place p, or at the section's end; none of a PASS or EMPTY
 unfoldable pub cause_at : List Event → ℕ → Finding → Option Cause
-cause_at es p (finding.FlushDoubled line lines) = Some (cause.WrittenBackBefore (last_flush es (p - 1) line))
-cause_at es p (finding.FlushNeedless line lines) = Some (cause.WrittenBackBefore (last_flush es (p - 1) line))
-cause_at es p (finding.DupLog byte) = Some (cause.BackedUpBefore (last_add es (p - 1) byte))
-cause_at es p (finding.NoBackup byte) = Some (cause.NotBackedUp (begun_at es (p - 1)))
-cause_at es p (finding.TxStillOpen depth) = Some (cause.TransactionRuns (begun_at es (p - 1)))
-cause_at es p finding.Unmatched = Some (cause.NoTransaction (last_end es (p - 1)))
-cause_at es p finding.Outside = Some (cause.NoTransaction (last_end es (p - 1)))
-cause_at es p finding.Nested = Some (cause.ScopeOpen (scope_at es (p - 1)))
+cause_at es p (finding.FlushDoubled line lines) = Some (cause.WrittenBackBefore (last_flush es p line))
+cause_at es p (finding.FlushNeedless line lines) = Some (cause.WrittenBackBefore (last_flush es p line))
+cause_at es p (finding.DupLog byte) = Some (cause.BackedUpBefore (last_add es p byte))
+cause_at es p (finding.NoBackup byte) = Some (cause.NotBackedUp (begun_at es p))
+cause_at es p (finding.TxStillOpen depth) = Some (cause.TransactionRuns (begun_at es p))
+cause_at es p finding.Unmatched = Some (cause.NoTransaction (last_end es p))
+cause_at es p finding.Outside = Some (cause.NoTransaction (last_end es p))
+cause_at es p finding.Nested = Some (cause.ScopeOpen (scope_at es p))
 cause_at es p (finding.Unclosed start) = Some (cause.ScopeOpen start)
-cause_at es p finding.Unopened = Some (cause.NoScope (last_close es (p - 1)))
+cause_at es p finding.Unopened = Some (cause.NoScope (last_close es p))
 cause_at es p found = of_need es (need_at es p found)
 
 -- the cause of a row
 abbrev pub cause_of : List Event → Row → Option Cause
-cause_of es row = cause_at es row.place row.finding
+cause_of es row = cause_at es (row.place - 1) row.finding

@@ -10,7 +10,4 @@ pub mod Cause
 pub mod Laws
 pub mod States
 pub mod Past
-pub mod Changed
-pub mod Changing
-pub mod Cure
-pub mod Reaching
+pub mod Later

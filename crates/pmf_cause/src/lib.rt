@@ -10,25 +10,19 @@
 #![tactic(auto)]
 
 mod cause;
-#[cfg(test)]
-mod cure_tests;
-mod changing;
-mod edit;
+mod judging;
 mod lack;
+mod later;
 pub mod laws;
 mod marks;
 mod need;
 mod past;
 mod places;
-mod plan;
-mod proposing;
-mod reach;
 mod stored;
-mod trial;
+mod walk;
 
 pub use cause::Cause;
 pub use edit::Edit;
 pub use lack::Lack;
 pub use need::Need;
-pub use proposing::{Proposal, propose};
-pub use trial::{Trial, try_edits};
+pub use walk::causes;

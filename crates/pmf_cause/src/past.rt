@@ -1,7 +1,7 @@
 //! What is kept of the events up to a place.
 
 ghost use Rattle.std.specs.Prelude.{◌≡◌, ◌<◌, ◌≤◌, ℕ, suc, List, Some, length, OnOk};
-ghost use Rattle.pmf_event.specs.{declared.event.Event.{Event}, declared.section.TheConstants.{EVENT_LIMIT}, Store.{event_at, last_store}};
+ghost use Rattle.pmf_event.specs.{declared.event.Event.{Event}, declared.section.TheConstants.{EVENT_LIMIT}, Line.{line_of_byte}, Interval.{first_write_back}, Store.{event_at, last_store, stores}};
 ghost use Rattle.pmf_cause.specs.{Cause.{last_add, last_flush}, Past.{AreStores, IsPast}};
 
 use crate::marks::Marks;
@@ -74,6 +74,8 @@ impl Past {
     /// The last store of the byte, and the first write-back of its line behind that.
     pub(crate) fn last_store(&self, byte: u64) -> Stored
         ensures last { (es : List Event) → IsPast self.now es → result.last ≡ last_store es self.now.place byte }
+        ensures written_back { (es : List Event) → IsPast self.now es
+            → result.written_back ≡ first_write_back (stores byte) (line_of_byte byte) es self.now.place }
     {
         self.stored.at(byte)
     }
@@ -100,11 +102,7 @@ impl Past {
 
 // Follows a store or a write-back at the place.
 #[tactic(auto, using(crate::proofs::StoredLemmas::stores_kept_on))]
-fn store(
-    stored: &mut RunMap<Stored>,
-    place: u32,
-    event: &Event,
-) -> Result<(), AllocError>
+fn store(stored: &mut RunMap<Stored>, place: u32, event: &Event) -> Result<(), AllocError>
     ensures { (es : List Event) (p : ℕ) → event_at es (suc p) ≡ Some event.now → place ≡ suc p
         → AreStores stored.old es p → OnOk result (AreStores stored.new es (suc p)) }
 {

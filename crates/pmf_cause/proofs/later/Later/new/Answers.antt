@@ -1,0 +1,9 @@
+use Rattle.std.proofs.Common.{sym, ◌∙◌, ap}
+use Rattle.pmf_event.specs.Line.{line_of_byte}
+use Rattle.pmf_cause.{specs.declared.places.Place.{Place}, specs.Cause.{write_back_after}, proofs.LaterLemmas.{write_back-last}}
+use Rattle.pmf_cause.proofs.later.Later.new.Goals as goal
+
+pub returns-clause-later : goal.returns-clause-later
+returns-clause-later c = λ es last. record {
+  each = λ b. ap (λ (s : Place). s.of) (c.new.ensures.states b) ∙ sym (write_back-last es (line_of_byte b)) ∙ ap (write_back_after es (line_of_byte b)) (sym last);
+}
