@@ -11,3 +11,7 @@ pub mod Laws
 pub mod States
 pub mod Past
 pub mod Later
+pub mod Changed
+pub mod Changing
+pub mod Cure
+pub mod Reaching

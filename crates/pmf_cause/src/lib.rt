@@ -10,6 +10,10 @@
 #![tactic(auto)]
 
 mod cause;
+mod changing;
+#[cfg(test)]
+mod cure_tests;
+mod edit;
 mod judging;
 mod lack;
 mod later;
@@ -18,11 +22,17 @@ mod marks;
 mod need;
 mod past;
 mod places;
+mod plan;
+mod proposing;
+mod reach;
 mod stored;
+mod trial;
 mod walk;
 
 pub use cause::Cause;
 pub use edit::Edit;
 pub use lack::Lack;
 pub use need::Need;
+pub use proposing::{Proposal, propose};
+pub use trial::{Trial, try_edits};
 pub use walk::causes;
