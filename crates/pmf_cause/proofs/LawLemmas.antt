@@ -116,7 +116,7 @@ unfolding is_checked
 written es p b checked = ltb-true 0 (last_store es p b) (and_parts _ _ checked).0
 
 -- x is not written back and fenced by y's last store
-unordered-open : (profile : Profile) (es : List Event) (p x y : ℕ) → is_unordered profile es p x y ≡ true → Closing es (line_of_byte x) (last_store es p x) (last_store es p y) → ⊥
+pub unordered-open : (profile : Profile) (es : List Event) (p x y : ℕ) → is_unordered profile es p x y ≡ true → Closing es (line_of_byte x) (last_store es p x) (last_store es p y) → ⊥
 unfolding is_unordered last
 unordered-open profile es p x y is c =
     let parts = unordered-parts (is_checked es p x) (is_checked es p y) (is_ordered profile es p x y) is in

@@ -2,6 +2,7 @@ pub use Rattle.pmf_event.specs.Store
 pub use Rattle.pmf_event.specs.Interval
 pub use Rattle.pmf_event.specs.Transactions
 pub use Rattle.pmf_event.specs.Section
+pub use Rattle.pmf_image.specs.Holds
 pub use Rattle.pmf_verdict.specs.Rows
 pub use Rattle.pmf_verdict.specs.Checked
 pub use Rattle.pmf_verdict.specs.Outcome
