@@ -7,3 +7,4 @@ pub mod ListLemmas
 pub mod JudgingLemmas
 pub mod RowOrderLemmas
 pub mod LawLemmas
+pub mod WorkedCauses

@@ -16,6 +16,8 @@ mod need;
 mod past;
 mod places;
 mod stored;
+#[cfg(test)]
+mod tests;
 mod walk;
 
 pub use cause::Cause;
