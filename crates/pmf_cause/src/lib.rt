@@ -26,7 +26,8 @@ mod plan;
 mod proposing;
 mod reach;
 mod stored;
-mod trial;
+#[cfg(test)]
+mod tests;
 mod walk;
 
 pub use cause::Cause;
