@@ -57,8 +57,11 @@ fn is_bad(finding: Finding) -> bool {
 }
 
 const PERSIST: Step = Step::Persist(0x1000, 8);
+
 const IN_ORDER: Step = Step::Ordered((0x1000, 8), (0x2000, 8));
+
 const WIDE: Step = Step::Store(0x1000, 0x100);
+
 const ADD: Step = Step::TxAdd(0x1000, 8);
 
 #[test]
@@ -68,13 +71,34 @@ fn a_byte_is_written_back_and_fenced_as_far_as_it_lacks(rt: HostRuntime) -> Resu
     let apart = [STORE, Step::Store(0x1080, 8), wide];
     let early = Step::Flush(0x1080, 0x40);
     for (steps, want) in [
-        ([STORE, PERSIST].as_slice(), [put(2, FLUSH)?, put(2, FENCE)?].as_slice()),
-        ([STORE, FLUSH, PERSIST].as_slice(), [put(3, FENCE)?].as_slice()),
-        ([STORE, FENCE, PERSIST].as_slice(), [put(2, FLUSH)?].as_slice()),
-        ([STORE, FLUSH, OTHER, IN_ORDER].as_slice(), [put(3, FENCE)?].as_slice()),
-        ([STORE, OTHER, FLUSH, FENCE, IN_ORDER].as_slice(), [put(2, FLUSH)?, put(2, FENCE)?].as_slice()),
-        ([WIDE, wide].as_slice(), [put(2, lines)?, put(2, FENCE)?].as_slice()),
-        (apart.as_slice(), [put(3, FLUSH)?, put(3, early)?, put(3, FENCE)?].as_slice()),
+        (
+            [STORE, PERSIST].as_slice(),
+            [put(2, FLUSH)?, put(2, FENCE)?].as_slice(),
+        ),
+        (
+            [STORE, FLUSH, PERSIST].as_slice(),
+            [put(3, FENCE)?].as_slice(),
+        ),
+        (
+            [STORE, FENCE, PERSIST].as_slice(),
+            [put(2, FLUSH)?].as_slice(),
+        ),
+        (
+            [STORE, FLUSH, OTHER, IN_ORDER].as_slice(),
+            [put(3, FENCE)?].as_slice(),
+        ),
+        (
+            [STORE, OTHER, FLUSH, FENCE, IN_ORDER].as_slice(),
+            [put(2, FLUSH)?, put(2, FENCE)?].as_slice(),
+        ),
+        (
+            [WIDE, wide].as_slice(),
+            [put(2, lines)?, put(2, FENCE)?].as_slice(),
+        ),
+        (
+            apart.as_slice(),
+            [put(3, FLUSH)?, put(3, early)?, put(3, FENCE)?].as_slice(),
+        ),
     ] {
         let (edits, cured) = cure_of(rt.alloc(), steps)?;
         assert!(rt; edits.as_slice() == want, "{steps:?}: {edits:?}");
@@ -107,8 +131,14 @@ fn an_event_is_put_in_or_left_out(rt: HostRuntime) -> Result<(), Fail> {
     let early = [start, begin, end, commit];
     let never = [start, begin, end];
     for (steps, want) in [
-        ([start, begin, STORE, FLUSH, commit, FENCE, end].as_slice(), [put(3, ADD)?].as_slice()),
-        ([start, begin, ADD, STORE, commit, end].as_slice(), [put(6, FLUSH)?, put(6, FENCE)?].as_slice()),
+        (
+            [start, begin, STORE, FLUSH, commit, FENCE, end].as_slice(),
+            [put(3, ADD)?].as_slice(),
+        ),
+        (
+            [start, begin, ADD, STORE, commit, end].as_slice(),
+            [put(6, FLUSH)?, put(6, FENCE)?].as_slice(),
+        ),
         (closed.as_slice(), [put(8, end)?].as_slice()),
         (early.as_slice(), [out(3), put(5, end)?].as_slice()),
         (never.as_slice(), [put(3, commit)?].as_slice()),
@@ -118,7 +148,10 @@ fn an_event_is_put_in_or_left_out(rt: HostRuntime) -> Result<(), Fail> {
         ([end].as_slice(), [out(1)].as_slice()),
         ([FLUSH].as_slice(), [out(1)].as_slice()),
         ([STORE, FLUSH, FLUSH].as_slice(), [out(3)].as_slice()),
-        ([start, begin, ADD, ADD, commit, end].as_slice(), [out(4)].as_slice()),
+        (
+            [start, begin, ADD, ADD, commit, end].as_slice(),
+            [out(4)].as_slice(),
+        ),
     ] {
         let (edits, cured) = cure_of(rt.alloc(), steps)?;
         assert!(rt; edits.as_slice() == want, "{steps:?}: {edits:?}");
@@ -176,7 +209,13 @@ fn what_is_proposed_for_random_rows_cures_them(rt: HostRuntime) -> Result<(), Fa
         for index in 0..verdict.rows().len() {
             let row = verdict.rows()[index];
             let kind = row.finding;
-            if !matches!(kind, Finding::PersistFail { .. } | Finding::OrderedFail { .. } | Finding::NoBackup { .. } | Finding::CheckFail { .. }) {
+            if !matches!(
+                kind,
+                Finding::PersistFail { .. }
+                    | Finding::OrderedFail { .. }
+                    | Finding::NoBackup { .. }
+                    | Finding::CheckFail { .. }
+            ) {
                 continue;
             }
             let mut own = propose(alloc, &verdict, &[index])?.own;
@@ -203,7 +242,14 @@ fn all_cures_together_leave_no_row_that_has_one(rt: HostRuntime) -> Result<(), F
         let mut events = Vec::new(alloc);
         for _event in 0..4 + numbers.below(40) {
             let event = event_of(&mut numbers)?;
-            if matches!(event, Event::Store(_) | Event::Flush(_) | Event::Fence | Event::Persist(_) | Event::Ordered(_, _)) {
+            if matches!(
+                event,
+                Event::Store(_)
+                    | Event::Flush(_)
+                    | Event::Fence
+                    | Event::Persist(_)
+                    | Event::Ordered(_, _)
+            ) {
                 events.push(event)?;
             }
         }
@@ -220,7 +266,10 @@ fn all_cures_together_leave_no_row_that_has_one(rt: HostRuntime) -> Result<(), F
         for (index, row) in verdict.rows().iter().enumerate() {
             let has_one = proposal.own.get(index).is_some_and(|own| !own.is_empty());
             if matches!(outcome_of(row.finding), Outcome::Fail) && has_one {
-                assert!(rt; trial.is_cured(row.place), "{events:?}: {row:?} by {proposal:?}");
+                assert!(rt;
+                    trial.is_cured(row.place),
+                    "{events:?}: {row:?} by {proposal:?}"
+                );
             }
         }
     }

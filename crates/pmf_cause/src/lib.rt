@@ -28,6 +28,7 @@ mod reach;
 mod stored;
 #[cfg(test)]
 mod tests;
+mod trial;
 mod walk;
 
 pub use cause::Cause;

@@ -99,8 +99,12 @@ impl Plan {
     fn note(&mut self, before: u32, event: Event) -> Result<(), AllocError> {
         match event {
             Event::Fence => self.fenced = self.fenced.max(before),
-            Event::Flush(span) => self.flushed.change(span.first(), span.end(), &Put { place: before })?,
-            Event::TxAdd(span) => self.added.change(span.first(), span.end(), &Put { place: before })?,
+            Event::Flush(span) => self
+                .flushed
+                .change(span.first(), span.end(), &Put { place: before })?,
+            Event::TxAdd(span) => self
+                .added
+                .change(span.first(), span.end(), &Put { place: before })?,
             _ => {}
         }
         Ok(())

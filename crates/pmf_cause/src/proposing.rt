@@ -31,11 +31,7 @@ pub struct Proposal {
 ///
 /// Takes time in proportion to the events and the rows, but for a logarithm: after some steps for each of them no more is
 /// proposed. Takes memory for what is kept of the events, and for what is proposed.
-pub fn propose(
-    alloc: Global,
-    verdict: &Verdict,
-    wanted: &[usize],
-) -> Result<Proposal, AllocError> {
+pub fn propose(alloc: Global, verdict: &Verdict, wanted: &[usize]) -> Result<Proposal, AllocError> {
     let events = verdict.section().events();
     let mut seeker = Seeker::new(alloc, events.len(), verdict.rows().len());
     let mut reach = Reach::new(alloc);
@@ -280,7 +276,10 @@ fn end_of_transaction(events: &[Event], place: u32, depth: u32) -> Option<u32> {
             _ => {}
         }
         if left == 0 {
-            return u32::try_from(index).ok()?.checked_add(place)?.checked_add(1);
+            return u32::try_from(index)
+                .ok()?
+                .checked_add(place)?
+                .checked_add(1);
         }
     }
     None
