@@ -7,4 +7,8 @@ pub mod ListLemmas
 pub mod JudgingLemmas
 pub mod RowOrderLemmas
 pub mod LawLemmas
+pub mod FencedLemmas
+pub mod ChangedLemmas
+pub mod TrialLemmas
+pub mod ReachLemmas
 pub mod WorkedCauses
