@@ -11,8 +11,6 @@
 
 mod cause;
 mod changing;
-#[cfg(test)]
-mod cure_tests;
 mod edit;
 mod judging;
 mod lack;

@@ -8,6 +8,7 @@ use std::alloc::Global;
 use std::sync::Arc;
 use std::test::Fail;
 
+mod cures;
 mod plain;
 mod random;
 

@@ -1,30 +1,12 @@
 //! Cures of worked sections, and of random ones.
 
-use crate::edit::Edit;
-use crate::proposing::propose;
-use crate::trial::try_edits;
-use pmf_event::{Event, Finding, Name, Profile, Section, Span, SpanFault};
+use super::verdict_of;
+use crate::{Edit, propose, try_edits};
+use pmf_event::{Event, Finding, Profile, Span, SpanFault};
 use pmf_fixtures::{FENCE, FLUSH, Numbers, OTHER, STORE, Step, events_of};
-use pmf_verdict::{Outcome, Verdict, check, outcome_of};
-use std::alloc::{AllocError, Global};
-use std::sync::Arc;
+use pmf_verdict::{Outcome, outcome_of};
+use std::alloc::Global;
 use std::test::Fail;
-
-const NAME: Name = Name { run: 0, number: 0 };
-
-fn verdict_of(alloc: Global, events: &[Event], profile: Profile) -> Result<Verdict, AllocError> {
-    let mut section = Section::new(alloc, NAME);
-    for event in events {
-        match section.push(*event) {
-            Ok(()) => {}
-            Err(_) => return Err(AllocError),
-        }
-    }
-    match check(alloc, Arc::new(alloc, section)?, profile) {
-        Ok(verdict) => Ok(verdict),
-        Err(_) => Err(AllocError),
-    }
-}
 
 fn put(before: u32, step: Step) -> Result<Edit, SpanFault> {
     let event = step.event()?;
