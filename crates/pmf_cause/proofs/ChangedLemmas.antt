@@ -1,5 +1,5 @@
 -- A section with changes whose places rise: what is done place by place.
-use Rattle.std.proofs.{Common.{◌≡◌, ℕ, suc, ◌+◌, ◌<◌, ◌≤◌, Bool, true, false, ◌||◌, ◌==◌, if◌then◌else◌, List, [], ◌∷◌, ◌++◌, length, drop, map, flat_map, refl, sym, ap, subst, ◌∙◌, append_assoc, append-nil, arith}, lemmas.Grind.{common_steps}, lemmas.Bool.Decides.{Decides-eqb}, lemmas.Bool.{false≢true}}
+use Rattle.std.proofs.{Common.{◌≡◌, ℕ, suc, ◌+◌, ◌<◌, ◌≤◌, Bool, true, false, ◌||◌, if◌then◌else◌, List, [], ◌∷◌, ◌++◌, length, drop, map, refl, sym, ap, subst, ◌∙◌, append_assoc, append-nil, arith}, lemmas.Grind.{common_steps}}
 use Rattle.std.specs.List.{list_any}
 use Rattle.pmf_event.specs.declared.{event.Event.{Event}, name.Name.{Name}}
 use Rattle.pmf_cause.specs.{declared.edit.{Edit.{Edit}, Edit.TheVariants.{Put, LeaveOut}}, Changed.{changed, changed_from, kept_at, leaves_out, no_places, old_places, place_of, places_from, put_at, put_by, RisesFrom}, Changing.{Grows, Puts}, declared.changing.Changed.{Changed}}

@@ -1,6 +1,6 @@
 -- What lacks nothing holds.
-use Rattle.std.proofs.Common.{◌≡◌, ℕ, Bool, true, false, not, ◌&&◌, List, None, refl, sym, ◌∙◌, ap}
-use Rattle.pmf_event.{specs.declared.event.Event.{Event}, specs.declared.profile.Profile.{Profile}, specs.declared.profile.Profile.TheVariants.{One}, specs.Line.{line_of_byte}, specs.Store.{last_store}, specs.Interval.{interval_at, is_open}, specs.Persist.{is_checked}, specs.Order.{is_ordered, is_unordered}, proofs.IntervalLemmas.{Closing, no_Closing-from_open}}
+use Rattle.std.proofs.Common.{◌≡◌, Bool, true, false, not, ◌&&◌, refl, sym}
+use Rattle.pmf_event.{specs.declared.profile.Profile.TheVariants.{One}, specs.Interval.{interval_at, is_open}, specs.Persist.{is_checked}, specs.Order.{is_ordered, is_unordered}, proofs.IntervalLemmas.{no_Closing-from_open}}
 use Rattle.pmf_image.proofs.{ImageLemmas.{holds-where_closed}, OrderedLemmas.{holds-where_ordered}}
 use Rattle.pmf_cause.{specs.Laws.{WhatIsFencedBeforeHolds, WhatIsFencedInTimeHolds}, proofs.LawLemmas.{closing-where_nothing, unordered-open}}
 

@@ -1,6 +1,6 @@
 -- One more event that a search for cures has passed.
-use Rattle.std.proofs.Common.{◌≡◌, ℕ, suc, ◌+◌, ◌<◌, ◌≤◌, List, Some, sym, ap, subst, ◌∙◌, arith}
-use Rattle.pmf_event.{specs.declared.event.Event.{Event}, specs.Store.{at, event_at, is_fence}, specs.Places.{count}, proofs.PlacesLemmas.{count-le}}
+use Rattle.std.proofs.Common.{◌≡◌, ℕ, suc, ◌<◌, List, Some, sym, ap, subst, ◌∙◌, arith}
+use Rattle.pmf_event.{specs.declared.event.Event.{Event}, specs.Store.{at, event_at, is_fence}, proofs.PlacesLemmas.{count-le}}
 use Rattle.pmf_cause.specs.{declared.past.Past.{Past}, declared.reach.Reach.{Reach}, Past.{IsPast}, Reaching.{IsReached}}
 use Rattle.pmf_shadow.{specs.declared.shadow.Shadow.{Shadow}, specs.Shadow.{StandsFor, FollowsAt}, proofs.StandsLemmas.{follows-within}}
 

@@ -1,7 +1,7 @@
 -- What a cure is: changes of a section after which a row passes, and nothing fails that didn't. Defined here.
-use Rattle.std.specs.{Prelude.{◌≡◌, ℕ, Bool, false, not, ◌&&◌, ◌||◌, ◌==◌, List, Option}, List.{list_any}}
-use Rattle.pmf_event.specs.{declared.row.Row.{Row}, declared.event.Event.{Event}, declared.name.Name.{Name}, Section.{Trace}}
-use Rattle.pmf_verdict.specs.{declared.outcome.{Outcome.{Outcome}, Outcome.TheVariants.{Fail, Warn}}, Outcome.{is_same, outcome_of}, Checked.{Checked, rows_in}}
+use Rattle.std.specs.{Prelude.{◌≡◌, ℕ, Bool, false, not, ◌&&◌, ◌||◌, ◌==◌, List}, List.{list_any}}
+use Rattle.pmf_event.specs.{declared.row.Row.{Row}}
+use Rattle.pmf_verdict.specs.{declared.outcome.{Outcome.TheVariants.{Fail, Warn}}, Outcome.{is_same, outcome_of}, Checked.{Checked, rows_in}}
 use Rattle.pmf_runs.specs.{declared.members.Members.{Members}, declared.runs.RunMap.{RunMap}, contracts.members.BoolState.TheImpl.{ghosts}, Runs.{state_at}}
 use Rattle.pmf_cause.specs.{declared.edit.Edit.{Edit}, declared.trial.Trial.{Trial}, Changed.{changed, old_place, old_places}}
 

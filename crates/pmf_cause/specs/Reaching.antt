@@ -1,5 +1,5 @@
 -- What is kept of the events that a search for cures has passed. No public clause cites this.
-use Rattle.std.specs.Prelude.{ℕ, List}
+use Rattle.std.specs.Prelude.{List}
 use Rattle.pmf_event.specs.declared.event.Event.{Event}
 use Rattle.pmf_shadow.specs.Shadow.{StandsFor}
 use Rattle.pmf_cause.specs.{declared.reach.Reach.{Reach}, Past.{IsPast}}

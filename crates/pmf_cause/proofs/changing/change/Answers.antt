@@ -1,7 +1,5 @@
-use Rattle.std.proofs.Common.{◌≡◌, ◌∷◌, [], ◌++◌, ◌+◌, ◌<◌, ◌≤◌, suc, length, drop, ◌∙◌, sym, ap, subst, arith, refl}
+use Rattle.std.proofs.Common.{◌≡◌, ◌∷◌, [], ◌+◌, ◌<◌, length, drop, ◌∙◌, sym, ap, subst, arith}
 use Rattle.std.proofs.lemmas.List.{drop_more, drop_all}
-use Rattle.pmf_cause.specs.Changed.{changed, old_places}
-use Rattle.pmf_cause.specs.Changing.{Puts}
 use Rattle.pmf_cause.proofs.ChangedLemmas.{changing_done, walked_kept, walked_left, Changing}
 use Rattle.pmf_cause.proofs.changing.change.Goals as goal
 use Rattle.pmf_cause.proofs.changing.change.Goals.{then-not-here+in_ok-push, else-not-here}

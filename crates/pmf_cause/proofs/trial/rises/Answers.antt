@@ -1,4 +1,4 @@
-use Rattle.std.proofs.Common.{◌<◌, ◌≤◌, length, arith, ◌∙◌}
+use Rattle.std.proofs.Common.{◌<◌, length, arith}
 use Rattle.pmf_cause.proofs.TrialLemmas.{rises_more, rises_end}
 use Rattle.pmf_cause.proofs.trial.rises.Goals as goal
 

@@ -1,4 +1,4 @@
-use Rattle.std.proofs.Common.{◌≡◌, ◌∙◌, sym, ap, rules}
+use Rattle.std.proofs.Common.{rules}
 use Rattle.pmf_cause.proofs.TrialLemmas.{trial_made, cured_is}
 use Rattle.pmf_cause.proofs.trial.try_edits.Goals as goal
 
