@@ -12,7 +12,7 @@ const SHOWN: usize = 60;
 /// Says what may help against the fault of a log, by the record in which it stands.
 pub(crate) fn print_hint<R: Eprint>(rt: &R, cause: Cause, record: &[u8]) {
     match cause {
-        Cause::UnknownMarker => print_near(rt, field_of(record)),
+        Cause::UnknownMarker => print_near(rt, cut(record).0),
         Cause::BadNumber => print_field(rt, record),
         Cause::TooManyEvents => say(rt, "`pmfarm cut` cuts a long section into parts"),
         Cause::TooLong => say(
@@ -67,11 +67,10 @@ fn print_field<R: Eprint>(rt: &R, record: &[u8]) {
 
 // The first field that is to be a number and is none.
 fn no_number(record: &[u8]) -> Option<&[u8]> {
-    let name = field_of(record);
-    let mut rest = record;
+    let (name, mut rest) = cut(record);
     for index in 1..5 {
-        rest = behind_field(rest)?;
-        let field = field_of(rest);
+        let (field, more) = cut(rest?);
+        rest = more;
         let is_value = index == 2 && name == b"STORE".as_slice();
         if !is_value && !is_number(field) {
             return Some(field);
@@ -110,24 +109,14 @@ fn has_within(text: &[u8], word: &[u8]) -> bool {
     false
 }
 
-// The first field.
-fn field_of(text: &[u8]) -> &[u8] {
+// The first field, and the text behind it where a semicolon ends it.
+fn cut(text: &[u8]) -> (&[u8], Option<&[u8]>) {
     for end in 0..text.len() {
         if text[end] == b';' {
-            return &text[..end];
+            return (&text[..end], Some(&text[end + 1..]));
         }
     }
-    text
-}
-
-// What stands behind the first field.
-fn behind_field(text: &[u8]) -> Option<&[u8]> {
-    for end in 0..text.len() {
-        if text[end] == b';' {
-            return Some(&text[end + 1..]);
-        }
-    }
-    None
+    (text, None)
 }
 
 // The first bytes as ASCII, each that it does not print as `?`.
