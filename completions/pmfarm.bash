@@ -4,12 +4,12 @@ _pmfarm() {
     COMPREPLY=()
     if [ "$COMP_CWORD" -eq 1 ]; then
         mapfile -t COMPREPLY < <(compgen -W 'check explain locate lint cut join sim help --help -h --version -V' -- "$word")
-    elif [ "$command" = check ] && [ "$before" = --profile ]; then
+    elif [[ "$command" = @(check|explain) && "$before" = --profile ]]; then
         mapfile -t COMPREPLY < <(compgen -W '1 2' -- "$word")
+    elif [[ "$command" = @(check|explain|locate|lint) && "$before" != --@(run|workers|profile|section|event) && "$word" != -* ]]; then
+        mapfile -t COMPREPLY < <(compgen -f -- "$word")
     elif [ "$command" = check ] && [[ "$before" != --@(run|workers) ]]; then
         mapfile -t COMPREPLY < <(compgen -W '--workers --run --profile --ledger --help -h' -- "$word")
-    elif [ "$command" = explain ] && [ "$before" = --profile ]; then
-        mapfile -t COMPREPLY < <(compgen -W '1 2' -- "$word")
     elif [ "$command" = explain ] && [[ "$before" != --@(run|section|event) ]]; then
         mapfile -t COMPREPLY < <(compgen -W '--section --event --all --run --profile --help -h' -- "$word")
     elif [ "$command" = locate ] && [[ "$before" != --@(run|section|event) ]]; then

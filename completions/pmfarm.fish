@@ -1,7 +1,7 @@
 # fish completion for pmfarm
 complete -c pmfarm -f
-complete -c pmfarm -n __fish_use_subcommand -a check -d 'check the log on standard input'
-complete -c pmfarm -n __fish_use_subcommand -a explain -d 'explain one event, or each failing row, of the log on standard input'
+complete -c pmfarm -n __fish_use_subcommand -a check -d 'check a log'
+complete -c pmfarm -n __fish_use_subcommand -a explain -d 'explain one event, or each failing row, of a log'
 complete -c pmfarm -n __fish_use_subcommand -a locate -d 'tell which record of the log gave one event'
 complete -c pmfarm -n __fish_use_subcommand -a lint -d 'tell what the log holds'
 complete -c pmfarm -n __fish_use_subcommand -a cut -d 'cut the sections of the log on standard input'
@@ -10,7 +10,7 @@ complete -c pmfarm -n __fish_use_subcommand -a sim -d 'play the schedule on stan
 complete -c pmfarm -n __fish_use_subcommand -a help -d 'print help'
 complete -c pmfarm -n __fish_use_subcommand -s V -l version -d 'print the version'
 complete -c pmfarm -s h -l help -d 'print help'
-complete -c pmfarm -n '__fish_seen_subcommand_from explain locate' -l section -x -d 'the number of the section'
+complete -c pmfarm -n '__fish_seen_subcommand_from explain locate' -l section -x -d 'the section, N or R.N'
 complete -c pmfarm -n '__fish_seen_subcommand_from explain locate' -l event -x -d 'the place of the event in its section'
 complete -c pmfarm -n '__fish_seen_subcommand_from explain' -l all -d 'each row that counts as fail, in place of one event'
 complete -c pmfarm -n '__fish_seen_subcommand_from check' -l workers -x -d 'how many threads check the sections'
@@ -21,7 +21,7 @@ complete -c pmfarm -n '__fish_seen_subcommand_from cut' -l events -x -d 'the mos
 complete -c pmfarm -n '__fish_seen_subcommand_from cut' -l step -x -d 'what a part\'s number is above that of the one before it'
 complete -c pmfarm -n '__fish_seen_subcommand_from cut' -l files -x -a '(__fish_complete_path)' -d 'the front of the names of the files to write'
 complete -c pmfarm -n '__fish_seen_subcommand_from cut' -l bytes -x -d 'the most bytes of such a file'
-complete -c pmfarm -n '__fish_seen_subcommand_from join' -F
+complete -c pmfarm -n '__fish_seen_subcommand_from check explain locate lint join' -F
 complete -c pmfarm -n '__fish_seen_subcommand_from sim' -l log -x -a '(__fish_complete_path)' -d 'the log whose sections are played with'
 complete -c pmfarm -n '__fish_seen_subcommand_from sim' -l workers -x -d 'how many workers there are'
 complete -c pmfarm -n '__fish_seen_subcommand_from sim' -l ledgers -x -d 'how many ledgers there are'

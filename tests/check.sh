@@ -92,5 +92,7 @@ try_check() {
     check 'a directory as standard input' unreadable check
     check 'each request for memory of check refused in turn' sweep examples/order_and_warnings.log check
     check 'each request for memory of check on a transaction refused in turn' sweep examples/a_range_without_backup.log check
+    check 'each request for memory of check of a file refused in turn' sweep examples/first.log check examples/shared_a.log
+    check 'two files are refused' refused check examples/first.log examples/first.log
     check 'each request for memory of check --ledger refused in turn' sweep examples/shared_a.log check --ledger
 }

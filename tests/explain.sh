@@ -44,6 +44,10 @@ try_explain() {
     check 'explain shows the image of a failure' told 0 "$(cat "$log")" "$one_image" '' explain --section 0 --event 6
     check 'explain takes a run and a profile' told 0 'PMT.SECTION;3|FENCE' 'no image' '' \
         explain --section 3 --event 1 --run 7 --profile 2
+    check 'explain takes a section as a report names it' told 0 'PMT.SECTION;3|FENCE' 'no image' '' explain --section 7.3 --event 1
+    check 'explain refuses the section that a name of both numbers means, whatever the run' \
+        told 2 FENCE '' 'pmfarm: no section 7.1' explain --section 7.1 --event 0 --run 3
+    check 'a word that names no section is refused' refused explain --section 0.x --event 1
     check 'explain refuses a section that is missing' told 2 FENCE '' 'pmfarm: no section 7.1' explain --section 1 --event 0 --run 7
     check 'explain refuses an event that is missing' told 2 FENCE '' 'pmfarm: no event 2 in section 7.0' \
         explain --section 0 --event 2 --run 7

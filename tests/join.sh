@@ -57,6 +57,9 @@ many_ledgers() {
     ended 0 $? && [ "$(tail -n 1 "$scratch/report")" = 'total sections=900 pass=0 fail=0 warn=0 empty=0' ]
 }
 
+no_ledger='pmfarm: no.ledger: read failed
+pmfarm: hint: No such file or directory (os error 2)'
+
 try_join() {
     local name
     for name in shared_a shared_b; do
@@ -68,9 +71,9 @@ try_join() {
     check 'the same file twice is one ledger' joins 0 examples/shared_a.ledger '' --ledger shared_a.ledger shared_a.ledger
     check 'a joined ledger joins again' joins 0 examples/shared.ledger '' shared.ledger --ledger shared_a.ledger
     check 'a forged ledger is refused' joins 2 /dev/null "$(cat examples/forged.fault)" shared_a.ledger forged.ledger
-    check 'a file that is missing is named' joins 4 /dev/null 'pmfarm: no.ledger: read failed' shared_a.ledger no.ledger
-    check 'a directory is named' joins 4 /dev/null 'pmfarm: .: read failed' .
-    check 'all files are read before any is loaded' joins 4 /dev/null 'pmfarm: no.ledger: read failed' forged.ledger no.ledger
+    check 'a file that is missing is named' joins 4 /dev/null "$no_ledger" shared_a.ledger no.ledger
+    check 'a directory is named' joins 4 /dev/null "${is_a_directory/: read/: .: read}" .
+    check 'all files are read before any is loaded' joins 4 /dev/null "$no_ledger" forged.ledger no.ledger
     check 'a log is no ledger' joins 2 /dev/null 'pmfarm: first.log: line 1: not a ledger' first.log
     check 'an empty file is no ledger' joins_text 2 '' 'pmfarm: x.ledger: line 1: not a ledger'
     check 'ends with CR LF are refused' joins_text 2 'PMFARM-LEDGER 1\r\nend verdicts=0\r\n' \

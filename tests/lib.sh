@@ -115,10 +115,13 @@ full_output() {
     ended 4 $? && said 'pmfarm: write failed after 0 bytes' "$scratch/diagnostics"
 }
 
+is_a_directory='pmfarm: read failed
+pmfarm: hint: Is a directory (os error 21)'
+
 # unreadable WORD..: a directory as standard input.
 unreadable() {
     "$program" "$@" <examples >"$scratch/report" 2>"$scratch/diagnostics"
-    ended 4 $? && said 'pmfarm: read failed' "$scratch/diagnostics" && same /dev/null "$scratch/report"
+    ended 4 $? && said "$is_a_directory" "$scratch/diagnostics" && same /dev/null "$scratch/report"
 }
 
 # sweep INPUT WORD..: each request for memory refused in turn.

@@ -7,6 +7,7 @@ PMT.ORDERED;0x1000;8;0x2000;8'
 try_locate() {
     local log=examples/written_back_at_one_fence.log
     check 'locate tells the record of an event' told 0 "$(cat "$log")" "$one_place" '' locate --section 0 --event 6
+    check 'locate takes a section as a report names it' told 0 "$(cat "$log")" "$one_place" '' locate --section 0.0 --event 6
     check 'locate counts skipped records, and tells all fields' \
         told 0 $'START||PMT.SECTION;3\r\n STORE;0x1000;0;8;main.c:7 |FENCE' \
         $'record=3 offset=23 length=25\nSTORE;0x1000;0;8;main.c:7' '' locate --section 3 --event 1 --run 7

@@ -37,7 +37,8 @@ try_sim() {
         sim --log "$scratch/faulty.log" --workers 0 --ledgers 65
     check 'no workers are refused by sim' told 2 '' '' 'pmfarm: workers must be 1 to 64' sim --log "$log" --workers 0 --ledgers 65
     check '65 ledgers are refused' told 2 '' '' 'pmfarm: ledgers must be 0 to 64' sim --log "$log" --workers 64 --ledgers 65
-    check 'a log that is missing is named' told 4 x '' 'pmfarm: no.log: read failed' sim --log no.log --workers 0 --ledgers 0
+    check 'a log that is missing is named' told 4 x '' $'pmfarm: no.log: read failed\npmfarm: hint: No such file or directory (os error 2)' \
+        sim --log no.log --workers 0 --ledgers 0
     check 'a full device as standard output of sim' full_output examples/a_repeated_message.schedule sim $one --ledgers 1
     check 'a directory as standard input of sim' unreadable sim $one --ledgers 1
     check 'sim without a log is refused' refused sim --workers 1 --ledgers 0

@@ -11,8 +11,8 @@ help_of_explain() {
     local words
     "$program" explain --help >"$scratch/report" 2>"$scratch/diagnostics"
     ended 0 $? && same /dev/null "$scratch/diagnostics" || return
-    for words in '^Examples:' '^  pmfarm explain --section [0-9]+ --event [0-9]+ < ' '^  pmfarm explain --all < ' \
-        '--run 7 --profile 2 < ' '^What is written of a row that fails:' '^  image crash=[0-9]+ full=none ' \
+    for words in '^Examples:' '^  pmfarm explain --section [0-9]+\.[0-9]+ --event [0-9]+ store.log' '^  pmfarm explain --all store.log' \
+        '--run 7 --profile 2 store.log' '^What is written of a row that fails:' '^  image crash=[0-9]+ full=none ' \
         '^  byte=0x[0-9a-f]+ cut=[0-9]+ shows=[0-9]+ last=[0-9]+ ' '^  cut  ' '^  shows  ' '^  last  ' '^  no image  ' \
         '^Exit status:'; do
         grep -Eq -e "$words" "$scratch/report" || {
@@ -26,6 +26,51 @@ help_of_explain() {
             return 1
         }
     done
+}
+
+# A log in a file has the answer of the same log on standard input, which is not read then.
+from_files() {
+    local log words wanted
+    printf 'FENCE|PMT.PERSITS;8;8' >"$scratch/misspelt.log"
+    for log in examples/order_and_warnings.log examples/first.log "$scratch/misspelt.log" /dev/null examples; do
+        for words in check 'check --ledger --run 7' lint 'explain --all' 'explain --section 0.0 --event 1' 'locate --section 0 --event 1'; do
+            # (the words are parted at blanks)
+            "$program" $words <"$log" >"$scratch/wanted" 2>"$scratch/told"
+            wanted=$?
+            printf 'PMT.X' | "$program" $words "$log" >"$scratch/report" 2>"$scratch/diagnostics"
+            ended "$wanted" $? && same "$scratch/wanted" "$scratch/report" && same "$scratch/told" "$scratch/diagnostics" || {
+                printf 'of %s by %s\n' "$log" "$words"
+                return 1
+            }
+        done
+    done
+}
+
+# A file that is not there, by each command that reads a log.
+missing_file() {
+    local words
+    for words in check lint 'explain --all' 'explain --section 0 --event 1' 'locate --section 0 --event 1'; do
+        told 4 FENCE '' $'pmfarm: no.log: read failed\npmfarm: hint: No such file or directory (os error 2)' $words no.log || return
+    done
+}
+
+# On a terminal a line says that the log is read from there; where a file is named, and of commands that read no log there, none does.
+on_a_terminal() {
+    python3 - "$program" <<'EOT'
+import os, pty, subprocess, sys
+
+for words, status, told in (
+    ("check", 0, "pmfarm: reading the log from standard input\n"),
+    ("cut", 0, "pmfarm: reading the log from standard input\npmfarm: 0 cuts\n"),
+    ("check examples/first.log", 0, ""),
+    ("join examples/shared_a.ledger", 0, ""),
+):
+    ours, theirs = pty.openpty()
+    os.write(ours, b"FENCE\n\x04\x04")
+    ran = subprocess.run([sys.argv[1], *words.split()], stdin=theirs, capture_output=True, text=True, check=False)
+    if (ran.returncode, ran.stderr) != (status, told):
+        sys.exit(f"{words}: {ran}")
+EOT
 }
 
 refused_without_diagnostics() {
@@ -71,6 +116,9 @@ try_words() {
     check 'no word is refused' refused
     check 'an unknown word is refused' refused chek
     check 'a word that is not UTF-8 is refused' refused $'\xff'
+    check 'a log in a file has the answer of the same log on standard input' from_files
+    check 'a file that is missing is named, with the reason' missing_file
+    check 'a log that is awaited from a terminal is told' on_a_terminal
     check 'a failed write of a fault line keeps the status' refused_without_diagnostics
     check 'a full device as standard output of help' full_output /dev/null --help
     check 'a write that fails after some bytes tells how many went out' cut_off_texts

@@ -1,13 +1,12 @@
 -- Worked examples of how commands end, computed by the definitions: each status that `check` can end with, and the others of each command.
-use Rattle.std.proofs.Common.{◌≡◌, true, false, Ok, Err, refl}
-use Rattle.pmf_event.specs.declared.name.Name.{Name}
+use Rattle.std.proofs.Common.{◌≡◌, true, Ok, Err, refl}
 use Rattle.pmf_storelog.specs.declared.fault.Cause.TheVariants.{BadNumber, OutOfMemory}
 use Rattle.pmf_ledger.specs.declared.joining.JoinFault.TheVariants.{ProfileMismatch}
 use Rattle.pmf_farm.specs.declared.fault.FarmFault.TheVariants.{NoWorkers}
 use Rattle.pmf_query.specs.declared.refusal.LogRefusal.TheVariants as whole
 use Rattle.pmf_stream.specs.declared.{checking.CheckLogFault.TheVariants.{Log, Farm}, fault.StreamFault.TheVariants.{ReadFault, Refused, WriteFault}, joining.JoinTextFault.TheVariants.{Join}}
 use Rattle.pmf_world.specs.declared.simulating.SimFault.TheVariants.{BadStep}
-use Rattle.pmf_command.specs.{declared.status.Status.TheVariants.{NoFail, SomeFail, NoMemory, DeviceFault}, Statuses.{exit_code_of, status_of, status_of_asked, status_of_check_fault, status_of_cut_fault, status_of_done, status_of_joined, status_of_linted, status_of_log_refusal, status_of_pieces, status_of_sim_fault, status_of_text_fault}}
+use Rattle.pmf_command.specs.{declared.status.Status.TheVariants.{NoFail, SomeFail, NoMemory}, Statuses.{exit_code_of, status_of, status_of_asked, status_of_check_fault, status_of_cut_fault, status_of_done, status_of_joined, status_of_linted, status_of_log_refusal, status_of_pieces, status_of_sim_fault, status_of_text_fault}}
 
 checks :
     (exit_code_of (status_of status_of_done status_of_check_fault (Ok (record { skipped = 2; fails = 0 }))) ≡ 0)  -- no row counts as fail

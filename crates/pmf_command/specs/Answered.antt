@@ -6,7 +6,7 @@ use Rattle.pmf_ledger.specs.declared.loading.TheConstants.{LEDGER_LIMIT}
 use Rattle.pmf_storelog.specs.LogValue.{LogValue}
 use Rattle.pmf_ledger.specs.AllKept.{AllKept}
 use Rattle.pmf_request.specs.declared.settings.Settings.{Settings}
-use Rattle.pmf_request.specs.declared.request.{Cuts.{Cuts}, Files.{Files}, Simulation.{Simulation}, Request.{Request}, Request.TheVariants.{Check, Explain, ExplainAll, Locate, Lint, Cut, Join, Sim}}
+use Rattle.pmf_request.specs.declared.request.{Cuts.{Cuts}, Files.{Files}, Input.{Input}, Input.TheVariants.{Standard, File}, Simulation.{Simulation}, Request.{Request}, Request.TheVariants.{Check, Explain, ExplainAll, Locate, Lint, Cut, Join, Sim}}
 use Rattle.pmf_cut.specs.declared.fault.CutFault.{CutFault}
 use Rattle.pmf_query.specs.{Explanation.{IsExplanation}, AllExplained.{ExplainsAll}, Locating.{IsLocationText}, Linting.{Overviews}, Refusals.{IsEventRefusal, IsLogRefusal}}
 use Rattle.pmf_stream.specs.{Answering.{Answers}, Asked.{IsAnswerOf, IsRefusalOf}, Checking.{IsCheckFaultOf, IsLogOf, IsReportOf}, Files.{IsCutOf}, Joining.{IsJoinedText, IsRefusalOfTexts}, Reading.{HasReadAll}, Simulated.{IsSimRefusalOf, IsSimulationOf}, declared.cutting.Pieces.{Pieces}, declared.fault.StreamFault.{StreamFault}}
@@ -81,25 +81,52 @@ IsCutAs cuts s status =
     (can_cut cuts ≡ false → status ≡ Refused)
     × (can_cut cuts ≡ true → (answer : Result Pieces (StreamFault CutFault)) × (status ≡ status_of status_of_pieces status_of_cut_fault answer) × OnOk answer (IsCutWhere cuts.files cuts.lengths.step s))
 
--- the process ends with the status of what was answered
-abbrev pub IsAnswered : Request → Streams → Status → Type 0
-IsAnswered (Check settings) s status = EndsAs status_of_done status_of_check_fault (IsReportOf settings s.left s.rest) (IsCheckFaultOf settings s.left s.rest) s.held s.holds status
-IsAnswered (Explain asked) s status =
+-- the process ends with the status of what was answered, where the log is read from these streams
+abbrev pub IsAnsweredFrom : Request → Streams → Status → Type 0
+IsAnsweredFrom (Check settings log) s status = EndsAs status_of_done status_of_check_fault (IsReportOf settings s.left s.rest) (IsCheckFaultOf settings s.left s.rest) s.held s.holds status
+IsAnsweredFrom (Explain asked log) s status =
     EndsAs status_of_asked status_of_event_refusal (IsAnswerOf (λ bytes _ text. IsExplanation asked.run asked.section asked.event asked.profile bytes text) s.left s.rest)
     (IsRefusalOf (IsEventRefusal (record { run = asked.run; section = asked.section; event = asked.event })) s.left s.rest) s.held s.holds status
-IsAnswered (ExplainAll asked) s status =
+IsAnsweredFrom (ExplainAll asked log) s status =
     EndsAs status_of_asked status_of_log_refusal (IsAnswerOf (λ bytes _ text. ExplainsAll asked.run asked.profile bytes text) s.left s.rest) (IsRefusalOf (IsLogRefusal asked.run) s.left s.rest) s.held s.holds status
-IsAnswered (Locate sought) s status =
+IsAnsweredFrom (Locate sought log) s status =
     EndsAs status_of_asked status_of_event_refusal (IsAnswerOf (λ bytes _ text. IsLocationText sought.section sought.event bytes text) s.left s.rest) (IsRefusalOf (IsEventRefusal sought) s.left s.rest) s.held s.holds status
-IsAnswered Lint s status = EndsAs status_of_linted status_of_log_refusal (IsAnswerOf Overviews s.left s.rest) (IsRefusalOf (IsLogRefusal 0) s.left s.rest) s.held s.holds status
-IsAnswered (Cut cuts) s status = IsCutAs cuts s status
-IsAnswered (Join files) s status = JoinsFiles files s.files s.held s.holds status
-IsAnswered (Sim simulation) s status = Simulates simulation s.files s.left s.rest s.held s.holds status
+IsAnsweredFrom (Lint log) s status = EndsAs status_of_linted status_of_log_refusal (IsAnswerOf Overviews s.left s.rest) (IsRefusalOf (IsLogRefusal 0) s.left s.rest) s.held s.holds status
+IsAnsweredFrom (Cut cuts) s status = IsCutAs cuts s status
+IsAnsweredFrom (Join files) s status = JoinsFiles files s.files s.held s.holds status
+IsAnsweredFrom (Sim simulation) s status = Simulates simulation s.files s.left s.rest s.held s.holds status
+
+-- where the request's log is read from
+abbrev pub input_of : Request → Input
+input_of (Check settings log) = log
+input_of (Explain asked log) = log
+input_of (ExplainAll asked log) = log
+input_of (Locate sought log) = log
+input_of (Lint log) = log
+input_of _ = Standard
+
+-- this is said of what is left of the log's stream before and after: of the input, or of the file, which had what its name has
+abbrev pub IsSaidOf : Input → Streams → (Option (List ℕ) → Option (List ℕ) → Type 0) → Type 0
+IsSaidOf Standard s Says = Says s.left s.rest
+IsSaidOf (File name) s Says = (left : Option (List ℕ)) × (rest : Option (List ℕ)) × IsFileOf (s.files name.now) left × Says left rest
+
+-- the file was not opened
+abbrev pub IsUnopened : Input → Status → Type 0
+IsUnopened Standard status = ⊥
+IsUnopened (File name) status = IsUnread status
+
+-- the process ends with the status of what was answered of the log, or the log's file was not opened
+abbrev pub IsAnswered : Request → Streams → Status → Type 0
+IsAnswered request s status =
+    IsUnopened (input_of request) status
+    ⊎ IsSaidOf (input_of request) s (λ left rest. IsAnsweredFrom request (record s { left = left; rest = rest }) status)
 
 -- where `check` ends with status 0, what was read is a log, and all that it asserts holds
-abbrev pub EndsWellOnlyIfKept : Settings → Streams → Status → Type 0
-EndsWellOnlyIfKept settings s status = status ≡ NoFail → (log : LogValue) × IsLogOf settings.run s.left s.rest log × AllKept log.sections
+abbrev pub EndsWellOnlyIfKept : Settings → Input → Streams → Status → Type 0
+EndsWellOnlyIfKept settings input s status =
+    status ≡ NoFail → IsSaidOf input s (λ left rest. (log : LogValue) × IsLogOf settings.run left rest log × AllKept log.sections)
 
--- a law: what is answered of `check` says so, whatever the streams
+-- a law: what is answered of `check` says so, whatever the streams, and wherever the log is read from
 abbrev pub StatusZeroKeepsAll : Type 0
-StatusZeroKeepsAll = (settings : Settings) (s : Streams) (status : Status) → IsAnswered (Check settings) s status → EndsWellOnlyIfKept settings s status
+StatusZeroKeepsAll =
+    (settings : Settings) (input : Input) (s : Streams) (status : Status) → IsAnswered (Check settings input) s status → EndsWellOnlyIfKept settings input s status

@@ -1,13 +1,14 @@
 //! What the program does, from the words of its command line on.
 
+use crate::diagnostics::print_waiting;
 use crate::ended::{Ended, exhausted, refused, report_words};
 use crate::files::NumberedFiles;
-use crate::requests::answer;
+use crate::requests::{answer, input_of};
 use crate::shelf::OnDisk;
 use pmf_request::{Cuts, Request};
 use pmf_stream::{StdSink, StdSource};
 use pmf_words::request_of;
-use std::io::{ErrorKind, Input};
+use std::io::{ErrorKind, Input, IsTerminal};
 use std::sync::Wait;
 use std::thread::Threads;
 use std::{env, io};
@@ -39,7 +40,11 @@ fn answer_by_devices<T: Threads + Wait + Sync>(
     request: &Request,
 ) -> Ended {
     let alloc = rt.alloc();
-    let mut source = StdSource::new(rt.reader());
+    let input = rt.reader();
+    if reads_input(request) && input.is_terminal() {
+        print_waiting(rt);
+    }
+    let mut source = StdSource::new(input);
     let mut sink = StdSink::new(io::writer(rt));
     let mut parts = NumberedFiles::new(rt, alloc, prefix_of(request));
     answer(
@@ -64,5 +69,13 @@ fn prefix_of<'a>(request: &Request<'a>) -> &'a str {
             },
         ) => *prefix,
         _ => "",
+    }
+}
+
+// Whether the request's log is read from standard input.
+fn reads_input(request: &Request) -> bool {
+    match request {
+        Request::Join(_) | Request::Sim(_) => false,
+        _ => matches!(input_of(request), pmf_request::Input::Standard),
     }
 }

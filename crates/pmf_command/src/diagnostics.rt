@@ -52,6 +52,11 @@ pub fn print_skipped<R: Eprint>(rt: &R, records: u64) {
     }
 }
 
+/// Says that a log is awaited from a terminal.
+pub fn print_waiting<R: Eprint>(rt: &R) {
+    let _ = eprintln!(rt; "pmfarm: reading the log from standard input");
+}
+
 /// Says how many cuts were made in a log, and how many files it became, where it is cut into files.
 pub fn print_cuts<R: Eprint>(rt: &R, cuts: u64, files: Option<usize>) {
     let _ = match files {

@@ -11,13 +11,15 @@ use crate::diagnostics::{
     Spoken, fail, fail_file, out_of_memory, print_cuts, print_skipped, refuse_words,
 };
 use crate::ending::Ending;
+use crate::hints::{print_hint, print_reason};
+use crate::shelf::Unread;
 use crate::status::Status;
 use pmf_farm::OpenGate;
 use pmf_query::Query;
 use pmf_request::{Lengths, Settings};
 use pmf_stream::{
-    JoinTextFault, Joined, Outlet, Sink, Source, StdSink, StreamFault, answer_stream, check_stream,
-    cut_stream, join_to, sim_to, write_text,
+    Device, Excerpt, JoinTextFault, Joined, Outlet, Sink, Source, StdSink, StreamFault,
+    answer_stream, check_stream, cut_stream, join_to, sim_to, write_text,
 };
 use std::alloc::Global;
 use std::fmt::Display;
@@ -68,31 +70,37 @@ pub(crate) fn exhausted<R: Eprint>(rt: &R) -> Ended
 }
 
 /// A file was not read.
-pub(crate) fn unread<R: Eprint, E: Display + Drop>(
-    rt: &R,
-    name: &str,
-    fault: StreamFault<E>,
-) -> Ended
+pub(crate) fn unread<R: Eprint>(rt: &R, name: &str, why: Unread) -> Ended
     ensures { (result ≡ Status.NoMemory) ⊎ (result ≡ Status.DeviceFault) }
 {
-    let status = match fault {
-        StreamFault::OutOfMemory => out_of_memory(rt),
-        fault => fail_file(rt, name, fault, Status::DeviceFault),
+    let status = match why {
+        Unread::OutOfMemory => out_of_memory(rt),
+        Unread::Failed(reason) => {
+            let status = fail_file(rt, name, "read failed", Status::DeviceFault);
+            print_reason(rt, reason);
+            status
+        }
     };
     Ended { status }
 }
 
-/// What was to be read is not answered.
+/// What was to be read is not answered: says why, and what may help, by the record that is refused and what the system said of a read.
 pub(crate) fn unanswered<R: Eprint, E: Ending + Display + Drop>(
     rt: &R,
     fault: StreamFault<E>,
+    refused: &Excerpt,
+    reason: Option<io::Error>,
 ) -> Ended
     ensures { result ≡ status_of_fault E.ends_as fault }
 {
+    let cause = fault.cause();
     let status = fault.status();
-    Ended {
-        status: fail(rt, fault, status),
+    let status = fail(rt, fault, status);
+    if let Some(cause) = cause {
+        print_hint(rt, cause, refused.text());
     }
+    print_reason(rt, reason);
+    Ended { status }
 }
 
 /// Checks the log of the source by workers whose gate is open, and writes its report to the sink.
@@ -114,11 +122,20 @@ pub(crate) fn check_to<R: Eprint, T: Threads + Wait + Sync, S: Source, W: Sink>(
         × TellsFaults (S.failed_calls source.old) (S.failed_calls source.new)
         (W.failed_calls sink.old) (W.failed_calls sink.new) sink.old sink.new answer }
 {
-    let answer = check_stream(threads, alloc, source, sink, settings, &OpenGate);
+    let mut refused = Excerpt::none();
+    let answer = check_stream(
+        threads,
+        alloc,
+        source,
+        sink,
+        settings,
+        &OpenGate,
+        &mut refused,
+    );
     if let Ok(done) = &answer {
         print_skipped(rt, done.skipped);
     }
-    report_ending(rt, answer)
+    report_ending(rt, answer, &refused, source.reason())
 }
 
 /// Reads the log of the source and writes the answer of what is asked of it to the sink.
@@ -140,8 +157,9 @@ pub(crate) fn answer_to<
         × TellsFaults (S.failed_calls source.old) (S.failed_calls source.new)
         (W.failed_calls sink.old) (W.failed_calls sink.new) sink.old sink.new answer }
 {
-    let answer = answer_stream(alloc, source, sink, query);
-    report_ending(rt, answer)
+    let mut refused = Excerpt::none();
+    let answer = answer_stream(alloc, source, sink, query, &mut refused);
+    report_ending(rt, answer, &refused, source.reason())
 }
 
 /// Writes the log of the source to the sink with its sections cut, in files of so many bytes where they are told, and says on standard
@@ -162,11 +180,20 @@ pub(crate) fn cut_to<R: Eprint, S: Source, W: Outlet>(
         × (S.failed_calls source.new ≡ S.failed_calls source.old + failed_reads answer)
         × (W.failed_calls sink.new ≡ W.failed_calls sink.old + failed_writes answer) }
 {
-    let answer = cut_stream(alloc, source, sink, &mut Spoken { rt }, lengths, bytes);
+    let mut refused = Excerpt::none();
+    let answer = cut_stream(
+        alloc,
+        source,
+        sink,
+        &mut Spoken { rt },
+        lengths,
+        bytes,
+        &mut refused,
+    );
     if let Ok(pieces) = &answer {
         print_cuts(rt, pieces.cuts, bytes.is_some().then_some(pieces.files));
     }
-    report_ending(rt, answer)
+    report_ending(rt, answer, &refused, source.reason())
 }
 
 /// Joins the texts of the files with these names and writes the report of all, or their ledger text, to the sink.
@@ -211,7 +238,7 @@ pub(crate) fn play_to<R: Eprint, W: Sink>(
         sink.old sink.new answer }
 {
     let answer = sim_to(alloc, log, schedule, workers, ledgers, sink);
-    report_ending(rt, answer)
+    report_ending(rt, answer, &Excerpt::none(), None)
 }
 
 /// Writes what `clap` has to say: help and the version to standard output, a fault to standard
@@ -255,6 +282,8 @@ fn show<R: Eprint, W: Sink>(rt: &R, sink: &mut W, text: &[u8]) -> Status
 fn report_ending<R: Eprint, T: Ending + Drop, E: Ending + Display + Drop>(
     rt: &R,
     answer: Result<T, StreamFault<E>>,
+    refused: &Excerpt,
+    reason: Option<io::Error>,
 ) -> Ended
     ensures { result ≡ status_of T.ends_as E.ends_as answer }
 {
@@ -262,7 +291,7 @@ fn report_ending<R: Eprint, T: Ending + Drop, E: Ending + Display + Drop>(
         Ok(done) => Ended {
             status: done.status(),
         },
-        Err(fault) => unanswered(rt, fault),
+        Err(fault) => unanswered(rt, fault, refused, reason),
     }
 }
 
@@ -280,5 +309,5 @@ fn report_joined<R: Eprint>(
             return Ended { status };
         }
     }
-    report_ending(rt, answer)
+    report_ending(rt, answer, &Excerpt::none(), None)
 }

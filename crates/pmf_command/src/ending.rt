@@ -20,6 +20,11 @@ pub trait Ending {
     /// How the program ends.
     fn status(&self) -> Status
         ensures { result ≡ ends_as self.now };
+
+    /// The cause of the log's fault, where it is one.
+    fn cause(&self) -> Option<Cause> {
+        None
+    }
 }
 
 fn status_of_fails(fails: u128) -> Status
@@ -60,6 +65,10 @@ impl Ending for LogFault {
             _ => Status::Refused,
         }
     }
+
+    fn cause(&self) -> Option<Cause> {
+        Some(self.cause)
+    }
 }
 
 /// The farm refuses its workers or its sections.
@@ -87,6 +96,13 @@ impl Ending for CheckLogFault {
             CheckLogFault::Farm(fault) => fault.status(),
         }
     }
+
+    fn cause(&self) -> Option<Cause> {
+        match self {
+            CheckLogFault::Log(fault) => fault.cause(),
+            CheckLogFault::Farm(_) => None,
+        }
+    }
 }
 
 /// An event is not told of.
@@ -100,6 +116,13 @@ impl Ending for EventRefusal {
             EventFault::Log(fault) => fault.status(),
         }
     }
+
+    fn cause(&self) -> Option<Cause> {
+        match self.fault {
+            EventFault::Log(fault) => fault.cause(),
+            _ => None,
+        }
+    }
 }
 
 /// A log is not told of.
@@ -110,6 +133,13 @@ impl Ending for LogRefusal {
         match self {
             LogRefusal::Log(fault) => fault.status(),
             LogRefusal::OutOfMemory => Status::NoMemory,
+        }
+    }
+
+    fn cause(&self) -> Option<Cause> {
+        match self {
+            LogRefusal::Log(fault) => fault.cause(),
+            LogRefusal::OutOfMemory => None,
         }
     }
 }
@@ -149,6 +179,13 @@ impl Ending for CutFault {
             CutFault::Log(fault) => fault.status(),
             CutFault::OutOfMemory => Status::NoMemory,
             CutFault::NoNumber { .. } | CutFault::Taken { .. } => Status::Refused,
+        }
+    }
+
+    fn cause(&self) -> Option<Cause> {
+        match self {
+            CutFault::Log(fault) => fault.cause(),
+            _ => None,
         }
     }
 }
@@ -241,6 +278,13 @@ impl<E: Ending> Ending for StreamFault<E> {
             StreamFault::ReadFault | StreamFault::WriteFault { .. } => Status::DeviceFault,
             StreamFault::OutOfMemory => Status::NoMemory,
             StreamFault::Refused(found) => found.status(),
+        }
+    }
+
+    fn cause(&self) -> Option<Cause> {
+        match self {
+            StreamFault::Refused(found) => found.cause(),
+            _ => None,
         }
     }
 }

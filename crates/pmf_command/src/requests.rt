@@ -3,7 +3,7 @@
 ghost use Rattle.std.specs.Prelude.{◌≡◌, is_none, map, IfErr, IfOk};
 ghost use Rattle.pmf_ledger.specs.declared.loading.TheConstants.{LEDGER_LIMIT};
 ghost use Rattle.pmf_stream.specs.Failures.{CanCountOneMore};
-ghost use Rattle.pmf_command.specs.{Answered.{AreRead, IsAnswered, IsUnread, JoinsFiles, Simulates, can_cut}, declared.status.Status.{Status}};
+ghost use Rattle.pmf_command.specs.{Answered.{AreRead, IsAnswered, IsAnsweredFrom, IsUnread, JoinsFiles, Simulates, can_cut, input_of}, declared.status.Status.{Status}};
 
 use crate::ended::{
     Ended, answer_to, check_to, cut_to, exhausted, join_all, play_to, refused, unanswered, unread,
@@ -11,16 +11,17 @@ use crate::ended::{
 use crate::shelf::{Shelf, bytes_of};
 use pmf_event::EVENT_LIMIT;
 use pmf_ledger::LEDGER_LIMIT;
-use pmf_request::{Cuts, Files, Overview, Request, Simulation};
+use pmf_request::{Cuts, Files, Input, Overview, Request, Simulation};
 use pmf_storelog::LOG_LIMIT;
-use pmf_stream::{JoinTextFault, Outlet, Sink, Source, read_all};
+use pmf_stream::{Device, Excerpt, Outlet, Sink, Source, read_all};
 use pmf_world::{SCHEDULE_LIMIT, SimFault};
 use std::alloc::Global;
 use std::io::Eprint;
 use std::sync::Wait;
 use std::thread::Threads;
 
-/// Does what the request asks for: reads the source and the files of the shelf, and writes to the sink, or the parts of a log to their files.
+/// Does what the request asks for: reads the source and the files of the shelf, its log from where it says, and writes to the sink, or the
+/// parts of a log to their files.
 pub(crate) fn answer<
     R: Eprint,
     T: Threads + Wait + Sync,
@@ -53,12 +54,71 @@ pub(crate) fn answer<
       files = F.bytes shelf.now;
     }) result }
 {
+    match input_of(request) {
+        Input::Standard => { answer_from(rt, threads, alloc, request, source, sink, parts, shelf) }
+        Input::File(name) => {
+            let mut file = match shelf.open(name) {
+                Ok(file) => file,
+                Err(why) => return unread(rt, name, why),
+            };
+            answer_from(rt, threads, alloc, request, &mut file, sink, parts, shelf)
+        }
+    }
+}
+
+/// Where the request's log is read from.
+pub(crate) fn input_of<'a>(request: &Request<'a>) -> Input<'a>
+    ensures { result ≡ input_of request.now }
+{
     match request {
-        Request::Check(settings) => check_to(rt, threads, alloc, source, sink, *settings),
-        Request::Explain(question) => answer_to(rt, alloc, source, sink, question),
-        Request::ExplainAll(whole) => answer_to(rt, alloc, source, sink, whole),
-        Request::Locate(sought) => answer_to(rt, alloc, source, sink, sought),
-        Request::Lint => answer_to(rt, alloc, source, sink, &Overview),
+        Request::Check(_, input)
+        | Request::Explain(_, input)
+        | Request::ExplainAll(_, input)
+        | Request::Locate(_, input)
+        | Request::Lint(input) => *input,
+        Request::Cut(_) | Request::Join(_) | Request::Sim(_) => Input::Standard,
+    }
+}
+
+// Does the same, its log read from the source wherever it is.
+fn answer_from<
+    R: Eprint,
+    T: Threads + Wait + Sync,
+    S: Source,
+    W: Sink + Outlet,
+    P: Outlet,
+    F: Shelf,
+>(
+    rt: &R,
+    threads: &T,
+    alloc: Global,
+    request: &Request,
+    source: &mut S,
+    sink: &mut W,
+    parts: &mut P,
+    shelf: &F,
+) -> Ended
+    requires read { CanCountOneMore (S.failed_calls source.old) }
+    requires write { CanCountOneMore (W.failed_calls sink.old) }
+    requires files { CanCountOneMore (P.failed_calls parts.old) }
+    ensures { IsAnsweredFrom request.now (record {
+      left = S.left source.old;
+      rest = S.left source.new;
+      held = W.held sink.old;
+      holds = W.held sink.new;
+      held_in = W.held_in sink.old;
+      holds_in = W.held_in sink.new;
+      parts_held = P.held_in parts.old;
+      parts_hold = P.held_in parts.new;
+      files = F.bytes shelf.now;
+    }) result }
+{
+    match request {
+        Request::Check(settings, _) => check_to(rt, threads, alloc, source, sink, *settings),
+        Request::Explain(question, _) => answer_to(rt, alloc, source, sink, question),
+        Request::ExplainAll(whole, _) => answer_to(rt, alloc, source, sink, whole),
+        Request::Locate(sought, _) => answer_to(rt, alloc, source, sink, sought),
+        Request::Lint(_) => answer_to(rt, alloc, source, sink, &Overview),
         Request::Cut(cuts) => {
             if let Some(why) = refusal_of(*cuts) {
                 return refused(rt, why);
@@ -117,9 +177,9 @@ fn texts_of<R: Eprint, F: Shelf>(
 {
     let mut texts = Vec::new(alloc);
     for name in names {
-        let text = match bytes_of::<F, JoinTextFault>(shelf, alloc, *name, LEDGER_LIMIT) {
+        let text = match bytes_of(shelf, alloc, *name, LEDGER_LIMIT) {
             Ok(text) => text,
-            Err(fault) => return Err(unread(rt, *name, fault)),
+            Err(why) => return Err(unread(rt, *name, why)),
         };
         match texts.push(text) {
             Ok(()) => {}
@@ -142,13 +202,18 @@ fn simulate<R: Eprint, S: Source, W: Sink, F: Shelf>(
     requires write { CanCountOneMore (W.failed_calls sink.old) }
     ensures { Simulates simulation.now (F.bytes shelf.now) (S.left source.old) (S.left source.new) (W.held sink.old) (W.held sink.new) result }
 {
-    let log = match bytes_of::<F, SimFault>(shelf, alloc, simulation.log, LOG_LIMIT) {
+    let log = match bytes_of(shelf, alloc, simulation.log, LOG_LIMIT) {
         Ok(log) => log,
-        Err(fault) => return unread(rt, simulation.log, fault),
+        Err(why) => return unread(rt, simulation.log, why),
     };
     let schedule = match read_all(alloc, source, SCHEDULE_LIMIT) {
         Ok(schedule) => schedule,
-        Err(fault) => return unanswered::<_, SimFault>(rt, fault),
+        Err(fault) => return unanswered::<_, SimFault>(
+            rt,
+            fault,
+            &Excerpt::none(),
+            source.reason(),
+        ),
     };
     play_to(
         rt,

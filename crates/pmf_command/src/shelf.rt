@@ -3,17 +3,17 @@
 ghost use Rattle.std.specs.Prelude.{◌≡◌, ◌<◌, ◌^◌, ℕ, List, Option, None, IfOk};
 ghost use Rattle.pmf_command.specs.Answered.{IsFileOf, IsReadOf};
 
-use pmf_stream::{Source, StdSource, StreamFault, read_all};
+use pmf_stream::{Device, Source, StdSource, StreamFault, read_all};
 use std::alloc::Global;
-use std::fs;
 use std::fs::Files;
 use std::io::{ErrorKind, Read};
+use std::{fs, io};
 
-/// Why a file is not opened.
-#[derive(Clone, Copy, Debug, PartialEq, Eq)]
-pub(crate) enum Unopened {
-    /// It is not there, or not to be read.
-    Failed,
+/// Why a file is not read.
+#[derive(Clone, Copy, Debug)]
+pub(crate) enum Unread {
+    /// It is not there, or a read failed: with what the system said, where that is known.
+    Failed(Option<io::Error>),
     /// Room was refused.
     OutOfMemory,
 }
@@ -27,7 +27,7 @@ pub(crate) trait Shelf {
     ghost bytes: { Self → List ℕ → Option (List ℕ) };
 
     /// Opens the file with this name.
-    fn open(&self, name: &str) -> Result<Self::File, Unopened>
+    fn open(&self, name: &str) -> Result<Self::File, Unread>
         ensures known { IfOk result (λ file. IsFileOf (bytes self.now name.now) (Self.File.left file)) }
         ensures fresh { IfOk result (λ file. Self.File.failed_calls file ≡ 0) };
 }
@@ -43,29 +43,32 @@ impl<R: Files> Shelf for OnDisk<'_, R> {
 
     ghost bytes = { λ _ _. None };
 
-    fn open(&self, name: &str) -> Result<StdSource<R::File>, Unopened> {
+    fn open(&self, name: &str) -> Result<StdSource<R::File>, Unread> {
         match fs::open(self.rt, name) {
             Ok(file) => Ok(StdSource::new(file)),
-            Err(error) if error.kind() == ErrorKind::OutOfMemory => Err(Unopened::OutOfMemory),
-            Err(_) => Err(Unopened::Failed),
+            Err(error) if error.kind() == ErrorKind::OutOfMemory => Err(Unread::OutOfMemory),
+            Err(error) => Err(Unread::Failed(Some(error))),
         }
     }
 }
 
 /// The bytes of the file, at most one more than the limit.
-pub(crate) fn bytes_of<F: Shelf, E: Drop>(
+pub(crate) fn bytes_of<F: Shelf>(
     shelf: &F,
     alloc: Global,
     name: &str,
     limit: usize,
-) -> Result<Vec<u8>, StreamFault<E>>
+) -> Result<Vec<u8>, Unread>
     requires { limit < 2 ^ 63 }
     ensures { IfOk result (λ text. IsReadOf limit (F.bytes shelf.now name.now) text.items) }
 {
     let mut file = match shelf.open(name) {
         Ok(file) => file,
-        Err(Unopened::Failed) => return Err(StreamFault::ReadFault),
-        Err(Unopened::OutOfMemory) => return Err(StreamFault::OutOfMemory),
+        Err(why) => return Err(why),
     };
-    read_all(alloc, &mut file, limit)
+    match read_all::<F::File, ()>(alloc, &mut file, limit) {
+        Ok(text) => Ok(text),
+        Err(StreamFault::OutOfMemory) => Err(Unread::OutOfMemory),
+        Err(_) => Err(Unread::Failed(file.reason())),
+    }
 }

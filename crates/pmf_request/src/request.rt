@@ -2,6 +2,15 @@
 
 use crate::settings::{Lengths, Question, Settings, Sought, Whole};
 
+/// Where a log is read from.
+#[derive(Clone, Copy, Debug, PartialEq, Drop)]
+pub enum Input<'a> {
+    /// Standard input.
+    Standard,
+    /// The file with this name.
+    File(&'a str),
+}
+
 /// Which ledgers are to be joined.
 #[derive(Debug, PartialEq, Drop)]
 pub struct Files<'a> {
@@ -36,16 +45,16 @@ pub struct Simulation<'a> {
 /// What the words of a command line ask for.
 #[derive(Debug, PartialEq, Drop)]
 pub enum Request<'a> {
-    /// Check the log on standard input, and write its report, or its ledger text, to standard output.
-    Check(Settings),
-    /// Read the log on standard input, and write the explanation of one event to standard output.
-    Explain(Question),
-    /// Read the log on standard input, and write the explanation of each row that counts as fail to standard output.
-    ExplainAll(Whole),
-    /// Read the log on standard input, and write where one event stands in it to standard output.
-    Locate(Sought),
-    /// Read the log on standard input, and write what it holds to standard output.
-    Lint,
+    /// Check the log, and write its report, or its ledger text, to standard output.
+    Check(Settings, Input<'a>),
+    /// Read the log, and write the explanation of one event to standard output.
+    Explain(Question, Input<'a>),
+    /// Read the log, and write the explanation of each row that counts as fail to standard output.
+    ExplainAll(Whole, Input<'a>),
+    /// Read the log, and write where one event stands in it to standard output.
+    Locate(Sought, Input<'a>),
+    /// Read the log, and write what it holds to standard output.
+    Lint(Input<'a>),
     /// Read the log on standard input, and write it with its sections cut to standard output, or to files.
     Cut(Cuts<'a>),
     /// Join the ledgers of the files, and write the report of all, or their ledger text, to standard output.

@@ -3,6 +3,7 @@
 ghost use Rattle.pmf_storelog.specs.declared.fault.TheConstants.{LOG_LIMIT};
 ghost use Rattle.pmf_stream.specs.{Answering.{Answers, TellsFaults}, Asked.{IsAnswerOf, IsRefusalOf}, Failures.{CanCountOneMore}, Reading.{ReadsWithin}};
 
+use crate::excerpt::Excerpt;
 use crate::fault::StreamFault;
 use crate::reading::read_all;
 use crate::sink::Sink;
@@ -13,7 +14,7 @@ use pmf_storelog::LOG_LIMIT;
 use std::alloc::Global;
 
 /// Reads a log and writes the text that answers what is asked of it. Reads in pieces to the end of the stream, or to one
-/// byte past what a log may have, and writes nothing before the whole text is there.
+/// byte past what a log may have, and writes nothing before the whole text is there. Keeps the record for which it refuses the log.
 ///
 /// Refusals: [`StreamFault::ReadFault`] and [`StreamFault::OutOfMemory`] as the reading goes, then
 /// [`StreamFault::Refused`], then [`StreamFault::WriteFault`]. Takes memory for the bytes of the log, and what the answer
@@ -23,6 +24,7 @@ pub fn answer_stream<R: Source, W: Sink, T: Drop, E: Drop, Q: Query<Told = T, Re
     reader: &mut R,
     writer: &mut W,
     query: &Q,
+    refused: &mut Excerpt,
 ) -> Result<T, StreamFault<E>>
     requires read { CanCountOneMore (R.failed_calls reader.old) }
     requires write { CanCountOneMore (W.failed_calls writer.old) }
@@ -41,7 +43,10 @@ pub fn answer_stream<R: Source, W: Sink, T: Drop, E: Drop, Q: Query<Told = T, Re
     };
     let Answer { told, text } = match query.answer(alloc, &log) {
         Ok(answer) => answer,
-        Err(fault) => return Err(StreamFault::Refused(fault)),
+        Err(fault) => {
+            refused.find(&log);
+            return Err(StreamFault::Refused(fault));
+        }
     };
     write_answer(writer, &text, told)
 }

@@ -6,6 +6,7 @@ ghost use Rattle.pmf_farm.specs.Running.{IsTaken};
 ghost use Rattle.pmf_ledger.specs.{Gathered.{IsLedgerOf}, Report.{totals_of}, ReportTold.{sections_told, shown}};
 ghost use Rattle.pmf_stream.specs.{Answering.{Answers, RefusesReading, TellsFaults, failed_reads}, Checking.{IsCheckFaultOf, IsLogOf, IsReportOf, Reports, text_asked}, Failures.{CanCountOneMore}, Reading.{ReadsWithin}};
 
+use crate::excerpt::Excerpt;
 use crate::failed::Failed;
 use crate::fault::StreamFault;
 use crate::reading::{Intake, read_into};
@@ -56,26 +57,39 @@ impl fmt::Display for CheckLogFault {
 
 impl Error for CheckLogFault {}
 
-impl Intake for LogReader {
+// A log's reader, and the record for which it refuses a piece.
+#[derive(Drop)]
+struct Watched {
+    log: LogReader,
+    excerpt: Excerpt,
+}
+
+impl Intake for Watched {
     type Fault = LogFault;
 
     ghost use Rattle.std.proofs.{Common.{append_assoc, sym, subst}, lemmas.List.{append-nil}};
     ghost use Rattle.pmf_stream.specs.Pieces.{Refuses, StandsFor, Takes};
 
-    ghost Takes = { Takes };
+    ghost Takes = { λ a xs b. Takes a.log xs b.log };
 
-    ghost Refuses = { Refuses };
+    ghost Refuses = { λ a xs fault. Refuses a.log xs fault };
 
     ghost takes_none = { λ a run bytes stands.
-        subst (λ xs. StandsFor run xs a) (sym (append-nil bytes)) stands };
+        subst (λ xs. StandsFor run xs a.log) (sym (append-nil bytes)) stands };
 
     ghost takes_more = { λ a b c xs ys first then run bytes stands.
-        subst (λ zs. StandsFor run zs c) (append_assoc bytes xs ys) (then run (bytes ++ xs) (first run bytes stands)) };
+        subst (λ zs. StandsFor run zs c.log) (append_assoc bytes xs ys) (then run (bytes ++ xs) (first run bytes stands)) };
 
     fn take(&mut self, piece: &[u8]) -> Result<(), LogFault> {
-        match self.feed(piece) {
-            Ok(()) => Ok(()),
-            Err(fault) => Err(fault),
+        match self.log.feed(piece) {
+            Ok(()) => {
+                self.excerpt.pass(piece);
+                Ok(())
+            }
+            Err(fault) => {
+                self.excerpt.find(piece);
+                Err(fault)
+            }
         }
     }
 }
@@ -85,6 +99,7 @@ fn read_log<R: Source>(
     alloc: Global,
     reader: &mut R,
     settings: Settings,
+    refused: &mut Excerpt,
 ) -> Result<Log, StreamFault<CheckLogFault>>
     requires { CanCountOneMore (R.failed_calls reader.old) }
     ensures ok { IfOk result (IsLogOf settings.run (R.left reader.old) (R.left reader.new)) }
@@ -93,12 +108,21 @@ fn read_log<R: Source>(
     ensures reads { R.failed_calls reader.new ≡ R.failed_calls reader.old + failed_reads result }
     ensures within { ReadsWithin LOG_LIMIT (R.left reader.old) (R.left reader.new) }
 {
-    let mut log = LogReader::new(alloc, settings.run);
-    match read_into(reader, &mut log, LOG_LIMIT) {
+    let mut watched = Watched {
+        log: LogReader::new(alloc, settings.run),
+        excerpt: Excerpt::none(),
+    };
+    match read_into(reader, &mut watched, LOG_LIMIT) {
         Ok(Ok(())) => {}
-        Ok(Err(fault)) => return Err(StreamFault::Refused(CheckLogFault::Log(fault))),
+        Ok(Err(fault)) => {
+            let Watched { excerpt, .. } = watched;
+            *refused = excerpt;
+            return Err(StreamFault::Refused(CheckLogFault::Log(fault)));
+        }
         Err(Failed) => return Err(StreamFault::ReadFault),
     }
+    let Watched { log, excerpt } = watched;
+    *refused = excerpt;
     match log.finish() {
         Ok(log) => Ok(log),
         Err(fault) => Err(StreamFault::Refused(CheckLogFault::Log(fault))),
@@ -144,7 +168,7 @@ fn report_log(
 
 /// Reads a log, checks its sections by the profile, by so many workers on threads of their own, and writes their report,
 /// or their ledger text. Reads in pieces, at most one byte more than a log may have, and stops at the first fault of the
-/// log; writes nothing before the whole log was read and checked.
+/// log; writes nothing before the whole log was read and checked. Keeps the record for which it refuses the log.
 ///
 /// What is written doesn't depend on the number of workers, on the gate, or on which workers were lost.
 ///
@@ -158,6 +182,7 @@ pub fn check_stream<H: Threads + Wait + Sync, R: Source, W: Sink, G: Gate + Sync
     writer: &mut W,
     settings: Settings,
     gate: &G,
+    refused: &mut Excerpt,
 ) -> Result<Done, StreamFault<CheckLogFault>>
     requires read { CanCountOneMore (R.failed_calls reader.old) }
     requires write { CanCountOneMore (W.failed_calls writer.old) }
@@ -172,7 +197,7 @@ pub fn check_stream<H: Threads + Wait + Sync, R: Source, W: Sink, G: Gate + Sync
     // Whatever the answer is, at most one byte more than a log may have was read.
     ensures within { ReadsWithin LOG_LIMIT (R.left reader.old) (R.left reader.new) }
 {
-    let log = match read_log(alloc, reader, settings) {
+    let log = match read_log(alloc, reader, settings, refused) {
         Ok(log) => log,
         Err(fault) => return Err(fault),
     };

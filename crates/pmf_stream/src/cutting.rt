@@ -4,6 +4,7 @@ ghost use Rattle.std.specs.Prelude.{◌≡◌, ◌+◌, ◌++◌, ℕ, List, IfE
 ghost use Rattle.pmf_cut.specs.Cutting.{HasCutAll, HasRead};
 ghost use Rattle.pmf_stream.specs.{Answering.{IsRefused, failed_reads, failed_writes}, Failures.{CanCountOneMore}, Files.{IsCutOf, WritesOut}};
 
+use crate::excerpt::Excerpt;
 use crate::failed::Failed;
 use crate::fault::StreamFault;
 use crate::outlet::{NoFile, Outlet};
@@ -35,7 +36,7 @@ pub struct Pieces {
 
 /// Reads a log and writes it with its sections cut, as it is read; what a cut may have changed is said. With a number of bytes the
 /// log may be of any length, and is written to files; one that gets more bytes, where a part can't be cut, is said. Without one, all
-/// goes to the first file.
+/// goes to the first file. Keeps the record for which it refuses the log.
 ///
 /// Refusals: the first fault of the log, but for the length of a section, or a number that a part has not; what was written by
 /// then is of no use. Takes memory as [`Cutter`] does.
@@ -46,6 +47,7 @@ pub fn cut_stream<R: Source, W: Outlet, N: Notes>(
     notes: &mut N,
     lengths: Lengths,
     bytes: Option<u64>,
+    refused: &mut Excerpt,
 ) -> Result<Pieces, StreamFault<CutFault>>
     requires read { CanCountOneMore (R.failed_calls reader.old) }
     requires write { CanCountOneMore (W.failed_calls writer.old) }
@@ -69,7 +71,7 @@ pub fn cut_stream<R: Source, W: Outlet, N: Notes>(
         if count == 0 {
             break;
         }
-        take(&mut cutter, &piece[..count])?;
+        take(&mut cutter, &piece[..count], refused)?;
         size = write_out(&mut cutter, writer, notes, size)?;
         total += count;
     }
@@ -98,13 +100,23 @@ fn too_long(cutter: &Cutter) -> StreamFault<CutFault>
     }))
 }
 
-fn take(cutter: &mut Cutter, piece: &[u8]) -> Result<(), StreamFault<CutFault>>
+fn take(
+    cutter: &mut Cutter,
+    piece: &[u8],
+    refused: &mut Excerpt,
+) -> Result<(), StreamFault<CutFault>>
     ensures reads { OnOk result ((step : ℕ) (log : List ℕ) (handed : ℕ → List ℕ) → HasRead step log handed cutter.old → HasRead step (log ++ piece.now) handed cutter.new) }
     ensures refused { IfErr result IsRefused }
 {
     match cutter.take(piece) {
-        Ok(()) => Ok(()),
-        Err(fault) => Err(StreamFault::Refused(fault)),
+        Ok(()) => {
+            refused.pass(piece);
+            Ok(())
+        }
+        Err(fault) => {
+            refused.find(piece);
+            Err(StreamFault::Refused(fault))
+        }
     }
 }
 

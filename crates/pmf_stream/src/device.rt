@@ -1,6 +1,8 @@
 //! What every stream of bytes has: the number of its failed calls.
 
-ghost use Rattle.std.specs.Prelude.{◌≡◌, ℕ};
+ghost use Rattle.std.specs.Prelude.{◌≡◌, ℕ, None};
+
+use std::io;
 
 /// A stream of bytes that counts its failed calls.
 pub trait Device {
@@ -10,6 +12,11 @@ pub trait Device {
     /// How many calls of `read` or `write` have failed so far.
     fn failures(&self) -> u64
         ensures { result ≡ failed_calls self.now };
+
+    /// What the system said of the last call that failed, where that is known.
+    fn reason(&self) -> Option<io::Error> {
+        None
+    }
 }
 
 /// A reader or a writer of the standard library, and the number of its failed calls.
@@ -17,16 +24,18 @@ pub trait Device {
 pub struct Counted<D> {
     pub(crate) device: D,
     pub(crate) failures: u64,
+    pub(crate) reason: Option<io::Error>,
 }
 
 impl<D> Counted<D> {
     /// The reader or writer, with no failed call yet.
     pub fn new(device: D) -> Counted<D>
-        ensures { result ≡ record { device = device; failures = 0 } }
+        ensures { result ≡ record { device = device; failures = 0; reason = None } }
     {
         Counted {
             device,
             failures: 0,
+            reason: None,
         }
     }
 }
@@ -36,5 +45,9 @@ impl<D> Device for Counted<D> {
 
     fn failures(&self) -> u64 {
         self.failures
+    }
+
+    fn reason(&self) -> Option<io::Error> {
+        self.reason
     }
 }

@@ -30,8 +30,9 @@ impl<R: Read> Source for Counted<R> {
     fn read(&mut self, buffer: &mut [u8]) -> Result<usize, Failed> {
         match self.device.read(buffer) {
             Ok(count) => Ok(count),
-            Err(_) => {
+            Err(error) => {
                 self.failures += 1;
+                self.reason = Some(error);
                 Err(Failed)
             }
         }

@@ -3,6 +3,7 @@
 mod asked;
 mod checks;
 mod cutting;
+mod excerpts;
 mod fakes;
 mod joining;
 mod simulating;

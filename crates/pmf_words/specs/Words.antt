@@ -1,11 +1,12 @@
 -- The words of the command line: the commands and options of the program, and what they ask for. Defined here,
 -- in the words of `clap`.
-use Rattle.std.specs.{Prelude.{◌≡◌, ℕ, ◌<◌, ◌^◌, pos, Bool, true, false, List, [], ◌∷◌, map, option_map, Some, codes, bytes_eq, decimal}, List.{list_any}}
+use Rattle.std.specs.{Prelude.{◌≡◌, ℕ, ◌<◌, ◌^◌, pos, Bool, true, false, List, [], ◌∷◌, ◌++◌, map, option_map, None, Some, codes, bytes_eq, decimal}, List.{list_any}}
 use Rattle.clap.specs.{Words.{App, Row, Rule, Text, all_of, first_of, one_of, app_of, new_app, new_rule, subcommand_of, with_rule, with_subcommand}, Simple.{new_shape}, declared.builder.action.ArgAction.TheVariants.{Append, SetTrue}, declared.builder.command.Command.{Command, out-Command}, declared.builder.value_parser.ValueParser.{ValueParser}}
 use Rattle.pmf_event.specs.declared.profile.Profile.{Profile}
-use Rattle.pmf_request.specs.declared.{settings.Question.{Question}, settings.Settings.{Settings}, settings.Sought.{Sought}, settings.Whole.{Whole}, request.Cuts.{Cuts}, request.Files.{Files}, request.Simulation.{Simulation}, request.Request.{Request}}
+use Rattle.pmf_request.specs.declared.{settings.Question.{Question}, settings.Settings.{Settings}, settings.Sought.{Sought}, settings.Whole.{Whole}, request.Cuts.{Cuts}, request.Files.{Files}, request.Input.{Input}, request.Simulation.{Simulation}, request.Request.{Request}}
 use Rattle.clap.specs.declared.builder.value_parser.ValueParser.TheVariants as vp
 use Rattle.pmf_event.specs.declared.profile.Profile.TheVariants as profile
+use Rattle.pmf_request.specs.declared.request.Input.TheVariants as input
 use Rattle.pmf_request.specs.declared.request.Request.TheVariants as request
 
 -- ---- the options
@@ -43,25 +44,29 @@ profile_option words = number (codes "profile") words (codes "1")
 abbrev pub flag : Text → Rule
 flag name = record (new_rule name) { long = Some name; action = Some SetTrue }
 
+-- the file of a log, which may be left out
+abbrev pub log_word : Rule
+log_word = record (new_rule (codes "log")) { value_names = 1 }
+
 -- ---- the commands
 
 abbrev pub check_words : ValueParser → App
 check_words words =
-    with_rule (with_rule (with_rule (with_rule (new_app (codes "check"))
-    (number (codes "workers") small_number (codes "1"))) run_option) (profile_option words)) (flag (codes "ledger"))
+    with_rule (with_rule (with_rule (with_rule (with_rule (new_app (codes "check"))
+    (number (codes "workers") small_number (codes "1"))) run_option) (profile_option words)) (flag (codes "ledger"))) log_word
 
 -- with the flag `--all` no event is asked for
 abbrev pub explain_words : Bool → ValueParser → App
 explain_words true words =
-    with_rule (with_rule (with_rule (new_app (codes "explain")) (flag (codes "all"))) run_option) (profile_option words)
+    with_rule (with_rule (with_rule (with_rule (new_app (codes "explain")) (flag (codes "all"))) run_option) (profile_option words)) log_word
 explain_words false words =
-    with_rule (with_rule (with_rule (with_rule (with_rule (new_app (codes "explain"))
-    (asked_number (codes "section") large_number)) (asked_number (codes "event") small_number)) (flag (codes "all"))) run_option) (profile_option words)
+    with_rule (with_rule (with_rule (with_rule (with_rule (with_rule (new_app (codes "explain"))
+    (asked (codes "section"))) (asked_number (codes "event") small_number)) (flag (codes "all"))) run_option) (profile_option words)) log_word
 
 abbrev pub locate_words : App
 locate_words =
-    with_rule (with_rule (with_rule (new_app (codes "locate"))
-    (asked_number (codes "section") large_number)) (asked_number (codes "event") small_number)) run_option
+    with_rule (with_rule (with_rule (with_rule (new_app (codes "locate"))
+    (asked (codes "section"))) (asked_number (codes "event") small_number)) run_option) log_word
 
 -- the ledgers that are to be joined, one or more
 abbrev pub file_words : Rule
@@ -73,7 +78,7 @@ file_words = record (new_rule (codes "file")) {
 }
 
 abbrev pub lint_words : App
-lint_words = new_app (codes "lint")
+lint_words = with_rule (new_app (codes "lint")) log_word
 
 abbrev pub cut_words : App
 cut_words =
@@ -121,6 +126,21 @@ pub record IsFlagOf (rows : List Row) (name : Text) (flag : Bool) : Type 0 where
   pub given : one_of name rows ≡ Some (codes "true") → flag ≡ true
   pub left_out : one_of name rows ≡ Some (codes "false") → flag ≡ false
 
+-- the log is in the file that the words name, and else on standard input
+abbrev pub IsInputOf : List Row → Input → Type 0
+IsInputOf rows input.Standard = first_of (codes "log") rows ≡ None
+IsInputOf rows (input.File name) = first_of (codes "log") rows ≡ Some name.now
+
+-- the word names this section: N that of the run that is asked for, R.N that of run R
+pub record NamesSection (word : Text) (asked run section : ℕ) : Type 0 where
+  pub alone : (n : ℕ) → n < 2 ^ 64 → word ≡ decimal n → (run ≡ asked) × (section ≡ n)
+  pub both : (r n : ℕ) → r < 2 ^ 64 → n < 2 ^ 64 → word ≡ decimal r ++ codes "." ++ decimal n → (run ≡ r) × (section ≡ n)
+
+-- the run and the section are those that the words name, where the run that is asked for is the one that its option names
+abbrev pub IsSectionOf : List Row → ℕ → ℕ → Type 0
+IsSectionOf rows run section =
+    (asked : ℕ) × IsNumberOf rows (codes "run") 64 asked × ((word : Text) → first_of (codes "section") rows ≡ Some word → NamesSection word asked run section)
+
 -- the settings are those that the words of `check` name
 pub record IsCheckOf (rows : List Row) (s : Settings) : Type 0 where
   pub workers : IsNumberOf rows (codes "workers") 32 s.workers
@@ -130,9 +150,8 @@ pub record IsCheckOf (rows : List Row) (s : Settings) : Type 0 where
 
 -- the question is the one that the words of `explain` name
 pub record IsExplainOf (rows : List Row) (q : Question) : Type 0 where
-  pub run : IsNumberOf rows (codes "run") 64 q.run
+  pub section : IsSectionOf rows q.run q.section
   pub profile_is : IsProfileOf rows q.profile
-  pub section : IsNumberOf rows (codes "section") 64 q.section
   pub event : IsNumberOf rows (codes "event") 32 q.event
 
 -- the run and the profile are those that the words of `explain --all` name
@@ -142,8 +161,7 @@ pub record IsExplainAllOf (rows : List Row) (w : Whole) : Type 0 where
 
 -- the event is the one that the words of `locate` name
 pub record IsLocateOf (rows : List Row) (s : Sought) : Type 0 where
-  pub run : IsNumberOf rows (codes "run") 64 s.run
-  pub section : IsNumberOf rows (codes "section") 64 s.section
+  pub section : IsSectionOf rows s.run s.section
   pub event : IsNumberOf rows (codes "event") 32 s.event
 
 -- the lengths and the files are those that the words of `cut` name
@@ -166,21 +184,21 @@ pub record IsSimOf (rows : List Row) (s : Simulation) : Type 0 where
 
 -- the request is one of this command, and what its words name
 abbrev pub IsCheckBy : List Row → Request → Type 0
-IsCheckBy rows (request.Check settings) = IsCheckOf rows settings
+IsCheckBy rows (request.Check settings log) = IsCheckOf rows settings × IsInputOf rows log
 IsCheckBy rows _ = ⊥
 
 abbrev pub IsExplainBy : Bool → List Row → Request → Type 0
-IsExplainBy false rows (request.Explain question) = IsExplainOf rows question
-IsExplainBy true rows (request.ExplainAll whole) = IsExplainAllOf rows whole
+IsExplainBy false rows (request.Explain question log) = IsExplainOf rows question × IsInputOf rows log
+IsExplainBy true rows (request.ExplainAll whole log) = IsExplainAllOf rows whole × IsInputOf rows log
 IsExplainBy all rows _ = ⊥
 
 abbrev pub IsLocateBy : List Row → Request → Type 0
-IsLocateBy rows (request.Locate sought) = IsLocateOf rows sought
+IsLocateBy rows (request.Locate sought log) = IsLocateOf rows sought × IsInputOf rows log
 IsLocateBy rows _ = ⊥
 
-abbrev pub IsLintBy : Request → Type 0
-IsLintBy request.Lint = Unit {0}
-IsLintBy _ = ⊥
+abbrev pub IsLintBy : List Row → Request → Type 0
+IsLintBy rows (request.Lint log) = IsInputOf rows log
+IsLintBy rows _ = ⊥
 
 abbrev pub IsCutBy : List Row → Request → Type 0
 IsCutBy rows (request.Cut cuts) = IsCutOf rows cuts
@@ -199,7 +217,7 @@ pub record IsRequestBy (all : Bool) (command : Text) (rows : List Row) (asked : 
   pub check : command ≡ codes "check" → IsCheckBy rows asked
   pub explain : command ≡ codes "explain" → IsExplainBy all rows asked
   pub locate : command ≡ codes "locate" → IsLocateBy rows asked
-  pub lint : command ≡ codes "lint" → IsLintBy asked
+  pub lint : command ≡ codes "lint" → IsLintBy rows asked
   pub cut : command ≡ codes "cut" → IsCutBy rows asked
   pub join : command ≡ codes "join" → IsJoinBy rows asked
   pub sim : command ≡ codes "sim" → IsSimBy rows asked

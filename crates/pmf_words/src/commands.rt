@@ -5,8 +5,8 @@ ghost use Rattle.clap.specs.{Words.{App, Rule, new_app, rule_of, with_rule, with
 ghost use Rattle.pmf_words.specs.Words.{HasWords, check_words, cut_words, explain_words, join_words, lint_words, locate_words, pmfarm_words, profile_option, program_words, run_option, sim_words};
 
 use crate::options::{
-    all, asked_number, bytes, event, events, file, files, ledger, log, profile, run, section, step,
-    workers,
+    all, asked_number, bytes, event, events, file, files, ledger, log, log_file, profile, run,
+    section, step, workers,
 };
 use clap::{Arg, Command};
 use std::alloc::{AllocError, Global};
@@ -17,21 +17,22 @@ const VERSION: &str =
 
 const AFTER_HELP: &str = "\
 Examples:
-  pmfarm check < store.log          the report of the log
-  pmfarm check --workers 4 < store.log
+  pmfarm check store.log            the report of the log
+  pmfarm check --workers 4 store.log
                                     the same report, checked by four threads
-  pmfarm check --run 7 < store.log  the same, its sections named 7.N
-  pmfarm check --profile 2 < store.log
+  pmfarm check --run 7 store.log    the same, its sections named 7.N
+  pmfarm check --profile 2 store.log
                                     a pair on one line is also ordered by its stores
-  pmfarm explain --section 0 --event 6 < store.log
+  ./myprogram | pmfarm check        the report of a log on standard input
+  pmfarm explain --section 0.0 --event 6 store.log
                                     what a crash can leave where event 6 fails
-  pmfarm explain --all < store.log  the same of each row that counts as fail
-  pmfarm locate --section 0 --event 6 < store.log
+  pmfarm explain --all store.log    the same of each row that counts as fail
+  pmfarm locate --section 0.0 --event 6 store.log
                                     the record that gave event 6
-  pmfarm lint < store.log           what the log holds, and what is strange in it
+  pmfarm lint store.log             what the log holds, and what is strange in it
   pmfarm cut < long.log > parts.log
                                     its sections in parts that the checker takes
-  pmfarm check --ledger --run 7 < store.log > 7.ledger
+  pmfarm check --ledger --run 7 store.log > 7.ledger
                                     the checked sections themselves, to be joined
   pmfarm join 7.ledger 8.ledger     the report of both, each section once
   pmfarm sim --log store.log --workers 2 --ledgers 1 < steps.schedule
@@ -48,11 +49,12 @@ Exit status:
 
 const EXPLAIN_HELP: &str = "\
 Examples:
-  pmfarm explain --section 0 --event 3 < store.log
+  pmfarm explain --section 0.2 --event 3 store.log
                                     the row `3 PERSIST FAIL byte=0x1000 crash=3`
-  pmfarm explain --section 0 --event 3 --run 7 --profile 2 < store.log
+                                    of `section 0.2`
+  pmfarm explain --section 2 --event 3 --run 7 --profile 2 store.log
                                     the same of a report with these options
-  pmfarm explain --all < store.log  each row that counts as fail, also one of
+  pmfarm explain --all store.log    each row that counts as fail, also one of
                                     a section's end, which has no event
 
 What is written of a row that fails:
@@ -78,7 +80,7 @@ pub(crate) fn program<'a>(alloc: Global, all: bool) -> Result<Command<'a>, Alloc
     let program = with(no_command(alloc), check(alloc));
     let program = with(program, explain(alloc, all));
     let program = with(program, locate(alloc));
-    let program = with(program, Ok(lint(alloc)));
+    let program = with(program, lint(alloc));
     let program = with(program, cut(alloc));
     with_files(alloc, program)
 }
@@ -166,11 +168,12 @@ fn with_run_and_profile<'a>(
 fn check<'a>(alloc: Global) -> Result<Command<'a>, AllocError>
     ensures { (q : ValueParser) × IfOk result (HasWords (check_words q)) }
 {
-    let about = "Reads a log from standard input and writes its report to standard output";
+    let about = "Reads a log and writes its report to standard output";
     let check = Ok(head(alloc, "check", about, AFTER_HELP));
     let check = with_option(check, workers(alloc));
     let check = with_run_and_profile(alloc, check);
-    with_option(check, ledger(alloc))
+    let check = with_option(check, ledger(alloc));
+    with_option(check, log_file(alloc))
 }
 
 fn explain<'a>(alloc: Global, all: bool) -> Result<Command<'a>, AllocError>
@@ -190,7 +193,8 @@ fn explain_event<'a>(alloc: Global) -> Result<Command<'a>, AllocError>
     let explain = with_option(explain, section(alloc));
     let explain = with_option(explain, event(alloc));
     let explain = with_option(explain, all(alloc));
-    with_run_and_profile(alloc, explain)
+    let explain = with_run_and_profile(alloc, explain);
+    with_option(explain, log_file(alloc))
 }
 
 // With `--all` no event is asked for.
@@ -200,7 +204,8 @@ fn explain_rows<'a>(alloc: Global) -> Result<Command<'a>, AllocError>
     let about = "Writes each row that counts as fail, and the crash image that shows it";
     let explain = Ok(head(alloc, "explain", about, EXPLAIN_HELP));
     let explain = with_option(explain, all(alloc));
-    with_run_and_profile(alloc, explain)
+    let explain = with_run_and_profile(alloc, explain);
+    with_option(explain, log_file(alloc))
 }
 
 fn locate<'a>(alloc: Global) -> Result<Command<'a>, AllocError>
@@ -210,14 +215,16 @@ fn locate<'a>(alloc: Global) -> Result<Command<'a>, AllocError>
     let locate = Ok(head(alloc, "locate", about, AFTER_HELP));
     let locate = with_option(locate, section(alloc));
     let locate = with_option(locate, event(alloc));
-    with_option(locate, run(alloc))
+    let locate = with_option(locate, run(alloc));
+    with_option(locate, log_file(alloc))
 }
 
-fn lint<'a>(alloc: Global) -> Command<'a>
-    ensures { HasWords lint_words result }
+fn lint<'a>(alloc: Global) -> Result<Command<'a>, AllocError>
+    ensures { IfOk result (HasWords lint_words) }
 {
     let about = "Writes what the log holds, and whether it may not be what it seems to be";
-    head(alloc, "lint", about, AFTER_HELP)
+    let lint = Ok(head(alloc, "lint", about, AFTER_HELP));
+    with_option(lint, log_file(alloc))
 }
 
 fn cut<'a>(alloc: Global) -> Result<Command<'a>, AllocError>

@@ -2,7 +2,7 @@
 
 ghost use Rattle.std.specs.Prelude.{◌≡◌, false, Some, codes};
 ghost use Rattle.clap.specs.{Words.{rule_of}, declared.builder.value_parser.ValueParser.{ValueParser}};
-ghost use Rattle.pmf_words.specs.Words.{asked, asked_number, file_words, flag, large_number, number, option, profile_option, run_option, small_number};
+ghost use Rattle.pmf_words.specs.Words.{asked, asked_number, file_words, flag, large_number, log_word, number, option, profile_option, run_option, small_number};
 
 use clap::builder::ValueParser;
 use clap::{Arg, ArgAction, value_parser};
@@ -77,12 +77,13 @@ pub(crate) fn profile<'a>(alloc: Global) -> Arg<'a>
     .default_value("1")
 }
 
+// The section of an event, which has to be given.
 pub(crate) fn section<'a>(alloc: Global) -> Arg<'a>
-    ensures rule { rule_of result ≡ asked_number (codes "section") large_number }
+    ensures rule { rule_of result ≡ asked (codes "section") }
     ensures local { result.global ≡ false }
 {
-    let help = "The number of the section";
-    parsed(alloc, "section", "N", help, value_parser!(u64)).required(true)
+    let help = "The number of the section, or R.N, as a report names section N of run R";
+    option(alloc, "section", "N", help).required(true)
 }
 
 // The place of an event, which has to be given.
@@ -165,6 +166,16 @@ pub(crate) fn all<'a>(alloc: Global) -> Arg<'a>
 {
     let help = "Each row of the log that counts as fail, in place of one event";
     flag(alloc, "all", help)
+}
+
+// The file of the log that a command reads.
+pub(crate) fn log_file<'a>(alloc: Global) -> Arg<'a>
+    ensures rule { rule_of result ≡ log_word }
+    ensures local { result.global ≡ false }
+{
+    Arg::new(alloc, "log").value_name("LOG").help(
+        "The file of the log; standard input is read where it is left out",
+    )
 }
 
 pub(crate) fn file<'a>(alloc: Global) -> Arg<'a>

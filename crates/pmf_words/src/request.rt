@@ -1,18 +1,21 @@
 //! What the words of the command line ask for.
 
-ghost use Rattle.std.specs.{Prelude.{◌≡◌, List, false, true, Some, codes, map, option_map, IfOk, bytes_eq, string_bytes}, List.{list_any}};
+ghost use Rattle.std.specs.{Prelude.{◌≡◌, List, false, true, Some, codes, map, option_map, IfOk, IfSome, bytes_eq, string_bytes}, List.{list_any}};
 ghost use Rattle.clap.specs.Words.{Row, Text, found_of, rows_of, subcommand_rows_of};
 ghost use Rattle.pmf_event.specs.declared.profile.Profile.{Profile};
-ghost use Rattle.pmf_words.specs.Words.{IsCheckOf, IsCutOf, IsExplainAllOf, IsExplainBy, IsExplainOf, IsJoinOf, IsLocateOf, IsRequestBy, IsRequestOf, IsSimOf};
+ghost use Rattle.pmf_words.specs.Words.{IsCheckOf, IsCutOf, IsExplainAllOf, IsExplainBy, IsExplainOf, IsInputOf, IsJoinOf, IsLocateOf, IsRequestBy, IsRequestOf, IsSectionOf, IsSimOf, NamesSection};
 
 use crate::commands::program;
+use clap::error::ErrorKind;
 use clap::{ArgMatches, Error};
 use pmf_event::Profile;
-use pmf_request::{Cuts, Files, Lengths, Question, Request, Settings, Simulation, Sought, Whole};
+use pmf_request::{
+    Cuts, Files, Input, Lengths, Question, Request, Settings, Simulation, Sought, Whole,
+};
 use std::alloc::{AllocError, Global};
 
 /// Reads the words, the first of which is the program's name. Help and the version come as errors
-/// of their own kind, and so does want of memory.
+/// of their own kind, and so do want of memory and a word that names no section.
 pub fn request_of<'a>(alloc: Global, words: &'a [String]) -> Result<Request<'a>, Error>
     ensures { IfOk result (IsRequestOf (map string_bytes words.entry.now)) }
 {
@@ -35,23 +38,20 @@ fn names_all(words: &[String]) -> bool
 }
 
 // What the command that was found and its words ask for.
-fn request_by<'a>(
-    alloc: Global,
-    matches: &ArgMatches<'a>,
-    all: bool,
-) -> Result<Request<'a>, AllocError>
+fn request_by<'a>(alloc: Global, matches: &ArgMatches<'a>, all: bool) -> Result<Request<'a>, Error>
     ensures { IfOk result (λ request. (command : Text) (rows : List Row)
         → subcommand_rows_of matches.now ≡ Some (command, rows) → IsRequestBy all command rows request) }
 {
     // There are seven commands, and the parser lets nothing pass without one.
     if let Some(explain) = matches.subcommand_matches("explain") {
-        return Ok(explain_by(explain, all));
+        return explain_by(alloc, explain, all);
     }
     if let Some(locate) = matches.subcommand_matches("locate") {
-        return Ok(Request::Locate(sought_of(locate)));
+        let sought = sought_of(alloc, locate)?;
+        return Ok(Request::Locate(sought, input_of(locate)));
     }
-    if matches.subcommand_matches("lint").is_some() {
-        return Ok(Request::Lint);
+    if let Some(lint) = matches.subcommand_matches("lint") {
+        return Ok(Request::Lint(input_of(lint)));
     }
     if let Some(cut) = matches.subcommand_matches("cut") {
         return Ok(Request::Cut(cuts_of(cut)));
@@ -64,14 +64,25 @@ fn request_by<'a>(
         return Ok(Request::Sim(simulation_of(sim)));
     }
     if let Some(check) = matches.subcommand_matches("check") {
-        return Ok(Request::Check(settings_of(check)));
+        return Ok(Request::Check(settings_of(check), input_of(check)));
     }
-    Ok(Request::Check(Settings {
+    let settings = Settings {
         workers: 1,
         run: 0,
         profile: Profile::One,
         ledger: false,
-    }))
+    };
+    Ok(Request::Check(settings, Input::Standard))
+}
+
+// Where the log is read from.
+fn input_of<'a>(matches: &ArgMatches<'a>) -> Input<'a>
+    ensures { IsInputOf (rows_of (found_of matches.now)) result }
+{
+    match matches.get_str("log") {
+        Some(name) => Input::File(name),
+        None => Input::Standard,
+    }
 }
 
 fn settings_of(check: &ArgMatches<'_>) -> Settings
@@ -86,13 +97,15 @@ fn settings_of(check: &ArgMatches<'_>) -> Settings
 }
 
 // What the words of `explain` ask for, with `--all` or without it.
-fn explain_by<'a>(explain: &ArgMatches<'_>, all: bool) -> Request<'a>
-    ensures { IsExplainBy all (rows_of (found_of explain.now)) result }
+fn explain_by<'a>(alloc: Global, explain: &ArgMatches<'a>, all: bool) -> Result<Request<'a>, Error>
+    ensures { IfOk result (IsExplainBy all (rows_of (found_of explain.now))) }
 {
+    let input = input_of(explain);
     if all {
-        return Request::ExplainAll(whole_of(explain));
+        return Ok(Request::ExplainAll(whole_of(explain), input));
     }
-    Request::Explain(question_of(explain))
+    let question = question_of(alloc, explain)?;
+    Ok(Request::Explain(question, input))
 }
 
 fn whole_of(explain: &ArgMatches<'_>) -> Whole
@@ -104,25 +117,74 @@ fn whole_of(explain: &ArgMatches<'_>) -> Whole
     }
 }
 
-fn sought_of(locate: &ArgMatches<'_>) -> Sought
-    ensures { IsLocateOf (rows_of (found_of locate.now)) result }
+fn sought_of(alloc: Global, locate: &ArgMatches<'_>) -> Result<Sought, Error>
+    ensures { IfOk result (IsLocateOf (rows_of (found_of locate.now))) }
 {
-    Sought {
-        run: locate.get_one::<u64>("run").unwrap_or(0),
-        section: locate.get_one::<u64>("section").unwrap_or(0),
+    let (run, section) = section_of(alloc, locate)?;
+    Ok(Sought {
+        run,
+        section,
         event: locate.get_one::<u32>("event").unwrap_or(0),
+    })
+}
+
+fn question_of(alloc: Global, explain: &ArgMatches<'_>) -> Result<Question, Error>
+    ensures { IfOk result (IsExplainOf (rows_of (found_of explain.now))) }
+{
+    let (run, section) = section_of(alloc, explain)?;
+    Ok(Question {
+        run,
+        profile: profile_of(explain.get_str("profile")),
+        section,
+        event: explain.get_one::<u32>("event").unwrap_or(0),
+    })
+}
+
+// The run and the number of the section that the words name.
+fn section_of(alloc: Global, matches: &ArgMatches<'_>) -> Result<(u64, u64), Error>
+    ensures { IfOk result (λ named. IsSectionOf (rows_of (found_of matches.now)) named.0 named.1) }
+{
+    let run = matches.get_one::<u64>("run").unwrap_or(0);
+    let word = matches.get_str("section").unwrap_or("");
+    match named_section(word, run) {
+        Some(named) => Ok(named),
+        None => Err(no_section(alloc, word)),
     }
 }
 
-fn question_of(explain: &ArgMatches<'_>) -> Question
-    ensures { IsExplainOf (rows_of (found_of explain.now)) result }
+// The section that the word names, behind its run: N is one of this run, R.N one of run R.
+fn named_section(word: &str, run: u64) -> Option<(u64, u64)>
+    ensures { IfSome result (λ named. NamesSection word.now run named.0 named.1) }
 {
-    Question {
-        run: explain.get_one::<u64>("run").unwrap_or(0),
-        profile: profile_of(explain.get_str("profile")),
-        section: explain.get_one::<u64>("section").unwrap_or(0),
-        event: explain.get_one::<u32>("event").unwrap_or(0),
+    match word.split_once('.') {
+        Some((run, number)) => both_of(run.parse::<u64>().ok(), number.parse::<u64>().ok()),
+        None => both_of(Some(run), word.parse::<u64>().ok()),
     }
+}
+
+// Both, where both are there.
+fn both_of(run: Option<u64>, number: Option<u64>) -> Option<(u64, u64)>
+    ensures { IfSome result (λ both. (run ≡ Some both.0) × (number ≡ Some both.1)) }
+{
+    match (run, number) {
+        (Some(run), Some(number)) => Some((run, number)),
+        _ => None,
+    }
+}
+
+// The error of a word that names no section, in the form of the parser's own.
+fn no_section(alloc: Global, word: &str) -> Error {
+    match error_of(alloc, word) {
+        Ok(error) => error,
+        Err(refused) => Error::from(refused),
+    }
+}
+
+fn error_of(alloc: Global, word: &str) -> Result<Error, AllocError> {
+    let message = format!(in alloc;
+        "invalid value '{word}' for '--section <N>': a section is named N, or R.N as in a report"
+    )?;
+    program(alloc, false)?.error(ErrorKind::ValueValidation, message.as_str())
 }
 
 fn cuts_of<'a>(cut: &ArgMatches<'a>) -> Cuts<'a>

@@ -1,7 +1,7 @@
 //! What the words of the command line ask for, and the status where they are refused.
 
 use crate::{
-    Cuts, Files, Lengths, Question, Request, Settings, Simulation, Sought, Status, Whole,
+    Cuts, Files, Input, Lengths, Question, Request, Settings, Simulation, Sought, Status, Whole,
     request_of,
 };
 use pmf_event::Profile;
@@ -58,16 +58,83 @@ fn check_takes_workers_a_run_a_profile_and_a_flag(rt: HostRuntime) -> Result<(),
             profile,
             ledger,
         };
-        asks(&rt, rt.alloc(), line, Request::Check(settings))?;
+        asks(
+            &rt,
+            rt.alloc(),
+            line,
+            Request::Check(settings, Input::Standard),
+        )?;
     }
     Ok(())
 }
 
 #[test]
+fn a_log_is_read_from_a_file_where_one_is_named(rt: HostRuntime) -> Result<(), Fail> {
+    let settings = Settings {
+        workers: 2,
+        run: 0,
+        profile: Profile::One,
+        ledger: true,
+    };
+    let (run, section, event, profile) = (0, 7, 3, Profile::One);
+    let sought = Sought {
+        run,
+        section,
+        event,
+    };
+    let question = Question {
+        run,
+        profile,
+        section,
+        event,
+    };
+    let whole = Whole { run, profile };
+    let input = Input::File("a.log");
+    for line in [
+        "check --workers 2 --ledger a.log",
+        "check a.log --ledger --workers=2",
+        "check --workers 2 --ledger -- a.log",
+    ] {
+        asks(&rt, rt.alloc(), line, Request::Check(settings, input))?;
+    }
+    let line = "locate a.log --section 7 --event 3";
+    asks(&rt, rt.alloc(), line, Request::Locate(sought, input))?;
+    let line = "explain --section 7 --event 3 a.log";
+    asks(&rt, rt.alloc(), line, Request::Explain(question, input))?;
+    let line = "explain a.log --all";
+    asks(&rt, rt.alloc(), line, Request::ExplainAll(whole, input))?;
+    asks(&rt, rt.alloc(), "lint a.log", Request::Lint(input))?;
+    asks(
+        &rt,
+        rt.alloc(),
+        "lint -- --all",
+        Request::Lint(Input::File("--all")),
+    )
+}
+
+#[test]
 fn explain_takes_a_section_and_an_event_or_all(rt: HostRuntime) -> Result<(), Fail> {
+    let both = "explain --section=18446744073709551615.18446744073709551615 --event 3";
     let most = "explain --profile=2 --event=4294967295 --section=18446744073709551615 --run=5";
     for (line, run, profile, section, event) in [
         ("explain --section 7 --event 3", 0, Profile::One, 7, 3),
+        ("explain --section 0.3 --event 3", 0, Profile::One, 3, 3),
+        ("explain --section 9.3 --event 3", 9, Profile::One, 3, 3),
+        (
+            "explain --section 9.3 --event 3 --run 5",
+            9,
+            Profile::One,
+            3,
+            3,
+        ),
+        (
+            "explain --section 3 --event 3 --run 5",
+            5,
+            Profile::One,
+            3,
+            3,
+        ),
+        (both, u64::MAX, Profile::One, u64::MAX, 3),
         (most, 5, Profile::Two, u64::MAX, u32::MAX),
     ] {
         let question = Question {
@@ -76,14 +143,24 @@ fn explain_takes_a_section_and_an_event_or_all(rt: HostRuntime) -> Result<(), Fa
             section,
             event,
         };
-        asks(&rt, rt.alloc(), line, Request::Explain(question))?;
+        asks(
+            &rt,
+            rt.alloc(),
+            line,
+            Request::Explain(question, Input::Standard),
+        )?;
     }
     for (line, run, profile) in [
         ("explain --all", 0, Profile::One),
         ("explain --run=5 --all --profile 2", 5, Profile::Two),
     ] {
         let whole = Whole { run, profile };
-        asks(&rt, rt.alloc(), line, Request::ExplainAll(whole))?;
+        asks(
+            &rt,
+            rt.alloc(),
+            line,
+            Request::ExplainAll(whole, Input::Standard),
+        )?;
     }
     Ok(())
 }
@@ -95,9 +172,18 @@ fn locate_takes_a_section_and_an_event_and_lint_nothing(rt: HostRuntime) -> Resu
         section: 7,
         event: 3,
     };
-    let line = "locate --event 3 --run 2 --section 7";
-    asks(&rt, rt.alloc(), line, Request::Locate(sought))?;
-    asks(&rt, rt.alloc(), "lint", Request::Lint)
+    for line in [
+        "locate --event 3 --run 2 --section 7",
+        "locate --event 3 --section 2.7",
+    ] {
+        asks(
+            &rt,
+            rt.alloc(),
+            line,
+            Request::Locate(sought, Input::Standard),
+        )?;
+    }
+    asks(&rt, rt.alloc(), "lint", Request::Lint(Input::Standard))
 }
 
 #[test]
@@ -157,7 +243,7 @@ fn sim_takes_a_log_workers_and_ledgers(rt: HostRuntime) -> Result<(), Fail> {
 const REFUSED: &[&str] = &[
     "",
     "chek",
-    "check store.log",
+    "check a.log b.log",
     "check --run",
     "check --run x",
     "check --run -1",
@@ -199,14 +285,26 @@ const REFUSED: &[&str] = &[
     "explain --section 0",
     "explain --event 1",
     "explain --section x --event 1",
+    "explain --section 1.2.3 --event 1",
+    "explain --section 1. --event 1",
+    "explain --section .1 --event 1",
+    "explain --section . --event 1",
+    "explain --section= --event 1",
+    "explain --section 1:2 --event 1",
+    "explain --section 0.x --event 1",
+    "explain --section -1.2 --event 1",
+    "explain --section 0.18446744073709551616 --event 1",
+    "explain --section 18446744073709551616.0 --event 1",
     "explain --section 0 --event -1",
     "explain --section 0 --event 4294967296",
     "explain --section 18446744073709551616 --event 1",
     "explain --section 0 --event 1 --event 1",
     "explain --section 0 --event 1 --profile 3",
-    "lint store.log",
+    "lint a.log b.log",
+    "lint --run 1",
     "locate",
     "locate --section 0",
+    "locate --section 0.0. --event 1",
     "locate --event 1",
     "sim",
     "sim --log a.log --workers 2",

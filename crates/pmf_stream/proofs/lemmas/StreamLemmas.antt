@@ -34,9 +34,9 @@ IsLogOf-all run left rest fresh taken bytes log all takes start is =
     }
 
 -- a fault that a reader shows is that of every log that begins so, and none shows before the piece in which it stands
-pub IsLogFaultOf-shown : (run : ℕ) (left rest : Option (List ℕ)) (fresh : LogReader) (found : LogFault) →
-    HasReadTo Takes Refuses LOG_LIMIT left rest fresh found → HasRead run [] fresh → IsLogFaultOf run left rest found
-IsLogFaultOf-shown run left rest fresh found read start memory =
+pub IsLogFaultOf-shown : {I : Type 0} (log : I → LogReader) (run : ℕ) (left rest : Option (List ℕ)) (fresh : I) (found : LogFault) →
+    HasReadTo (λ a xs b. Takes (log a) xs (log b)) (λ a xs fault. Refuses (log a) xs fault) LOG_LIMIT left rest fresh found → HasRead run [] (log fresh) → IsLogFaultOf run left rest found
+IsLogFaultOf-shown log run left rest fresh found read start memory =
     let stands = read.takes run [] (start, nothing-shown) in
     let bytes = read.before ++ read.piece in
     let all = read.refuses run read.before stands memory in record {

@@ -5,6 +5,7 @@ ghost use Rattle.std.specs.Prelude.{◌≡◌};
 use super::fakes::{PieceSource, failed_calls};
 use crate::answering::answer_stream;
 use crate::device::Device;
+use crate::excerpt::Excerpt;
 use crate::fault::StreamFault;
 use crate::memory::ByteSink;
 use pmf_event::Profile;
@@ -74,7 +75,8 @@ fn answers<
     requires read { source.failures ≡ 0 }
     requires write { sink.failures ≡ 0 }
 {
-    let answer = answer_stream(alloc, &mut source, &mut sink, query);
+    let mut refused = Excerpt::none();
+    let answer = answer_stream(alloc, &mut source, &mut sink, query, &mut refused);
     assert_eq!(rt; answer, want);
     assert!(rt; sink.bytes() == text, "{want:?}");
     let failed = (source.failures(), sink.failures());

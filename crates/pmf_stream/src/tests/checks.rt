@@ -5,6 +5,7 @@ ghost use Rattle.std.specs.Prelude.{◌≡◌};
 use super::fakes::{PieceSource, failed_calls};
 use crate::checking::{CheckLogFault, Done, check_stream};
 use crate::device::Device;
+use crate::excerpt::Excerpt;
 use crate::fault::StreamFault;
 use crate::memory::ByteSink;
 use pmf_event::Profile;
@@ -47,7 +48,16 @@ fn checks(
         profile: Profile::One,
         ledger: false,
     };
-    let answer = check_stream(rt, alloc, &mut source, &mut sink, settings, &OpenGate);
+    let mut refused = Excerpt::none();
+    let answer = check_stream(
+        rt,
+        alloc,
+        &mut source,
+        &mut sink,
+        settings,
+        &OpenGate,
+        &mut refused,
+    );
     assert_eq!(rt; answer, want);
     assert!(rt; sink.bytes() == text, "{want:?}");
     let failed = (source.failures(), sink.failures());

@@ -5,6 +5,7 @@ ghost use Rattle.std.specs.Prelude.{◌≡◌, None};
 use super::fakes::{PieceSource, failed_calls};
 use crate::cutting::{Notes, Pieces, cut_stream};
 use crate::device::Device;
+use crate::excerpt::Excerpt;
 use crate::fault::StreamFault;
 use crate::memory::ByteSink;
 use crate::outlet::{NoFile, Outlet};
@@ -45,7 +46,16 @@ fn cuts(
     requires write { sink.failures ≡ 0 }
 {
     let mut lines = Lines { count: 0 };
-    let answer = cut_stream(alloc, &mut source, &mut sink, &mut lines, LENGTHS, None);
+    let mut refused = Excerpt::none();
+    let answer = cut_stream(
+        alloc,
+        &mut source,
+        &mut sink,
+        &mut lines,
+        LENGTHS,
+        None,
+        &mut refused,
+    );
     assert_eq!(rt; answer, want);
     let failed = (source.failures(), sink.failures());
     assert_eq!(rt; failed, failed_calls(&want), "{want:?}");
@@ -143,6 +153,7 @@ fn a_file_that_is_refused_is_told(rt: HostRuntime) {
             &mut lines,
             LENGTHS,
             Some(30),
+            &mut Excerpt::none(),
         );
         assert!(rt; answer == Err(want), "{refusal:?}");
         assert_eq!(rt; files.failures, u64::from(refusal != NoFile::OutOfMemory));

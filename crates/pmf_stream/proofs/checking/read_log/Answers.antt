@@ -3,15 +3,15 @@ use Rattle.pmf_stream.proofs.checking.read_log.Goals as goal
 
 pub returns-in-Ok-Err-clause-faults : goal.returns-in-Ok-Err-clause-faults
 returns-in-Ok-Err-clause-faults g c =
-    IsLogFaultOf-shown c.args.settings.run _ _ c.new-log.result c.in-Ok-Err.fault (rw c.in-Ok-Err.field-0-is at c.in-Ok-Err.ensures.taken) c.new-log.ensures
+    IsLogFaultOf-shown (λ w. w.log) c.args.settings.run _ _ _ c.in-Ok-Err.fault (rw c.in-Ok-Err.field-0-is at c.in-Ok-Err.ensures.taken) c.new.ensures
 
 pub returns-in-Ok-clause-ok : goal.returns-in-Ok-clause-ok
 returns-in-Ok-clause-ok g c =
     let taken = rw c.in-Ok-Ok.field-0-is at c.in-Ok-Ok.ensures.taken in
-    IsLogOf-all c.args.settings.run _ _ c.new-log.result c.read_into.new.intake taken.0 c.in-Ok.log taken.1 taken.2 c.new-log.ensures (c.in-Ok.ensures.answers c.args.settings.run taken.0)
+    IsLogOf-all c.args.settings.run _ _ c.new.result c.read_into.new.intake.log taken.0 c.in-Ok.log taken.1 taken.2 c.new.ensures (c.in-Ok.ensures.answers c.args.settings.run taken.0)
 
 pub returns-in-Err-finish-clause-faults : goal.returns-in-Err-finish-clause-faults
 returns-in-Err-finish-clause-faults g c =
     let taken = rw c.in-Ok-Ok.field-0-is at c.in-Ok-Ok.ensures.taken in
-    IsLogFaultOf-end c.args.settings.run _ _ c.new-log.result c.read_into.new.intake taken.0 c.in-Err-finish.fault taken.1 taken.2 c.new-log.ensures
+    IsLogFaultOf-end c.args.settings.run _ _ c.new.result c.read_into.new.intake.log taken.0 c.in-Err-finish.fault taken.1 taken.2 c.new.ensures
     (c.in-Err-finish.ensures.answers c.args.settings.run taken.0)

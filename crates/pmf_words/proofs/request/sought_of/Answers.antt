@@ -6,7 +6,6 @@ use Rattle.pmf_words.proofs.request.sought_of.Goals as goal
 pub returns : goal.returns
 returns c =
     let f = found_of c.args.locate.now in record {
-      run = number-named 64 f (codes "run") c.get_one.result c.unwrap_or.result 0 (λ k below. omega (arith, below)) c.get_one.ensures.value c.unwrap_or.ensures;
-      section = number-named 64 f (codes "section") c.get_one-2.result c.unwrap_or-2.result 0 (λ k below. omega (arith, below)) c.get_one-2.ensures.value c.unwrap_or-2.ensures;
-      event = number-named 32 f (codes "event") c.get_one-3.result c.unwrap_or-3.result 0 (λ k below. omega (arith, below)) c.get_one-3.ensures.value c.unwrap_or-3.ensures;
+      section = c.in_ok-run.ensures;
+      event = number-named 32 f (codes "event") c.get_one.result c.unwrap_or.result 0 (λ k below. omega (arith, below)) c.get_one.ensures.value c.unwrap_or.ensures;
     }

@@ -1,0 +1,4 @@
+use Rattle.pmf_words.proofs.commands.lint.Goals as goal
+
+pub returns : goal.returns
+returns c = c.with_option.ensures _ _ c.head.ensures c.log_file.ensures.rule c.log_file.ensures.local
