@@ -6,7 +6,7 @@ use Rattle.pmf_cause.specs.declared.stored.Stored.{Stored}
 abbrev pub lacks_write_back : Stored → Bool
 lacks_write_back state = state.written_back == 0
 
--- whether the summary tells of such a state: each that lacks none it covers anyway
+-- whether a summary covers the state: that some state may lack a write-back, or that none does
 abbrev pub may_be : Bool → Stored → Bool
 may_be summary state = summary || not (lacks_write_back state)
 

@@ -53,9 +53,9 @@ fn first_behind(events: &[Event], behind: u32, act: Act) -> u32 {
 
 // The place behind the last one at which no transaction ran.
 fn begun(past: &[Event]) -> u32 {
-    let mut begun = 1u32;
-    for count in 0..past.len() {
-        let place = count as u32;
+    let (mut place, mut begun) = (0u32, 1u32);
+    for _event in past {
+        place = place.wrapping_add(1);
         if depth(first(past, place)) == 0 {
             begun = place.wrapping_add(1);
         }

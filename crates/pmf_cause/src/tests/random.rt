@@ -38,7 +38,7 @@ fn event_of(kind: u64, a: Span, b: Span) -> Event {
 #[test]
 fn each_cause_is_that_of_a_plain_search(rt: HostRuntime) -> Result<(), Fail> {
     let mut numbers = Numbers::of(11);
-    for _section in 0..500 {
+    for _section in 0..300 {
         let mut events = Vec::new(rt.alloc());
         for _event in 0..numbers.below(40) {
             let (a, b) = (span(&mut numbers)?, span(&mut numbers)?);
