@@ -48,7 +48,7 @@ fn assert_of_pair(
 fn a_shadow_answers_as_a_plain_checker_does(rt: HostRuntime) -> Result<(), Fail> {
     let alloc = rt.alloc();
     let mut numbers = Numbers::of(1);
-    for _list in 0..320 {
+    for _list in 0..160 {
         let mut events = Vec::new(alloc);
         for _event in 0..numbers.below(13) + 6 {
             events.push(event(&mut numbers)?)?;
