@@ -29,8 +29,9 @@ pub struct Proposal {
 /// between its last store and that place, it is written back in front of that fence. A byte without a backup is added in front of
 /// its store. An event that is too many is left out, and one that is missing is put in. Not more than 64 changes are proposed for a row.
 ///
-/// Takes time in proportion to the events and the rows, but for a logarithm: after some steps for each of them no more is
-/// proposed. Takes memory for what is kept of the events, and for what is proposed.
+/// After some steps over runs of bytes for each event and row, no more is looked for that is not durable. A store without a backup, and a
+/// TXADD that adds nothing, take a step for each run of bytes with one last TXADD that they cover. Takes memory for what is kept of the
+/// events, and for what is proposed.
 pub fn propose(alloc: Global, verdict: &Verdict, wanted: &[usize]) -> Result<Proposal, AllocError> {
     let events = verdict.section().events();
     let mut seeker = Seeker::new(alloc, events.len(), verdict.rows().len());
@@ -149,6 +150,7 @@ impl Seeker {
         Ok(())
     }
 
+    // (The event is named for the compiler's sake: it refuses a list of changes in a signature that does not name their events.)
     fn leave_out(&mut self, place: u32, _event: &Event) -> Result<(), AllocError> {
         self.edits.push(Edit::LeaveOut { place })?;
         Ok(())
