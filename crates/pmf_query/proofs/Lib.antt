@@ -4,6 +4,7 @@ pub mod NumberFoundLemmas
 pub mod RowFitsLemmas
 pub mod LocationLemmas
 pub mod GivingLemmas
+pub mod StandingLemmas
 pub mod SolidLemmas
 pub mod FirstNamesLemmas
 pub mod NamingLemmas

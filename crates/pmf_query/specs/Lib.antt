@@ -12,6 +12,7 @@ pub mod AllExplained
 pub mod Walking
 pub mod Passing
 pub mod Locating
+pub mod Standing
 pub mod Laws
 pub mod Naming
 pub mod Nearness

@@ -12,9 +12,13 @@ escaped b = codes "\\x" ++ digit_glyph false (b / 16) ∷ digit_glyph false (b %
 unfoldable pub shown_byte : ℕ → List ℕ
 shown_byte b = if b == 0x5c then codes "\\\\" else if is_printed b then b ∷ [] else escaped b
 
--- a name: its first 64 bytes, and `..` where there are more
-unfoldable pub shown_name : List ℕ → List ℕ
-shown_name name = flat_map (λ b. shown_byte b) (take SHOWN name) ++ (if nat_le (length name) SHOWN then [] else codes "..")
+-- a text: its first bytes, up to so many, and `..` where there are more
+unfoldable pub shown_text : ℕ → List ℕ → List ℕ
+shown_text most text = flat_map (λ b. shown_byte b) (take most text) ++ (if nat_le (length text) most then [] else codes "..")
+
+-- a name: its first 64 bytes so
+abbrev pub shown_name : List ℕ → List ℕ
+shown_name name = shown_text SHOWN name
 
 -- ---- text lines
 

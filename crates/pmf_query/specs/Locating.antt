@@ -2,6 +2,7 @@
 use Rattle.std.specs.Prelude.{◌≡◌, ℕ, ◌+◌, ◌<◌, List, [], ◌∷◌, ◌++◌, length, take, drop, slice_get, None, Some, codes, decimal}
 use Rattle.pmf_event.specs.declared.event.Event.{Event}
 use Rattle.pmf_storelog.specs.{Separators.{records_of}, LogText.{reading_at, current_at, numbered, events_in, fault_of}}
+use Rattle.pmf_query.specs.declared.locate.Located.{Located}
 
 -- record k, counted from 0, gave event number `place` of the section: it happened there, behind `place` - 1 others
 pub record Gives (records : List (List ℕ)) (section place : ℕ) (event : Event) (k : ℕ) : Type 0 where
@@ -22,6 +23,11 @@ pub record IsLocation (bytes : List ℕ) (section place number offset : ℕ) (te
   pub event : Event
   pub gives : Gives (records_of bytes) section place event index
   pub stands : StandsAt bytes index offset text
+
+-- each of these is where the event of its number of the section stands, counted from 1, and there are as many as the section has events
+pub record AreLocations (bytes : List ℕ) (section : ℕ) (found : List Located) : Type 0 where
+  pub each : (k : ℕ) (l : Located) → slice_get found k ≡ Some l → IsLocation bytes section (k + 1) l.record l.offset l.text.now
+  pub all : length found ≡ length (events_in (records_of bytes) section)
 
 -- the bytes are a log without a fault
 abbrev pub IsFaultless : List ℕ → Type 0

@@ -28,6 +28,7 @@ mod passing;
 mod query;
 mod refusal;
 mod section;
+mod standing;
 mod summing;
 mod telling;
 #[cfg(test)]
@@ -43,5 +44,6 @@ pub use nearness::{is_text, near};
 pub use pmf_request::{Overview, Question, Sought, Whole};
 pub use query::{Answer, Query};
 pub use refusal::{EventFault, EventRefusal, LogRefusal};
+pub use standing::Standing;
 pub use summing::Sums;
-pub use telling::lint_text;
+pub use telling::{lint_text, push_shown};

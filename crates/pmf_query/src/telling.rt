@@ -1,7 +1,7 @@
 //! The text that tells what a log holds, and its warnings.
 
 ghost use Rattle.std.specs.Prelude.{◌≡◌, [], ◌∷◌, ◌++◌, true, IfOk, OnOk, flat_map, string_bytes};
-ghost use Rattle.pmf_query.specs.{LintText.{asserts_nothing, checks_nothing, escaped, hint_of, is_suspicious, line_of_assertions, line_of_counts, line_of_known, line_of_others, line_of_skipped, line_of_stores, lines_of_warnings, shown_byte, shown_name, text_of_lint, warned}, Nearness.{is_printed, near_of}};
+ghost use Rattle.pmf_query.specs.{LintText.{asserts_nothing, checks_nothing, escaped, hint_of, is_suspicious, line_of_assertions, line_of_counts, line_of_known, line_of_others, line_of_skipped, line_of_stores, lines_of_warnings, shown_byte, shown_name, shown_text, text_of_lint, warned}, Nearness.{is_printed, near_of}};
 
 use crate::lint::Lint;
 use crate::naming::Named;
@@ -205,15 +205,22 @@ fn push_warning(text: &mut String, due: bool, warning: &str) -> Result<(), Alloc
     text.push_str(warning)
 }
 
-// The name in ASCII: its first bytes, and `..` where there are more.
-#[tactic(auto, using(crate::proofs::LintTextLemmas::short_name), unfolding(crate::specs::LintText::shown_name))]
 fn push_name(text: &mut String, name: &[u8]) -> Result<(), AllocError>
     ensures { OnOk result (string_bytes text.new ≡ string_bytes text.old ++ shown_name name.now) }
 {
-    if name.len() <= SHOWN {
-        return push_bytes(text, name);
+    push_shown(text, name, SHOWN)
+}
+
+/// Writes bytes of a log in ASCII behind the text: up to so many of them, and `..` where there are more. A backslash is written twice,
+/// and a byte that is no printed character as `\xHH`. After an `Err` some of it may stand there.
+#[tactic(auto, using(crate::proofs::LintTextLemmas::short_text), unfolding(crate::specs::LintText::shown_text))]
+pub fn push_shown(text: &mut String, bytes: &[u8], most: usize) -> Result<(), AllocError>
+    ensures { OnOk result (string_bytes text.new ≡ string_bytes text.old ++ shown_text most bytes.now) }
+{
+    if bytes.len() <= most {
+        return push_bytes(text, bytes);
     }
-    let (front, _) = name.split_at(SHOWN);
+    let (front, _) = bytes.split_at(most);
     push_bytes(text, front)?;
     text.push_str("..")
 }
@@ -228,7 +235,6 @@ fn push_bytes(text: &mut String, bytes: &[u8]) -> Result<(), AllocError>
     Ok(())
 }
 
-// A backslash is written twice, and a byte that is no printed character as \xHH.
 #[tactic(auto, unfolding(crate::specs::LintText::shown_byte))]
 fn push_byte(text: &mut String, byte: u8) -> Result<(), AllocError>
     ensures { OnOk result (string_bytes text.new ≡ string_bytes text.old ++ shown_byte byte) }

@@ -1,5 +1,5 @@
 use Rattle.std.proofs.Common.{ℕ, List, sym, subst, arith}
-use Rattle.pmf_query.{specs.Passing.{HasPassed}, proofs.CursorLemmas.{anew_first, records_of_nil}, proofs.LocationLemmas.{located}}
+use Rattle.pmf_query.{specs.Passing.{HasPassed}, proofs.CursorLemmas.{anew_first, records_of_nil}}
 use Rattle.pmf_query.proofs.locate.find_event.Goals as goal
 
 pub loop-found-init : goal.loop-found-init

@@ -1,5 +1,5 @@
-use Rattle.std.proofs.Common.{ℕ, length, ap, subst, arith}
-use Rattle.pmf_query.{specs.Locating.{IsLocation}, proofs.NumberFoundLemmas.{events_found, read_so}}
+use Rattle.std.proofs.Common.{length, ap, arith}
+use Rattle.pmf_query.{proofs.NumberFoundLemmas.{events_found, read_so}}
 use Rattle.pmf_query.proofs.locate.locate_event.Goals as goal
 
 pub unreachable-requires : goal.unreachable-requires

@@ -1,6 +1,5 @@
-use Rattle.std.proofs.{Common.{◌≡◌, ◌<◌, length, ℕ, List, sym, ap, ◌∙◌, arith}, lemmas.Grind.{common_steps}}
-use Rattle.pmf_storelog.specs.Separators.{trimmed}
-use Rattle.pmf_query.proofs.CursorLemmas.{few_blanks, next_blank, next_here, part_taken}
+use Rattle.std.proofs.{Common.{◌<◌, length, arith}, lemmas.Grind.{common_steps}}
+use Rattle.pmf_query.proofs.CursorLemmas.{next_here}
 use Rattle.pmf_query.proofs.walking.next_record.Goals as goal
 
 pub returns-then-not-is_empty : goal.returns-then-not-is_empty

@@ -1,5 +1,5 @@
-use Rattle.std.proofs.Common.{sym, ap, subst, ◌∙◌, refl, arith, List, [], ◌∷◌, ◌++◌, map, ℕ}
-use Rattle.pmf_query.{specs.Counting.{Lists}, specs.Naming.{counting, names_of, skipped_names}, proofs.NamingLemmas.{names_long, skipped_few, small_counts, tallies_known, tallies_skipped}}
+use Rattle.std.proofs.Common.{sym, ap, subst, ◌∙◌, refl, List, [], ◌∷◌, ◌++◌, map, ℕ}
+use Rattle.pmf_query.{specs.Counting.{Lists}, specs.Naming.{counting, skipped_names}, proofs.NamingLemmas.{tallies_known, tallies_skipped}}
 use Rattle.pmf_query.proofs.counting.NameCounts.take.Goals as goal
 
 pub returns-in_ok-take : goal.returns-in_ok-take

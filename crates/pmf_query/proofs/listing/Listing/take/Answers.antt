@@ -1,5 +1,5 @@
 use Rattle.std.proofs.Common.{sym, ap, ◌∙◌, refl, arith, List, Bool, not, ◌||◌}
-use Rattle.pmf_query.{specs.declared.naming.Named.{Named}, specs.Naming.{is_among, names_in}, proofs.NamingLemmas.{lists_again, lists_new, lists_other, others_few, small_counts}}
+use Rattle.pmf_query.{specs.declared.naming.Named.{Named}, specs.Naming.{is_among, names_in}, proofs.NamingLemmas.{lists_again, lists_new, lists_other}}
 use Rattle.pmf_query.proofs.listing.Listing.take.Goals as goal
 
 pub returns-then-is_among : goal.returns-then-is_among

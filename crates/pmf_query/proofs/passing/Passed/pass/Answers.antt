@@ -1,6 +1,6 @@
-use Rattle.std.proofs.Common.{◌≡◌, ◌+◌, Ok, Err, refl, rules}
+use Rattle.std.proofs.Common.{◌≡◌, Ok, Err, refl}
 use Rattle.pmf_storelog.specs.{declared.record.Saying.TheVariants.{Happens, Enters, Skipped}, Records.{record_of}}
-use Rattle.pmf_query.proofs.PassedLemmas.{passed_here, passed_elsewhere, passed_marker, passed_nothing, passed_refused, gives_next}
+use Rattle.pmf_query.proofs.PassedLemmas.{passed_here, passed_elsewhere, passed_marker, passed_nothing, passed_refused}
 use Rattle.pmf_query.proofs.passing.Passed.pass.Goals as goal
 
 pub returns-then-self-section-clause-passed : goal.returns-then-self-section-clause-passed
