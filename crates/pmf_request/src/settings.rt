@@ -48,6 +48,23 @@ pub struct Whole {
     pub profile: Profile,
 }
 
+/// What `why` is told by its words.
+#[derive(Clone, Copy, Debug, PartialEq, Eq)]
+pub struct Reasons {
+    /// The run in the name of each section.
+    pub run: u64,
+    /// By which rule order assertions judge two bytes of one line.
+    pub profile: Profile,
+    /// The number of the only section that is told of, if one is named.
+    pub section: Option<u64>,
+    /// The place of the only event that is told of, if one is named: that of each section, from 1.
+    pub event: Option<u32>,
+    /// The most rows that are told.
+    pub first: u32,
+    /// Whether each row is told, and not the first of each kind alone.
+    pub all: bool,
+}
+
 /// What `lint` is told by its words: nothing.
 #[derive(Clone, Copy, Debug, PartialEq, Eq)]
 pub struct Overview;

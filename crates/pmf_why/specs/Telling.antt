@@ -1,0 +1,33 @@
+-- What is kept while rows are met. Defined here.
+use Rattle.std.specs.{Prelude.{◌≡◌, ℕ, Bool, false, not, ◌||◌, ◌-◌, nat_lt, List, ◌++◌, length, map, count_by, sum_by, string_bytes, if◌then◌else◌}, List.{AllZip, list_any}}
+use Rattle.pmf_event.specs.Section.{Trace}
+use Rattle.pmf_request.specs.declared.settings.Reasons.{Reasons}
+use Rattle.pmf_verdict.specs.declared.outcome.{Outcome.TheVariants.{Fail, Pass}}
+use Rattle.pmf_why.specs.{declared.kind.Kind.{Kind}, declared.taking.Told.{Told}, declared.taking.Counts.{Counts}, declared.taking.Telling.{Telling}, Kinds.{IsKindOf, is_one_kind}, Reasons.{Bad, Part, rows_of_all, told_of}, Why.{IsPart, Tells, count_with_all}, WhyText.{text_of_more}}
+
+-- whether a row of the kind is to be told
+unfoldable pub is_new_kind : Telling → Kind → Bool
+is_new_kind t kind =
+    if nat_lt (length t.told.items) t.asked.first then t.asked.all || not (list_any (λ (x : Told). is_one_kind x.kind kind) t.told.items) else false
+
+-- the row is told
+pub record IsToldAs (bad : Bad) (told : Told) : Type 0 where
+  pub kind : IsKindOf bad told.kind
+  pub tells : Tells bad (string_bytes told.text)
+
+-- these rows were met
+pub record HasRows (asked : Reasons) (rows : List Bad) (t : Telling) : Type 0 where
+  pub asked_is : t.asked ≡ asked
+  pub kinds : AllZip IsKindOf rows t.kinds.items
+  pub told : AllZip IsToldAs (told_of asked rows) t.told.items
+
+-- how many rows pass and fail with all changes
+abbrev pub counts_of : Part → Counts
+counts_of part = record { pass = count_with_all Pass part; fail = count_with_all Fail part }
+
+-- these sections were met
+pub record HasParts (asked : Reasons) (bytes : List ℕ) (sections : List Trace) (t : Telling) : Type 0 where
+  pub parts : List Part
+  pub are : AllZip (IsPart asked bytes) sections parts
+  pub rows : HasRows asked (rows_of_all asked parts) t
+  pub counts : t.counts.items ≡ map (λ part. counts_of part) parts

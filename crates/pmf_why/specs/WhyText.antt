@@ -1,0 +1,108 @@
+-- The text that tells why rows are no PASS, and what cures them: ASCII, in text lines. Defined here.
+use Rattle.std.specs.{Prelude.{ℕ, suc, ◌-◌, ◌==◌, nat_le, List, [], ◌++◌, flat_map, codes, slice_get, Option, None, Some, if◌then◌else◌}, Fmt.{decimal}}
+use Rattle.pmf_event.specs.{declared.event.Event.{Event}, declared.finding.Finding.{Finding}, declared.finding.Finding.TheVariants.{OrderedFail, OrderedSameLine}, declared.name.Name.{Name}, declared.row.Row.{Row}}
+use Rattle.pmf_storelog.specs.Canonical.{line_of_event}
+use Rattle.pmf_verdict.specs.Text.{text_of_row}
+use Rattle.pmf_cause.specs.declared.{edit.Edit.{Edit}, lack.Lack.{Lack}, need.Need.{Need}, cause.Cause.{Cause}}
+use Rattle.pmf_cause.specs.declared.edit.Edit.TheVariants as edit
+use Rattle.pmf_cause.specs.declared.lack.Lack.TheVariants as lack
+use Rattle.pmf_cause.specs.declared.cause.Cause.TheVariants as cause
+use Rattle.pmf_query.specs.{declared.locate.Located.{Located}, LintText.{shown_text}}
+use Rattle.pmf_why.specs.{declared.cure.Way.{Way}, declared.cure.Way.TheVariants.{NotFound, Alone, WithAll}, declared.telling.TheConstants.{SHOWN}, Reasons.{Bad, stands_at}}
+
+-- ---- records
+
+-- the number of a record, or 0
+abbrev pub number_in : Option Located → ℕ
+number_in None = 0
+number_in (Some l) = l.record
+
+-- the number of the record that gave the event at a place, or 0
+abbrev pub record_at : List Located → ℕ → ℕ
+record_at stands place = number_in (stands_at stands place)
+
+-- `record N`, and the first bytes of the record, in ASCII
+unfoldable pub text_of_record : Option Located → List ℕ
+text_of_record None = codes "none\n"
+text_of_record (Some l) = codes "record " ++ decimal l.record ++ codes " " ++ shown_text SHOWN l.text.now ++ codes "\n"
+
+-- ---- the cause
+
+-- what a byte lacks that had to be durable by a record
+unfoldable pub text_of_lack : List Located → ℕ → Lack → List ℕ
+text_of_lack stands due lack.StoredBehind = codes "stored behind record " ++ decimal (record_at stands due) ++ codes ", in front of which it had to be durable"
+text_of_lack stands due lack.OneStore = codes "one store writes both bytes, so that no write-back comes between"
+text_of_lack stands due lack.NotWrittenBack = codes "not written back: no write-back of its line behind the store"
+text_of_lack stands due (lack.WrittenBackLate by) =
+    codes "not written back before record " ++ decimal (record_at stands due) ++ codes ": too late by record " ++ decimal (record_at stands by)
+text_of_lack stands due (lack.NotFenced by) = codes "not fenced: written back by record " ++ decimal (record_at stands by) ++ codes ", and no fence follows"
+text_of_lack stands due (lack.FencedLate by fence) =
+    codes "not fenced: written back by record " ++ decimal (record_at stands by) ++ codes ", no fence before record " ++ decimal (record_at stands due)
+    ++ codes "; too late by record " ++ decimal (record_at stands fence)
+
+-- ` by record N`-like words of an event that may be none
+unfoldable pub text_of_last : List Located → List ℕ → List ℕ → ℕ → List ℕ
+text_of_last stands none some place = if place == 0 then none else some ++ decimal (record_at stands place)
+
+-- a cause, in words
+unfoldable pub text_of_cause : List Located → Cause → List ℕ
+text_of_cause stands (cause.NotDurable need lack) = text_of_lack stands need.due lack
+text_of_cause stands (cause.WrittenBackBefore by) =
+    text_of_last stands (codes "nothing to write back: the line was neither stored to nor written back before") (codes "written back already, by record ") by
+text_of_cause stands (cause.BackedUpBefore by) = codes "backed up already, by record " ++ decimal (record_at stands by)
+text_of_cause stands (cause.NotBackedUp begin) = codes "not backed up in the transaction that record " ++ decimal (record_at stands begin) ++ codes " began"
+text_of_cause stands (cause.TransactionRuns begin) = codes "the transaction that record " ++ decimal (record_at stands begin) ++ codes " began has not ended"
+text_of_cause stands (cause.NoTransaction ended) = text_of_last stands (codes "no transaction has begun") (codes "no transaction runs: the last one ended by record ") ended
+text_of_cause stands (cause.ScopeOpen start) = codes "the scope that record " ++ decimal (record_at stands start) ++ codes " opened is still open"
+text_of_cause stands (cause.NoScope ended) = text_of_last stands (codes "no scope has been opened") (codes "no scope is open: the last one was closed by record ") ended
+
+-- ---- the cure
+
+-- where a change puts an event: in front of a record, or at the section's end
+unfoldable pub text_of_place : Option Located → List ℕ
+text_of_place None = codes "at the end: "
+text_of_place (Some l) = codes "before record " ++ decimal l.record ++ codes ": "
+
+-- one change
+unfoldable pub text_of_edit : List Located → Edit → List ℕ
+text_of_edit stands (edit.Put before event) = text_of_place (stands_at stands before) ++ line_of_event event
+text_of_edit stands (edit.LeaveOut place) = codes "leave out record " ++ decimal (record_at stands place) ++ codes "\n"
+
+-- some changes, each a text line, in front of one line more
+unfoldable pub text_of_edits : List Located → List Edit → List ℕ
+text_of_edits stands edits = flat_map (λ e. text_of_edit stands e ++ codes "           ") edits
+
+-- what is told as a cure
+unfoldable pub text_of_cure : List Located → List Edit → Way → List ℕ
+text_of_cure stands edits NotFound = codes "none found\n"
+text_of_cure stands edits Alone = text_of_edits stands edits ++ codes "this row then passes\n"
+text_of_cure stands edits WithAll = text_of_edits stands edits ++ codes "with all cures this row passes\n"
+
+-- ---- a row
+
+-- the record of the store that is kept, where an order is asserted
+unfoldable pub text_of_kept : List Located → Finding → Need → List ℕ
+text_of_kept stands (OrderedFail byte after crash) need = codes "  kept     " ++ text_of_record (stands_at stands need.due)
+text_of_kept stands (OrderedSameLine byte after) need = codes "  kept     " ++ text_of_record (stands_at stands need.due)
+text_of_kept stands _ need = []
+
+-- the record of the lost store, and that of the store that is kept where an order is asserted; or the record of the event
+unfoldable pub text_of_records : List Located → Row → Cause → List ℕ
+text_of_records stands row (cause.NotDurable need lack) = codes "  lost     " ++ text_of_record (stands_at stands need.last) ++ text_of_kept stands row.finding need
+text_of_records stands row _ = codes "  event    " ++ text_of_record (stands_at stands row.place)
+
+-- `R.N `
+unfoldable pub text_of_section : Name → List ℕ
+text_of_section name = decimal name.run ++ codes "." ++ decimal name.number ++ codes " "
+
+-- a row, with its records, its cause, and what is told as a cure
+unfoldable pub text_of_reason : Bad → List Edit → Way → List ℕ
+text_of_reason bad edits way =
+    text_of_section bad.part.checked.section.name ++ text_of_row bad.row
+    ++ text_of_records bad.part.stands bad.row bad.cause
+    ++ codes "  cause    " ++ text_of_cause bad.part.stands bad.cause ++ codes "\n"
+    ++ codes "  cure     " ++ text_of_cure bad.part.stands edits way
+
+-- how many rows more a row that is told stands for
+unfoldable pub text_of_more : ℕ → List ℕ
+text_of_more count = if nat_le count 1 then [] else codes "  alike    " ++ decimal (count - 1) ++ codes " more\n"

@@ -1,0 +1,24 @@
+//! A row with its cause, in its section.
+
+use pmf_cause::{Cause, Edit};
+use pmf_event::Row;
+use pmf_query::Located;
+use pmf_verdict::Verdict;
+
+/// A section that is told of.
+#[derive(Clone, Copy)]
+pub(crate) struct Taken<'a, 'b> {
+    pub(crate) verdict: &'b Verdict,
+    /// Where its events stand in the log.
+    pub(crate) stands: &'b [Located<'a>],
+    /// The changes that are to cure all its rows.
+    pub(crate) plan: &'b [Edit],
+}
+
+/// A row that counts as fail or as a warning.
+#[derive(Clone, Copy)]
+pub(crate) struct BadRow<'a, 'b> {
+    pub(crate) taken: Taken<'a, 'b>,
+    pub(crate) row: Row,
+    pub(crate) cause: Cause,
+}

@@ -1,0 +1,71 @@
+//! What is told as a cure: only what a check has confirmed.
+
+ghost use Rattle.std.specs.{Prelude.{◌≡◌, true, IfOk, IfSome, Contains}, List.{All}};
+ghost use Rattle.pmf_cause.specs.Cure.{IsTrial};
+ghost use Rattle.pmf_why.specs.{Cures.{IsCure}, Rows.{bad_of}};
+
+use crate::cure::Way;
+use crate::row::BadRow;
+use pmf_cause::{Edit, Trial, try_edits};
+use std::alloc::{AllocError, Global};
+
+/// How far these changes cure the row, as far as was tried: alone, while there is room for such a check of the section, and else with
+/// all changes of its section.
+pub(crate) fn way_of(
+    alloc: Global,
+    bad: &BadRow<'_, '_>,
+    edits: &[Edit],
+    together: &Option<Trial>,
+    budget: &mut usize,
+) -> Result<Way, AllocError>
+    requires { IfSome together.now (IsTrial bad.now.taken.verdict.now bad.now.taken.plan.now) }
+    ensures { IfOk result (IsCure (bad_of bad.now) edits.now) }
+{
+    if edits.is_empty() {
+        return Ok(Way::NotFound);
+    }
+    let verdict = bad.taken.verdict;
+    let spent = verdict.section().events().len();
+    if spent < *budget {
+        *budget -= spent;
+        if let Some(trial) = try_edits(alloc, verdict, edits)? {
+            if trial.is_cured(bad.row.place) {
+                return Ok(Way::Alone);
+            }
+        }
+    }
+    let Some(trial) = together else {
+        return Ok(Way::NotFound);
+    };
+    if trial.is_cured(bad.row.place) {
+        if are_among(edits, bad.taken.plan) {
+            return Ok(Way::WithAll);
+        }
+    }
+    Ok(Way::NotFound)
+}
+
+// Whether the changes are some of the others, whose places rise.
+fn are_among(edits: &[Edit], all: &[Edit]) -> bool
+    ensures { result ≡ true → All (λ e. Contains all.now e) edits.now }
+{
+    for edit in edits {
+        if !is_among(*edit, all) {
+            return false;
+        }
+    }
+    true
+}
+
+fn is_among(edit: Edit, all: &[Edit]) -> bool
+    ensures { result ≡ true → Contains all.now edit }
+{
+    let mut index = all.partition_point(|other| other.place() < edit.place());
+    while index < all.len() && all[index].place() == edit.place() {
+        if all[index] == edit {
+            return true;
+        }
+        index += 1;
+    }
+    false
+}
