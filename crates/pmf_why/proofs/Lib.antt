@@ -1,1 +1,9 @@
+pub mod PairLemmas
+pub mod TellingLemmas
+pub mod FieldLemmas
 pub mod FirstsLemmas
+pub mod KindLemmas
+pub mod RowsLemmas
+pub mod PartsLemmas
+pub mod CuredLemmas
+pub mod MeetLemmas

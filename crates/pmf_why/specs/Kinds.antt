@@ -10,5 +10,5 @@ pub record IsKindOf (bad : Bad) (kind : Kind) : Type 0 where
   pub frame : kind.frame.now ≡ frame_of bad
 
 -- whether two kinds are one
-unfoldable pub is_one_kind : Kind → Kind → Bool
+abbrev pub is_one_kind : Kind → Kind → Bool
 is_one_kind a b = (a.finding == b.finding) && (a.cause == b.cause) && (a.distance == b.distance) && bytes_eq a.frame.now b.frame.now

@@ -13,6 +13,8 @@ pub mod Cures
 pub mod WhyText
 pub mod Why
 pub mod Rows
+pub mod Counting
+pub mod Plans
 pub mod Kinds
 pub mod Telling
 pub mod Ending

@@ -5,7 +5,7 @@ use Rattle.pmf_event.specs.declared.event.Event.TheVariants as event
 use Rattle.pmf_event.specs.declared.finding.Finding.TheVariants as finding
 use Rattle.pmf_request.specs.declared.settings.Reasons.{Reasons}
 use Rattle.pmf_storelog.specs.Records.{fields_of}
-use Rattle.pmf_verdict.specs.Checked.{Checked, rows_in}
+use Rattle.pmf_verdict.specs.{declared.outcome.Outcome.TheVariants.{Pass}, Outcome.{is_same, outcome_of}, Checked.{Checked, rows_in}}
 use Rattle.pmf_cause.specs.{declared.edit.Edit.{Edit}, declared.lack.Lack.{Lack}, declared.cause.Cause.{Cause}, Cause.{cause_of}}
 use Rattle.pmf_cause.specs.declared.lack.Lack.TheVariants as lack
 use Rattle.pmf_cause.specs.declared.cause.Cause.TheVariants as cause
@@ -28,6 +28,10 @@ abbrev pub events_of : Bad → List Event
 events_of bad = bad.part.checked.section.events
 
 -- ---- which rows are asked for
+
+-- whether the row counts as pass
+unfoldable pub passes : Row → Bool
+passes row = is_same Pass (outcome_of row.finding)
 
 -- whether a number is asked for: each is, where none is named
 abbrev pub is_asked : Option ℕ → ℕ → Bool

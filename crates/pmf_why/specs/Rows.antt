@@ -3,7 +3,7 @@ use Rattle.pmf_why.specs.{declared.row.Taken.{Taken}, declared.row.BadRow.{BadRo
 
 -- the section that is told of
 abbrev pub part_of : Taken → Part
-part_of taken = record { checked = taken.verdict.now; stands = taken.stands.now; plan = taken.plan.now }
+part_of taken = record { checked = taken.verdict.now; stands = taken.stands.now; plan = taken.plan.now.edits.items }
 
 -- the row
 abbrev pub bad_of : BadRow → Bad

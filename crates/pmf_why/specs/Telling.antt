@@ -2,8 +2,7 @@
 use Rattle.std.specs.{Prelude.{◌≡◌, ℕ, Bool, false, not, ◌||◌, ◌-◌, nat_lt, List, ◌++◌, length, map, count_by, sum_by, string_bytes, if◌then◌else◌}, List.{AllZip, list_any}}
 use Rattle.pmf_event.specs.Section.{Trace}
 use Rattle.pmf_request.specs.declared.settings.Reasons.{Reasons}
-use Rattle.pmf_verdict.specs.declared.outcome.{Outcome.TheVariants.{Fail, Pass}}
-use Rattle.pmf_why.specs.{declared.kind.Kind.{Kind}, declared.taking.Told.{Told}, declared.taking.Counts.{Counts}, declared.taking.Telling.{Telling}, Kinds.{IsKindOf, is_one_kind}, Reasons.{Bad, Part, rows_of_all, told_of}, Why.{IsPart, Tells, count_with_all}, WhyText.{text_of_more}}
+use Rattle.pmf_why.specs.{declared.kind.Kind.{Kind}, declared.taking.Told.{Told}, declared.plan.Counts.{Counts}, declared.taking.Telling.{Telling}, Kinds.{IsKindOf, is_one_kind}, Plans.{counts_with}, Reasons.{Bad, Part, rows_of_all, told_of}, Why.{IsPart, Tells}, WhyText.{text_of_more}}
 
 -- whether a row of the kind is to be told
 unfoldable pub is_new_kind : Telling → Kind → Bool
@@ -21,9 +20,9 @@ pub record HasRows (asked : Reasons) (rows : List Bad) (t : Telling) : Type 0 wh
   pub kinds : AllZip IsKindOf rows t.kinds.items
   pub told : AllZip IsToldAs (told_of asked rows) t.told.items
 
--- how many rows pass and fail with all changes
+-- how many rows of the section pass and fail with all changes
 abbrev pub counts_of : Part → Counts
-counts_of part = record { pass = count_with_all Pass part; fail = count_with_all Fail part }
+counts_of part = counts_with part.checked part.plan
 
 -- these sections were met
 pub record HasParts (asked : Reasons) (bytes : List ℕ) (sections : List Trace) (t : Telling) : Type 0 where

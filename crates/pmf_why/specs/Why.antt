@@ -1,13 +1,13 @@
 -- What `why` answers of a log. Defined here.
-use Rattle.std.specs.{Prelude.{◌≡◌, ◌≢◌, ℕ, ◌==◌, List, ◌++◌, length, filter, flat_map, count_by, sum_by, codes, Option, None, Some, Ok, Err, Contains, if◌then◌else◌}, Fmt.{decimal}, List.{AllZip}}
+use Rattle.std.specs.{Prelude.{◌≡◌, ◌≢◌, ℕ, ◌==◌, Bool, List, ◌++◌, length, filter, flat_map, count_by, sum_by, codes, Option, None, Some, Ok, Err, Contains, if◌then◌else◌}, Fmt.{decimal}, List.{AllZip}}
 use Rattle.pmf_event.specs.{declared.row.Row.{Row}, Section.{Trace}}
 use Rattle.pmf_request.specs.declared.settings.Reasons.{Reasons}
 use Rattle.pmf_storelog.specs.{LogText.{log_of, out_of_memory}, LogValue.{LogValue}}
-use Rattle.pmf_verdict.specs.{declared.outcome.{Outcome.{Outcome}, Outcome.TheVariants.{Fail, Pass}}, Outcome.{is_same, outcome_of}, Checked.{Checked, rows_in}}
-use Rattle.pmf_cause.specs.{declared.edit.Edit.{Edit}, Cure.{cured}}
+use Rattle.pmf_verdict.specs.{Checked.{Checked, rows_in}}
+use Rattle.pmf_cause.specs.{declared.edit.Edit.{Edit}, Cure.{cured, fails}}
 use Rattle.pmf_query.specs.{declared.refusal.{EventFault.{EventFault}, EventRefusal.{EventRefusal}}, Locating.{AreLocations}}
 use Rattle.pmf_query.specs.declared.refusal.EventFault.TheVariants as fault
-use Rattle.pmf_why.specs.{declared.cure.Way.{Way}, Cures.{IsCure}, Reasons.{Bad, Part, is_asked, rows_of_all, told_by, told_of, untold_of}, WhyText.{text_of_more, text_of_reason}}
+use Rattle.pmf_why.specs.{declared.cure.Way.{Way}, Cures.{IsCure}, Reasons.{Bad, Part, is_asked, passes, rows_of_all, told_by, told_of, untold_of}, WhyText.{text_of_more, text_of_reason}}
 
 -- the sections that are asked for
 abbrev pub asked_sections : Reasons → List Trace → List Trace
@@ -31,9 +31,9 @@ pub record TellsOf (asked : Reasons) (rows : List Bad) (bad : Bad) (text : List 
   pub tells : Tells bad front
   pub says : text ≡ front ++ text_of_more (told_by asked rows bad)
 
--- how many rows of a section with all its changes count so
-unfoldable pub count_with_all : Outcome → Part → ℕ
-count_with_all outcome part = count_by (λ row. is_same outcome (outcome_of row.finding)) (rows_in (cured part.checked part.plan))
+-- how many rows of a section with all its changes are such
+unfoldable pub count_with_all : (Row → Bool) → Part → ℕ
+count_with_all test part = count_by (λ row. test row) (rows_in (cured part.checked part.plan))
 
 -- `rows=R told=T untold=U; with all cures: pass=P fail=F`
 unfoldable pub text_of_counts : ℕ → ℕ → ℕ → ℕ → ℕ → List ℕ
@@ -41,18 +41,22 @@ text_of_counts rows told untold pass fail =
     codes "rows=" ++ decimal rows ++ codes " told=" ++ decimal told ++ codes " untold=" ++ decimal untold
     ++ codes "; with all cures: pass=" ++ decimal pass ++ codes " fail=" ++ decimal fail ++ codes "\n"
 
--- `no row at event K`, where an event is asked for
+-- `no row at event K`, where an event has none, or else this text
 abbrev pub text_of_none : Option ℕ → List ℕ → List ℕ
 text_of_none None text = text
 text_of_none (Some event) text = codes "no row at event " ++ decimal event ++ codes "\n"
+
+-- the event that is asked for, where no row is
+abbrev pub missed_event : Reasons → List Bad → Option ℕ
+missed_event asked rows = if length rows == 0 then asked.event else None
 
 -- how many rows there are, how many of them are told, for how many none that is told stands, and what a check finds with all
 -- changes; or that an event that is asked for has no row
 unfoldable pub text_of_end : Reasons → List Part → List ℕ
 text_of_end asked parts =
     let rows = rows_of_all asked parts in
-    let counts = text_of_counts (length rows) (length (told_of asked rows)) (untold_of asked rows) (sum_by (count_with_all Pass) parts) (sum_by (count_with_all Fail) parts) in
-    if length rows == 0 then text_of_none asked.event counts else counts
+    text_of_none (missed_event asked rows)
+        (text_of_counts (length rows) (length (told_of asked rows)) (untold_of asked rows) (sum_by (count_with_all passes) parts) (sum_by (count_with_all fails) parts))
 
 -- the text tells the rows of these sections of a log: those that are to be told, each with its cause and what cures it, and the counts
 pub record TellsAll (asked : Reasons) (bytes : List ℕ) (sections : List Trace) (text : List ℕ) : Type 0 where

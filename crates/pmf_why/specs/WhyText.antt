@@ -28,32 +28,39 @@ text_of_record (Some l) = codes "record " ++ decimal l.record ++ codes " " ++ sh
 
 -- ---- the cause
 
+-- words, the number of the record that gave the event at a place, and more words
+unfoldable pub text_with : List Located → List ℕ → ℕ → List ℕ → List ℕ
+text_with stands front place behind = front ++ decimal (record_at stands place) ++ behind
+
+-- a fence that comes too late for a record
+unfoldable pub text_of_late_fence : List Located → ℕ → ℕ → List ℕ
+text_of_late_fence stands due fence = text_with stands (codes ", no fence before record ") due (codes "; too late by record ") ++ text_with stands [] fence []
+
 -- what a byte lacks that had to be durable by a record
 unfoldable pub text_of_lack : List Located → ℕ → Lack → List ℕ
-text_of_lack stands due lack.StoredBehind = codes "stored behind record " ++ decimal (record_at stands due) ++ codes ", in front of which it had to be durable"
+text_of_lack stands due lack.StoredBehind = text_with stands (codes "stored behind record ") due (codes ", in front of which it had to be durable")
 text_of_lack stands due lack.OneStore = codes "one store writes both bytes, so that no write-back comes between"
 text_of_lack stands due lack.NotWrittenBack = codes "not written back: no write-back of its line behind the store"
 text_of_lack stands due (lack.WrittenBackLate by) =
-    codes "not written back before record " ++ decimal (record_at stands due) ++ codes ": too late by record " ++ decimal (record_at stands by)
-text_of_lack stands due (lack.NotFenced by) = codes "not fenced: written back by record " ++ decimal (record_at stands by) ++ codes ", and no fence follows"
+    text_with stands (codes "not written back before record ") due (codes ": too late by record ") ++ text_with stands [] by []
+text_of_lack stands due (lack.NotFenced by) = text_with stands (codes "not fenced: written back by record ") by (codes ", and no fence follows")
 text_of_lack stands due (lack.FencedLate by fence) =
-    codes "not fenced: written back by record " ++ decimal (record_at stands by) ++ codes ", no fence before record " ++ decimal (record_at stands due)
-    ++ codes "; too late by record " ++ decimal (record_at stands fence)
+    text_with stands (codes "not fenced: written back by record ") by [] ++ text_of_late_fence stands due fence
 
--- ` by record N`-like words of an event that may be none
+-- the record that gave an event, in words; or other words, where there is none
 unfoldable pub text_of_last : List Located → List ℕ → List ℕ → ℕ → List ℕ
-text_of_last stands none some place = if place == 0 then none else some ++ decimal (record_at stands place)
+text_of_last stands none some place = if place == 0 then none else text_with stands some place []
 
 -- a cause, in words
 unfoldable pub text_of_cause : List Located → Cause → List ℕ
 text_of_cause stands (cause.NotDurable need lack) = text_of_lack stands need.due lack
 text_of_cause stands (cause.WrittenBackBefore by) =
     text_of_last stands (codes "nothing to write back: the line was neither stored to nor written back before") (codes "written back already, by record ") by
-text_of_cause stands (cause.BackedUpBefore by) = codes "backed up already, by record " ++ decimal (record_at stands by)
-text_of_cause stands (cause.NotBackedUp begin) = codes "not backed up in the transaction that record " ++ decimal (record_at stands begin) ++ codes " began"
-text_of_cause stands (cause.TransactionRuns begin) = codes "the transaction that record " ++ decimal (record_at stands begin) ++ codes " began has not ended"
+text_of_cause stands (cause.BackedUpBefore by) = text_with stands (codes "backed up already, by record ") by []
+text_of_cause stands (cause.NotBackedUp begin) = text_with stands (codes "not backed up in the transaction that record ") begin (codes " began")
+text_of_cause stands (cause.TransactionRuns begin) = text_with stands (codes "the transaction that record ") begin (codes " began has not ended")
 text_of_cause stands (cause.NoTransaction ended) = text_of_last stands (codes "no transaction has begun") (codes "no transaction runs: the last one ended by record ") ended
-text_of_cause stands (cause.ScopeOpen start) = codes "the scope that record " ++ decimal (record_at stands start) ++ codes " opened is still open"
+text_of_cause stands (cause.ScopeOpen start) = text_with stands (codes "the scope that record ") start (codes " opened is still open")
 text_of_cause stands (cause.NoScope ended) = text_of_last stands (codes "no scope has been opened") (codes "no scope is open: the last one was closed by record ") ended
 
 -- ---- the cure
@@ -66,7 +73,7 @@ text_of_place (Some l) = codes "before record " ++ decimal l.record ++ codes ": 
 -- one change
 unfoldable pub text_of_edit : List Located → Edit → List ℕ
 text_of_edit stands (edit.Put before event) = text_of_place (stands_at stands before) ++ line_of_event event
-text_of_edit stands (edit.LeaveOut place) = codes "leave out record " ++ decimal (record_at stands place) ++ codes "\n"
+text_of_edit stands (edit.LeaveOut place) = text_with stands (codes "leave out record ") place (codes "\n")
 
 -- some changes, each a text line, in front of one line more
 unfoldable pub text_of_edits : List Located → List Edit → List ℕ

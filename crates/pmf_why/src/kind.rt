@@ -1,6 +1,6 @@
 //! Of which kind a row is: what is found, its cause, and where in the source.
 
-ghost use Rattle.std.specs.Prelude.{◌≡◌, ◌≤◌, [], length, slice_index_or, option_copied, MatchOption, Some};
+ghost use Rattle.std.specs.Prelude.{◌≡◌, ℕ, ◌+◌, ◌<◌, [], ◌∷◌, length, take, drop, slice_index_or, option_copied, MatchOption, IfSome};
 ghost use Rattle.pmf_event.specs.Store.{event_at};
 ghost use Rattle.pmf_storelog.specs.Records.{fields_of};
 ghost use Rattle.pmf_why.specs.{Kinds.{IsKindOf, is_one_kind}, Reasons.{Bad, cause_number, distance_of, fields_read, finding_number, frame_behind, frame_of, lack_number, place_told, stands_at}, Rows.{bad_of}};
@@ -39,7 +39,16 @@ impl<'a> Kind<'a> {
     pub(crate) fn is_same(&self, other: &Kind<'_>) -> bool
         ensures { result ≡ is_one_kind self.now other.now }
     {
-        self.finding == other.finding && self.cause == other.cause && self.distance == other.distance && self.frame == other.frame
+        if self.finding != other.finding {
+            return false;
+        }
+        if self.cause != other.cause {
+            return false;
+        }
+        if self.distance != other.distance {
+            return false;
+        }
+        self.frame == other.frame
     }
 }
 
@@ -171,13 +180,42 @@ fn field(text: &[u8], index: usize) -> &[u8]
 {
     let mut rest = text;
     for _ in 0..index {
-        let Some(end) = memchr(b';', rest) else {
+        let Some(more) = behind_first(rest) else {
             return &[];
         };
-        rest = &rest[end + 1..];
+        rest = more;
     }
-    match memchr(b';', rest) {
-        Some(end) => &rest[..end],
-        None => rest,
+    first_field(rest)
+}
+
+#[tactic(auto, using(crate::proofs::FieldLemmas::first_is))]
+fn first_field(text: &[u8]) -> &[u8]
+    ensures { result.now ≡ slice_index_or (fields_of text.now) 0 [] }
+{
+    match field_end(text) {
+        Some(end) => &text[..end],
+        None => text,
     }
+}
+
+// The fields behind the first, where there are any.
+#[tactic(auto, using(crate::proofs::FieldLemmas::further_is, crate::proofs::FieldLemmas::no_further))]
+fn behind_first(text: &[u8]) -> Option<&[u8]>
+    ensures { MatchOption result ((k : ℕ) → slice_index_or (fields_of text.now) (k + 1) [] ≡ [])
+        (λ rest. (k : ℕ) → slice_index_or (fields_of text.now) (k + 1) [] ≡ slice_index_or (fields_of rest.now) k []) }
+{
+    match field_end(text) {
+        Some(end) => Some(&text[end + 1..]),
+        None => None,
+    }
+}
+
+// Where the first field ends, where another one follows.
+#[tactic(auto, using(pmf_storelog::proofs::FieldLemmas::field_end_found))]
+fn field_end(text: &[u8]) -> Option<usize>
+    ensures cases { MatchOption result (fields_of text.now ≡ text.now ∷ [])
+        (λ end. fields_of text.now ≡ take end text.now ∷ fields_of (drop (end + 1) text.now)) }
+    ensures within { IfSome result (λ end. end < length text.now) }
+{
+    memchr(b';', text)
 }

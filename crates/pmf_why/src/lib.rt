@@ -10,6 +10,7 @@
 
 mod cure;
 mod kind;
+mod plan;
 mod row;
 mod taking;
 mod telling;

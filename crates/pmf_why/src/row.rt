@@ -1,6 +1,7 @@
 //! A row with its cause, in its section.
 
-use pmf_cause::{Cause, Edit};
+use crate::plan::Plan;
+use pmf_cause::Cause;
 use pmf_event::Row;
 use pmf_query::Located;
 use pmf_verdict::Verdict;
@@ -11,8 +12,7 @@ pub(crate) struct Taken<'a, 'b> {
     pub(crate) verdict: &'b Verdict,
     /// Where its events stand in the log.
     pub(crate) stands: &'b [Located<'a>],
-    /// The changes that are to cure all its rows.
-    pub(crate) plan: &'b [Edit],
+    pub(crate) plan: &'b Plan,
 }
 
 /// A row that counts as fail or as a warning.

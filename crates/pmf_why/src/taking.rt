@@ -1,21 +1,20 @@
 //! The rows of the sections, one after another, and which of them are told.
 
-ghost use Rattle.std.specs.{Prelude.{◌≡◌, ◌++◌, ◌∷◌, ◌-◌, [], ◌≤◌, ◌<◌, ◌^◌, ◌||◌, ◌&&◌, Bool, List, not, nat_lt, length, map, count_by, sum_by, flat_map, slice_index_or, string_bytes, IfOk, IfSome, OnOk}, List.{list_any}};
-ghost use Rattle.pmf_event.specs.declared.row.Row.{Row};
-ghost use Rattle.pmf_verdict.specs.{declared.outcome.Outcome.{Outcome}, Outcome.{is_same, outcome_of}, Checked.{rows_in}};
-ghost use Rattle.pmf_cause.specs.{Cause.{cause_of}, Cure.{IsTrial}};
-ghost use Rattle.pmf_why.specs.{Kinds.{is_one_kind}, Reasons.{asked_rows, is_asked}, Rows.{bad_of, part_of}};
+ghost use Rattle.std.specs.{Prelude.{◌≡◌, ◌++◌, ◌∷◌, ℕ, ◌-◌, [], ◌≤◌, ◌<◌, ◌^◌, ◌||◌, ◌&&◌, Bool, List, not, nat_lt, length, map, count_by, sum_by, flat_map, slice_index_or, string_bytes, IfOk, IfSome, OnOk}, List.{list_any}};
+ghost use Rattle.pmf_verdict.specs.Checked.{rows_in};
+ghost use Rattle.pmf_cause.specs.Cause.{cause_of};
+ghost use Rattle.pmf_why.specs.{Kinds.{is_one_kind}, Reasons.{Bad, asked_row, asked_rows, is_asked}, Ending.{left_in, like_in, text_in}, Plans.{IsPlan}, Rows.{bad_of, part_of}, Why.{text_of_counts}};
 
-use crate::cure::Way;
 use crate::kind::Kind;
+use crate::plan::{Counts, Plan};
 use crate::row::{BadRow, Taken};
 use crate::telling::{push_more, reason_text};
 use crate::trial::way_of;
-use pmf_cause::{Cause, Edit, Proposal, Trial, causes, propose, try_edits};
+use pmf_cause::{Cause, Edit, Proposal, causes, propose};
 use pmf_event::{Row, Section};
 use pmf_query::Located;
 use pmf_request::Reasons;
-use pmf_verdict::{Outcome, Verdict, check, outcome_of};
+use pmf_verdict::check;
 use std::alloc::{AllocError, Global};
 use std::sync::Arc;
 
@@ -24,13 +23,6 @@ use std::sync::Arc;
 pub(crate) struct Told<'a> {
     pub(crate) kind: Kind<'a>,
     pub(crate) text: String,
-}
-
-/// How many rows of a section pass and fail with all its changes.
-#[derive(Clone, Copy)]
-pub(crate) struct Counts {
-    pub(crate) pass: usize,
-    pub(crate) fail: usize,
 }
 
 /// What was met of the sections that are asked for.
@@ -50,7 +42,7 @@ impl<'a> Telling<'a> {
     ghost use Rattle.pmf_event.specs.Section.{Trace};
     ghost use Rattle.pmf_query.specs.Locating.{AreLocations};
     ghost use Rattle.pmf_request.specs.declared.settings.Reasons.{Reasons};
-    ghost use Rattle.pmf_why.specs.{Ending.{text_at_end}, Telling.{HasParts, HasRows, is_new_kind}, Why.{TellsAll}};
+    ghost use Rattle.pmf_why.specs.{Ending.{counts_at_end, missed_in, text_at_end}, Telling.{HasParts, HasRows, is_new_kind}, Why.{TellsAll}};
 
     /// Nothing yet. Takes no memory.
     pub(crate) fn new(alloc: Global, asked: Reasons, budget: usize) -> Telling<'a>
@@ -84,15 +76,14 @@ impl<'a> Telling<'a> {
         let causes = causes(alloc, &verdict)?;
         let wanted = wanted_rows(alloc, verdict.rows(), &causes, self.asked.event)?;
         let Proposal { all, own } = propose(alloc, &verdict, &wanted)?;
-        let together = if all.is_empty() { None } else { try_edits(alloc, &verdict, &all)? };
-        let plan = if together.is_some() { all } else { Vec::new(alloc) };
-        self.counts.push(counts_of(&verdict, &together))?;
+        let plan = Plan::of(alloc, &verdict, all)?;
+        self.counts.push(plan.counts(&verdict))?;
         let taken = Taken {
             verdict: &verdict,
             stands,
             plan: &plan,
         };
-        self.take_rows(alloc, &taken, &causes, &own, &together)
+        self.take_rows(alloc, &taken, &causes, &wanted, &own)
     }
 
     /// The text of all that was met.
@@ -107,52 +98,86 @@ impl<'a> Telling<'a> {
     }
 
     // The counts, or that the event that is asked for has no row.
-    #[tactic(auto, unfolding(crate::specs::Ending::text_at_end, crate::specs::Why::text_of_counts))]
+    #[tactic(auto, unfolding(crate::specs::Ending::text_at_end))]
     fn push_end(&self, text: &mut String) -> Result<(), AllocError>
         ensures { OnOk result (string_bytes text.new ≡ string_bytes text.old ++ text_at_end self.now) }
     {
-        if self.kinds.is_empty() {
-            if let Some(event) = self.asked.event {
-                return write!(text, "no row at event {event}\n");
-            }
+        match self.missed_event() {
+            Some(event) => write!(text, "no row at event {event}\n"),
+            None => self.push_counts(text),
         }
+    }
+
+    // The event that is asked for and has no row.
+    fn missed_event(&self) -> Option<u32>
+        ensures { result ≡ missed_in self.now.asked self.now.kinds.items }
+    {
+        if self.kinds.is_empty() {
+            self.asked.event
+        } else {
+            None
+        }
+    }
+
+    #[tactic(auto, unfolding(crate::specs::Ending::counts_at_end))]
+    fn push_counts(&self, text: &mut String) -> Result<(), AllocError>
+        ensures { OnOk result (string_bytes text.new ≡ string_bytes text.old ++ counts_at_end self.now) }
+    {
         let (rows, told) = (self.kinds.len(), self.told.len());
         let untold = left_in(self.asked.all, &self.kinds, &self.told);
         let (pass, fail) = (sum_pass(&self.counts), sum_fail(&self.counts));
-        write!(text, "rows={rows} told={told} untold={untold}")?;
-        write!(text, "; with all cures: pass={pass} fail={fail}\n")
+        push_numbers(text, rows, told, untold, pass, fail)
     }
 
-    // Takes the rows of a section, with their causes, and the changes that those asked for may need alone.
+    // Takes the rows of a section, with their causes, and the changes that the wanted ones may need alone.
     fn take_rows(
         &mut self,
         alloc: Global,
         taken: &Taken<'a, '_>,
         causes: &[Option<Cause>],
+        wanted: &[usize],
         own: &[Vec<Edit>],
-        together: &Option<Trial>,
     ) -> Result<(), AllocError>
         requires causes { causes.now ≡ map (cause_of taken.now.verdict.now.section.events) (rows_in taken.now.verdict.now) }
-        requires trial { IfSome together.now (IsTrial taken.now.verdict.now taken.now.plan.now) }
+        requires plan { IsPlan taken.now.verdict.now taken.now.plan.now }
         ensures rows { (asked : Reasons) (before : List Bad) → HasRows asked before self.old
             → OnOk result (HasRows asked (before ++ asked_rows asked (part_of taken.now)) self.new) }
-        ensures counts { OnOk result (self.new.counts ≡ self.old.counts) }
+        ensures counts { OnOk result (self.new.counts.items ≡ self.old.counts.items) }
     {
-        let mut number = 0;
         for (index, row) in taken.verdict.rows().iter().enumerate() {
-            if is_asked(self.asked.event, row.place) {
-                if let Some(cause) = causes[index] {
-                    let bad = BadRow {
-                        taken: *taken,
-                        row: *row,
-                        cause,
-                    };
-                    self.take_row(alloc, &bad, edits_at(own, number), together)?;
-                    number += 1;
-                }
-            }
+            let number = wanted.partition_point(|other| *other < index);
+            self.meet_row(alloc, taken, row, &causes[index], edits_at(own, number))?;
         }
         Ok(())
+    }
+
+    // Takes a row with its cause, if it has one and is asked for.
+    fn meet_row(
+        &mut self,
+        alloc: Global,
+        taken: &Taken<'a, '_>,
+        row: &Row,
+        cause: &Option<Cause>,
+        own: &[Edit],
+    ) -> Result<(), AllocError>
+        requires cause { cause.now ≡ cause_of taken.now.verdict.now.section.events row.now }
+        requires plan { IsPlan taken.now.verdict.now taken.now.plan.now }
+        ensures rows { (asked : Reasons) (before : List Bad) → HasRows asked before self.old
+            → OnOk result (HasRows asked (before ++ asked_row asked (part_of taken.now) row.now) self.new) }
+        ensures counts { OnOk result (self.new.counts.items ≡ self.old.counts.items) }
+    {
+        if !is_asked(self.asked.event, row.place) {
+            return Ok(());
+        }
+        let Some(cause) = *cause else {
+            return Ok(());
+        };
+        let bad = BadRow {
+            taken: *taken,
+            row: *row,
+            cause,
+        };
+        self.take_row(alloc, &bad, own)
     }
 
     // Takes a row, and tells it, where it is the first of its kind and not too many are told.
@@ -161,20 +186,21 @@ impl<'a> Telling<'a> {
         alloc: Global,
         bad: &BadRow<'a, '_>,
         own: &[Edit],
-        together: &Option<Trial>,
     ) -> Result<(), AllocError>
-        requires { IfSome together.now (IsTrial bad.now.taken.verdict.now bad.now.taken.plan.now) }
+        requires { IsPlan bad.now.taken.verdict.now bad.now.taken.plan.now }
         ensures rows { (asked : Reasons) (before : List Bad) → HasRows asked before self.old
             → OnOk result (HasRows asked (before ++ bad_of bad.now ∷ []) self.new) }
-        ensures counts { OnOk result (self.new.counts ≡ self.old.counts) }
+        ensures counts { OnOk result (self.new.counts.items ≡ self.old.counts.items) }
         ensures asked { OnOk result (self.new.asked ≡ self.old.asked) }
     {
         let kind = Kind::of(bad);
-        if self.is_new(&kind) {
-            let way = way_of(alloc, bad, own, together, &mut self.budget)?;
-            let text = reason_text(alloc, bad, own, way)?;
-            self.told.push(Told { kind, text })?;
+        if !self.is_new(&kind) {
+            self.kinds.push(kind)?;
+            return Ok(());
         }
+        let way = way_of(alloc, bad, own, &mut self.budget)?;
+        let text = reason_text(alloc, bad, own, way)?;
+        self.told.push(Told { kind, text })?;
         self.kinds.push(kind)?;
         Ok(())
     }
@@ -199,7 +225,19 @@ fn like_in(all: bool, kinds: &[Kind<'_>], told: &Told<'_>) -> usize
     if all {
         return 1;
     }
-    kinds.iter().filter(|kind| told.kind.is_same(kind)).count()
+    count_kind(kinds, &told.kind)
+}
+
+fn count_kind(kinds: &[Kind<'_>], kind: &Kind<'_>) -> usize
+    ensures { result ≡ count_by (is_one_kind kind.now) kinds.now }
+{
+    let mut count = 0;
+    for other in kinds {
+        if kind.is_same(other) {
+            count += 1;
+        }
+    }
+    count
 }
 
 #[tactic(auto, unfolding(crate::specs::Ending::text_in))]
@@ -251,16 +289,31 @@ fn sum_fail(counts: &[Counts]) -> u128
     sum
 }
 
+#[tactic(auto, unfolding(crate::specs::Why::text_of_counts))]
+fn push_numbers(
+    text: &mut String,
+    rows: usize,
+    told: usize,
+    untold: usize,
+    pass: u128,
+    fail: u128,
+) -> Result<(), AllocError>
+    ensures { OnOk result (string_bytes text.new ≡ string_bytes text.old ++ text_of_counts rows told untold pass fail) }
+{
+    write!(text, "rows={rows} told={told} untold={untold}")?;
+    write!(text, "; with all cures: pass={pass} fail={fail}\n")
+}
+
 // Whether one of the rows that are told has this kind.
+#[tactic(auto, using(std::proofs::lemmas::Grind::common_steps, std::proofs::lemmas::List::Folds::list_any_more))]
 fn is_alike_to(told: &[Told<'_>], kind: &Kind<'_>) -> bool
     ensures { result ≡ list_any (λ t. is_one_kind t.kind kind.now) told.now }
 {
+    let mut met = false;
     for one in told {
-        if one.kind.is_same(kind) {
-            return true;
-        }
+        met = met || one.kind.is_same(kind);
     }
-    false
+    met
 }
 
 // Whether a number is asked for.
@@ -297,22 +350,4 @@ fn wanted_rows(
         }
     }
     Ok(wanted)
-}
-
-// How many rows pass and fail in the section as it was tried, or as it is.
-fn counts_of(verdict: &Verdict, together: &Option<Trial>) -> Counts {
-    let rows = match together {
-        Some(trial) => trial.verdict().rows(),
-        None => verdict.rows(),
-    };
-    Counts {
-        pass: count(rows, Outcome::Pass),
-        fail: count(rows, Outcome::Fail),
-    }
-}
-
-fn count(rows: &[Row], outcome: Outcome) -> usize
-    ensures { result ≡ count_by (λ (row : Row). is_same outcome (outcome_of row.finding)) rows.now }
-{
-    rows.iter().filter(|row| outcome_of(row.finding) == outcome).count()
 }

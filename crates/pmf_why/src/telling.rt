@@ -1,7 +1,7 @@
 //! The text of one row: its records, its cause, and what cures it.
 
 ghost use Rattle.std.specs.Prelude.{◌≡◌, ◌++◌, OnOk, IfOk, option_copied, string_bytes, flat_map, codes};
-ghost use Rattle.pmf_why.specs.{Reasons.{stands_at}, Rows.{bad_of}, WhyText.{record_at, text_of_cause, text_of_cure, text_of_edit, text_of_edits, text_of_kept, text_of_lack, text_of_last, text_of_more, text_of_place, text_of_reason, text_of_record, text_of_records, text_of_section}};
+ghost use Rattle.pmf_why.specs.{Reasons.{stands_at}, Rows.{bad_of}, WhyText.{record_at, text_of_cause, text_of_cure, text_of_edit, text_of_edits, text_of_kept, text_of_lack, text_of_last, text_of_late_fence, text_with, text_of_more, text_of_place, text_of_reason, text_of_record, text_of_records, text_of_section}};
 
 use crate::cure::Way;
 use crate::kind::stands_at;
@@ -100,7 +100,7 @@ fn push_kept(
 
 #[tactic(auto, unfolding(crate::specs::WhyText::text_of_record))]
 fn push_record(text: &mut String, located: Option<Located<'_>>) -> Result<(), AllocError>
-    ensures { OnOk result (string_bytes text.new ≡ string_bytes text.old ++ text_of_record located) }
+    ensures { OnOk result (string_bytes text.new ≡ string_bytes text.old ++ text_of_record located.entry) }
 {
     match located {
         Some(located) => {
@@ -137,17 +137,22 @@ fn push_cause(text: &mut String, stands: &[Located<'_>], cause: Cause) -> Result
             by,
         ),
         Cause::BackedUpBefore { by } => {
-            let record = record_at(stands, by);
-            write!(text, "backed up already, by record {record}")
+            push_with(text, stands, "backed up already, by record ", by, "")
         }
-        Cause::NotBackedUp { begin } => {
-            let record = record_at(stands, begin);
-            write!(text, "not backed up in the transaction that record {record} began")
-        }
-        Cause::TransactionRuns { begin } => {
-            let record = record_at(stands, begin);
-            write!(text, "the transaction that record {record} began has not ended")
-        }
+        Cause::NotBackedUp { begin } => push_with(
+            text,
+            stands,
+            "not backed up in the transaction that record ",
+            begin,
+            " began",
+        ),
+        Cause::TransactionRuns { begin } => push_with(
+            text,
+            stands,
+            "the transaction that record ",
+            begin,
+            " began has not ended",
+        ),
         Cause::NoTransaction { ended } => push_last(
             text,
             stands,
@@ -155,10 +160,13 @@ fn push_cause(text: &mut String, stands: &[Located<'_>], cause: Cause) -> Result
             "no transaction runs: the last one ended by record ",
             ended,
         ),
-        Cause::ScopeOpen { start } => {
-            let record = record_at(stands, start);
-            write!(text, "the scope that record {record} opened is still open")
-        }
+        Cause::ScopeOpen { start } => push_with(
+            text,
+            stands,
+            "the scope that record ",
+            start,
+            " opened is still open",
+        ),
         Cause::NoScope { ended } => push_last(
             text,
             stands,
@@ -178,11 +186,13 @@ fn push_lack(
 ) -> Result<(), AllocError>
     ensures { OnOk result (string_bytes text.new ≡ string_bytes text.old ++ text_of_lack stands.now due lack) }
 {
-    let late = record_at(stands, due);
     match lack {
-        Lack::StoredBehind => write!(
+        Lack::StoredBehind => push_with(
             text,
-            "stored behind record {late}, in front of which it had to be durable"
+            stands,
+            "stored behind record ",
+            due,
+            ", in front of which it had to be durable",
         ),
         Lack::OneStore => {
             text.push_str("one store writes both bytes, so that no write-back comes between")
@@ -191,29 +201,40 @@ fn push_lack(
             text.push_str("not written back: no write-back of its line behind the store")
         }
         Lack::WrittenBackLate { by } => {
-            let by = record_at(stands, by);
-            write!(
+            push_with(
                 text,
-                "not written back before record {late}: too late by record {by}"
-            )
-        }
-        Lack::NotFenced { by } => {
-            let by = record_at(stands, by);
-            write!(
-                text,
-                "not fenced: written back by record {by}, and no fence follows"
-            )
-        }
-        Lack::FencedLate { by, fence } => {
-            let by = record_at(stands, by);
-            let fence = record_at(stands, fence);
-            write!(
-                text,
-                "not fenced: written back by record {by}, no fence before record {late}"
+                stands,
+                "not written back before record ",
+                due,
+                ": too late by record ",
             )?;
-            write!(text, "; too late by record {fence}")
+            push_with(text, stands, "", by, "")
+        }
+        Lack::NotFenced { by } => push_with(
+            text,
+            stands,
+            "not fenced: written back by record ",
+            by,
+            ", and no fence follows",
+        ),
+        Lack::FencedLate { by, fence } => {
+            push_with(text, stands, "not fenced: written back by record ", by, "")?;
+            push_late_fence(text, stands, due, fence)
         }
     }
+}
+
+#[tactic(auto, unfolding(crate::specs::WhyText::text_of_late_fence))]
+fn push_late_fence(
+    text: &mut String,
+    stands: &[Located<'_>],
+    due: u32,
+    fence: u32,
+) -> Result<(), AllocError>
+    ensures { OnOk result (string_bytes text.new ≡ string_bytes text.old ++ text_of_late_fence stands.now due fence) }
+{
+    push_with(text, stands, ", no fence before record ", due, "; too late by record ")?;
+    push_with(text, stands, "", fence, "")
 }
 
 // Either words alone, or others with the record that gave the event at the place.
@@ -230,9 +251,24 @@ fn push_last(
     if place == 0 {
         return text.push_str(none);
     }
-    text.push_str(some)?;
+    push_with(text, stands, some, place, "")
+}
+
+// Words, the number of the record that gave the event at the place, and more words.
+#[tactic(auto, unfolding(crate::specs::WhyText::text_with))]
+fn push_with(
+    text: &mut String,
+    stands: &[Located<'_>],
+    front: &str,
+    place: u32,
+    behind: &str,
+) -> Result<(), AllocError>
+    ensures { OnOk result (string_bytes text.new ≡ string_bytes text.old ++ text_with stands.now front.now place behind.now) }
+{
+    text.push_str(front)?;
     let record = record_at(stands, place);
-    write!(text, "{record}")
+    write!(text, "{record}")?;
+    text.push_str(behind)
 }
 
 #[tactic(auto, unfolding(crate::specs::WhyText::text_of_cure))]
@@ -282,15 +318,14 @@ fn push_edit(text: &mut String, stands: &[Located<'_>], edit: &Edit) -> Result<(
             push_event(text, event)
         }
         Edit::LeaveOut { place } => {
-            let record = record_at(stands, *place);
-            write!(text, "leave out record {record}\n")
+            push_with(text, stands, "leave out record ", *place, "\n")
         }
     }
 }
 
 #[tactic(auto, unfolding(crate::specs::WhyText::text_of_place))]
 fn push_place(text: &mut String, located: Option<Located<'_>>) -> Result<(), AllocError>
-    ensures { OnOk result (string_bytes text.new ≡ string_bytes text.old ++ text_of_place located) }
+    ensures { OnOk result (string_bytes text.new ≡ string_bytes text.old ++ text_of_place located.entry) }
 {
     match located {
         Some(located) => {

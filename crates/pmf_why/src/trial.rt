@@ -1,12 +1,11 @@
 //! What is told as a cure: only what a check has confirmed.
 
-ghost use Rattle.std.specs.{Prelude.{◌≡◌, true, IfOk, IfSome, Contains}, List.{All}};
-ghost use Rattle.pmf_cause.specs.Cure.{IsTrial};
-ghost use Rattle.pmf_why.specs.{Cures.{IsCure}, Rows.{bad_of}};
+ghost use Rattle.std.specs.{Prelude.{◌≡◌, true, IfOk, Contains}, List.{All}};
+ghost use Rattle.pmf_why.specs.{Cures.{IsCure}, Plans.{IsPlan}, Rows.{bad_of}};
 
 use crate::cure::Way;
 use crate::row::BadRow;
-use pmf_cause::{Edit, Trial, try_edits};
+use pmf_cause::{Edit, try_edits};
 use std::alloc::{AllocError, Global};
 
 /// How far these changes cure the row, as far as was tried: alone, while there is room for such a check of the section, and else with
@@ -15,10 +14,9 @@ pub(crate) fn way_of(
     alloc: Global,
     bad: &BadRow<'_, '_>,
     edits: &[Edit],
-    together: &Option<Trial>,
     budget: &mut usize,
 ) -> Result<Way, AllocError>
-    requires { IfSome together.now (IsTrial bad.now.taken.verdict.now bad.now.taken.plan.now) }
+    requires { IsPlan bad.now.taken.verdict.now bad.now.taken.plan.now }
     ensures { IfOk result (IsCure (bad_of bad.now) edits.now) }
 {
     if edits.is_empty() {
@@ -34,11 +32,11 @@ pub(crate) fn way_of(
             }
         }
     }
-    let Some(trial) = together else {
+    let Some(trial) = &bad.taken.plan.trial else {
         return Ok(Way::NotFound);
     };
     if trial.is_cured(bad.row.place) {
-        if are_among(edits, bad.taken.plan) {
+        if are_among(edits, &bad.taken.plan.edits) {
             return Ok(Way::WithAll);
         }
     }
@@ -60,12 +58,14 @@ fn are_among(edits: &[Edit], all: &[Edit]) -> bool
 fn is_among(edit: Edit, all: &[Edit]) -> bool
     ensures { result ≡ true → Contains all.now edit }
 {
-    let mut index = all.partition_point(|other| other.place() < edit.place());
-    while index < all.len() && all[index].place() == edit.place() {
+    let start = all.partition_point(|other| other.place() < edit.place());
+    for index in start..all.len() {
         if all[index] == edit {
             return true;
         }
-        index += 1;
+        if all[index].place() != edit.place() {
+            return false;
+        }
     }
     false
 }

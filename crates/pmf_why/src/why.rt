@@ -72,18 +72,18 @@ fn tell(alloc: Global, log: &[u8], asked: Reasons) -> Result<Vec<u8>, EventFault
 }
 
 // Whether one of the sections has the number that is named, if one is.
+#[tactic(auto, using(std::proofs::lemmas::Grind::common_steps, std::proofs::lemmas::List::Folds::list_any_more))]
 fn has_asked(sections: &[Arc<Section>], named: Option<u64>) -> bool
     ensures { result ≡ is_none named || list_any (λ s. is_asked named s.value.name.number) sections.now }
 {
-    let Some(number) = named else {
+    let Some(_) = named else {
         return true;
     };
+    let mut has = false;
     for section in sections {
-        if section.name().number == number {
-            return true;
-        }
+        has = has || is_number_asked(named, section.name().number);
     }
-    false
+    has
 }
 
 // The text of the sections that are asked for.
