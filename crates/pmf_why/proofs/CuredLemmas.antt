@@ -1,9 +1,9 @@
 -- A section without any changes is the section.
-use Rattle.std.proofs.{Common.{◌≡◌, ℕ, suc, List, [], ◌∷◌, ◌++◌, refl, sym, ap, ◌∙◌}, lemmas.Grind.{common_steps}}
+use Rattle.std.proofs.{Common.{◌≡◌, ℕ, suc, List, [], ◌∷◌, refl, sym, ap, ◌∙◌}}
 use Rattle.pmf_event.specs.declared.event.Event.{Event}
 use Rattle.pmf_verdict.specs.Checked.{Checked, rows_in}
 use Rattle.pmf_cause.specs.{declared.edit.Edit.{Edit}, Changed.{changed_from, kept_at, put_at}, Cure.{cured}}
-use Rattle.pmf_why.specs.{declared.plan.Counts.{Counts}, Counting.{counts_in}, Plans.{counts_with}}
+use Rattle.pmf_why.specs.{Counting.{counts_in}, Plans.{counts_with}}
 
 unchanged : (k : ℕ) (es : List Event) → changed_from [] k es ≡ es
 unfolding changed_from kept_at put_at

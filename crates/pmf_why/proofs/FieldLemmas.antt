@@ -1,5 +1,5 @@
 -- The fields of a record by their indices.
-use Rattle.std.proofs.Common.{◌≡◌, ℕ, suc, ◌+◌, List, [], ◌∷◌, refl, ap, ◌∙◌, sym, slice_index_or, arith}
+use Rattle.std.proofs.Common.{◌≡◌, ℕ, suc, ◌+◌, List, [], ◌∷◌, ap, ◌∙◌, sym, slice_index_or, arith}
 use Rattle.pmf_storelog.specs.Records.{fields_of}
 
 pub first_is : (text first : List ℕ) (more : List (List ℕ)) → fields_of text ≡ first ∷ more → first ≡ slice_index_or (fields_of text) 0 []

@@ -1,5 +1,5 @@
 -- Rows of one kind, and what is kept of their kinds.
-use Rattle.std.proofs.{Common.{◌≡◌, ℕ, Bool, true, false, not, ◌&&◌, ◌||◌, ◌==◌, cond, List, [], ◌∷◌, ◌++◌, length, refl, sym, ap, subst, ◌∙◌, arith, count_by, bytes_eq}, lemmas.Slice.Eq.{bytes_eq-Decides}, lemmas.Bool.{and_parts, eqb-true}, lemmas.Grind.{common_steps}}
+use Rattle.std.proofs.{Common.{◌≡◌, ℕ, Bool, true, false, not, ◌&&◌, ◌||◌, ◌==◌, cond, List, [], ◌∷◌, refl, sym, ap, ◌∙◌, arith, count_by, bytes_eq}, lemmas.Slice.Eq.{bytes_eq-Decides}, lemmas.Bool.{eqb-true}, lemmas.Grind.{common_steps}}
 use Rattle.std.specs.List.{AllZip, list_any}
 use Rattle.pmf_request.specs.declared.settings.Reasons.{Reasons}
 use Rattle.pmf_why.proofs.PairLemmas.{same_sums}

@@ -7,3 +7,5 @@ pub mod RowsLemmas
 pub mod PartsLemmas
 pub mod CuredLemmas
 pub mod MeetLemmas
+pub mod SectionLemmas
+pub mod CountLemmas

@@ -1,10 +1,10 @@
 -- One section more, and the text of all.
-use Rattle.std.proofs.{Common.{◌≡◌, ℕ, zero, suc, take, ◌-◌, ◌==◌, cond, None, Result, Ok, Err, List, [], ◌∷◌, ◌++◌, length, refl, sym, ap, subst, ◌∙◌, arith, map, flat_map, sum_by, count_by, string_bytes, append_assoc}, lemmas.List.{map-append}, lemmas.Grind.{common_steps}}
+use Rattle.std.proofs.{Common.{◌≡◌, ℕ, zero, suc, take, ◌-◌, ◌==◌, cond, None, Result, Ok, Err, List, [], ◌∷◌, ◌++◌, length, refl, sym, ap, subst, ◌∙◌, arith, map, flat_map, sum_by, string_bytes, append_assoc}, lemmas.List.{map-append}, lemmas.Grind.{common_steps}}
 use Rattle.std.specs.{List.{AllZip}, Result.{OnOk}}
 use Rattle.pmf_event.specs.Section.{Trace}
 use Rattle.pmf_request.specs.declared.settings.Reasons.{Reasons}
 use Rattle.pmf_cause.specs.Cure.{fails}
-use Rattle.pmf_why.specs.{declared.kind.Kind.{Kind}, declared.taking.Told.{Told}, declared.plan.Counts.{Counts}, declared.taking.Telling.{Telling}, Kinds.{IsKindOf}, Ending.{counts_at_end, left_in, like_in, missed_in, text_at_end, text_in}, Reasons.{Bad, Part, asked_rows, firsts, passes, rows_of_all, told_by, told_of, untold_of}, Telling.{HasParts, HasRows, IsToldAs, counts_of}, Why.{IsPart, Tells, TellsAll, TellsOf, count_with_all, missed_event, text_of_counts, text_of_end, text_of_none}, WhyText.{text_of_more}}
+use Rattle.pmf_why.specs.{declared.kind.Kind.{Kind}, declared.taking.Told.{Told}, declared.plan.Counts.{Counts}, declared.taking.Telling.{Telling}, Kinds.{IsKindOf}, Ending.{counts_at_end, left_in, like_in, missed_in, text_at_end, text_in}, Reasons.{Bad, Part, asked_rows, firsts, passes, rows_of_all, told_by, told_of, untold_of}, Telling.{HasParts, HasRows, IsToldAs, counts_of}, Why.{IsPart, TellsAll, TellsOf, count_with_all, missed_event, text_of_end, text_of_none, text_of_numbers, text_of_sums}, WhyText.{text_of_more}}
 use Rattle.pmf_why.proofs.{KindLemmas.{told_same}, PairLemmas.{pair_length, pair_more, same_sums}}
 
 rows-more : (asked : Reasons) (parts : List Part) (part : Part) → rows_of_all asked (parts ++ part ∷ []) ≡ rows_of_all asked parts ++ asked_rows asked part
@@ -93,17 +93,24 @@ module _ (asked : Reasons) (bytes : List ℕ) (sections : List Trace) (t : Telli
   many : length t.kinds.items ≡ length rows
   many = sym (pair_length IsKindOf rows t.kinds.items has.rows.kinds)
 
-  counts : counts_at_end t ≡ text_of_counts (length rows) (length (told_of asked rows)) (untold_of asked rows) (sum_by (count_with_all passes) has.parts) (sum_by (count_with_all fails) has.parts)
-  unfolding counts_at_end
-  counts =
+  front : text_of_numbers (length t.kinds.items) (length t.told.items) (left_in t.asked.all t.kinds.items t.told.items) ≡ text_of_numbers (length rows) (length (told_of asked rows)) (untold_of asked rows)
+  front =
       let told : length t.told.items ≡ length (told_of asked rows) = sym (pair_length IsToldAs (told_of asked rows) t.told.items has.rows.told) in
+      ap (λ n. text_of_numbers n (length t.told.items) (left_in t.asked.all t.kinds.items t.told.items)) many
+      ∙ ap (λ n. text_of_numbers (length rows) n (left_in t.asked.all t.kinds.items t.told.items)) told
+      ∙ ap (λ n. text_of_numbers (length rows) (length (told_of asked rows)) n) left
+
+  behind : text_of_sums (sum_by (λ (c : Counts). c.pass) t.counts.items) (sum_by (λ (c : Counts). c.fail) t.counts.items) ≡ text_of_sums (sum_by (count_with_all passes) has.parts) (sum_by (count_with_all fails) has.parts)
+  behind =
       let pass : sum_by (λ (c : Counts). c.pass) t.counts.items ≡ sum_by (count_with_all passes) has.parts = ap (λ (cs : List Counts). sum_by (λ (c : Counts). c.pass) cs) has.counts ∙ sym (sum_pass has.parts) in
       let fail : sum_by (λ (c : Counts). c.fail) t.counts.items ≡ sum_by (count_with_all fails) has.parts = ap (λ (cs : List Counts). sum_by (λ (c : Counts). c.fail) cs) has.counts ∙ sym (sum_fail has.parts) in
-      ap (λ n. text_of_counts n (length t.told.items) (left_in t.asked.all t.kinds.items t.told.items) (sum_by (λ (c : Counts). c.pass) t.counts.items) (sum_by (λ (c : Counts). c.fail) t.counts.items)) many
-      ∙ ap (λ n. text_of_counts (length rows) n (left_in t.asked.all t.kinds.items t.told.items) (sum_by (λ (c : Counts). c.pass) t.counts.items) (sum_by (λ (c : Counts). c.fail) t.counts.items)) told
-      ∙ ap (λ n. text_of_counts (length rows) (length (told_of asked rows)) n (sum_by (λ (c : Counts). c.pass) t.counts.items) (sum_by (λ (c : Counts). c.fail) t.counts.items)) left
-      ∙ ap (λ n. text_of_counts (length rows) (length (told_of asked rows)) (untold_of asked rows) n (sum_by (λ (c : Counts). c.fail) t.counts.items)) pass
-      ∙ ap (λ n. text_of_counts (length rows) (length (told_of asked rows)) (untold_of asked rows) (sum_by (count_with_all passes) has.parts) n) fail
+      ap (λ n. text_of_sums n (sum_by (λ (c : Counts). c.fail) t.counts.items)) pass ∙ ap (λ n. text_of_sums (sum_by (count_with_all passes) has.parts) n) fail
+
+  counts : counts_at_end t ≡ text_of_numbers (length rows) (length (told_of asked rows)) (untold_of asked rows) ++ text_of_sums (sum_by (count_with_all passes) has.parts) (sum_by (count_with_all fails) has.parts)
+  unfolding counts_at_end
+  counts =
+      ap (λ (bs : List ℕ). bs ++ text_of_sums (sum_by (λ (c : Counts). c.pass) t.counts.items) (sum_by (λ (c : Counts). c.fail) t.counts.items)) front
+      ∙ ap (λ (bs : List ℕ). text_of_numbers (length rows) (length (told_of asked rows)) (untold_of asked rows) ++ bs) behind
 
   end : text_at_end t ≡ text_of_end asked has.parts
   unfolding text_at_end text_of_end

@@ -1,8 +1,8 @@
 -- One row more, and one section more.
-use Rattle.std.proofs.{Common.{◌≡◌, ℕ, ◌<◌, ◌≤◌, Bool, true, false, not, ◌&&◌, ◌||◌, nat_lt, if◌then◌else◌, List, [], ◌∷◌, ◌++◌, length, take, refl, sym, ap, subst, ◌∙◌, arith, map, inl, inr}, lemmas.Bool.{ltb-true, leb-false, cases_lt, lt-ltb}, lemmas.Grind.{common_steps}}
+use Rattle.std.proofs.{Common.{◌≡◌, Bool, true, false, not, ◌&&◌, ◌||◌, nat_lt, if◌then◌else◌, List, [], ◌∷◌, ◌++◌, length, refl, sym, ap, subst, ◌∙◌, arith, inl, inr}, lemmas.Bool.{ltb-true, cases_lt, lt-ltb}}
 use Rattle.std.specs.List.{AllZip, list_any}
 use Rattle.pmf_request.specs.declared.settings.Reasons.{Reasons}
-use Rattle.pmf_why.specs.{declared.kind.Kind.{Kind}, declared.taking.Told.{Told}, declared.taking.Telling.{Telling}, Kinds.{IsKindOf, is_one_kind}, Reasons.{Bad, are_alike, firsts, told_of}, Telling.{HasRows, IsToldAs, is_new_kind}}
+use Rattle.pmf_why.specs.{declared.kind.Kind.{Kind}, declared.taking.Told.{Told}, declared.taking.Telling.{Telling}, Kinds.{IsKindOf, is_one_kind}, Reasons.{Bad, are_alike, told_of}, Telling.{HasRows, IsToldAs, is_new_kind}}
 use Rattle.pmf_why.proofs.{PairLemmas.{pair_length, pair_more}, FirstsLemmas.{told_again, told_full, told_new}, KindLemmas.{alike_passes, met_told}}
 
 -- what follows where a row is to be told, and where it is not
@@ -67,5 +67,5 @@ module _ (asked : Reasons) (rows : List Bad) (old : Telling) (has : HasRows aske
       kinds = kinds-more;
       told = subst (λ (ts : List Told). AllZip IsToldAs (told_of asked (rows ++ bad ∷ [])) ts) (sym more)
           (subst (λ (bads : List Bad). AllZip IsToldAs bads (old.told.items ++ t ∷ [])) (sym (told-new is_new))
-            (pair_more IsToldAs (told_of asked rows) old.told.items bad t has.told told));
+          (pair_more IsToldAs (told_of asked rows) old.told.items bad t has.told told));
     }

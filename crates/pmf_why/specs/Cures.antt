@@ -1,5 +1,5 @@
 -- What is told as a cure of a row. Defined here.
-use Rattle.std.specs.{Prelude.{ℕ, List}, List.{All}}
+use Rattle.std.specs.{Prelude.{List}, List.{All}}
 use Rattle.std.specs.Prelude.{Contains}
 use Rattle.pmf_cause.specs.{declared.edit.Edit.{Edit}, Cure.{Cures}}
 use Rattle.pmf_why.specs.{declared.cure.Way.{Way}, declared.cure.Way.TheVariants.{NotFound, Alone, WithAll}, Reasons.{Bad}}

@@ -1,7 +1,7 @@
 -- What is written at the end of what is kept. No public clause cites this.
 use Rattle.std.specs.{Prelude.{ℕ, ◌-◌, ◌==◌, Bool, List, ◌++◌, length, count_by, flat_map, string_bytes, sum_by, Option, None, if◌then◌else◌}}
 use Rattle.pmf_request.specs.declared.settings.Reasons.{Reasons}
-use Rattle.pmf_why.specs.{declared.kind.Kind.{Kind}, declared.taking.Told.{Told}, declared.plan.Counts.{Counts}, declared.taking.Telling.{Telling}, Kinds.{is_one_kind}, Why.{text_of_counts, text_of_none}, WhyText.{text_of_more}}
+use Rattle.pmf_why.specs.{declared.kind.Kind.{Kind}, declared.taking.Told.{Told}, declared.plan.Counts.{Counts}, declared.taking.Telling.{Telling}, Kinds.{is_one_kind}, Why.{text_of_none, text_of_numbers, text_of_sums}, WhyText.{text_of_more}}
 
 -- how many rows of these kinds a row that is told stands for: each for itself, or for all of its kind
 unfoldable pub like_in : Bool → List Kind → Told → ℕ
@@ -21,8 +21,8 @@ missed_in asked kinds = if length kinds == 0 then asked.event else None
 
 -- the counts of all
 unfoldable pub counts_at_end : Telling → List ℕ
-counts_at_end t = text_of_counts (length t.kinds.items) (length t.told.items) (left_in t.asked.all t.kinds.items t.told.items)
-    (sum_by (λ (c : Counts). c.pass) t.counts.items) (sum_by (λ (c : Counts). c.fail) t.counts.items)
+counts_at_end t = text_of_numbers (length t.kinds.items) (length t.told.items) (left_in t.asked.all t.kinds.items t.told.items)
+    ++ text_of_sums (sum_by (λ (c : Counts). c.pass) t.counts.items) (sum_by (λ (c : Counts). c.fail) t.counts.items)
 
 -- these, or that the event that is asked for has no row
 unfoldable pub text_at_end : Telling → List ℕ

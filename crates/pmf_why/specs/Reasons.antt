@@ -1,5 +1,5 @@
 -- Which rows are told, and which are alike. Defined here.
-use Rattle.std.specs.{Prelude.{ℕ, zero, suc, ◌+◌, ◌-◌, Bool, true, not, ◌&&◌, ◌==◌, List, [], ◌∷◌, length, take, filter, flat_map, count_by, sum_by, slice_get, slice_index_or, Option, None, Some, if◌then◌else◌, bytes_eq}, List.{list_any}}
+use Rattle.std.specs.{Prelude.{ℕ, zero, suc, ◌-◌, Bool, true, not, ◌&&◌, ◌==◌, List, [], ◌∷◌, length, take, filter, flat_map, count_by, sum_by, slice_get, slice_index_or, Option, None, Some, if◌then◌else◌, bytes_eq}}
 use Rattle.pmf_event.specs.{declared.event.Event.{Event}, declared.finding.Finding.{Finding}, declared.row.Row.{Row}, Store.{event_at}}
 use Rattle.pmf_event.specs.declared.event.Event.TheVariants as event
 use Rattle.pmf_event.specs.declared.finding.Finding.TheVariants as finding

@@ -1,8 +1,8 @@
 -- What is kept while rows are met. Defined here.
-use Rattle.std.specs.{Prelude.{◌≡◌, ℕ, Bool, false, not, ◌||◌, ◌-◌, nat_lt, List, ◌++◌, length, map, count_by, sum_by, string_bytes, if◌then◌else◌}, List.{AllZip, list_any}}
+use Rattle.std.specs.{Prelude.{◌≡◌, ℕ, Bool, false, not, ◌||◌, nat_lt, List, length, map, string_bytes, if◌then◌else◌}, List.{AllZip, list_any}}
 use Rattle.pmf_event.specs.Section.{Trace}
 use Rattle.pmf_request.specs.declared.settings.Reasons.{Reasons}
-use Rattle.pmf_why.specs.{declared.kind.Kind.{Kind}, declared.taking.Told.{Told}, declared.plan.Counts.{Counts}, declared.taking.Telling.{Telling}, Kinds.{IsKindOf, is_one_kind}, Plans.{counts_with}, Reasons.{Bad, Part, rows_of_all, told_of}, Why.{IsPart, Tells}, WhyText.{text_of_more}}
+use Rattle.pmf_why.specs.{declared.kind.Kind.{Kind}, declared.taking.Told.{Told}, declared.plan.Counts.{Counts}, declared.taking.Telling.{Telling}, Kinds.{IsKindOf, is_one_kind}, Plans.{counts_with}, Reasons.{Bad, Part, rows_of_all, told_of}, Why.{IsPart, Tells}}
 
 -- whether a row of the kind is to be told
 unfoldable pub is_new_kind : Telling → Kind → Bool

@@ -3,7 +3,7 @@ use Rattle.std.specs.{Prelude.{◌≡◌, ◌≢◌, ℕ, ◌==◌, Bool, List, 
 use Rattle.pmf_event.specs.{declared.row.Row.{Row}, Section.{Trace}}
 use Rattle.pmf_request.specs.declared.settings.Reasons.{Reasons}
 use Rattle.pmf_storelog.specs.{LogText.{log_of, out_of_memory}, LogValue.{LogValue}}
-use Rattle.pmf_verdict.specs.{Checked.{Checked, rows_in}}
+use Rattle.pmf_verdict.specs.{Checked.{rows_in}}
 use Rattle.pmf_cause.specs.{declared.edit.Edit.{Edit}, Cure.{cured, fails}}
 use Rattle.pmf_query.specs.{declared.refusal.{EventFault.{EventFault}, EventRefusal.{EventRefusal}}, Locating.{AreLocations}}
 use Rattle.pmf_query.specs.declared.refusal.EventFault.TheVariants as fault
@@ -35,11 +35,13 @@ pub record TellsOf (asked : Reasons) (rows : List Bad) (bad : Bad) (text : List 
 unfoldable pub count_with_all : (Row → Bool) → Part → ℕ
 count_with_all test part = count_by (λ row. test row) (rows_in (cured part.checked part.plan))
 
--- `rows=R told=T untold=U; with all cures: pass=P fail=F`
-unfoldable pub text_of_counts : ℕ → ℕ → ℕ → ℕ → ℕ → List ℕ
-text_of_counts rows told untold pass fail =
-    codes "rows=" ++ decimal rows ++ codes " told=" ++ decimal told ++ codes " untold=" ++ decimal untold
-    ++ codes "; with all cures: pass=" ++ decimal pass ++ codes " fail=" ++ decimal fail ++ codes "\n"
+-- `rows=R told=T untold=U`
+unfoldable pub text_of_numbers : ℕ → ℕ → ℕ → List ℕ
+text_of_numbers rows told untold = codes "rows=" ++ decimal rows ++ codes " told=" ++ decimal told ++ codes " untold=" ++ decimal untold
+
+-- `; with all cures: pass=P fail=F`, and the end of the text line
+unfoldable pub text_of_sums : ℕ → ℕ → List ℕ
+text_of_sums pass fail = codes "; with all cures: pass=" ++ decimal pass ++ codes " fail=" ++ decimal fail ++ codes "\n"
 
 -- `no row at event K`, where an event has none, or else this text
 abbrev pub text_of_none : Option ℕ → List ℕ → List ℕ
@@ -56,7 +58,7 @@ unfoldable pub text_of_end : Reasons → List Part → List ℕ
 text_of_end asked parts =
     let rows = rows_of_all asked parts in
     text_of_none (missed_event asked rows)
-        (text_of_counts (length rows) (length (told_of asked rows)) (untold_of asked rows) (sum_by (count_with_all passes) parts) (sum_by (count_with_all fails) parts))
+    (text_of_numbers (length rows) (length (told_of asked rows)) (untold_of asked rows) ++ text_of_sums (sum_by (count_with_all passes) parts) (sum_by (count_with_all fails) parts))
 
 -- the text tells the rows of these sections of a log: those that are to be told, each with its cause and what cures it, and the counts
 pub record TellsAll (asked : Reasons) (bytes : List ℕ) (sections : List Trace) (text : List ℕ) : Type 0 where

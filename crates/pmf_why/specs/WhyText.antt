@@ -1,6 +1,6 @@
 -- The text that tells why rows are no PASS, and what cures them: ASCII, in text lines. Defined here.
-use Rattle.std.specs.{Prelude.{ℕ, suc, ◌-◌, ◌==◌, nat_le, List, [], ◌++◌, flat_map, codes, slice_get, Option, None, Some, if◌then◌else◌}, Fmt.{decimal}}
-use Rattle.pmf_event.specs.{declared.event.Event.{Event}, declared.finding.Finding.{Finding}, declared.finding.Finding.TheVariants.{OrderedFail, OrderedSameLine}, declared.name.Name.{Name}, declared.row.Row.{Row}}
+use Rattle.std.specs.{Prelude.{ℕ, ◌-◌, ◌==◌, nat_le, List, [], ◌++◌, flat_map, codes, Option, None, Some, if◌then◌else◌}, Fmt.{decimal}}
+use Rattle.pmf_event.specs.{declared.finding.Finding.{Finding}, declared.finding.Finding.TheVariants.{OrderedFail, OrderedSameLine}, declared.name.Name.{Name}, declared.row.Row.{Row}}
 use Rattle.pmf_storelog.specs.Canonical.{line_of_event}
 use Rattle.pmf_verdict.specs.Text.{text_of_row}
 use Rattle.pmf_cause.specs.declared.{edit.Edit.{Edit}, lack.Lack.{Lack}, need.Need.{Need}, cause.Cause.{Cause}}
@@ -21,9 +21,9 @@ number_in (Some l) = l.record
 abbrev pub record_at : List Located → ℕ → ℕ
 record_at stands place = number_in (stands_at stands place)
 
--- `record N`, and the first bytes of the record, in ASCII
+-- `record N`, and the first bytes of the record, in ASCII; or that it is the section's end
 unfoldable pub text_of_record : Option Located → List ℕ
-text_of_record None = codes "none\n"
+text_of_record None = codes "the section's end\n"
 text_of_record (Some l) = codes "record " ++ decimal l.record ++ codes " " ++ shown_text SHOWN l.text.now ++ codes "\n"
 
 -- ---- the cause

@@ -27,7 +27,11 @@ impl<'a> Kind<'a> {
         ensures { IsKindOf (bad_of bad.now) result }
     {
         let frame = frame_of(bad);
-        let distance = if frame.is_empty() { distance_of(bad.cause) } else { 0 };
+        let distance = if frame.is_empty() {
+            distance_of(bad.cause)
+        } else {
+            0
+        };
         Kind {
             finding: finding_number(bad.row.finding),
             cause: cause_number(bad.cause),

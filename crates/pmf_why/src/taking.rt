@@ -3,7 +3,7 @@
 ghost use Rattle.std.specs.{Prelude.{◌≡◌, ◌++◌, ◌∷◌, ℕ, ◌-◌, [], ◌≤◌, ◌<◌, ◌^◌, ◌||◌, ◌&&◌, Bool, List, not, nat_lt, length, map, count_by, sum_by, flat_map, slice_index_or, string_bytes, IfOk, IfSome, OnOk}, List.{list_any}};
 ghost use Rattle.pmf_verdict.specs.Checked.{rows_in};
 ghost use Rattle.pmf_cause.specs.Cause.{cause_of};
-ghost use Rattle.pmf_why.specs.{Kinds.{is_one_kind}, Reasons.{Bad, asked_row, asked_rows, is_asked}, Ending.{left_in, like_in, text_in}, Plans.{IsPlan}, Rows.{bad_of, part_of}, Why.{text_of_counts}};
+ghost use Rattle.pmf_why.specs.{Kinds.{is_one_kind}, Reasons.{Bad, asked_row, asked_rows, is_asked}, Ending.{left_in, like_in, text_in}, Plans.{IsPlan}, Rows.{bad_of, part_of}, Why.{text_of_numbers, text_of_sums}};
 
 use crate::kind::Kind;
 use crate::plan::{Counts, Plan};
@@ -12,7 +12,7 @@ use crate::telling::{push_more, reason_text};
 use crate::trial::way_of;
 use pmf_cause::{Cause, Edit, Proposal, causes, propose};
 use pmf_event::{Row, Section};
-use pmf_query::Located;
+use pmf_query::{Located, Standing};
 use pmf_request::Reasons;
 use pmf_verdict::check;
 use std::alloc::{AllocError, Global};
@@ -40,9 +40,9 @@ pub(crate) struct Telling<'a> {
 
 impl<'a> Telling<'a> {
     ghost use Rattle.pmf_event.specs.Section.{Trace};
-    ghost use Rattle.pmf_query.specs.Locating.{AreLocations};
+    ghost use Rattle.pmf_query.specs.{Locating.{AreLocations}, Standing.{Stands}};
     ghost use Rattle.pmf_request.specs.declared.settings.Reasons.{Reasons};
-    ghost use Rattle.pmf_why.specs.{Ending.{counts_at_end, missed_in, text_at_end}, Telling.{HasParts, HasRows, is_new_kind}, Why.{TellsAll}};
+    ghost use Rattle.pmf_why.specs.{Ending.{counts_at_end, missed_in, text_at_end}, Telling.{HasParts, HasRows, is_new_kind}, Why.{TellsAll, asked_sections}};
 
     /// Nothing yet. Takes no memory.
     pub(crate) fn new(alloc: Global, asked: Reasons, budget: usize) -> Telling<'a>
@@ -57,8 +57,27 @@ impl<'a> Telling<'a> {
         }
     }
 
-    /// Takes a section, whose events stand so.
-    pub(crate) fn take(
+    /// Takes a section of a log, whose events stand so, where it is asked for.
+    pub(crate) fn meet(
+        &mut self,
+        alloc: Global,
+        section: &Arc<Section>,
+        standing: &Standing<'a>,
+    ) -> Result<(), AllocError>
+        ensures { (asked : Reasons) (bytes : List ℕ) (sections : List Trace)
+            → Stands bytes standing.now
+            → HasParts asked bytes (asked_sections asked sections) self.old
+            → OnOk result (HasParts asked bytes (asked_sections asked (sections ++ section.now.value ∷ [])) self.new) }
+    {
+        let number = section.name().number;
+        if !is_number_asked(self.asked.section, number) {
+            return Ok(());
+        }
+        self.take(alloc, section, standing.in_section(number))
+    }
+
+    // Takes a section, whose events stand so.
+    fn take(
         &mut self,
         alloc: Global,
         section: &Arc<Section>,
@@ -126,7 +145,8 @@ impl<'a> Telling<'a> {
         let (rows, told) = (self.kinds.len(), self.told.len());
         let untold = left_in(self.asked.all, &self.kinds, &self.told);
         let (pass, fail) = (sum_pass(&self.counts), sum_fail(&self.counts));
-        push_numbers(text, rows, told, untold, pass, fail)
+        push_numbers(text, rows, told, untold)?;
+        push_sums(text, pass, fail)
     }
 
     // Takes the rows of a section, with their causes, and the changes that the wanted ones may need alone.
@@ -289,18 +309,22 @@ fn sum_fail(counts: &[Counts]) -> u128
     sum
 }
 
-#[tactic(auto, unfolding(crate::specs::Why::text_of_counts))]
+#[tactic(auto, unfolding(crate::specs::Why::text_of_numbers))]
 fn push_numbers(
     text: &mut String,
     rows: usize,
     told: usize,
     untold: usize,
-    pass: u128,
-    fail: u128,
 ) -> Result<(), AllocError>
-    ensures { OnOk result (string_bytes text.new ≡ string_bytes text.old ++ text_of_counts rows told untold pass fail) }
+    ensures { OnOk result (string_bytes text.new ≡ string_bytes text.old ++ text_of_numbers rows told untold) }
 {
-    write!(text, "rows={rows} told={told} untold={untold}")?;
+    write!(text, "rows={rows} told={told} untold={untold}")
+}
+
+#[tactic(auto, unfolding(crate::specs::Why::text_of_sums))]
+fn push_sums(text: &mut String, pass: u128, fail: u128) -> Result<(), AllocError>
+    ensures { OnOk result (string_bytes text.new ≡ string_bytes text.old ++ text_of_sums pass fail) }
+{
     write!(text, "; with all cures: pass={pass} fail={fail}\n")
 }
 
@@ -316,7 +340,17 @@ fn is_alike_to(told: &[Told<'_>], kind: &Kind<'_>) -> bool
     met
 }
 
-// Whether a number is asked for.
+/// Whether a number is asked for.
+pub(crate) fn is_number_asked(named: Option<u64>, number: u64) -> bool
+    ensures { result ≡ is_asked named number }
+{
+    match named {
+        Some(named) => number == named,
+        None => true,
+    }
+}
+
+// The same of the place of an event.
 fn is_asked(named: Option<u32>, number: u32) -> bool
     ensures { result ≡ is_asked named number }
 {

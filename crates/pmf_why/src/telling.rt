@@ -109,7 +109,7 @@ fn push_record(text: &mut String, located: Option<Located<'_>>) -> Result<(), Al
             push_shown(text, located.text, SHOWN)?;
             text.push_str("\n")
         }
-        None => text.push_str("none\n"),
+        None => text.push_str("the section's end\n"),
     }
 }
 
@@ -233,7 +233,13 @@ fn push_late_fence(
 ) -> Result<(), AllocError>
     ensures { OnOk result (string_bytes text.new ≡ string_bytes text.old ++ text_of_late_fence stands.now due fence) }
 {
-    push_with(text, stands, ", no fence before record ", due, "; too late by record ")?;
+    push_with(
+        text,
+        stands,
+        ", no fence before record ",
+        due,
+        "; too late by record ",
+    )?;
     push_with(text, stands, "", fence, "")
 }
 
@@ -294,11 +300,7 @@ fn push_cure(
 }
 
 #[tactic(auto, unfolding(crate::specs::WhyText::text_of_edits))]
-fn push_edits(
-    text: &mut String,
-    stands: &[Located<'_>],
-    edits: &[Edit],
-) -> Result<(), AllocError>
+fn push_edits(text: &mut String, stands: &[Located<'_>], edits: &[Edit]) -> Result<(), AllocError>
     ensures { OnOk result (string_bytes text.new ≡ string_bytes text.old ++ text_of_edits stands.now edits.now) }
 {
     for edit in edits {
@@ -317,9 +319,7 @@ fn push_edit(text: &mut String, stands: &[Located<'_>], edit: &Edit) -> Result<(
             push_place(text, stands_at(stands, *before))?;
             push_event(text, event)
         }
-        Edit::LeaveOut { place } => {
-            push_with(text, stands, "leave out record ", *place, "\n")
-        }
+        Edit::LeaveOut { place } => { push_with(text, stands, "leave out record ", *place, "\n") }
     }
 }
 

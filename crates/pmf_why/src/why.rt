@@ -1,10 +1,9 @@
 //! The text that tells why the rows of a log are no PASS.
 
 ghost use Rattle.std.specs.{Prelude.{◌≡◌, ◌||◌, List, ℕ, map, string_bytes, is_none, IfOk, MatchResult}, List.{list_any}};
-ghost use Rattle.pmf_event.specs.Section.{Trace};
 ghost use Rattle.pmf_why.specs.{Reasons.{is_asked}, Telling.{HasParts}, Why.{IsWhy, IsWhyFault, IsWhyRefusal, asked_sections, TellsAll}};
 
-use crate::taking::Telling;
+use crate::taking::{Telling, is_number_asked};
 use pmf_event::Section;
 use pmf_query::{Answer, EventFault, EventRefusal, Query, Standing};
 use pmf_request::{Reasons, Sought};
@@ -98,21 +97,9 @@ fn tell_sections(
     let standing = Standing::of(alloc, log)?;
     let mut telling = Telling::new(alloc, asked, budget_of(sections));
     for section in sections {
-        let number = section.name().number;
-        if is_number_asked(asked.section, number) {
-            telling.take(alloc, section, standing.in_section(number))?;
-        }
+        telling.meet(alloc, section, &standing)?;
     }
     telling.text(alloc)
-}
-
-fn is_number_asked(named: Option<u64>, number: u64) -> bool
-    ensures { result ≡ is_asked named number }
-{
-    match named {
-        Some(named) => number == named,
-        None => true,
-    }
 }
 
 // How many events the checks of changes for one row may have together.

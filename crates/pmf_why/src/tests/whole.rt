@@ -5,7 +5,8 @@ use pmf_event::Profile;
 use pmf_request::Reasons;
 use std::test::Fail;
 
-const LOG: &[u8] = b"STORE;0x10040;0x1;0x18;append (append_log.c:59)|FLUSH;0x10040;0x40|STORE;0x10000;0x1;0x8;append (append_log.c:63)|PMT.ORDERED;0x10040;0x18;0x10000;0x8|FLUSH;0x10000;0x40|FENCE|PMT.PERSIST;0x10040;0x8|STORE;0x20000;1;8|PMT.PERSIST;0x20000;8|FLUSH;0x20000;0x40|FLUSH;0x20000;0x40|PMT.TXEND|PMT.CHECKSTART";
+const LOG: &[u8] =
+    b"STORE;0x10040;0x1;0x18;append (append_log.c:59)|FLUSH;0x10040;0x40|STORE;0x10000;0x1;0x8;append (append_log.c:63)|PMT.ORDERED;0x10040;0x18;0x10000;0x8|FLUSH;0x10000;0x40|FENCE|PMT.PERSIST;0x10040;0x8|STORE;0x20000;1;8|PMT.PERSIST;0x20000;8|FLUSH;0x20000;0x40|FLUSH;0x20000;0x40|PMT.TXEND|PMT.CHECKSTART";
 
 const TEXT: &str = "0.0 4 ORDERED FAIL byte=0x10040 after=0x10000 crash=3
   lost     record 1 STORE;0x10040;0x1;0x18;append (append_log.c:59)
@@ -30,6 +31,7 @@ const TEXT: &str = "0.0 4 ORDERED FAIL byte=0x10040 after=0x10000 crash=3
   cure     leave out record 12
            this row then passes
 0.0 14 SECTION UNCLOSED start=13
+  event    the section's end
   cause    the scope that record 13 opened is still open
   cure     at the end: PMT.CHECKEND
            this row then passes

@@ -1,4 +1,4 @@
-use Rattle.std.proofs.Common.{◌≡◌, ℕ, ◌+◌, ◌-◌, List, [], slice_index_or, ap, sym, ◌∙◌, arith}
+use Rattle.std.proofs.Common.{◌≡◌, ℕ, ◌+◌, ◌-◌, [], slice_index_or, ap, sym, ◌∙◌, arith}
 use Rattle.pmf_storelog.specs.Records.{fields_of}
 use Rattle.pmf_why.proofs.kind.field.Goals as goal
 

@@ -1,4 +1,4 @@
-use Rattle.std.proofs.Common.{refl, ap, List, ℕ}
+use Rattle.std.proofs.Common.{ap}
 use Rattle.pmf_why.{specs.WhyText.{text_of_lack}, proofs.TellingLemmas.{told_then}}
 use Rattle.pmf_why.proofs.telling.push_lack.Goals as goal
 

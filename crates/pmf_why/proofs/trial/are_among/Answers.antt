@@ -1,4 +1,4 @@
-use Rattle.std.proofs.{Common.{◌≡◌, ◌∷◌, ◌++◌, [], All, Contains, List, length, take, take_all, ap, sym, subst, ◌∙◌, arith}, lemmas.List.{take_more}, lemmas.List.Elements.{All-push}}
+use Rattle.std.proofs.{Common.{◌∷◌, ◌++◌, [], All, Contains, take, take_all, ap, sym, subst, ◌∙◌, arith}, lemmas.List.{take_more}, lemmas.List.Elements.{All-push}}
 use Rattle.pmf_cause.specs.declared.edit.Edit.{Edit}
 use Rattle.pmf_why.proofs.trial.are_among.Goals as goal
 

@@ -1,4 +1,4 @@
-use Rattle.std.proofs.Common.{[], refl}
+use Rattle.std.proofs.Common.{refl}
 use Rattle.pmf_why.proofs.PartsLemmas.{nothing_taken}
 use Rattle.pmf_why.proofs.taking.Telling.new.Goals as goal
 

@@ -1,7 +1,6 @@
-use Rattle.std.proofs.Common.{◌≡◌, ◌∙◌, ◌++◌, ◌∷◌, [], List, refl, ap, sym}
+use Rattle.std.proofs.Common.{◌≡◌, ◌∙◌, ◌++◌, ◌∷◌, [], ap}
 use Rattle.pmf_event.specs.Section.{Trace}
 use Rattle.pmf_request.specs.declared.settings.Reasons.{Reasons}
-use Rattle.pmf_verdict.specs.Checked.{Checked}
 use Rattle.pmf_why.{specs.declared.plan.Counts.{Counts}, specs.Reasons.{Part, rows_of_all}, proofs.PartsLemmas.{parts_on}}
 use Rattle.pmf_why.proofs.taking.Telling.take.Goals as goal
 

@@ -1,4 +1,4 @@
-use Rattle.std.proofs.{Common.{◌≡◌, ◌∙◌, ◌++◌, ◌+◌, refl, sym, ap, subst, arith, List, length, flat_map, take, append-nil}, lemmas.List.{take_all}}
+use Rattle.std.proofs.{Common.{◌∙◌, ◌++◌, ◌+◌, refl, sym, ap, subst, arith, List, length, flat_map, take, append-nil}, lemmas.List.{take_all}}
 use Rattle.pmf_event.specs.declared.row.Row.{Row}
 use Rattle.pmf_verdict.specs.Checked.{rows_in}
 use Rattle.pmf_why.{specs.Reasons.{Bad, asked_row, asked_rows}, specs.Rows.{part_of}, specs.Telling.{HasRows}, proofs.MeetLemmas.{row_more}}

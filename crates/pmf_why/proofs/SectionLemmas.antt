@@ -1,0 +1,40 @@
+-- The sections that are asked for, with one more, and a section that is missing.
+use Rattle.std.{proofs.Common.{◌≡◌, ℕ, zero, suc, ◌==◌, ◌<◌, ◌||◌, Bool, true, false, cond, List, [], ◌∷◌, ◌++◌, Option, None, Some, Result, Ok, Err, Contains, length, map, get_or, refl, sym, ap, subst, ◌∙◌, arith, append-nil, is_none, eq-eqb}, proofs.lemmas.Bool.{false≢true}, proofs.lemmas.List.Elements.{filter-append}, specs.Result.{OnOk}}
+use Rattle.std.specs.List.{list_any}
+use Rattle.pmf_event.specs.Section.{Trace}
+use Rattle.pmf_request.specs.declared.settings.Reasons.{Reasons}
+use Rattle.pmf_why.specs.{declared.taking.Telling.{Telling}, Reasons.{is_asked}, Telling.{HasParts}, Why.{asked_sections}}
+
+module _ (asked : Reasons) (bytes : List ℕ) (sections : List Trace) (t : Trace) where
+  section-more : (b : Bool) → is_asked asked.section t.name.number ≡ b → asked_sections asked (sections ++ t ∷ []) ≡ asked_sections asked sections ++ cond b (t ∷ []) []
+  section-more b is = filter-append (λ (t : Trace). is_asked asked.section t.name.number) sections (t ∷ []) ∙ ap (λ b. asked_sections asked sections ++ cond b (t ∷ []) []) is
+
+  module _ (old : Telling) (has : HasParts asked bytes (asked_sections asked sections) old) where
+    same : is_asked old.asked.section t.name.number ≡ is_asked asked.section t.name.number
+    same = ap (λ (a : Reasons). is_asked a.section t.name.number) has.rows.asked_is
+
+    pub passed_by : is_asked old.asked.section t.name.number ≡ false → HasParts asked bytes (asked_sections asked (sections ++ t ∷ [])) old
+    passed_by apart = subst (λ (ts : List Trace). HasParts asked bytes ts old) (sym (section-more false (sym same ∙ apart) ∙ append-nil (asked_sections asked sections))) has
+
+    pub taken_up : is_asked old.asked.section t.name.number ≡ true → {E : Type 0} (r : Result (Unit {0}) E) (new : Telling) → OnOk r (HasParts asked bytes (asked_sections asked sections ++ t ∷ []) new) →
+        OnOk r (HasParts asked bytes (asked_sections asked (sections ++ t ∷ [])) new)
+    taken_up is (Ok u) new parts = subst (λ (ts : List Trace). HasParts asked bytes ts new) (sym (section-more true (sym same ∙ is))) parts
+    taken_up is (Err e) new parts = parts
+
+first_is : (n number : ℕ) (rest : Bool) → n ≡ number → ((n == number) || rest) ≡ false → ⊥
+first_is n number rest same none = false≢true (sym none ∙ ap (λ b. b || rest) (eq-eqb n number same))
+
+or_right : (a b : Bool) → (a || b) ≡ false → b ≡ false
+or_right true b is = absurd cc
+or_right false b is = is
+
+-- a section of this number, among some that have none
+none_has : {A : Type 0} (value : A → Trace) (number : ℕ) (xs : List A) → list_any (λ s. (value s).name.number == number) xs ≡ false → (i : ℕ) (d : Trace) → i < length (map value xs) → (get_or (map value xs) i d).name.number ≡ number → ⊥
+none_has value number [] none i d within is = absurd (omega arith)
+none_has value number (x ∷ xs) none zero d within is = (first_is (value x).name.number number (list_any (λ s. (value s).name.number == number) xs) is none)
+none_has value number (x ∷ xs) none (suc i) d within is = none_has value number xs (or_right ((value x).name.number == number) _ none) i d (omega arith) is
+
+pub missing : {A : Type 0} (value : A → Trace) (named : Option ℕ) (xs : List A) → (is_none named || list_any (λ s. is_asked named (value s).name.number) xs) ≡ false →
+    (number : ℕ) × (named ≡ Some number) × ((t : Trace) → Contains (map value xs) t → t.name.number ≡ number → ⊥)
+missing value None xs is = absurd cc
+missing value (Some number) xs is = (number, refl, λ t found same. none_has value number xs is found.0 t found.1 (ap (λ (s : Trace). s.name.number) found.2 ∙ same))
