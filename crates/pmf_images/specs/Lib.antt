@@ -1,0 +1,5 @@
+pub use Rattle.pmf_event.specs.Store
+pub use Rattle.pmf_image.specs.Certificate
+pub use Rattle.pmf_runs.specs.Runs
+pub mod Sums
+pub mod Telling

@@ -1,0 +1,6 @@
+//! trial
+#![tactic(auto)]
+mod showing;
+mod sums;
+mod telling;
+pub use showing::Asked;
