@@ -10,7 +10,7 @@ pub event_here : (es : List Event) (k : ℕ) (e : Event) → k < length es → e
 unfolding event_at
 event_here es k e within is = slice_get_read es (length es) k e refl within is
 
-pub due_none : Due
+abbrev pub due_none : Due
 due_none = record { place = 0; byte = 0; index = 0 }
 
 none : Asked
