@@ -1,5 +1,5 @@
 -- Places that one more event puts.
-use Rattle.std.proofs.{Common.{◌≡◌, ℕ, suc, ◌+◌, ◌-◌, ◌<◌, ◌%◌, Bool, true, false, ◌&&◌, nat_lt, nat_le, if◌then◌else◌, List, Some, refl, sym, ap, ◌∙◌, arith}, lemmas.Grind.{common_steps}}
+use Rattle.std.proofs.{Common.{◌≡◌, ℕ, suc, ◌+◌, ◌-◌, ◌<◌, Bool, true, false, ◌&&◌, nat_lt, nat_le, if◌then◌else◌, List, Some, refl, sym, ap, ◌∙◌, arith}, lemmas.Grind.{common_steps}}
 use Rattle.pmf_event.{specs.declared.event.Event.{Event}, specs.declared.event.Event.TheVariants.{Flush, Store}, specs.Span.{Extent}, specs.Line.{line_of_byte, meets_line}, specs.Store.{event_at, flushes, stores, last}, proofs.EventLemmas.{last-none, last-step}}
 use Rattle.pmf_runs.specs.{declared.runs.RunMap.{RunMap}, Runs.{is_between, state_at, ChangesBetween}}
 use Rattle.pmf_images.specs.declared.places.Place.{Place}

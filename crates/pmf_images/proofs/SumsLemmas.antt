@@ -1,5 +1,5 @@
 -- Counts that stand in levels.
-use Rattle.std.proofs.{Common.{◌≡◌, ℕ, zero, suc, ◌+◌, ◌-◌, ◌*◌, ◌/◌, ◌%◌, ◌<◌, ◌≤◌, Bool, true, false, ◌&&◌, ◌==◌, nat_lt, nat_le, if◌then◌else◌, List, ◌++◌, length, get_or, take, drop, refl, sym, ap, ◌∙◌, arith, min, set, length-take}, lemmas.Bool.{cases_eq}, lemmas.List.{get_or-set_same, get_or-set_other, get_or_past, take_at, drop_at}, lemmas.Grind.{common_steps}}
+use Rattle.std.proofs.{Common.{◌≡◌, ℕ, zero, suc, ◌+◌, ◌-◌, ◌/◌, ◌%◌, ◌<◌, ◌≤◌, Bool, ◌&&◌, ◌==◌, List, ◌++◌, length, get_or, take, drop, refl, sym, ap, ◌∙◌, arith, min, set, length-take}, lemmas.Bool.{cases_eq}, lemmas.List.{get_or-set_same, get_or-set_other, get_or_past, take_at, drop_at}, lemmas.Grind.{common_steps}}
 use Rattle.pmf_images.specs.Sums.{COUNT_LIMIT, over, lies_in, raised_if}
 
 pub set_one : (xs : List ℕ) (i x v : ℕ) → i < length xs → raised_if (x == i) (get_or xs x 0) ≤ COUNT_LIMIT → v ≡ min (get_or xs i 0 + 1) COUNT_LIMIT →

@@ -1,6 +1,6 @@
 -- What is asked of a walk, in the order of the places.
-use Rattle.std.proofs.{Common.{◌≡◌, ℕ, zero, suc, ◌+◌, ◌-◌, ◌<◌, ◌≤◌, Bool, true, false, List, [], ◌∷◌, ◌++◌, Option, Some, None, subst, length, get_or, set, refl, sym, ap, ◌∙◌, arith, inl, inr}, lemmas.Bool.{cases_eq, cases_lt}, lemmas.List.{get_or_append_left, get_or_push, get_or_default, get_or-set_same, get_or-set_other, length-set}, lemmas.List.Elements.{Contains-get_or}, lemmas.List.Sorted.{All-permutation, Contains-permutation, length_permutation}, lemmas.Option.{slice_get_read}, lemmas.Grind.{common_steps}}
-use Rattle.std.specs.List.{All, Contains}
+use Rattle.std.proofs.{Common.{◌≡◌, ℕ, suc, ◌+◌, ◌<◌, ◌≤◌, List, [], ◌∷◌, ◌++◌, Some, None, subst, length, get_or, set, refl, sym, ap, ◌∙◌, arith, inl, inr}, lemmas.Bool.{cases_eq}, lemmas.List.{get_or_append_left, get_or_push, get_or_default, get_or-set_same, get_or-set_other}, lemmas.List.Sorted.{All-permutation, Contains-permutation}, lemmas.Option.{slice_get_read}}
+use Rattle.std.specs.List.{All}
 use Rattle.std.specs.List.Sorted.{IsPermutation, IsNonDecreasingBy}
 use Rattle.pmf_event.specs.{declared.event.Event.{Event}, Store.{event_at}}
 use Rattle.pmf_images.specs.{declared.{showing.Asked.{Asked}, telling.Due.{Due}}, Telling.{due_at, AreDue, AreTold}}

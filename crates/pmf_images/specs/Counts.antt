@@ -1,5 +1,5 @@
 -- How many stores some lines have. No public clause cites this.
-use Rattle.std.specs.Prelude.{◌≡◌, ℕ, suc, ◌≤◌, ◌<◌, ◌*◌, ◌%◌, List, length, get_or}
+use Rattle.std.specs.Prelude.{◌≡◌, ℕ, ◌≤◌, ◌<◌, ◌*◌, ◌%◌, List, length, get_or}
 use Rattle.pmf_event.specs.{declared.event.Event.{Event}}
 use Rattle.pmf_image.specs.Image.{count_of}
 use Rattle.pmf_images.specs.{declared.counts.Counts.{Counts}, Sums.{COUNT_LIMIT, over}}
@@ -7,7 +7,7 @@ use Rattle.pmf_images.specs.{declared.counts.Counts.{Counts}, Sums.{COUNT_LIMIT,
 -- addresses of lines, in their order
 pub record AreLines (lines : List ℕ) : Type 0 where
   pub rise : (j k : ℕ) (d : ℕ) → j ≤ k → k < length lines → get_or lines j d ≤ get_or lines k d
-  pub aligned : (k : ℕ) → get_or lines k 0 % 64 ≡ 0
+  pub aligned : (k d : ℕ) → k < length lines → get_or lines k d % 64 ≡ 0
 
 -- as many of the numbers as the index tells lie below the address, and those behind do not
 pub record IsCut (lines : List ℕ) (address index : ℕ) : Type 0 where

@@ -1,5 +1,5 @@
 -- What stands for a count in levels of numbers, each half as long as the one below it. No public clause cites this.
-use Rattle.std.specs.Prelude.{◌≡◌, ℕ, zero, suc, ◌+◌, ◌/◌, Bool, ◌&&◌, nat_le, nat_lt, List, get_or, take, drop, if◌then◌else◌}
+use Rattle.std.specs.Prelude.{ℕ, zero, suc, ◌+◌, ◌/◌, Bool, ◌&&◌, nat_le, nat_lt, List, get_or, take, drop, if◌then◌else◌}
 
 -- the greatest number that is kept
 abbrev pub COUNT_LIMIT : ℕ

@@ -17,3 +17,8 @@ pub record AreDue (places : List ℕ) (asked : List Asked) (dues : List Due) : T
 pub record AreTold (told : ℕ → ℕ → ℕ) (places : List ℕ) (asked : List Asked) (answers : List ℕ) : Type 0 where
   pub long : length answers ≡ length asked
   pub each : (k : ℕ) (a : Asked) → k < length asked → get_or answers k 0 ≡ told (get_or places k 0) (get_or asked k a).byte
+
+-- a place for each one that is asked
+pub record ArePlaces (place : Asked → ℕ) (asked : List Asked) (places : List ℕ) : Type 0 where
+  pub long : length places ≡ length asked
+  pub each : (k : ℕ) (a : Asked) → k < length asked → get_or places k 0 ≡ place (get_or asked k a)

@@ -1,7 +1,7 @@
 //! Walks that keep the last place of some kind.
 
-ghost use Rattle.std.specs.Prelude.{◌≡◌, ℕ};
-ghost use Rattle.pmf_event.specs.Store.{last_store};
+ghost use Rattle.std.specs.Prelude.{◌≡◌, ℕ, List};
+ghost use Rattle.pmf_event.specs.{declared.event.Event.{Event}, Store.{last_store}};
 ghost use Rattle.pmf_runs.specs.Runs.{state_at};
 ghost use Rattle.pmf_images.specs.Walks.{last_fence, last_flush};
 
@@ -20,7 +20,7 @@ pub(crate) struct Fences {
 impl Fences {
     /// Of no event.
     pub(crate) fn new() -> Fences
-        ensures { result.last ≡ 0 }
+        ensures { (es : List Event) → result.last ≡ last_fence es 0 0 }
     {
         Fences { last: 0 }
     }
@@ -54,7 +54,7 @@ pub(crate) struct Flushes {
 impl Flushes {
     /// Of no event. Takes no memory.
     pub(crate) fn new(alloc: Global) -> Flushes
-        ensures { (b : ℕ) → (state_at result.places b).of ≡ 0 }
+        ensures { (es : List Event) (b : ℕ) → (state_at result.places b).of ≡ last_flush es 0 b }
     {
         Flushes {
             places: RunMap::new(alloc, NO_PLACE),
@@ -90,7 +90,7 @@ pub(crate) struct Stores {
 impl Stores {
     /// Of no event. Takes no memory.
     pub(crate) fn new(alloc: Global) -> Stores
-        ensures { (b : ℕ) → (state_at result.places b).of ≡ 0 }
+        ensures { (es : List Event) (b : ℕ) → (state_at result.places b).of ≡ last_store es 0 b }
     {
         Stores {
             places: RunMap::new(alloc, NO_PLACE),

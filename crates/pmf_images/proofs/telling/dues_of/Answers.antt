@@ -1,7 +1,7 @@
-use Rattle.std.proofs.Common.{◌≡◌, ◌+◌, refl, add-one, arith, rules}
+use Rattle.std.proofs.Common.{arith, rules}
 use Rattle.std.proofs.lemmas.List.Sorted.{IsNonDecreasingBy-from_sort_by_key}
 use Rattle.pmf_images.specs.declared.telling.Due.{Due}
-use Rattle.pmf_images.proofs.TellingLemmas.{due_more, due_sorted}
+use Rattle.pmf_images.proofs.TellingLemmas.{due_sorted}
 use Rattle.pmf_images.proofs.telling.dues_of.Goals as goal
 
 pub returns : goal.returns

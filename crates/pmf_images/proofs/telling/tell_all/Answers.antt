@@ -1,4 +1,4 @@
-use Rattle.std.proofs.Common.{◌≡◌, ◌+◌, ◌≤◌, ℕ, length, get_or, sym, subst, ◌∙◌, ap, arith}
+use Rattle.std.proofs.Common.{length, get_or, sym, subst, ◌∙◌, ap, arith}
 use Rattle.std.proofs.lemmas.List.{get_or_default, length-set}
 use Rattle.pmf_images.specs.{declared.telling.Due.{Due}, Telling.{AreDue}}
 use Rattle.pmf_images.proofs.TellingLemmas.{due_none, due-within, due-known, answered_more, answered_all}
