@@ -63,4 +63,3 @@ pub last_next : (old new place : ℕ) (test : Event → Bool) (es : List Event) 
     new ≡ (if test e then place else old) → old ≡ last test es p → new ≡ last test es (suc p)
 last_next old new place test es p e here at_place is was =
     is ∙ ap (λ k. if test e then k else old) at_place ∙ ap (λ k. if test e then suc p else k) was ∙ sym (last-step test es p e here)
-

@@ -69,7 +69,7 @@ fenced_is es line n =
           let flush = greatest-passes (at (flushes line) es) fence some in
           let is_fence_there = greatest-passes (at is_fence es) n (omega arith) in
           let apart : w ≡ fence → ⊥ = λ same. not_fence_and_flush es line fence is_fence_there (ap (at (flushes line) es) (sym same) ∙ flush) in
-          let less : w < fence = elim (cases_eq w fence) [ | inl same ↦ absurd (apart same) | inr other ↦ omega arith ] in
+          let less : w < fence = elim (cases_eq w fence) [ inl same ↦ absurd (apart same) | inr other ↦ omega arith ] in
           greatest-above (is_fenced es n line) n w some (omega arith)
           (and_from (at (flushes line) es w) (some_between (at is_fence es) w (n + 1)) flush (some_between-here (at is_fence es) w (n + 1) fence less (omega arith) is_fence_there))
       | inr none ↦ omega arith

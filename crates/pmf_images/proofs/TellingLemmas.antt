@@ -80,7 +80,7 @@ module _ (told : ℕ → ℕ → ℕ) (places : List ℕ) (asked : List Asked) (
         | inr other ↦
             let not_last : k ≡ i → ⊥ = λ last. other (ap (λ n. (get_or dues n d).index) last ∙ ap (λ (o : Due). o.index) (get_or_default dues i d e within)) in
             get_or-set_other old j (get_or dues k d).index x 0 other
-            ∙ before k d a (elim (cases_eq k i) [ | inl last ↦ absurd (not_last last) | inr not ↦ omega arith ])
+            ∙ before k d a (elim (cases_eq k i) [ inl last ↦ absurd (not_last last) | inr not ↦ omega arith ])
       ]
 
   -- all

@@ -12,6 +12,8 @@ mod places;
 mod showing;
 mod sums;
 mod telling;
+#[cfg(test)]
+mod tests;
 mod walks;
 
 pub use showing::{Asked, Shown, show_all};

@@ -94,11 +94,7 @@ pub(crate) fn write_back(
 
 /// Puts the place at each byte that the event stores to.
 #[tactic(auto, using(crate::proofs::PlaceLemmas::not_stored))]
-pub(crate) fn store(
-    places: &mut RunMap<Place>,
-    place: u32,
-    event: &Event,
-) -> Result<(), AllocError>
+pub(crate) fn store(places: &mut RunMap<Place>, place: u32, event: &Event) -> Result<(), AllocError>
     ensures { OnOk result ((b : ℕ) → (state_at places.new b).of
         ≡ (if stores b event.now then place else (state_at places.old b).of)) }
 {

@@ -37,11 +37,7 @@ pub struct Shown {
 ///
 /// Takes time in proportion to the events and to what is asked, but for a factor of the logarithm of either, and memory for the runs of
 /// bytes that events name, and for some numbers for each that is asked for. With nothing asked for it takes neither.
-pub fn show_all(
-    alloc: Global,
-    events: &[Event],
-    asked: &[Asked],
-) -> Result<Vec<Shown>, AllocError>
+pub fn show_all(alloc: Global, events: &[Event], asked: &[Asked]) -> Result<Vec<Shown>, AllocError>
     ensures { IfOk result (λ shown. shown.items ≡ map (shown_of events.now) asked.now) }
 {
     let mut shown = Vec::new(alloc);
@@ -105,7 +101,7 @@ fn places(alloc: Global, events: &[Event], asked: &[Asked]) -> Result<Vec<u32>, 
 {
     let mut places = Vec::new(alloc);
     for one in asked {
-        places.push(place_within(one.place, events))?;
+        places.push(place_within(one.certificate.crash, events))?;
     }
     Ok(places)
 }

@@ -92,7 +92,8 @@ impl<W: Walk> Course<W> {
         ensures place { OnOk result (self.new.place ≡ place) }
     {
         while self.place < place {
-            self.walk.follow(self.place + 1, &events[self.place as usize])?;
+            self.walk
+                .follow(self.place + 1, &events[self.place as usize])?;
             self.place += 1;
         }
         Ok(())

@@ -114,7 +114,12 @@ fn push_rows(text: &mut String, name: Name, rows: &[Row], shown: &[Shown]) -> Re
 
 // The row, if it counts as fail, of which this is shown.
 #[tactic(auto, using(crate::proofs::AskingLemmas::nothing_unless), unfolding(crate::specs::AllExplained::text_if_failed))]
-fn push_if_failed(text: &mut String, name: Name, row: &Row, shown: &[Shown]) -> Result<(), AllocError>
+fn push_if_failed(
+    text: &mut String,
+    name: Name,
+    row: &Row,
+    shown: &[Shown],
+) -> Result<(), AllocError>
     requires { length shown.now ≡ length (asked_of row.now) }
     ensures { (es : List Event) → shown.now ≡ map (shown_of es) (asked_of row.now)
         → OnOk result (string_bytes text.new ≡ string_bytes text.old ++ text_if_failed name es row.now) }
@@ -201,10 +206,22 @@ fn push_asked(asked: &mut Vec<Asked>, certificate: Certificate, row: &Row) -> Re
 {
     let place = row.place;
     match row.finding {
-        Finding::PersistFail { byte } | Finding::CheckFail { byte } => asked.push(Asked { certificate, place, byte })?,
+        Finding::PersistFail { byte } | Finding::CheckFail { byte } => asked.push(Asked {
+            certificate,
+            place,
+            byte,
+        })?,
         Finding::OrderedFail { byte, after, .. } => {
-            asked.push(Asked { certificate, place, byte })?;
-            asked.push(Asked { certificate, place, byte: after })?;
+            asked.push(Asked {
+                certificate,
+                place,
+                byte,
+            })?;
+            asked.push(Asked {
+                certificate,
+                place,
+                byte: after,
+            })?;
         }
         _ => {}
     }
