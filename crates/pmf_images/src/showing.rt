@@ -101,7 +101,7 @@ fn places(alloc: Global, events: &[Event], asked: &[Asked]) -> Result<Vec<u32>, 
 {
     let mut places = Vec::new(alloc);
     for one in asked {
-        places.push(place_within(one.certificate.crash, events))?;
+        places.push(place_within(one.place, events))?;
     }
     Ok(places)
 }
