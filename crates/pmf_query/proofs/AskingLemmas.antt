@@ -1,5 +1,5 @@
 -- What is asked and shown for the rows of a section.
-use Rattle.std.proofs.{Common.{◌≡◌, ℕ, ◌+◌, ◌<◌, ◌≤◌, List, [], ◌∷◌, ◌++◌, length, get_or, map, take, drop, flat_map, sym, ap, ◌∙◌, arith}, lemmas.List.{at_drop_more, map-append, length-map, length-append, take_at, drop_at, take_more, flat_map_more}, lemmas.Grind.{common_steps}}
+use Rattle.std.proofs.{Common.{◌≡◌, ℕ, ◌+◌, ◌<◌, List, [], ◌++◌, length, get_or, map, take, drop, flat_map, sym, ap, ◌∙◌, arith}, lemmas.List.{at_drop_more, map-append, length-map, length-append, take_at, drop_at, take_more, flat_map_more}, lemmas.Grind.{common_steps}}
 use Rattle.pmf_event.specs.declared.{finding.Finding.TheVariants.{PersistPass}, row.Row.{Row}}
 use Rattle.pmf_images.specs.declared.showing.{Asked.{Asked}, Shown.{Shown}}
 use Rattle.pmf_verdict.specs.declared.{outcome.Outcome.{Outcome}, outcome.Outcome.TheVariants.{Fail}}

@@ -1,4 +1,4 @@
-use Rattle.std.proofs.Common.{◌≡◌, ◌<◌, ◌+◌, ◌∙◌, ap, arith, length, string_bytes}
+use Rattle.std.proofs.Common.{◌∙◌, arith, string_bytes}
 use Rattle.pmf_images.specs.Showing.{shown_of}
 use Rattle.pmf_query.{specs.AllExplained.{text_if_failed}, proofs.AskingLemmas.{no_row, count_left, own_part, other_part, text_more}}
 use Rattle.pmf_query.proofs.explain_all.push_rows.Goals as goal
