@@ -45,20 +45,19 @@ fn each_failing_row_is_explained_behind_its_section(rt: HostRuntime) -> Result<(
     Ok(())
 }
 
-// A record that looks random: of a store, a write-back, a fence or an assertion about a few lines.
+// A record that looks random: a store, a write-back, a fence, or an assertion. An order is one of bytes that lie far apart.
 fn push_record(text: &mut String, index: u64) -> Result<(), AllocError> {
-    let mixed = index.wrapping_mul(index).wrapping_add(index.wrapping_mul(31));
-    let first = mixed % 5 * 0x40 + mixed % 3 * 0x10;
-    let second = mixed % 7 * 0x40;
+    let mixed = index.wrapping_mul(0x9e37_79b9_7f4a_7c15) >> 40;
+    let near = mixed % 5 * 0x40 + mixed % 3 * 0x10;
+    let far = mixed % 7 * 0x40 + 0x1000;
     match mixed % 11 {
-        0..=3 => write!(text, "STORE;0x{first:x};0;16|"),
-        4..=5 => write!(text, "FLUSH;0x{first:x};64|"),
+        0..=1 => write!(text, "STORE;0x{near:x};0;16|"),
+        2..=3 => write!(text, "STORE;0x{far:x};0;16|"),
+        4 => write!(text, "FLUSH;0x{near:x};64|"),
+        5 => write!(text, "FLUSH;0x{far:x};64|"),
         6 => write!(text, "FENCE|"),
-        7..=8 => write!(text, "PMT.PERSIST;0x{second:x};64|"),
-        _ => write!(
-            text,
-            "PMT.ORDERED;0x{first:x};16;0x{second:x};32|"
-        ),
+        7..=8 => write!(text, "PMT.PERSIST;0x{near:x};64|"),
+        _ => write!(text, "PMT.ORDERED;0x{near:x};32;0x{far:x};64|"),
     }
 }
 
