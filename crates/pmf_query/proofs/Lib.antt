@@ -1,7 +1,7 @@
 pub mod CursorLemmas
 pub mod PassedLemmas
 pub mod NumberFoundLemmas
-pub mod RowFitsLemmas
+pub mod AskingLemmas
 pub mod LocationLemmas
 pub mod GivingLemmas
 pub mod StandingLemmas

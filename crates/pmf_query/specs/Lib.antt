@@ -3,12 +3,14 @@ pub use Rattle.pmf_storelog.specs.Separators
 pub use Rattle.pmf_storelog.specs.LogText
 pub use Rattle.pmf_storelog.specs.LogValue
 pub use Rattle.pmf_image.specs.Certificate
+pub use Rattle.pmf_images.specs.Showing
 pub use Rattle.pmf_verdict.specs.Outcome
 pub use Rattle.pmf_verdict.specs.Explained
 pub use Rattle.pmf_verdict.specs.Text
 pub mod Refusals
 pub mod Explanation
 pub mod AllExplained
+pub mod Asking
 pub mod Walking
 pub mod Passing
 pub mod Locating

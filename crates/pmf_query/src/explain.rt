@@ -3,13 +3,14 @@
 ghost use Rattle.std.specs.Prelude.{◌≡◌, ◌≤◌, ◌++◌, length, OnOk, IfOk, MatchResult, string_bytes};
 ghost use Rattle.pmf_image.specs.Certificate.{Fits};
 ghost use Rattle.pmf_verdict.specs.Checked.{rows_in};
-ghost use Rattle.pmf_query.specs.{Explanation.{ExplainsPlace, IsExplanation, text_of_byte, text_of_bytes, text_of_image, text_of_line, text_of_certificate}, Refusals.{IsEventFault, IsEventRefusal}};
+ghost use Rattle.pmf_query.specs.{Asking.{text_of_shown}, Explanation.{ExplainsPlace, IsExplanation, text_of_byte, text_of_bytes, text_of_image, text_of_line, text_of_certificate}, Refusals.{IsEventFault, IsEventRefusal}};
 
 use crate::query::{Answer, Query};
 use crate::refusal::{EventFault, EventRefusal};
 use crate::section::section_with;
 use pmf_event::{Event, Finding, Profile, Row, line_of};
 use pmf_image::{Certificate, cut, last_store, shows};
+use pmf_images::Shown;
 use pmf_request::{Question, Sought};
 use pmf_storelog::read_log;
 use pmf_verdict::{Verdict, check, explain, write_rows_at};
@@ -163,7 +164,7 @@ pub(crate) fn push_bytes(
     }
 }
 
-#[tactic(auto, unfolding(crate::specs::Explanation::text_of_byte))]
+#[tactic(auto, unfolding(crate::specs::Explanation::text_of_byte, crate::specs::Asking::text_of_shown))]
 fn push_byte(
     text: &mut String,
     events: &[Event],
@@ -179,6 +180,15 @@ fn push_byte(
     let cut = cut(events, certificate, line_of(byte));
     let shows = shows(events, certificate, byte);
     let last = last_store(events, place, byte);
+    push_shown(text, byte, Shown { cut, shows, last })
+}
+
+/// The text line of a byte, of which the image shows this.
+#[tactic(auto, unfolding(crate::specs::Asking::text_of_shown))]
+pub(crate) fn push_shown(text: &mut String, byte: u64, shown: Shown) -> Result<(), AllocError>
+    ensures { OnOk result (string_bytes text.new ≡ string_bytes text.old ++ text_of_shown byte shown) }
+{
+    let Shown { cut, shows, last } = shown;
     write!(
         text,
         "byte=0x{byte:x} cut={cut} shows={shows} last={last}\n"

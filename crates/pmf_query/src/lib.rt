@@ -46,4 +46,4 @@ pub use query::{Answer, Query};
 pub use refusal::{EventFault, EventRefusal, LogRefusal};
 pub use standing::Standing;
 pub use summing::Sums;
-pub use telling::{lint_text, push_shown};
+pub use telling::{lint_text, push_ascii};

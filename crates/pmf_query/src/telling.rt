@@ -208,13 +208,13 @@ fn push_warning(text: &mut String, due: bool, warning: &str) -> Result<(), Alloc
 fn push_name(text: &mut String, name: &[u8]) -> Result<(), AllocError>
     ensures { OnOk result (string_bytes text.new ≡ string_bytes text.old ++ shown_name name.now) }
 {
-    push_shown(text, name, SHOWN)
+    push_ascii(text, name, SHOWN)
 }
 
 /// Writes bytes of a log in ASCII behind the text: up to so many of them, and `..` where there are more. A backslash is written twice,
 /// and a byte that is no printed character as `\xHH`. After an `Err` some of it may stand there.
 #[tactic(auto, using(crate::proofs::LintTextLemmas::short_text), unfolding(crate::specs::LintText::shown_text))]
-pub fn push_shown(text: &mut String, bytes: &[u8], most: usize) -> Result<(), AllocError>
+pub fn push_ascii(text: &mut String, bytes: &[u8], most: usize) -> Result<(), AllocError>
     ensures { OnOk result (string_bytes text.new ≡ string_bytes text.old ++ shown_text most bytes.now) }
 {
     if bytes.len() <= most {

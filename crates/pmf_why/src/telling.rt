@@ -8,7 +8,7 @@ use crate::kind::stands_at;
 use crate::row::BadRow;
 use pmf_cause::{Cause, Edit, Lack, Need};
 use pmf_event::{Finding, Name, Row};
-use pmf_query::{Located, push_shown};
+use pmf_query::{Located, push_ascii};
 use pmf_storelog::push_event;
 use pmf_verdict::push_row;
 use std::alloc::{AllocError, Global};
@@ -106,7 +106,7 @@ fn push_record(text: &mut String, located: Option<Located<'_>>) -> Result<(), Al
         Some(located) => {
             let record = located.record;
             write!(text, "record {record} ")?;
-            push_shown(text, located.text, SHOWN)?;
+            push_ascii(text, located.text, SHOWN)?;
             text.push_str("\n")
         }
         None => text.push_str("the section's end\n"),

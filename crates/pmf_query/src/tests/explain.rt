@@ -3,6 +3,7 @@
 use crate::{EventFault, EventRefusal, LogRefusal, Sought, explain_all_text, explain_text};
 use pmf_event::{Profile, SpanFault};
 use pmf_storelog::{Cause, LogFault};
+use std::alloc::AllocError;
 use std::test::Fail;
 
 // Neither store is written back before the other is made.
@@ -41,6 +42,45 @@ fn each_failing_row_is_explained_behind_its_section(rt: HostRuntime) -> Result<(
     assert!(rt; none.as_slice().is_empty());
     let refused = explain_all_text(rt.alloc(), FAULTY, 9, Profile::One);
     assert_eq!(rt; refused.err(), Some(LogRefusal::Log(FAULT)));
+    Ok(())
+}
+
+// A record that looks random: a store, a write-back, a fence, or an assertion. An order is one of bytes that lie far apart.
+fn push_record(text: &mut String, index: u64) -> Result<(), AllocError> {
+    let mixed = index.wrapping_mul(0x9e37_79b9_7f4a_7c15) >> 40;
+    let near = mixed % 5 * 0x40 + mixed % 3 * 0x10;
+    let far = mixed % 7 * 0x40 + 0x1000;
+    match mixed % 11 {
+        0..=1 => write!(text, "STORE;0x{near:x};0;16|"),
+        2..=3 => write!(text, "STORE;0x{far:x};0;16|"),
+        4 => write!(text, "FLUSH;0x{near:x};64|"),
+        5 => write!(text, "FLUSH;0x{far:x};64|"),
+        6 => write!(text, "FENCE|"),
+        7..=8 => write!(text, "PMT.PERSIST;0x{near:x};64|"),
+        _ => write!(text, "PMT.ORDERED;0x{near:x};32;0x{far:x};64|"),
+    }
+}
+
+#[test]
+fn all_rows_are_explained_as_each_alone(rt: HostRuntime) -> Result<(), Fail> {
+    let mut log = String::new(rt.alloc());
+    for index in 0..120 {
+        push_record(&mut log, index)?;
+    }
+    let log = log.as_bytes();
+    let mut want = Vec::new(rt.alloc());
+    let mut images = 0;
+    for place in 1..=120 {
+        let alone = explain_text(rt.alloc(), log, 9, 0, place, Profile::Two)?;
+        if !alone.as_slice().ends_with(b"no image\n") {
+            want.extend_from_slice(b"section 9.0\n")?;
+            want.extend_from_slice(alone.as_slice())?;
+            images += 1;
+        }
+    }
+    let all = explain_all_text(rt.alloc(), log, 9, Profile::Two)?;
+    assert!(rt; images > 10, "{images}");
+    assert!(rt; all.as_slice() == want.as_slice());
     Ok(())
 }
 

@@ -1,0 +1,5 @@
+pub mod CountLemmas
+pub mod PlaceLemmas
+pub mod ShownLemmas
+pub mod SumsLemmas
+pub mod TellingLemmas

@@ -1,0 +1,9 @@
+pub use Rattle.pmf_event.specs.Store
+pub use Rattle.pmf_image.specs.Certificate
+pub use Rattle.pmf_runs.specs.Runs
+pub mod Showing
+pub mod Horizons
+pub mod Walks
+pub mod Telling
+pub mod Counts
+pub mod Sums
