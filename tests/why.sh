@@ -69,6 +69,14 @@ why_one_store='0.0 2 ORDERED SAMELINE byte=0x1000 after=0x1008
   cure     none found
 rows=1 told=1 untold=0; with all cures: pass=0 fail=1'
 
+unclosed='PMT.CHECKSTART|FENCE'
+why_unclosed="0.0 3 SECTION UNCLOSED start=1
+  event    the section's end
+  cause    the scope that record 1 opened is still open
+  cure     at the end: PMT.CHECKEND
+           this row then passes
+rows=1 told=1 untold=0; with all cures: pass=1 fail=0"
+
 # tells_each_row LOG WORD..: `why --all-rows` tells the rows that tools/rows lists as fails and warnings, in this order.
 tells_each_row() {
     local log=$1
@@ -126,6 +134,7 @@ rows=1 told=1 untold=0; with all cures: pass=9 fail=0" '' why --event 12 "$appen
         why --section 9.3 --run 5 examples/order_and_warnings.log
     check 'why finds no cure where one store writes both bytes' told 0 "$one_store" "$why_one_store" '' why
     check 'nor by profile 2' told 0 "$one_store" "$why_one_store" '' why --profile 2
+    check "why tells a row of a section's end" told 0 "$unclosed" "$why_unclosed" '' why --event 3
     check 'why tells no row where none fails' told 0 "$(cat examples/first.log)" \
         'rows=0 told=0 untold=0; with all cures: pass=1 fail=0' '' why
     check 'why of an empty log' told 0 '' 'rows=0 told=0 untold=0; with all cures: pass=0 fail=0' '' why
