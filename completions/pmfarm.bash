@@ -3,15 +3,17 @@ _pmfarm() {
     local word=${COMP_WORDS[COMP_CWORD]} before=${COMP_WORDS[COMP_CWORD - 1]} command=${COMP_WORDS[1]}
     COMPREPLY=()
     if [ "$COMP_CWORD" -eq 1 ]; then
-        mapfile -t COMPREPLY < <(compgen -W 'check explain locate lint cut join sim help --help -h --version -V' -- "$word")
-    elif [[ "$command" = @(check|explain) && "$before" = --profile ]]; then
+        mapfile -t COMPREPLY < <(compgen -W 'check explain why locate lint cut join sim help --help -h --version -V' -- "$word")
+    elif [[ "$command" = @(check|explain|why) && "$before" = --profile ]]; then
         mapfile -t COMPREPLY < <(compgen -W '1 2' -- "$word")
-    elif [[ "$command" = @(check|explain|locate|lint) && "$before" != --@(run|workers|profile|section|event) && "$word" != -* ]]; then
+    elif [[ "$command" = @(check|explain|why|locate|lint) && "$before" != --@(run|workers|profile|section|event|first) && "$word" != -* ]]; then
         mapfile -t COMPREPLY < <(compgen -f -- "$word")
     elif [ "$command" = check ] && [[ "$before" != --@(run|workers) ]]; then
         mapfile -t COMPREPLY < <(compgen -W '--workers --run --profile --ledger --help -h' -- "$word")
     elif [ "$command" = explain ] && [[ "$before" != --@(run|section|event) ]]; then
         mapfile -t COMPREPLY < <(compgen -W '--section --event --all --run --profile --help -h' -- "$word")
+    elif [ "$command" = why ] && [[ "$before" != --@(run|section|event|first) ]]; then
+        mapfile -t COMPREPLY < <(compgen -W '--section --event --first --all-rows --run --profile --help -h' -- "$word")
     elif [ "$command" = locate ] && [[ "$before" != --@(run|section|event) ]]; then
         mapfile -t COMPREPLY < <(compgen -W '--section --event --run --help -h' -- "$word")
     elif [ "$command" = lint ]; then
@@ -29,7 +31,7 @@ _pmfarm() {
     elif [ "$command" = sim ] && [[ "$before" != --@(workers|ledgers) ]]; then
         mapfile -t COMPREPLY < <(compgen -W '--log --workers --ledgers --help -h' -- "$word")
     elif [ "$command" = help ]; then
-        mapfile -t COMPREPLY < <(compgen -W 'check explain locate lint cut join sim' -- "$word")
+        mapfile -t COMPREPLY < <(compgen -W 'check explain why locate lint cut join sim' -- "$word")
     fi
 }
 complete -F _pmfarm pmfarm

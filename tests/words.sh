@@ -28,12 +28,27 @@ help_of_explain() {
     done
 }
 
+# The help of why has its own examples, and the words of its text as docs/FORMATS.md spells them.
+help_of_why() {
+    local words
+    "$program" why --help >"$scratch/report" 2>"$scratch/diagnostics"
+    ended 0 $? && same /dev/null "$scratch/diagnostics" || return
+    sed -n 's/^  \(  .*\|0\.0 .*\|rows=.*\)$/\1/p' "$scratch/report" | grep -x -F -f <(printf '%s\n' "$why_unfenced") |
+        said "$why_unfenced" - || return
+    for words in lost event cause cure alike; do
+        grep -q "^| \`  $words " docs/FORMATS.md && grep -Eq "^\.BR? \"?$words" man/pmfarm.1 || {
+            printf 'docs/FORMATS.md or the man page lacks %s\n' "$words"
+            return 1
+        }
+    done
+}
+
 # A log in a file has the answer of the same log on standard input, which is not read then.
 from_files() {
     local log words wanted
     printf 'FENCE|PMT.PERSITS;8;8' >"$scratch/misspelt.log"
     for log in examples/order_and_warnings.log examples/first.log "$scratch/misspelt.log" /dev/null examples; do
-        for words in check 'check --ledger --run 7' lint 'explain --all' 'explain --section 0.0 --event 1' 'locate --section 0 --event 1'; do
+        for words in check 'check --ledger --run 7' lint 'explain --all' 'explain --section 0.0 --event 1' why 'why --section 4 --all-rows' 'locate --section 0 --event 1'; do
             # (the words are parted at blanks)
             "$program" $words <"$log" >"$scratch/wanted" 2>"$scratch/told"
             wanted=$?
@@ -49,7 +64,7 @@ from_files() {
 # A file that is not there, by each command that reads a log.
 missing_file() {
     local words
-    for words in check lint 'explain --all' 'explain --section 0 --event 1' 'locate --section 0 --event 1'; do
+    for words in check lint 'explain --all' 'explain --section 0 --event 1' why 'locate --section 0 --event 1'; do
         told 4 FENCE '' $'pmfarm: no.log: read failed\npmfarm: hint: No such file or directory (os error 2)' $words no.log || return
     done
 }
@@ -86,6 +101,7 @@ cut_off_texts() {
     done >"$scratch/texts"
     printf '%s\n' "$one_image" >"$scratch/image"
     printf 'section 0.0\n%s\n' "$one_image" >"$scratch/images"
+    printf '%s\n' "$why_appends" >"$scratch/causes"
     printf '%s\n' "$one_place" >"$scratch/place"
     printf '%s\n' "$what_it_holds" >"$scratch/holds"
     "$program" --help >"$scratch/help" || return
@@ -94,6 +110,7 @@ cut_off_texts() {
         '/dev/null examples/shared.ledger join --ledger examples/shared.ledger' \
         "examples/written_back_at_one_fence.log $scratch/image explain --section 0 --event 6" \
         "examples/written_back_at_one_fence.log $scratch/images explain --all" \
+        "examples/c/append_log.missing_fence.log $scratch/causes why" \
         "examples/written_back_at_one_fence.log $scratch/place locate --section 0 --event 6" \
         "examples/order_and_warnings.log $scratch/holds lint" \
         'examples/shared_a.log examples/shared_a.log cut' \
@@ -113,6 +130,7 @@ cut_off_texts() {
 try_words() {
     check 'help goes to standard output' help_text
     check 'the help of explain has its examples and the words of its text' help_of_explain
+    check 'the help of why has a text of it, and its words' help_of_why
     check 'no word is refused' refused
     check 'an unknown word is refused' refused chek
     check 'a word that is not UTF-8 is refused' refused $'\xff'

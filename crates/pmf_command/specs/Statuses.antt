@@ -69,7 +69,7 @@ abbrev pub status_of_check_fault : CheckLogFault → Status
 status_of_check_fault (checking.Log fault) = status_of_log_fault fault
 status_of_check_fault (checking.Farm fault) = status_of_farm_fault fault
 
--- how the program ends where rows are explained, an event located, or the schedule played
+-- how the program ends where rows are explained, causes told, an event located, or the schedule played
 abbrev pub status_of_asked : Unit {0} → Status
 status_of_asked done = NoFail
 

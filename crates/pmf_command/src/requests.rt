@@ -14,6 +14,7 @@ use pmf_ledger::LEDGER_LIMIT;
 use pmf_request::{Cuts, Files, Input, Overview, Request, Simulation};
 use pmf_storelog::LOG_LIMIT;
 use pmf_stream::{Device, Excerpt, Outlet, Sink, Source, read_all};
+use pmf_why::Why;
 use pmf_world::{SCHEDULE_LIMIT, SimFault};
 use std::alloc::Global;
 use std::io::Eprint;
@@ -74,6 +75,7 @@ pub(crate) fn input_of<'a>(request: &Request<'a>) -> Input<'a>
         Request::Check(_, input)
         | Request::Explain(_, input)
         | Request::ExplainAll(_, input)
+        | Request::Why(_, input)
         | Request::Locate(_, input)
         | Request::Lint(input) => *input,
         Request::Cut(_) | Request::Join(_) | Request::Sim(_) => Input::Standard,
@@ -117,6 +119,10 @@ fn answer_from<
         Request::Check(settings, _) => check_to(rt, threads, alloc, source, sink, *settings),
         Request::Explain(question, _) => answer_to(rt, alloc, source, sink, question),
         Request::ExplainAll(whole, _) => answer_to(rt, alloc, source, sink, whole),
+        Request::Why(reasons, _) => {
+            let why = Why { asked: *reasons };
+            answer_to(rt, alloc, source, sink, &why)
+        }
         Request::Locate(sought, _) => answer_to(rt, alloc, source, sink, sought),
         Request::Lint(_) => answer_to(rt, alloc, source, sink, &Overview),
         Request::Cut(cuts) => {

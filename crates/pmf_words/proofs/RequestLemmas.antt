@@ -1,7 +1,7 @@
 -- What the matches of a command say of its options, and what the parts of a command have to do with its words.
 use Rattle.std.{proofs.Common.{◌≡◌, ℕ, ◌<◌, ◌^◌, Bool, List, [], ◌∷◌, ◌||◌, refl, ◌∙◌, ap, subst, Option, Some, None, Result, Ok, Err, option_map, map, codes, true, false, Bor, unwrap_or, IfOk, decimal}, specs.List.{list_any}, specs.Str.Parse.{ParsesUnsigned, ExplainsUnsignedError, HasUnsignedDigitsIfOk}, proofs.lemmas.Fmt.{parse-decimal}, specs.declared.alloc.AllocError.{AllocError}, specs.declared.num.ParseIntError.{ParseIntError}}
 use Rattle.clap.{specs.Matches.{ReadsOne}, specs.declared.parser.matches.Found.{Found}, specs.Words.{Text, one_text, rows_of, rule_of, with_rule, with_subcommand, app_of, AddsArg, AddsSubcommand, App, Rule, is_simple}, specs.declared.builder.arg.Arg.{Arg}, specs.declared.builder.command.Command.{Command}, specs.declared.builder.value_parser.ValueParser.{ValueParser}, proofs.OnLiterals.{clap_on_literals}, proofs.WalkLemmas.{one_text-rows}}
-use Rattle.pmf_words.specs.Words.{HasWords, IsNumberOf, IsFlagOf, pmfarm_words}
+use Rattle.pmf_words.specs.Words.{HasWords, IsMaybeNumberOf, IsNumberOf, IsFlagOf, pmfarm_words}
 
 ok-same : {E : Type 0} (r : Result ℕ E) (v k : ℕ) → r ≡ Ok v → r ≡ Ok k → v ≡ k
 ok-same r v k a b = cc
@@ -21,6 +21,20 @@ number-named bits f name None n d small reads is k below named =
 number-named bits f name (Some v) n d small reads is k below named =
     let read = reads (decimal k) (one_text-rows f name ∙ named) in
     is ∙ number-of-ok ParseIntError bits v k (small k below) below read.0
+
+-- the same of an option that may be left out
+pub maybe-number-named : (bits : ℕ) (f : Found) (name : Text) (o : Option ℕ) → ((k : ℕ) → k < 2 ^ bits → k < 2 ^ 64) →
+    (one_text f name ≡ None → o ≡ None) →
+    ((t : List ℕ) → one_text f name ≡ Some t → ReadsOne (λ bs r. ParsesUnsigned bits 10 bs r × ExplainsUnsignedError 10 bs r × HasUnsignedDigitsIfOk bs r) t o) →
+    IsMaybeNumberOf (rows_of f) name bits o
+maybe-number-named bits f name None small none reads = record {
+  given = λ k below named. absurd (err-other _ (reads (decimal k) (one_text-rows f name ∙ named)).0 k refl (parse-decimal bits k (decimal k) _ below (small k below) refl (reads (decimal k) (one_text-rows f name ∙ named)).1.0));
+  left_out = λ _. refl;
+}
+maybe-number-named bits f name (Some v) small none reads = record {
+  given = λ k below named. ap Some (number-of-ok ParseIntError bits v k (small k below) below (reads (decimal k) (one_text-rows f name ∙ named)).0);
+  left_out = λ named. none (one_text-rows f name ∙ named);
+}
 
 pub flag-named : (f : Found) (name : Text) (flag : Bool) → (one_text f name ≡ Some (codes "true") → flag ≡ true) →
     (one_text f name ≡ Some (codes "false") → flag ≡ false) → IsFlagOf (rows_of f) name flag
@@ -73,7 +87,7 @@ pub any-map : {X : Type 0} (f : X → Text) (p : Text → Bool) (xs : List X) �
 any-map f p [] = refl
 any-map f p (x ∷ xs) = ap (λ b. p (f x) || b) (any-map f p xs)
 
-pub is_simple-words : (all : Bool) (p q : ValueParser) → is_simple (pmfarm_words all p q) ≡ true
+pub is_simple-words : (all : Bool) (p q r : ValueParser) → is_simple (pmfarm_words all p q r) ≡ true
 unfolding clap_on_literals
-is_simple-words true p q = refl
-is_simple-words false p q = refl
+is_simple-words true p q r = refl
+is_simple-words false p q r = refl

@@ -1,9 +1,9 @@
 -- The words of the command line: the commands and options of the program, and what they ask for. Defined here,
 -- in the words of `clap`.
-use Rattle.std.specs.{Prelude.{◌≡◌, ℕ, ◌<◌, ◌^◌, pos, Bool, true, false, List, [], ◌∷◌, ◌++◌, map, option_map, None, Some, codes, bytes_eq, decimal}, List.{list_any}}
+use Rattle.std.specs.{Prelude.{◌≡◌, ℕ, ◌<◌, ◌^◌, pos, Bool, true, false, List, [], ◌∷◌, ◌++◌, map, Option, option_map, None, Some, codes, bytes_eq, decimal, if◌then◌else◌}, List.{list_any}}
 use Rattle.clap.specs.{Words.{App, Row, Rule, Text, all_of, first_of, one_of, app_of, new_app, new_rule, subcommand_of, with_rule, with_subcommand}, Simple.{new_shape}, declared.builder.action.ArgAction.TheVariants.{Append, SetTrue}, declared.builder.command.Command.{Command, out-Command}, declared.builder.value_parser.ValueParser.{ValueParser}}
 use Rattle.pmf_event.specs.declared.profile.Profile.{Profile}
-use Rattle.pmf_request.specs.declared.{settings.Question.{Question}, settings.Settings.{Settings}, settings.Sought.{Sought}, settings.Whole.{Whole}, request.Cuts.{Cuts}, request.Files.{Files}, request.Input.{Input}, request.Simulation.{Simulation}, request.Request.{Request}}
+use Rattle.pmf_request.specs.declared.{settings.Question.{Question}, settings.Reasons.{Reasons}, settings.Settings.{Settings}, settings.Sought.{Sought}, settings.Whole.{Whole}, request.Cuts.{Cuts}, request.Files.{Files}, request.Input.{Input}, request.Simulation.{Simulation}, request.Request.{Request}}
 use Rattle.clap.specs.declared.builder.value_parser.ValueParser.TheVariants as vp
 use Rattle.pmf_event.specs.declared.profile.Profile.TheVariants as profile
 use Rattle.pmf_request.specs.declared.request.Input.TheVariants as input
@@ -11,16 +11,23 @@ use Rattle.pmf_request.specs.declared.request.Request.TheVariants as request
 
 -- ---- the options
 
--- numbers below 2^32, and below 2^64
+-- numbers below 2^32, below 2^64, and from 1 to 1000
 abbrev pub small_number : ValueParser
 small_number = vp.Signed (pos 0) (pos 4294967295)
 
 abbrev pub large_number : ValueParser
 large_number = vp.Unsigned 0 18446744073709551615
 
+abbrev pub row_count : ValueParser
+row_count = vp.Signed (pos 1) (pos 1000)
+
 -- an option with one value
 abbrev pub option : Text → Rule
 option name = record (new_rule name) { long = Some name; value_names = 1 }
+
+-- an option with a number, which may be left out
+abbrev pub maybe_number : Text → ValueParser → Rule
+maybe_number name parser = record (option name) { parser = Some parser }
 
 -- an option that has to be given
 abbrev pub asked : Text → Rule
@@ -63,6 +70,13 @@ explain_words false words =
     with_rule (with_rule (with_rule (with_rule (with_rule (with_rule (new_app (codes "explain"))
     (asked (codes "section"))) (asked_number (codes "event") small_number)) (flag (codes "all"))) run_option) (profile_option words)) log_word
 
+-- with neither a section nor an event, the rows of all sections are told of
+abbrev pub why_words : ValueParser → App
+why_words words =
+    with_rule (with_rule (with_rule (with_rule (with_rule (with_rule (with_rule (new_app (codes "why"))
+    (option (codes "section"))) (maybe_number (codes "event") small_number)) (maybe_number (codes "first") row_count)) (flag (codes "all-rows")))
+    run_option) (profile_option words)) log_word
+
 abbrev pub locate_words : App
 locate_words =
     with_rule (with_rule (with_rule (with_rule (new_app (codes "locate"))
@@ -94,16 +108,16 @@ sim_words =
     with_rule (with_rule (with_rule (new_app (codes "sim"))
     (asked (codes "log"))) (asked_number (codes "workers") small_number)) (asked_number (codes "ledgers") small_number)
 
--- the program with its seven commands, and whether an explanation of all is asked for
+-- the program with its eight commands, and whether an explanation of all is asked for
 abbrev pub program_words : App
 program_words = record (new_app (codes "pmfarm")) {
   top = record (new_shape (codes "pmfarm")) { has_version = true; subcommand_required = true };
 }
 
-abbrev pub pmfarm_words : Bool → ValueParser → ValueParser → App
-pmfarm_words all p q =
-    with_subcommand (with_subcommand (with_subcommand (with_subcommand (with_subcommand (with_subcommand (with_subcommand program_words (check_words p).top)
-    (explain_words all q).top) locate_words.top) lint_words.top) cut_words.top) join_words.top) sim_words.top
+abbrev pub pmfarm_words : Bool → ValueParser → ValueParser → ValueParser → App
+pmfarm_words all p q r =
+    with_subcommand (with_subcommand (with_subcommand (with_subcommand (with_subcommand (with_subcommand (with_subcommand (with_subcommand program_words (check_words p).top)
+    (explain_words all q).top) (why_words r).top) locate_words.top) lint_words.top) cut_words.top) join_words.top) sim_words.top
 
 -- the command has these words, and no option that its subcommands share
 pub record HasWords (words : App) (c : Command) : Type 0 where
@@ -115,6 +129,11 @@ pub record HasWords (words : App) (c : Command) : Type 0 where
 -- n is the number that the option names, where its word is that number's decimal text
 abbrev pub IsNumberOf : List Row → Text → ℕ → ℕ → Type 0
 IsNumberOf rows name bits n = (k : ℕ) → k < 2 ^ bits → one_of name rows ≡ Some (decimal k) → n ≡ k
+
+-- n is the number that the option names so, and there is none where it isn't given
+pub record IsMaybeNumberOf (rows : List Row) (name : Text) (bits : ℕ) (n : Option ℕ) : Type 0 where
+  pub given : (k : ℕ) → k < 2 ^ bits → one_of name rows ≡ Some (decimal k) → n ≡ Some k
+  pub left_out : one_of name rows ≡ None → n ≡ None
 
 -- the profile is the one that the option names
 pub record IsProfileOf (rows : List Row) (p : Profile) : Type 0 where
@@ -141,6 +160,16 @@ abbrev pub IsSectionOf : List Row → ℕ → ℕ → Type 0
 IsSectionOf rows run section =
     (asked : ℕ) × IsNumberOf rows (codes "run") 64 asked × ((word : Text) → first_of (codes "section") rows ≡ Some word → NamesSection word asked run section)
 
+-- the same, where the section's option is given; and else there is no section
+pub record IsMaybeSectionOf (rows : List Row) (run : ℕ) (section : Option ℕ) : Type 0 where
+  pub given : (word : Text) → first_of (codes "section") rows ≡ Some word → (number : ℕ) × (section ≡ Some number) × IsSectionOf rows run number
+  pub left_out : first_of (codes "section") rows ≡ None → (section ≡ None) × IsNumberOf rows (codes "run") 64 run
+
+-- so many rows are told as `--first` names; where it isn't given, 20, or as many as a number of 32 bits counts where each row is told
+pub record IsFirstOf (rows : List Row) (all : Bool) (first : ℕ) : Type 0 where
+  pub given : IsNumberOf rows (codes "first") 32 first
+  pub left_out : one_of (codes "first") rows ≡ None → first ≡ (if all then 4294967295 else 20)
+
 -- the settings are those that the words of `check` name
 pub record IsCheckOf (rows : List Row) (s : Settings) : Type 0 where
   pub workers : IsNumberOf rows (codes "workers") 32 s.workers
@@ -158,6 +187,14 @@ pub record IsExplainOf (rows : List Row) (q : Question) : Type 0 where
 pub record IsExplainAllOf (rows : List Row) (w : Whole) : Type 0 where
   pub run : IsNumberOf rows (codes "run") 64 w.run
   pub profile_is : IsProfileOf rows w.profile
+
+-- the rows that are asked for are those that the words of `why` name
+pub record IsWhyOf (rows : List Row) (r : Reasons) : Type 0 where
+  pub section : IsMaybeSectionOf rows r.run r.section
+  pub profile_is : IsProfileOf rows r.profile
+  pub event : IsMaybeNumberOf rows (codes "event") 32 r.event
+  pub first : IsFirstOf rows r.all r.first
+  pub all : IsFlagOf rows (codes "all-rows") r.all
 
 -- the event is the one that the words of `locate` name
 pub record IsLocateOf (rows : List Row) (s : Sought) : Type 0 where
@@ -192,6 +229,10 @@ IsExplainBy false rows (request.Explain question log) = IsExplainOf rows questio
 IsExplainBy true rows (request.ExplainAll whole log) = IsExplainAllOf rows whole × IsInputOf rows log
 IsExplainBy all rows _ = ⊥
 
+abbrev pub IsWhyBy : List Row → Request → Type 0
+IsWhyBy rows (request.Why reasons log) = IsWhyOf rows reasons × IsInputOf rows log
+IsWhyBy rows _ = ⊥
+
 abbrev pub IsLocateBy : List Row → Request → Type 0
 IsLocateBy rows (request.Locate sought log) = IsLocateOf rows sought × IsInputOf rows log
 IsLocateBy rows _ = ⊥
@@ -216,6 +257,7 @@ IsSimBy rows _ = ⊥
 pub record IsRequestBy (all : Bool) (command : Text) (rows : List Row) (asked : Request) : Type 0 where
   pub check : command ≡ codes "check" → IsCheckBy rows asked
   pub explain : command ≡ codes "explain" → IsExplainBy all rows asked
+  pub why : command ≡ codes "why" → IsWhyBy rows asked
   pub locate : command ≡ codes "locate" → IsLocateBy rows asked
   pub lint : command ≡ codes "lint" → IsLintBy rows asked
   pub cut : command ≡ codes "cut" → IsCutBy rows asked
@@ -229,5 +271,5 @@ names_all words = list_any (λ word. bytes_eq word (codes "--all")) words
 -- the request is what these words ask for, the first of which names the program
 abbrev pub IsRequestOf : List Text → Request → Type 0
 IsRequestOf words asked =
-    (p q : ValueParser) × ((command : Text) (rows : List Row) → subcommand_of (pmfarm_words (names_all words) p q) words ≡ Some (command, rows) →
+    (p q r : ValueParser) × ((command : Text) (rows : List Row) → subcommand_of (pmfarm_words (names_all words) p q r) words ≡ Some (command, rows) →
     IsRequestBy (names_all words) command rows asked)

@@ -2,11 +2,11 @@
 
 ghost use Rattle.std.specs.Prelude.{◌≡◌, false, true, Ok, IfOk};
 ghost use Rattle.clap.specs.{Words.{App, Rule, new_app, rule_of, with_rule, with_subcommand}, declared.builder.value_parser.ValueParser.{ValueParser}};
-ghost use Rattle.pmf_words.specs.Words.{HasWords, check_words, cut_words, explain_words, join_words, lint_words, locate_words, pmfarm_words, profile_option, program_words, run_option, sim_words};
+ghost use Rattle.pmf_words.specs.Words.{HasWords, check_words, cut_words, explain_words, join_words, lint_words, locate_words, pmfarm_words, profile_option, program_words, run_option, sim_words, why_words};
 
 use crate::options::{
-    all, asked_number, bytes, event, events, file, files, ledger, log, log_file, profile, run,
-    section, step, workers,
+    all, all_rows, asked_number, bytes, event, events, file, files, first, ledger, log, log_file,
+    only_event, only_section, profile, run, section, step, workers,
 };
 use clap::{Arg, Command};
 use std::alloc::{AllocError, Global};
@@ -27,6 +27,9 @@ Examples:
   pmfarm explain --section 0.0 --event 6 store.log
                                     what a crash can leave where event 6 fails
   pmfarm explain --all store.log    the same of each row that counts as fail
+  pmfarm why store.log              why each kind of row is no PASS, and a cure
+  pmfarm why --all-rows --section 0.3 store.log
+                                    the same of each row of `section 0.3`
   pmfarm locate --section 0.0 --event 6 store.log
                                     the record that gave event 6
   pmfarm lint store.log             what the log holds, and what is strange in it
@@ -40,8 +43,9 @@ Examples:
 
 Exit status:
   0  no row of the report counts as fail (which is not the same as: checked), or
-     the rows were explained, the event was located, `lint` has no warning, the
-     log was cut and nothing may be lost, or the schedule was played
+     the rows were explained, the causes were told, also where no row fails, the
+     event was located, `lint` has no warning, the log was cut and nothing may be
+     lost, or the schedule was played
   1  some row counts as fail, `lint` warns, or what a cut may change was told
   2  the input or the command line was refused
   3  memory ran out
@@ -73,12 +77,46 @@ Exit status:
   3  memory ran out
   4  a read or a write failed";
 
-/// The program with its seven commands. Which words `explain` takes depends on whether it is asked for all rows.
+const WHY_HELP: &str = "\
+Examples:
+  pmfarm why store.log              the first row of each kind, at most 20 rows
+  pmfarm why --section 0.3 store.log
+                                    the same of `section 0.3` alone
+  pmfarm why --section 3 --event 6 store.log
+                                    the row of event 6 of that section
+  pmfarm why --all-rows --first 100 store.log
+                                    the first 100 rows, each by itself
+
+What is written of a row, and at the end:
+  0.0 4 ORDERED FAIL byte=0x10040 after=0x10000 crash=3
+    lost     record 1 STORE;0x10040;0x1;0x18;append (append_log.c:59)
+    kept     record 3 STORE;0x10000;0x1;0x8;append (append_log.c:63)
+    cause    not fenced: written back by record 2, no fence before record 3; too late by record 6
+    cure     before record 3: FENCE
+             this row then passes
+  rows=1 told=1 untold=0; with all cures: pass=2 fail=0
+
+  lost, kept   the store that a crash may lose, and the one that it keeps
+  event        where no store is lost: the event of the row
+  cure         changes of the log, and what a check with them found; or `none
+               found`, or `with all cures this row passes`
+  alike        so many rows more have this finding, this cause, and this place
+               in the source
+  untold       so many rows are neither told nor alike to one that is
+
+Exit status:
+  0  the causes were told, also where no row fails
+  2  the input or the command line was refused
+  3  memory ran out
+  4  a read or a write failed";
+
+/// The program with its eight commands. Which words `explain` takes depends on whether it is asked for all rows.
 pub(crate) fn program<'a>(alloc: Global, all: bool) -> Result<Command<'a>, AllocError>
-    ensures { (p q : ValueParser) × IfOk result (HasWords (pmfarm_words all p q)) }
+    ensures { (p q r : ValueParser) × IfOk result (HasWords (pmfarm_words all p q r)) }
 {
     let program = with(no_command(alloc), check(alloc));
     let program = with(program, explain(alloc, all));
+    let program = with(program, why(alloc));
     let program = with(program, locate(alloc));
     let program = with(program, lint(alloc));
     let program = with(program, cut(alloc));
@@ -153,7 +191,7 @@ fn with_option<'a>(
     added(command, Ok(option), Command::arg)
 }
 
-// The same with the run and the profile, which `check` and `explain` take.
+// The same with the run and the profile, which `check`, `explain` and `why` take.
 fn with_run_and_profile<'a>(
     alloc: Global,
     command: Result<Command<'a>, AllocError>,
@@ -206,6 +244,19 @@ fn explain_rows<'a>(alloc: Global) -> Result<Command<'a>, AllocError>
     let explain = with_option(explain, all(alloc));
     let explain = with_run_and_profile(alloc, explain);
     with_option(explain, log_file(alloc))
+}
+
+fn why<'a>(alloc: Global) -> Result<Command<'a>, AllocError>
+    ensures { (q : ValueParser) × IfOk result (HasWords (why_words q)) }
+{
+    let about = "Writes why rows are no PASS: the lost store, its cause, and a checked cure";
+    let why = Ok(head(alloc, "why", about, WHY_HELP));
+    let why = with_option(why, only_section(alloc));
+    let why = with_option(why, only_event(alloc));
+    let why = with_option(why, first(alloc));
+    let why = with_option(why, all_rows(alloc));
+    let why = with_run_and_profile(alloc, why);
+    with_option(why, log_file(alloc))
 }
 
 fn locate<'a>(alloc: Global) -> Result<Command<'a>, AllocError>

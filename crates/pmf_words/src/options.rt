@@ -2,7 +2,7 @@
 
 ghost use Rattle.std.specs.Prelude.{◌≡◌, false, Some, codes};
 ghost use Rattle.clap.specs.{Words.{rule_of}, declared.builder.value_parser.ValueParser.{ValueParser}};
-ghost use Rattle.pmf_words.specs.Words.{asked, asked_number, file_words, flag, large_number, log_word, number, option, profile_option, run_option, small_number};
+ghost use Rattle.pmf_words.specs.Words.{asked, asked_number, file_words, flag, large_number, log_word, maybe_number, number, option, profile_option, row_count, run_option, small_number};
 
 use clap::builder::ValueParser;
 use clap::{Arg, ArgAction, value_parser};
@@ -27,7 +27,7 @@ fn parsed<'a>(
     help: &'a str,
     parser: ValueParser<'a>,
 ) -> Arg<'a>
-    ensures rule { rule_of result ≡ record (option name.entry.now) { parser = Some parser.entry } }
+    ensures rule { rule_of result ≡ maybe_number name.entry.now parser.entry }
     ensures local { result.global ≡ false }
 {
     option(alloc, name, value, help).value_parser(parser)
@@ -54,7 +54,7 @@ pub(crate) fn workers<'a>(alloc: Global) -> Arg<'a>
     parsed(alloc, "workers", "N", help, value_parser!(u32)).default_value("1")
 }
 
-// The run and the profile, which `check` and `explain` take.
+// The run and the profile, which `check`, `explain` and `why` take.
 pub(crate) fn run<'a>(alloc: Global) -> Arg<'a>
     ensures rule { rule_of result ≡ run_option }
     ensures local { result.global ≡ false }
@@ -93,6 +93,33 @@ pub(crate) fn event<'a>(alloc: Global) -> Arg<'a>
 {
     let help = "The place of the event in its section, counted from 1";
     asked_number(alloc, "event", "K", help)
+}
+
+// The section and the event that `why` is asked for alone, if any are.
+pub(crate) fn only_section<'a>(alloc: Global) -> Arg<'a>
+    ensures rule { rule_of result ≡ option (codes "section") }
+    ensures local { result.global ≡ false }
+{
+    let help = "The only section that is told of: its number, or R.N as in a report";
+    option(alloc, "section", "N", help)
+}
+
+pub(crate) fn only_event<'a>(alloc: Global) -> Arg<'a>
+    ensures rule { rule_of result ≡ maybe_number (codes "event") small_number }
+    ensures local { result.global ≡ false }
+{
+    let help = "The only event of each section that is told of, counted from 1";
+    parsed(alloc, "event", "K", help, value_parser!(u32))
+}
+
+// How many rows `why` tells.
+pub(crate) fn first<'a>(alloc: Global) -> Arg<'a>
+    ensures rule { rule_of result ≡ maybe_number (codes "first") row_count }
+    ensures local { result.global ≡ false }
+{
+    let help = "The most rows that are told, 1 to 1000; 20, or with --all-rows all";
+    let parser = value_parser!(u32).range(1..=1000);
+    parsed(alloc, "first", "N", help, parser)
 }
 
 // The most events of a part and the step of their numbers, which `cut` takes.
@@ -166,6 +193,15 @@ pub(crate) fn all<'a>(alloc: Global) -> Arg<'a>
 {
     let help = "Each row of the log that counts as fail, in place of one event";
     flag(alloc, "all", help)
+}
+
+// The flag of `why`.
+pub(crate) fn all_rows<'a>(alloc: Global) -> Arg<'a>
+    ensures rule { rule_of result ≡ flag (codes "all-rows") }
+    ensures local { result.global ≡ false }
+{
+    let help = "Tell each row, and not only the first of each kind";
+    flag(alloc, "all-rows", help)
 }
 
 // The file of the log that a command reads.

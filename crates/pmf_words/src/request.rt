@@ -1,16 +1,16 @@
 //! What the words of the command line ask for.
 
-ghost use Rattle.std.specs.{Prelude.{◌≡◌, List, false, true, Some, codes, map, option_map, IfOk, IfSome, bytes_eq, string_bytes}, List.{list_any}};
+ghost use Rattle.std.specs.{Prelude.{◌≡◌, List, false, true, Some, codes, map, option_map, IfOk, IfSome, bytes_eq, string_bytes, if◌then◌else◌}, List.{list_any}};
 ghost use Rattle.clap.specs.Words.{Row, Text, found_of, rows_of, subcommand_rows_of};
 ghost use Rattle.pmf_event.specs.declared.profile.Profile.{Profile};
-ghost use Rattle.pmf_words.specs.Words.{IsCheckOf, IsCutOf, IsExplainAllOf, IsExplainBy, IsExplainOf, IsInputOf, IsJoinOf, IsLocateOf, IsRequestBy, IsRequestOf, IsSectionOf, IsSimOf, NamesSection};
+ghost use Rattle.pmf_words.specs.Words.{IsCheckOf, IsCutOf, IsExplainAllOf, IsExplainBy, IsExplainOf, IsFirstOf, IsInputOf, IsJoinOf, IsLocateOf, IsMaybeSectionOf, IsRequestBy, IsRequestOf, IsSectionOf, IsSimOf, IsWhyOf, NamesSection};
 
 use crate::commands::program;
 use clap::error::ErrorKind;
 use clap::{ArgMatches, Error};
 use pmf_event::Profile;
 use pmf_request::{
-    Cuts, Files, Input, Lengths, Question, Request, Settings, Simulation, Sought, Whole,
+    Cuts, Files, Input, Lengths, Question, Reasons, Request, Settings, Simulation, Sought, Whole,
 };
 use std::alloc::{AllocError, Global};
 
@@ -42,9 +42,13 @@ fn request_by<'a>(alloc: Global, matches: &ArgMatches<'a>, all: bool) -> Result<
     ensures { IfOk result (λ request. (command : Text) (rows : List Row)
         → subcommand_rows_of matches.now ≡ Some (command, rows) → IsRequestBy all command rows request) }
 {
-    // There are seven commands, and the parser lets nothing pass without one.
+    // There are eight commands, and the parser lets nothing pass without one.
     if let Some(explain) = matches.subcommand_matches("explain") {
         return explain_by(alloc, explain, all);
+    }
+    if let Some(why) = matches.subcommand_matches("why") {
+        let reasons = reasons_of(alloc, why)?;
+        return Ok(Request::Why(reasons, input_of(why)));
     }
     if let Some(locate) = matches.subcommand_matches("locate") {
         let sought = sought_of(alloc, locate)?;
@@ -114,6 +118,48 @@ fn whole_of(explain: &ArgMatches<'_>) -> Whole
     Whole {
         run: explain.get_one::<u64>("run").unwrap_or(0),
         profile: profile_of(explain.get_str("profile")),
+    }
+}
+
+fn reasons_of(alloc: Global, why: &ArgMatches<'_>) -> Result<Reasons, Error>
+    ensures { IfOk result (IsWhyOf (rows_of (found_of why.now))) }
+{
+    let (run, section) = maybe_section_of(alloc, why)?;
+    let all = why.get_flag("all-rows");
+    Ok(Reasons {
+        run,
+        profile: profile_of(why.get_str("profile")),
+        section,
+        event: why.get_one::<u32>("event"),
+        first: first_of(why, all),
+        all,
+    })
+}
+
+// The most rows that are told, where each row is told or the first of each kind.
+fn first_of(why: &ArgMatches<'_>, all: bool) -> u32
+    ensures { IsFirstOf (rows_of (found_of why.now)) all result }
+{
+    why.get_one::<u32>("first").unwrap_or(most_of(all))
+}
+
+// The same, where the words name no number.
+fn most_of(all: bool) -> u32
+    ensures { result ≡ (if all then 4294967295 else 20) }
+{
+    if all { u32::MAX } else { 20 }
+}
+
+// The run, and the number of the section if the words name one.
+fn maybe_section_of(alloc: Global, matches: &ArgMatches<'_>) -> Result<(u64, Option<u64>), Error>
+    ensures { IfOk result (λ named. IsMaybeSectionOf (rows_of (found_of matches.now)) named.0 named.1) }
+{
+    match matches.get_str("section") {
+        Some(_) => {
+            let (run, section) = section_of(alloc, matches)?;
+            Ok((run, Some(section)))
+        }
+        None => Ok((matches.get_one::<u64>("run").unwrap_or(0), None)),
     }
 }
 

@@ -1,8 +1,8 @@
 //! What the words of the command line ask for, and the status where they are refused.
 
 use crate::{
-    Cuts, Files, Input, Lengths, Question, Request, Settings, Simulation, Sought, Status, Whole,
-    request_of,
+    Cuts, Files, Input, Lengths, Question, Reasons, Request, Settings, Simulation, Sought, Status,
+    Whole, request_of,
 };
 use pmf_event::Profile;
 use std::alloc::{AllocError, Global};
@@ -103,6 +103,15 @@ fn a_log_is_read_from_a_file_where_one_is_named(rt: HostRuntime) -> Result<(), F
     asks(&rt, rt.alloc(), line, Request::Explain(question, input))?;
     let line = "explain a.log --all";
     asks(&rt, rt.alloc(), line, Request::ExplainAll(whole, input))?;
+    let reasons = Reasons {
+        run,
+        profile,
+        section: None,
+        event: None,
+        first: 20,
+        all: false,
+    };
+    asks(&rt, rt.alloc(), "why a.log", Request::Why(reasons, input))?;
     asks(&rt, rt.alloc(), "lint a.log", Request::Lint(input))?;
     asks(
         &rt,
@@ -163,6 +172,46 @@ fn explain_takes_a_section_and_an_event_or_all(rt: HostRuntime) -> Result<(), Fa
         )?;
     }
     Ok(())
+}
+
+#[test]
+fn why_takes_a_section_an_event_a_count_and_a_flag(rt: HostRuntime) -> Result<(), Fail> {
+    for (line, run, section, event, first, all) in [
+        ("why", 0, None, None, 20, false),
+        ("why --run 5", 5, None, None, 20, false),
+        ("why --section 3", 0, Some(3), None, 20, false),
+        ("why --section 9.3 --run 5", 9, Some(3), None, 20, false),
+        ("why --event 0", 0, None, Some(0), 20, false),
+        ("why --first 1 --event=7", 0, None, Some(7), 1, false),
+        ("why --all-rows", 0, None, None, u32::MAX, true),
+        ("why --all-rows --first 1000", 0, None, None, 1000, true),
+    ] {
+        let reasons = Reasons {
+            run,
+            profile: Profile::One,
+            section,
+            event,
+            first,
+            all,
+        };
+        asks(
+            &rt,
+            rt.alloc(),
+            line,
+            Request::Why(reasons, Input::Standard),
+        )?;
+    }
+    let most = Reasons {
+        run: u64::MAX,
+        profile: Profile::Two,
+        section: Some(u64::MAX),
+        event: Some(u32::MAX),
+        first: 1,
+        all: false,
+    };
+    let line =
+        "why --first=1 --event 4294967295 --section 18446744073709551615 --run=18446744073709551615 --profile 2";
+    asks(&rt, rt.alloc(), line, Request::Why(most, Input::Standard))
 }
 
 #[test]
@@ -300,6 +349,20 @@ const REFUSED: &[&str] = &[
     "explain --section 18446744073709551616 --event 1",
     "explain --section 0 --event 1 --event 1",
     "explain --section 0 --event 1 --profile 3",
+    "why a.log b.log",
+    "why --all",
+    "why --first",
+    "why --first 0",
+    "why --first 1001",
+    "why --first -1",
+    "why --first x",
+    "why --event 4294967296",
+    "why --event -1",
+    "why --section x",
+    "why --section 0.1.2",
+    "why --section 1 --section 1",
+    "why --all-rows --all-rows",
+    "why --workers 1",
     "lint a.log b.log",
     "lint --run 1",
     "locate",
@@ -320,6 +383,7 @@ const HELP: &[&str] = &[
     "check --help",
     "explain --help",
     "explain --all --help",
+    "why --help",
     "locate --help",
     "lint --help",
     "cut --help",

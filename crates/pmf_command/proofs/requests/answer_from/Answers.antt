@@ -1,0 +1,13 @@
+use Rattle.std.proofs.Common.{◌≡◌, sym, subst}
+use Rattle.pmf_request.specs.declared.request.Request.{Request}
+use Rattle.pmf_command.specs.{Answered.{IsAnsweredFrom, Streams}, declared.status.Status.{Status}}
+use Rattle.pmf_command.proofs.requests.answer_from.Goals as goal
+
+-- what is said of the request that was found is said of the one that was handed in
+found : (request made : Request) (s : Streams) (status : Status) → request ≡ made → IsAnsweredFrom made s status → IsAnsweredFrom request s status
+found request made s status is said = subst (λ r. IsAnsweredFrom r s status) (sym is) said
+
+pub returns-in-Why : goal.returns-in-Why
+returns-in-Why g c =
+    let told = c.answer_to-in-Why.ensures in
+    found c.args.request.now _ _ c.answer_to-in-Why.result c.in-Why.is (told.0, told.1, told.2)
