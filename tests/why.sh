@@ -150,6 +150,7 @@ rows=1 told=1 untold=0; with all cures: pass=9 fail=0" '' why --event 12 "$appen
     check 'why --all is refused' refused why --all
     check 'why --all-rows tells each row of the examples that fails or warns' tells_all_rows
     check 'a log with its cures put in passes' a_cure_is_one
+    check 'what why tells as a cure of rows of random logs is one' tests/try-why "$program"
     check 'a full device as standard output of why' full_output "$append_log" why
     check 'a directory as standard input of why' unreadable why
     check 'each request for memory of why refused in turn' sweep examples/order_and_warnings.log why
