@@ -1,4 +1,3 @@
-pub mod PlaceLemmas
 pub mod StoredLemmas
 pub mod MarksLemmas
 pub mod PastLemmas

@@ -2,7 +2,8 @@
 use Rattle.std.proofs.Common.{◌≡◌, ℕ, suc, if◌then◌else◌, List, Some}
 use Rattle.pmf_event.specs.{declared.event.Event.{Event}, Line.{line_of_byte}, Store.{event_at, flushes}, Transactions.{adds}}
 use Rattle.pmf_runs.specs.Runs.{state_at}
-use Rattle.pmf_cause.{specs.declared.past.Past.{Past}, specs.Past.{AreMarks, AreStores, IsPast}, proofs.PlaceLemmas.{last_next}}
+use Rattle.pmf_places.proofs.PlaceLemmas.{last_next}
+use Rattle.pmf_cause.{specs.declared.past.Past.{Past}, specs.Past.{AreMarks, AreStores, IsPast}}
 
 pub next : (old new : Past) (es : List Event) (e : Event) → event_at es (suc old.place) ≡ Some e → IsPast old es → new.place ≡ suc old.place →
     AreStores new.stored es (suc old.place) → AreMarks new.marks es (suc old.place) →

@@ -2,7 +2,8 @@
 use Rattle.std.proofs.{Common.{◌≡◌, ℕ, suc, ◌+◌, Bool, true, false, nat_lt, if◌then◌else◌, List, Some, refl, sym, ap, ◌∙◌, arith}, lemmas.Bool.{ltb-true, and_parts}, lemmas.Grind.{common_steps}}
 use Rattle.pmf_event.{specs.declared.event.Event.{Event}, specs.declared.event.Event.TheVariants.{Store, Flush}, specs.Span.{Extent}, specs.Line.{line_of_byte, meets_line}, specs.Places.{least}, specs.Store.{at, event_at, flushes, last_store, stores}, specs.Interval.{writes_back, first_write_back}, proofs.PlacesLemmas.{least-none_behind, least-zero}, proofs.EventLemmas.{last-here, last-none, last-other, last-step}, proofs.WriteBackLemmas.{first_write_back-next, or-zero}}
 use Rattle.pmf_runs.specs.{declared.runs.RunMap.{RunMap}, Runs.{is_between, state_at, ChangesBetween}}
-use Rattle.pmf_cause.{specs.declared.stored.Stored.{Stored}, specs.States.{stored_at, written_back_at}, specs.Past.{AreStores}, proofs.PlaceLemmas.{no_flush}}
+use Rattle.pmf_places.proofs.PlaceLemmas.{no_flush}
+use Rattle.pmf_cause.{specs.declared.stored.Stored.{Stored}, specs.States.{stored_at, written_back_at}, specs.Past.{AreStores}}
 use Rattle.pmf_cause.specs.contracts.stored.StoredState.TheImpl as stores_kept
 
 abbrev Stores : Type 0

@@ -19,7 +19,6 @@ pub mod laws;
 mod marks;
 mod need;
 mod past;
-mod places;
 mod plan;
 mod proposing;
 mod reach;

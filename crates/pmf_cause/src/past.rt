@@ -5,7 +5,7 @@ ghost use Rattle.pmf_event.specs.{declared.event.Event.{Event}, declared.section
 ghost use Rattle.pmf_cause.specs.{Cause.{last_add, last_flush}, Past.{AreStores, IsPast}};
 
 use crate::marks::Marks;
-use crate::places::{NO_PLACE, Place, back_up, lines_of, write_back};
+use pmf_places::{NO_PLACE, Place, back_up, lines_of, write_back};
 use crate::stored::{Stored, StoredAt, UNTOUCHED, WrittenBackAt};
 use pmf_event::{Event, LINE_SIZE};
 use pmf_runs::RunMap;
@@ -81,7 +81,7 @@ impl Past {
     }
 
     /// The last write-back of the line.
-    #[tactic(auto, using(crate::proofs::PlaceLemmas::no_line))]
+    #[tactic(auto, using(pmf_places::proofs::PlaceLemmas::no_line))]
     pub(crate) fn last_flush(&self, line: u64) -> u32
         ensures { (es : List Event) → IsPast self.now es → result ≡ last_flush es self.now.place line }
     {

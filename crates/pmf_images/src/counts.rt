@@ -4,7 +4,7 @@ ghost use Rattle.std.specs.Prelude.{◌≡◌, ◌≤◌, ◌<◌, ℕ, length, 
 ghost use Rattle.pmf_event.specs.{declared.event.Event.{Event}, Line.{line_of_byte}};
 ghost use Rattle.pmf_images.specs.{declared.showing.Asked.{Asked}, Counts.{AreLines, IsCut, AreInOrder, AreCounted}, Walks.{count_at}};
 
-use crate::places::lines_of;
+use pmf_places::lines_of;
 use crate::showing::Asked;
 use crate::sums::{raise, sum};
 use crate::telling::Walk;

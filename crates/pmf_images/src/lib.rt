@@ -8,7 +8,6 @@
 #![tactic(auto)]
 
 mod counts;
-mod places;
 mod showing;
 mod sums;
 mod telling;

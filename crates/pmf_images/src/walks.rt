@@ -1,11 +1,11 @@
 //! Walks that keep the last place of some kind.
 
 ghost use Rattle.std.specs.Prelude.{◌≡◌, ℕ, List};
-ghost use Rattle.pmf_event.specs.{declared.event.Event.{Event}, Store.{last_store}};
+ghost use Rattle.pmf_event.specs.{declared.event.Event.{Event}, Store.{is_fence, last_store}};
 ghost use Rattle.pmf_runs.specs.Runs.{state_at};
 ghost use Rattle.pmf_images.specs.Walks.{last_fence, last_flush};
 
-use crate::places::{NO_PLACE, Place, is_fence, place_if, store, write_back};
+use pmf_places::{NO_PLACE, Place, place_if, store, write_back};
 use crate::telling::Walk;
 use pmf_event::Event;
 use pmf_runs::RunMap;
@@ -115,4 +115,12 @@ impl Walk for Stores {
     fn tell(&self, byte: u64) -> u32 {
         self.places.at(byte).of
     }
+}
+
+// Whether the event is a fence.
+#[tactic(auto, unfolding(pmf_event::specs::Store::is_fence))]
+fn is_fence(event: &Event) -> bool
+    ensures { result ≡ is_fence event.now }
+{
+    matches!(event, Event::Fence)
 }

@@ -1,6 +1,7 @@
 use Rattle.std.proofs.{Common.{◌≡◌, ◌-◌, ◌<◌, suc, if◌then◌else◌, length, get_or, [], ◌∷◌, ◌++◌, ◌+◌, sym, ◌∙◌, ap, arith}, lemmas.List.{length_push}}
 use Rattle.pmf_event.specs.Store.{is_fence}
-use Rattle.pmf_cause.{specs.Cause.{fence_after}, proofs.LaterLemmas.{fence-last, fence-step}, proofs.ListLemmas.{one_more}, proofs.PlaceLemmas.{event_here}}
+use Rattle.pmf_places.proofs.PlaceLemmas.{event_here}
+use Rattle.pmf_cause.{specs.Cause.{fence_after}, proofs.LaterLemmas.{fence-last, fence-step}, proofs.ListLemmas.{one_more}}
 use Rattle.pmf_cause.proofs.later.fences_behind.Goals as goal
 
 pub loop-left-init : goal.loop-left-init

@@ -1,5 +1,5 @@
 use Rattle.std.proofs.Common.{◌-◌, arith}
-use Rattle.pmf_cause.proofs.PlaceLemmas.{event_here}
+use Rattle.pmf_places.proofs.PlaceLemmas.{event_here}
 use Rattle.pmf_cause.proofs.later.Later.go_to.Goals as goal
 
 pub loop-self-preserved : goal.loop-self-preserved

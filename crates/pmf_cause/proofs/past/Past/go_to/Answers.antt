@@ -1,6 +1,6 @@
 use Rattle.std.proofs.Common.{arith}
 use Rattle.pmf_event.proofs.TransactionLemmas.{depth-bound}
-use Rattle.pmf_cause.proofs.PlaceLemmas.{event_here}
+use Rattle.pmf_places.proofs.PlaceLemmas.{event_here}
 use Rattle.pmf_cause.proofs.past.Past.go_to.Goals as goal
 
 pub follow-requires-clause-shallow : goal.follow-requires-clause-shallow

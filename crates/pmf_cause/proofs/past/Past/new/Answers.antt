@@ -1,5 +1,6 @@
 use Rattle.pmf_event.specs.{Line.{line_of_byte}, Store.{flushes}, Transactions.{adds}}
-use Rattle.pmf_cause.proofs.{PlaceLemmas.{last_from_none}, StoredLemmas.{no_stores}}
+use Rattle.pmf_places.proofs.PlaceLemmas.{last_from_none}
+use Rattle.pmf_cause.proofs.{StoredLemmas.{no_stores}}
 use Rattle.pmf_cause.proofs.past.Past.new.Goals as goal
 
 pub returns-clause-past : goal.returns-clause-past

@@ -1,6 +1,6 @@
 use Rattle.std.proofs.Common.{if◌then◌else◌, ◌∙◌, ap}
 use Rattle.pmf_event.specs.Store.{is_fence}
-use Rattle.pmf_images.proofs.PlaceLemmas.{last_next}
+use Rattle.pmf_places.proofs.PlaceLemmas.{last_next}
 use Rattle.pmf_images.proofs.walks.FencesWalk.follow.Goals as goal
 
 pub returns-clause-keeps : goal.returns-clause-keeps

@@ -1,5 +1,5 @@
 use Rattle.pmf_event.specs.{Line.{line_of_byte}, Store.{flushes}}
-use Rattle.pmf_images.proofs.PlaceLemmas.{last_from_none}
+use Rattle.pmf_places.proofs.PlaceLemmas.{last_from_none}
 use Rattle.pmf_images.proofs.walks.Flushes.new.Goals as goal
 
 pub returns : goal.returns

@@ -1,6 +1,6 @@
 use Rattle.pmf_event.specs.{Line.{line_of_byte}, Store.{flushes}}
 use Rattle.pmf_runs.specs.Runs.{state_at}
-use Rattle.pmf_images.proofs.PlaceLemmas.{last_next}
+use Rattle.pmf_places.proofs.PlaceLemmas.{last_next}
 use Rattle.pmf_images.proofs.walks.FlushesWalk.follow.Goals as goal
 
 pub returns-clause-keeps : goal.returns-clause-keeps

@@ -1,5 +1,5 @@
 use Rattle.pmf_event.specs.Store.{stores}
-use Rattle.pmf_images.proofs.PlaceLemmas.{last_from_none}
+use Rattle.pmf_places.proofs.PlaceLemmas.{last_from_none}
 use Rattle.pmf_images.proofs.walks.Stores.new.Goals as goal
 
 pub returns : goal.returns

@@ -1,7 +1,7 @@
 //! Places that are kept for bytes and for cache lines.
 
 ghost use Rattle.std.specs.Prelude.{◌≡◌, ℕ, true, if◌then◌else◌, OnOk};
-ghost use Rattle.pmf_event.specs.{Line.{line_of_byte, meets_line}, Store.{flushes}, Transactions.{adds}};
+ghost use Rattle.pmf_event.specs.{Line.{line_of_byte, meets_line}, Store.{flushes, stores}, Transactions.{adds}};
 ghost use Rattle.pmf_runs.specs.Runs.{is_between, state_at};
 
 use pmf_event::{Event, LINE_SIZE, Span, line_of};
@@ -10,12 +10,13 @@ use std::alloc::AllocError;
 
 /// The place of an event, or 0.
 #[derive(Clone, Copy, Debug, PartialEq, Eq)]
-pub(crate) struct Place {
-    pub(crate) of: u32,
+pub struct Place {
+    /// The place.
+    pub of: u32,
 }
 
 /// No place.
-pub(crate) const NO_PLACE: Place = Place { of: 0 };
+pub const NO_PLACE: Place = Place { of: 0 };
 
 /// A summary says nothing: a change sets all places of its range to one.
 impl State for Place {
@@ -50,8 +51,9 @@ impl State for Place {
 
 /// Sets the place of each.
 #[derive(Clone, Copy, Debug, Drop)]
-pub(crate) struct Put {
-    pub(crate) place: u32,
+pub struct Put {
+    /// The place.
+    pub place: u32,
 }
 
 impl Change<Place> for Put {
@@ -74,7 +76,7 @@ impl Change<Place> for Put {
 
 /// Puts the place at each byte of the lines that the event writes back.
 #[tactic(auto, using(crate::proofs::PlaceLemmas::not_flushed))]
-pub(crate) fn write_back(
+pub fn write_back(
     places: &mut RunMap<Place>,
     place: u32,
     event: &Event,
@@ -94,7 +96,7 @@ pub(crate) fn write_back(
 
 /// Puts the place at each byte that the event backs up.
 #[tactic(auto, using(crate::proofs::PlaceLemmas::not_added))]
-pub(crate) fn back_up(
+pub fn back_up(
     places: &mut RunMap<Place>,
     place: u32,
     event: &Event,
@@ -111,9 +113,24 @@ pub(crate) fn back_up(
     }
 }
 
+/// Puts the place at each byte that the event stores to.
+#[tactic(auto, using(crate::proofs::PlaceLemmas::not_stored))]
+pub fn store(places: &mut RunMap<Place>, place: u32, event: &Event) -> Result<(), AllocError>
+    ensures { OnOk result ((b : ℕ) → (state_at places.new b).of
+        ≡ (if stores b event.now then place else (state_at places.old b).of)) }
+{
+    match event {
+        Event::Store(span) => {
+            places.change(span.first(), span.end(), &Put { place })?;
+            Ok(())
+        }
+        _ => Ok(()),
+    }
+}
+
 /// The first byte of the first line that the span meets, and the byte behind the last line.
 #[tactic(auto, using(crate::proofs::PlaceLemmas::lines_met))]
-pub(crate) fn lines_of(span: &Span) -> (u64, u64)
+pub fn lines_of(span: &Span) -> (u64, u64)
     ensures { (b : ℕ) → is_between result.0 result.1 b ≡ meets_line span.now (line_of_byte b) }
 {
     let last = span.end() - 1;
@@ -121,7 +138,7 @@ pub(crate) fn lines_of(span: &Span) -> (u64, u64)
 }
 
 /// The place where the one holds, else that before it.
-pub(crate) fn place_if(holds: bool, place: u32, before: u32) -> u32
+pub fn place_if(holds: bool, place: u32, before: u32) -> u32
     ensures { result ≡ (if holds then place else before) }
 {
     if holds { place } else { before }

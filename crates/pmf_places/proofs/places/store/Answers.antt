@@ -1,5 +1,5 @@
-use Rattle.pmf_images.proofs.PlaceLemmas.{stored}
-use Rattle.pmf_images.proofs.places.store.Goals as goal
+use Rattle.pmf_places.proofs.PlaceLemmas.{stored}
+use Rattle.pmf_places.proofs.places.store.Goals as goal
 
 pub returns-in_ok-change-in-Store : goal.returns-in_ok-change-in-Store
 returns-in_ok-change-in-Store c =

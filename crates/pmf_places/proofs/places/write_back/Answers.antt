@@ -1,5 +1,5 @@
-use Rattle.pmf_images.proofs.PlaceLemmas.{flushed}
-use Rattle.pmf_images.proofs.places.write_back.Goals as goal
+use Rattle.pmf_places.proofs.PlaceLemmas.{flushed}
+use Rattle.pmf_places.proofs.places.write_back.Goals as goal
 
 pub returns-in_ok-change-in-Flush : goal.returns-in_ok-change-in-Flush
 returns-in_ok-change-in-Flush c =

@@ -1,5 +1,5 @@
-use Rattle.pmf_cause.proofs.PlaceLemmas.{added}
-use Rattle.pmf_cause.proofs.places.back_up.Goals as goal
+use Rattle.pmf_places.proofs.PlaceLemmas.{added}
+use Rattle.pmf_places.proofs.places.back_up.Goals as goal
 
 pub returns-in_ok-change-in-TxAdd : goal.returns-in_ok-change-in-TxAdd
 returns-in_ok-change-in-TxAdd c =
