@@ -1,6 +1,6 @@
 //! Where events stand, and which are refused.
 
-use crate::{EventFault, locate_event, locate_text};
+use crate::{EventFault, Standing, locate_event, locate_text, push_ascii};
 use pmf_storelog::{Cause, LogFault};
 use std::alloc::Global;
 use std::test::Fail;
@@ -59,5 +59,40 @@ fn the_text_is_a_line_of_numbers_and_the_record(rt: HostRuntime) -> Result<(), F
     let text = locate_text(rt.alloc(), TURNS, 5, 0, 2)?;
     let want = b"record=3 offset=16 length=25\nSTORE;0x10;0;8;main;x.c:7\n";
     assert!(rt; text.as_slice() == want.as_slice());
+    Ok(())
+}
+
+#[test]
+fn all_events_stand_where_each_does(rt: HostRuntime) -> Result<(), Fail> {
+    let standing = Standing::of(rt.alloc(), TURNS)?;
+    for (section, events) in [(0, 3), (3, 2), (2, 0)] {
+        let found = standing.in_section(section);
+        assert!(rt; found.len() == events, "of {section}");
+        for (index, located) in found.iter().enumerate() {
+            let event = index as u32 + 1;
+            let want = place_of(rt.alloc(), TURNS, section, event);
+            assert!(rt;
+                want == Ok((located.record, located.offset, located.text)),
+                "at {section} {event}"
+            );
+        }
+    }
+    Ok(())
+}
+
+#[test]
+fn bytes_of_a_log_are_written_in_ascii(rt: HostRuntime) -> Result<(), Fail> {
+    let cases: [(&[u8], usize, &str); 5] = [
+        (b"", 0, ""),
+        (b"STORE", 5, "STORE"),
+        (b"STORE", 4, "STOR.."),
+        (b"a\\\t\x1b", 4, "a\\\\\\x09\\x1b"),
+        (b"ab", 0, ".."),
+    ];
+    for (bytes, most, want) in cases {
+        let mut text = String::new(rt.alloc());
+        push_ascii(&mut text, bytes, most)?;
+        assert!(rt; text.as_str() == want, "{text}");
+    }
     Ok(())
 }

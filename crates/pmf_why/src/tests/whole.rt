@@ -2,7 +2,8 @@
 
 use crate::why_text;
 use pmf_event::Profile;
-use pmf_request::Reasons;
+use pmf_query::{EventFault, EventRefusal};
+use pmf_request::{Reasons, Sought};
 use std::test::Fail;
 
 const LOG: &[u8] =
@@ -38,17 +39,109 @@ const TEXT: &str = "0.0 4 ORDERED FAIL byte=0x10040 after=0x10000 crash=3
 rows=5 told=5 untold=0; with all cures: pass=4 fail=0
 ";
 
-#[test]
-fn each_row_has_its_cause_and_its_cure(rt: HostRuntime) -> Result<(), Fail> {
-    let asked = Reasons {
+fn asked_for() -> Reasons {
+    Reasons {
         run: 0,
         profile: Profile::One,
         section: None,
         event: None,
         first: 20,
         all: false,
-    };
-    let text = why_text(rt.alloc(), LOG, asked)?;
+    }
+}
+
+#[test]
+fn each_row_has_its_cause_and_its_cure(rt: HostRuntime) -> Result<(), Fail> {
+    let text = why_text(rt.alloc(), LOG, asked_for())?;
     assert!(rt; text.as_slice() == TEXT.as_bytes(), "{text:?}");
     Ok(())
+}
+
+// Three stores that are not written back, two of them by one line of the source, in two sections.
+const ALIKE: &[u8] =
+    b"STORE;0x0;1;8;a (x.c:1)|FENCE|PMT.PERSIST;0x0;8|PMT.SECTION;4|STORE;0x40;1;8;a (x.c:1)|PMT.PERSIST;0x40;8
+STORE;0x80;1;8;b (x.c:9);main|PMT.PERSIST;0x80;8";
+
+const FIRST: &str = "0.0 3 PERSIST FAIL byte=0x0 crash=3
+  lost     record 1 STORE;0x0;1;8;a (x.c:1)
+  cause    not written back: no write-back of its line behind the store
+  cure     before record 2: FLUSH;0x0;0x40
+           this row then passes
+";
+
+const LAST: &str = "0.4 4 PERSIST FAIL byte=0x80 crash=4
+  lost     record 7 STORE;0x80;1;8;b (x.c:9);main
+  cause    not written back: no write-back of its line behind the store
+  cure     before record 8: FLUSH;0x80;0x40
+           before record 8: FENCE
+           this row then passes
+";
+
+#[test]
+fn rows_of_one_place_in_the_source_are_told_once(rt: HostRuntime) -> Result<(), Fail> {
+    let alloc = rt.alloc();
+    let one_more = "  alike    1 more\n";
+    let end = "; with all cures: pass=3 fail=0\n";
+    let cases: [(Reasons, String); 4] = [
+        (
+            asked_for(),
+            format!(in alloc; "{FIRST}{one_more}{LAST}rows=3 told=2 untold=0{end}")?,
+        ),
+        (
+            Reasons {
+                first: 1,
+                ..asked_for()
+            },
+            format!(in alloc; "{FIRST}{one_more}rows=3 told=1 untold=1{end}")?,
+        ),
+        (
+            Reasons {
+                section: Some(4),
+                event: Some(4),
+                ..asked_for()
+            },
+            format!(in alloc; "{LAST}rows=1 told=1 untold=0; with all cures: pass=2 fail=0\n")?,
+        ),
+        (
+            Reasons {
+                event: Some(2),
+                section: Some(0),
+                ..asked_for()
+            },
+            format!(in alloc; "no row at event 2\n")?,
+        ),
+    ];
+    for (asked, want) in cases {
+        let text = why_text(alloc, ALIKE, asked)?;
+        assert!(rt; text.as_slice() == want.as_bytes(), "{asked:?}");
+    }
+    Ok(())
+}
+
+#[test]
+fn a_section_that_is_named_has_to_be_there(rt: HostRuntime) {
+    let asked = Reasons {
+        run: 9,
+        section: Some(7),
+        ..asked_for()
+    };
+    let missing = EventRefusal {
+        sought: Sought {
+            run: 9,
+            section: 7,
+            event: 0,
+        },
+        fault: EventFault::NoSection,
+    };
+    assert!(rt; why_text(rt.alloc(), ALIKE, asked) == Err(missing));
+    let faulty = why_text(rt.alloc(), b"FLUSH;1", asked);
+    assert!(rt;
+        matches!(
+            faulty,
+            Err(EventRefusal {
+                fault: EventFault::Log(_),
+                ..
+            })
+        )
+    );
 }
