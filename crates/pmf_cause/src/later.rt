@@ -4,8 +4,8 @@ ghost use Rattle.std.specs.Prelude.{◌≡◌, ◌-◌, ◌<◌, ◌≤◌, ℕ,
 ghost use Rattle.pmf_event.specs.{declared.event.Event.{Event}, declared.section.TheConstants.{EVENT_LIMIT}, Line.{line_of_byte}, Store.{event_at, is_fence}};
 ghost use Rattle.pmf_cause.specs.{Cause.{write_back_after}, Later.{AreBehind, AreFences, AreInOrder, IsLater, asked, behind_row}};
 
-use pmf_places::{NO_PLACE, Place, place_if, write_back};
 use pmf_event::{Event, Finding, Row};
+use pmf_places::{NO_PLACE, Place, place_if, write_back};
 use pmf_runs::RunMap;
 use std::alloc::{AllocError, Global};
 

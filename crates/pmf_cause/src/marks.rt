@@ -4,8 +4,8 @@ ghost use Rattle.std.specs.Prelude.{◌≡◌, ◌<◌, ℕ, suc, List, Some};
 ghost use Rattle.pmf_event.specs.{declared.event.Event.{Event}, declared.section.TheConstants.{EVENT_LIMIT}, Store.{event_at}, Transactions.{begins, closes_scope, depth_at, ends, opens_scope, scope_at}};
 ghost use Rattle.pmf_cause.specs.Past.{AreMarks};
 
-use pmf_places::place_if;
 use pmf_event::Event;
+use pmf_places::place_if;
 
 /// What is kept of the transactions and scopes of some events. Places are 0 where there is none.
 #[derive(Clone, Copy, Debug, PartialEq, Eq)]

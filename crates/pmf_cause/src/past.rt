@@ -5,9 +5,9 @@ ghost use Rattle.pmf_event.specs.{declared.event.Event.{Event}, declared.section
 ghost use Rattle.pmf_cause.specs.{Cause.{last_add, last_flush}, Past.{AreStores, IsPast}};
 
 use crate::marks::Marks;
-use pmf_places::{NO_PLACE, Place, back_up, lines_of, write_back};
 use crate::stored::{Stored, StoredAt, UNTOUCHED, WrittenBackAt};
 use pmf_event::{Event, LINE_SIZE};
+use pmf_places::{NO_PLACE, Place, back_up, lines_of, write_back};
 use pmf_runs::RunMap;
 use std::alloc::{AllocError, Global};
 

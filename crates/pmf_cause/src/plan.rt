@@ -1,9 +1,9 @@
 //! Changes for many rows together, without those that earlier ones make needless.
 
 use crate::edit::Edit;
-use pmf_places::{NO_PLACE, Place, Put};
 use crate::reach::{Before, Lacking};
 use pmf_event::{Event, Span};
+use pmf_places::{NO_PLACE, Place, Put};
 use pmf_runs::RunMap;
 use std::alloc::{AllocError, Global};
 

@@ -5,8 +5,8 @@ ghost use Rattle.pmf_event.specs.{declared.event.Event.{Event}, declared.section
 ghost use Rattle.pmf_cause.specs.Reaching.{IsReached};
 
 use crate::past::Past;
-use pmf_places::Place;
 use pmf_event::{ADDRESS_LIMIT, Event, LINE_SIZE, Span, line_of};
+use pmf_places::Place;
 use pmf_runs::{IsIn, IsOut, PutIn, RunMap, Test};
 use pmf_shadow::{Shadow, Standing};
 use std::alloc::{AllocError, Global};

@@ -4,11 +4,11 @@ ghost use Rattle.std.specs.Prelude.{◌≡◌, ◌≤◌, ◌<◌, ℕ, length, 
 ghost use Rattle.pmf_event.specs.{declared.event.Event.{Event}, Line.{line_of_byte}};
 ghost use Rattle.pmf_images.specs.{declared.showing.Asked.{Asked}, Counts.{AreLines, IsCut, AreInOrder, AreCounted}, Walks.{count_at}};
 
-use pmf_places::lines_of;
 use crate::showing::Asked;
 use crate::sums::{raise, sum};
 use crate::telling::Walk;
 use pmf_event::{Event, line_of};
+use pmf_places::lines_of;
 use std::alloc::{AllocError, Global};
 
 /// How many stores each of some lines has.

@@ -5,9 +5,9 @@ ghost use Rattle.pmf_event.specs.{declared.event.Event.{Event}, Store.{is_fence,
 ghost use Rattle.pmf_runs.specs.Runs.{state_at};
 ghost use Rattle.pmf_images.specs.Walks.{last_fence, last_flush};
 
-use pmf_places::{NO_PLACE, Place, place_if, store, write_back};
 use crate::telling::Walk;
 use pmf_event::Event;
+use pmf_places::{NO_PLACE, Place, place_if, store, write_back};
 use pmf_runs::RunMap;
 use std::alloc::{AllocError, Global};
 

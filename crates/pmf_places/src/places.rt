@@ -76,11 +76,7 @@ impl Change<Place> for Put {
 
 /// Puts the place at each byte of the lines that the event writes back.
 #[tactic(auto, using(crate::proofs::PlaceLemmas::not_flushed))]
-pub fn write_back(
-    places: &mut RunMap<Place>,
-    place: u32,
-    event: &Event,
-) -> Result<(), AllocError>
+pub fn write_back(places: &mut RunMap<Place>, place: u32, event: &Event) -> Result<(), AllocError>
     ensures { OnOk result ((b : ℕ) → (state_at places.new b).of
         ≡ (if flushes (line_of_byte b) event.now then place else (state_at places.old b).of)) }
 {
@@ -96,11 +92,7 @@ pub fn write_back(
 
 /// Puts the place at each byte that the event backs up.
 #[tactic(auto, using(crate::proofs::PlaceLemmas::not_added))]
-pub fn back_up(
-    places: &mut RunMap<Place>,
-    place: u32,
-    event: &Event,
-) -> Result<(), AllocError>
+pub fn back_up(places: &mut RunMap<Place>, place: u32, event: &Event) -> Result<(), AllocError>
     ensures { OnOk result ((b : ℕ) → (state_at places.new b).of
         ≡ (if adds b event.now then place else (state_at places.old b).of)) }
 {

@@ -1,10 +1,10 @@
 -- What `why` answers of a log. Defined here.
-use Rattle.std.specs.{Prelude.{◌≡◌, ◌≢◌, ℕ, ◌==◌, Bool, List, ◌++◌, length, filter, flat_map, count_by, sum_by, codes, Option, None, Some, Ok, Err, Contains, if◌then◌else◌}, Fmt.{decimal}, List.{AllZip}}
+use Rattle.std.specs.{Prelude.{◌≡◌, ◌≢◌, ℕ, ◌==◌, ◌⊎◌, Bool, List, [], ◌++◌, length, filter, flat_map, count_by, sum_by, codes, Option, None, Some, Ok, Err, Contains, if◌then◌else◌}, Fmt.{decimal}, List.{AllZip}}
 use Rattle.pmf_event.specs.{declared.row.Row.{Row}, Section.{Trace}}
 use Rattle.pmf_request.specs.declared.settings.Reasons.{Reasons}
 use Rattle.pmf_storelog.specs.{LogText.{log_of, out_of_memory}, LogValue.{LogValue}}
 use Rattle.pmf_verdict.specs.{Checked.{rows_in}}
-use Rattle.pmf_cause.specs.{declared.edit.Edit.{Edit}, Cure.{cured, fails}}
+use Rattle.pmf_cause.specs.{declared.edit.Edit.{Edit}, Cure.{cured, fails, SpoilsNothing}}
 use Rattle.pmf_query.specs.{declared.refusal.{EventFault.{EventFault}, EventRefusal.{EventRefusal}}, Locating.{AreLocations}}
 use Rattle.pmf_query.specs.declared.refusal.EventFault.TheVariants as fault
 use Rattle.pmf_why.specs.{declared.cure.Way.{Way}, Cures.{IsCure}, Reasons.{Bad, Part, is_asked, passes, rows_of_all, told_by, told_of, untold_of}, WhyText.{text_of_more, text_of_reason}}
@@ -13,10 +13,12 @@ use Rattle.pmf_why.specs.{declared.cure.Way.{Way}, Cures.{IsCure}, Reasons.{Bad,
 abbrev pub asked_sections : Reasons → List Trace → List Trace
 asked_sections asked sections = filter (λ (t : Trace). is_asked asked.section t.name.number) sections
 
--- a section as it is told of: checked by the profile, with where its events stand, and some changes
+-- a section as it is told of: checked by the profile, with where its events stand, and changes by which nothing fails that didn't,
+-- if there are any
 pub record IsPart (asked : Reasons) (bytes : List ℕ) (t : Trace) (part : Part) : Type 0 where
   pub checked : part.checked ≡ record { section = t; profile = asked.profile }
   pub stands : AreLocations bytes t.name.number part.stands
+  pub spoils_nothing : (part.plan ≡ []) ⊎ SpoilsNothing part.checked part.plan
 
 -- the text tells the row, with changes that are a cure as it says
 pub record Tells (bad : Bad) (text : List ℕ) : Type 0 where
