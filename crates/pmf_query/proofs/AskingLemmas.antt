@@ -1,12 +1,8 @@
 -- What is asked and shown for the rows of a section.
-use Rattle.std.proofs.{Common.{◌≡◌, ℕ, ◌+◌, ◌<◌, List, [], ◌++◌, length, get_or, map, take, drop, flat_map, sym, ap, ◌∙◌, arith}, lemmas.List.{at_drop_more, map-append, length-map, length-append, take_at, drop_at, take_more, flat_map_more}, lemmas.Grind.{common_steps}}
+use Rattle.std.proofs.{Common.{◌≡◌, ℕ, ◌+◌, ◌<◌, List, ◌++◌, length, get_or, map, take, drop, flat_map, sym, ap, ◌∙◌}, lemmas.List.{at_drop_more, map-append, length-map, length-append, take_at, drop_at, take_more, flat_map_more}}
 use Rattle.pmf_event.specs.declared.{finding.Finding.TheVariants.{PersistPass}, row.Row.{Row}}
 use Rattle.pmf_images.specs.declared.showing.{Asked.{Asked}, Shown.{Shown}}
-use Rattle.pmf_verdict.specs.declared.{outcome.Outcome.{Outcome}, outcome.Outcome.TheVariants.{Fail}}
-use Rattle.pmf_query.specs.{AllExplained.{text_if}, Asking.{asked_of}}
-
-pub nothing_unless : (o : Outcome) (text : List ℕ) → (o ≡ Fail → ⊥) → text_if o text ≡ []
-nothing_unless o text other = grind (arith, common_steps)
+use Rattle.pmf_query.specs.Asking.{asked_of}
 
 abbrev pub no_row : Row
 no_row = record { place = 0; finding = PersistPass }

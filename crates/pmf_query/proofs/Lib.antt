@@ -15,3 +15,4 @@ pub mod InsideLemmas
 pub mod CoverLemmas
 pub mod TallySumLemmas
 pub mod LintLemmas
+pub mod FirstLemmas

@@ -1,9 +1,9 @@
 -- What one more record adds to where the events of each section stand.
-use Rattle.std.proofs.{Common.{◌≡◌, ◌≢◌, ℕ, zero, suc, ◌+◌, ◌<◌, List, [], ◌∷◌, ◌++◌, Option, None, Some, Result, Ok, Err, ◌⊎◌, inl, inr, length, length-append, take, slice_get, refl, sym, ap, subst, ◌∙◌, arith}, lemmas.Bool.{cases_eq}}
+use Rattle.std.proofs.{Common.{◌≡◌, ℕ, zero, suc, ◌+◌, List, [], ◌∷◌, ◌++◌, Some, Result, Ok, Err, ◌⊎◌, inl, inr, length, length-append, take, slice_get, refl, sym, ap, subst, ◌∙◌}, lemmas.Bool.{cases_eq}}
 use Rattle.std.specs.{Result.{OnOk}, Option.{option_map, unwrap_or}, Ordering.{nat_cmp}, BTreeMap.{IsEmpty, is_at}, Map.{lookup}}
 use Rattle.pmf_event.specs.declared.event.Event.{Event}
-use Rattle.pmf_storelog.{specs.Separators.{records_of}, specs.Records.{record_of}, specs.declared.fault.Cause.{Cause}, specs.declared.record.Saying.{Saying}, specs.declared.record.Saying.TheVariants.{Happens, Enters, Skipped}, specs.LogText.{events_in}}
-use Rattle.pmf_query.{specs.declared.locate.Located.{Located}, specs.declared.standing.Standing.{Standing}, specs.declared.standing.Walked.{Walked}, specs.Locating.{AreLocations, IsLocation}, specs.Passing.{HasPassed}, specs.Standing.{AddsLocation, HasWalked, Stands, located_in, passed_of}, specs.Walking.{IsNext}}
+use Rattle.pmf_storelog.{specs.Separators.{records_of}, specs.Records.{record_of}, specs.declared.fault.Cause.{Cause}, specs.declared.record.Saying.TheVariants.{Happens, Enters, Skipped}}
+use Rattle.pmf_query.{specs.declared.locate.Located.{Located}, specs.declared.standing.Standing.{Standing}, specs.declared.standing.Walked.{Walked}, specs.Locating.{IsLocation}, specs.Passing.{HasPassed}, specs.Standing.{AddsLocation, HasWalked, located_in, passed_of}, specs.Walking.{IsNext}}
 use Rattle.pmf_query.proofs.{LocationLemmas.{located}, PassedLemmas.{gives_next, passed_none, passed_here, passed_elsewhere, passed_marker, passed_nothing, passed_refused}}
 
 pub on_ok : {E A B : Type 0} (r : Result (Unit {0}) E) → (A → B) → OnOk r A → OnOk r B

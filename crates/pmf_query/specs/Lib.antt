@@ -7,7 +7,10 @@ pub use Rattle.pmf_images.specs.Showing
 pub use Rattle.pmf_verdict.specs.Outcome
 pub use Rattle.pmf_verdict.specs.Explained
 pub use Rattle.pmf_verdict.specs.Text
+pub use Rattle.pmf_device.specs.Failures
+pub use Rattle.pmf_device.specs.Pages
 pub mod Refusals
+pub mod Streaming
 pub mod Explanation
 pub mod AllExplained
 pub mod Asking

@@ -1,6 +1,5 @@
 -- What is kept of where the events of each section stand. No public clause but `stand`'s cites this.
 use Rattle.std.specs.{Prelude.{◌≡◌, ◌≢◌, ℕ, ◌+◌, List, [], ◌∷◌, ◌++◌, Some, length, slice_get}, Option.{option_map, unwrap_or}, Ordering.{nat_cmp}, BTreeMap.{get}}
-use Rattle.pmf_storelog.specs.Separators.{records_of}
 use Rattle.pmf_query.specs.{declared.locate.Located.{Located}, declared.passing.Passed.{Passed}, declared.standing.Standing.{Standing}, declared.standing.Walked.{Walked}, Locating.{AreLocations, IsLocation}, Passing.{HasPassed}}
 
 -- where the events of the section stand: nothing is kept of a section without any

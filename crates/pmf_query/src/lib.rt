@@ -1,7 +1,8 @@
 //! What a log's user asks beside its check: what shows a failure, where an event stands, and what the log holds.
 //!
-//! Each question is a [`Query`], and its answer one text. [`explain_text`] writes what the crash image of one event's failure
-//! holds (`Explanation`), and [`explain_all_text`] the same of each row that counts as fail (`AllExplained`).
+//! Each question is a [`Query`], whose answer is one text, or a [`StreamedQuery`], whose answer is written as it is found.
+//! [`explain_text`] tells what the crash image of one event's failure holds (`Explanation`), and [`explain_all`] the same of each row
+//! that counts as fail (`AllExplained`).
 //! [`locate_event`] names the record that gave an event of a section, and the offset at which it begins
 //! (`Locating`). Which record that is, and at which offset, is settled by the definition alone ([`laws`]).
 //!
@@ -16,7 +17,7 @@
 mod counting;
 mod covering;
 mod explain;
-mod explain_all;
+mod explaining;
 mod inside;
 pub mod laws;
 mod lint;
@@ -29,6 +30,7 @@ mod query;
 mod refusal;
 mod section;
 mod standing;
+mod streaming;
 mod summing;
 mod telling;
 #[cfg(test)]
@@ -36,7 +38,7 @@ mod tests;
 mod walking;
 
 pub use explain::explain_text;
-pub use explain_all::explain_all_text;
+pub use explaining::explain_all;
 pub use lint::{Lint, Linted, lint_log};
 pub use locate::{Located, locate_event, locate_text};
 pub use naming::{LISTED, Named};
@@ -45,5 +47,6 @@ pub use pmf_request::{Overview, Question, Sought, Whole};
 pub use query::{Answer, Query};
 pub use refusal::{EventFault, EventRefusal, LogRefusal};
 pub use standing::Standing;
+pub use streaming::{StreamedQuery, Unanswered};
 pub use summing::Sums;
 pub use telling::{lint_text, push_ascii};

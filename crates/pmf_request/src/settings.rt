@@ -46,6 +46,8 @@ pub struct Whole {
     pub run: u64,
     /// By which rule order assertions judge two bytes of one line.
     pub profile: Profile,
+    /// The most rows that are explained, if it is named.
+    pub first: Option<u32>,
 }
 
 /// What `why` is told by its words.

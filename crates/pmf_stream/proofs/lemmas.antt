@@ -1,4 +1,3 @@
-pub mod WritingLemmas
 pub mod TextJoiningLemmas
 pub mod ReadAllLemmas
 pub mod StreamLemmas

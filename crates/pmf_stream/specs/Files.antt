@@ -1,6 +1,14 @@
 -- What files have when texts are written to them, and what a log is cut into. Defined here.
-use Rattle.std.specs.{Prelude.{◌≢◌, ℕ, List, Option}, Io.KnownBytes.{Appends, Consumes, IsAtEnd, Keeps}}
+use Rattle.std.specs.{Prelude.{◌≢◌, ℕ, List, Option, Result, Ok, Err}, Io.KnownBytes.{Appends, Consumes, IsAtEnd, Keeps}}
+use Rattle.pmf_stream.specs.declared.outlet.NoFile.{NoFile}
+use Rattle.pmf_stream.specs.declared.outlet.NoFile.TheVariants as no_file
 use Rattle.pmf_cut.specs.{declared.cutter.Cutter.{Cutter}, declared.output.Text.{Text}, Outputs.{bytes_for}, Cutting.{Drains, HasRead}, Written.{IsCutInto}}
+
+-- how many calls failed where a file was written to
+abbrev pub failed_files : {X : Type 0} → Result X NoFile → ℕ
+failed_files (Ok done) = 0
+failed_files (Err (no_file.Failed written)) = 1
+failed_files (Err no_file.OutOfMemory) = 0
 
 -- the text was written at the end of the file, and nothing to any other
 abbrev pub AppendsTo : (ℕ → Option (List ℕ)) → (ℕ → Option (List ℕ)) → ℕ → List ℕ → Type 0

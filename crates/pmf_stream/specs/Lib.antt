@@ -1,3 +1,4 @@
+pub use Rattle.pmf_device.specs.Failures
 pub use Rattle.pmf_storelog.specs.LogValue
 pub use Rattle.pmf_storelog.specs.LogText
 pub use Rattle.pmf_ledger.specs.Report
@@ -7,7 +8,6 @@ pub use Rattle.pmf_ledger.specs.Loading
 pub use Rattle.pmf_ledger.specs.Repeats
 pub use Rattle.pmf_farm.specs.Running
 pub use Rattle.pmf_world.specs.Simulation
-pub mod Failures
 pub mod Reading
 pub mod Pieces
 pub mod Answering

@@ -1,14 +1,14 @@
 //! From a stream of bytes to the answer of a question about the log in it.
 
 ghost use Rattle.pmf_storelog.specs.declared.fault.TheConstants.{LOG_LIMIT};
-ghost use Rattle.pmf_stream.specs.{Answering.{Answers, TellsFaults}, Asked.{IsAnswerOf, IsRefusalOf}, Failures.{CanCountOneMore}, Reading.{ReadsWithin}};
+ghost use Rattle.pmf_device.specs.Failures.{CanCountOneMore};
+ghost use Rattle.pmf_stream.specs.{Answering.{Answers, TellsFaults}, Asked.{IsAnswerOf, IsRefusalOf}, Reading.{ReadsWithin}};
 
 use crate::excerpt::Excerpt;
 use crate::fault::StreamFault;
 use crate::reading::read_all;
-use crate::sink::Sink;
-use crate::source::Source;
 use crate::writing::write_answer;
+use pmf_device::{Sink, Source};
 use pmf_query::{Answer, Query};
 use pmf_storelog::LOG_LIMIT;
 use std::alloc::Global;

@@ -4,15 +4,14 @@ ghost use Rattle.std.specs.Prelude.{◌≡◌, ◌≢◌, ◌++◌, ◌+◌, ℕ
 ghost use Rattle.pmf_storelog.specs.{declared.fault.TheConstants.{LOG_LIMIT}, LogText.{out_of_memory, shown_fault}, Reader.{HasRead}};
 ghost use Rattle.pmf_farm.specs.Running.{IsTaken};
 ghost use Rattle.pmf_ledger.specs.{Gathered.{IsLedgerOf}, Report.{totals_of}, ReportTold.{sections_told, shown}};
-ghost use Rattle.pmf_stream.specs.{Answering.{Answers, RefusesReading, TellsFaults, failed_reads}, Checking.{IsCheckFaultOf, IsLogOf, IsReportOf, Reports, text_asked}, Failures.{CanCountOneMore}, Reading.{ReadsWithin}};
+ghost use Rattle.pmf_device.specs.Failures.{CanCountOneMore};
+ghost use Rattle.pmf_stream.specs.{Answering.{Answers, RefusesReading, TellsFaults, failed_reads}, Checking.{IsCheckFaultOf, IsLogOf, IsReportOf, Reports, text_asked}, Reading.{ReadsWithin}};
 
 use crate::excerpt::Excerpt;
-use crate::failed::Failed;
 use crate::fault::StreamFault;
 use crate::reading::{Intake, read_into};
-use crate::sink::Sink;
-use crate::source::Source;
 use crate::writing::write_answer;
+use pmf_device::{Failed, Sink, Source};
 use pmf_farm::{FarmFault, Gate, run};
 use pmf_ledger::Ledger;
 use pmf_request::Settings;

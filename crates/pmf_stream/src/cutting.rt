@@ -2,14 +2,14 @@
 
 ghost use Rattle.std.specs.Prelude.{◌≡◌, ◌+◌, ◌++◌, ℕ, List, IfErr, OnOk};
 ghost use Rattle.pmf_cut.specs.Cutting.{HasCutAll, HasRead};
-ghost use Rattle.pmf_stream.specs.{Answering.{IsRefused, failed_reads, failed_writes}, Failures.{CanCountOneMore}, Files.{IsCutOf, WritesOut}};
+ghost use Rattle.pmf_device.specs.Failures.{CanCountOneMore};
+ghost use Rattle.pmf_stream.specs.{Answering.{IsRefused, failed_reads, failed_writes}, Files.{IsCutOf, WritesOut}};
 
 use crate::excerpt::Excerpt;
-use crate::failed::Failed;
 use crate::fault::StreamFault;
 use crate::outlet::{NoFile, Outlet};
-use crate::source::{Source, read_piece};
 use pmf_cut::{CutFault, Cutter};
+use pmf_device::{Failed, Source, read_piece};
 use pmf_request::Lengths;
 use pmf_storelog::{Cause, LOG_LIMIT, LogFault};
 use std::alloc::Global;

@@ -2,12 +2,13 @@
 
 ghost use Rattle.std.specs.Prelude.{◌≡◌, ◌+◌, ◌⊎◌, ◌≤◌, ℕ, List, map, IfOk, IfErr, IsErrOf, MatchResult};
 ghost use Rattle.pmf_ledger.specs.{LedgerValue.{LedgerValue}, Loading.{IsOfText, IsRefusedWith, IsWantOfMemory, LoadsAs, MayWantMemory}};
-ghost use Rattle.pmf_stream.specs.{Answering.{Answers, TellsFaults}, Failures.{CanCountOneMore}, Joining.{IsFirstRefusal, IsJoinFaultOf, IsJoinOf, IsJoinOfTwo, IsJoinedAt, IsJoinedText, IsRefusalOfTexts, IsRefusedAt}};
+ghost use Rattle.pmf_device.specs.Failures.{CanCountOneMore};
+ghost use Rattle.pmf_stream.specs.{Answering.{Answers, TellsFaults}, Joining.{IsFirstRefusal, IsJoinFaultOf, IsJoinOf, IsJoinOfTwo, IsJoinedAt, IsJoinedText, IsRefusalOfTexts, IsRefusedAt}};
 
 use crate::checking::write_asked;
 use crate::fault::StreamFault;
-use crate::sink::Sink;
 use crate::writing::write_answer;
+use pmf_device::Sink;
 use pmf_event::Profile;
 use pmf_ledger::{JoinFault, Ledger, LedgerFault, load_ledger};
 use pmf_storelog::{Cause, LogFault};

@@ -1,11 +1,11 @@
 //! The one loop that reads a stream, and what its pieces go to.
 
 ghost use Rattle.std.specs.Prelude.{◌≡◌, ◌+◌, ◌++◌, ◌<◌, ◌^◌, ℕ, [], List, IfOk, IfErr, MatchResult};
-ghost use Rattle.pmf_stream.specs.{Failures.{CanCountOneMore, CountsFailure}, Answering.{RefusesReading, failed_reads}, Reading.{HasReadAll, HasReadTo, ReadsWithin}};
+ghost use Rattle.pmf_device.specs.Failures.{CanCountOneMore, CountsFailure};
+ghost use Rattle.pmf_stream.specs.{Answering.{RefusesReading, failed_reads}, Reading.{HasReadAll, HasReadTo, ReadsWithin}};
 
-use crate::failed::Failed;
 use crate::fault::StreamFault;
-use crate::source::{Source, read_piece};
+use pmf_device::{Failed, Source, read_piece};
 use std::alloc::{AllocError, Global};
 
 /// How many bytes are read at once, at most.

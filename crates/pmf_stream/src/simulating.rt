@@ -2,11 +2,12 @@
 
 ghost use Rattle.std.specs.Prelude.{IsErrOf};
 ghost use Rattle.pmf_world.specs.Simulation.{IsSimFault};
-ghost use Rattle.pmf_stream.specs.{Answering.{Answers, TellsFaults}, Failures.{CanCountOneMore}, Simulated.{IsSimRefusalOf, IsSimulationOf}};
+ghost use Rattle.pmf_device.specs.Failures.{CanCountOneMore};
+ghost use Rattle.pmf_stream.specs.{Answering.{Answers, TellsFaults}, Simulated.{IsSimRefusalOf, IsSimulationOf}};
 
 use crate::fault::StreamFault;
-use crate::sink::Sink;
 use crate::writing::write_answer;
+use pmf_device::Sink;
 use pmf_world::{SimFault, sim_text};
 use std::alloc::Global;
 

@@ -1,6 +1,9 @@
 //! What shows the failures of a log, and how a refusal reads.
 
-use crate::{EventFault, EventRefusal, LogRefusal, Sought, explain_all_text, explain_text};
+use crate::{
+    EventFault, EventRefusal, LogRefusal, Sought, Unanswered, Whole, explain_all, explain_text,
+};
+use pmf_device::{ByteSink, Stop};
 use pmf_event::{Profile, SpanFault};
 use pmf_storelog::{Cause, LogFault};
 use std::alloc::AllocError;
@@ -16,6 +19,13 @@ image crash=2 full=0x2000
 byte=0x1000 cut=0 shows=0 last=1
 byte=0x2000 cut=1 shows=2 last=2
 ";
+
+// Each row, by the pairs of one line, too.
+const ALL: Whole = Whole {
+    run: 9,
+    profile: Profile::Two,
+    first: None,
+};
 
 const FAULTY: &[u8] = b"FENCE|STORE;1;0;0|PMT.X";
 
@@ -33,15 +43,21 @@ fn one_event_is_explained(rt: HostRuntime) -> Result<(), Fail> {
 
 #[test]
 fn each_failing_row_is_explained_behind_its_section(rt: HostRuntime) -> Result<(), Fail> {
-    let text = explain_all_text(rt.alloc(), PAIR, 9, Profile::One)?;
     let mut want = Vec::new(rt.alloc());
     want.extend_from_slice(b"section 9.0\n")?;
     want.extend_from_slice(PAIR_TEXT)?;
-    assert!(rt; text.as_slice() == want.as_slice());
-    let none = explain_all_text(rt.alloc(), b"PMT.PERSIST;0x1000;8", 9, Profile::One)?;
-    assert!(rt; none.as_slice().is_empty());
-    let refused = explain_all_text(rt.alloc(), FAULTY, 9, Profile::One);
-    assert_eq!(rt; refused.err(), Some(LogRefusal::Log(FAULT)));
+    let mut sink = ByteSink::new(rt.alloc());
+    assert_eq!(rt; explain_all(rt.alloc(), PAIR, ALL, &mut sink), Ok(()));
+    assert!(rt; sink.bytes() == want.as_slice());
+    let mut none = ByteSink::new(rt.alloc());
+    assert_eq!(rt;
+        explain_all(rt.alloc(), b"PMT.PERSIST;0x1000;8", ALL, &mut none),
+        Ok(())
+    );
+    assert!(rt; none.bytes().is_empty());
+    let refused = explain_all(rt.alloc(), FAULTY, ALL, &mut none);
+    assert_eq!(rt; refused, Err(Unanswered::Refused(LogRefusal::Log(FAULT))));
+    assert!(rt; none.bytes().is_empty());
     Ok(())
 }
 
@@ -78,9 +94,58 @@ fn all_rows_are_explained_as_each_alone(rt: HostRuntime) -> Result<(), Fail> {
             images += 1;
         }
     }
-    let all = explain_all_text(rt.alloc(), log, 9, Profile::Two)?;
+    let mut all = ByteSink::new(rt.alloc());
+    assert_eq!(rt; explain_all(rt.alloc(), log, ALL, &mut all), Ok(()));
     assert!(rt; images > 10, "{images}");
-    assert!(rt; all.as_slice() == want.as_slice());
+    assert!(rt; all.bytes() == want.as_slice());
+    Ok(())
+}
+
+// Two sections, of which the first has two failing rows, with one that passes between them, and the second one.
+const THREE: &[u8] =
+    b"STORE;0x1000;0;8|PMT.PERSIST;0x1000;8|PMT.PERSIST;0x2000;8|PMT.PERSIST;0x1000;8\
+|PMT.SECTION;1|STORE;0x3000;0;8|PMT.PERSIST;0x3000;8";
+
+const THREE_TEXTS: [&[u8]; 3] = [
+    b"section 9.0\n2 PERSIST FAIL byte=0x1000 crash=2\nimage crash=2 full=none\nbyte=0x1000 cut=0 shows=0 last=1\n",
+    b"section 9.0\n4 PERSIST FAIL byte=0x1000 crash=4\nimage crash=4 full=none\nbyte=0x1000 cut=0 shows=0 last=1\n",
+    b"section 9.1\n2 PERSIST FAIL byte=0x3000 crash=2\nimage crash=2 full=none\nbyte=0x3000 cut=0 shows=0 last=1\n",
+];
+
+#[test]
+fn the_first_rows_are_explained(rt: HostRuntime) -> Result<(), Fail> {
+    for (first, rows) in [
+        (Some(0), 0),
+        (Some(1), 1),
+        (Some(2), 2),
+        (Some(3), 3),
+        (Some(4), 3),
+        (None, 3),
+    ] {
+        let mut want = Vec::new(rt.alloc());
+        for text in &THREE_TEXTS[..rows] {
+            want.extend_from_slice(text)?;
+        }
+        let mut sink = ByteSink::new(rt.alloc());
+        let asked = Whole { first, ..ALL };
+        assert_eq!(rt; explain_all(rt.alloc(), THREE, asked, &mut sink), Ok(()));
+        assert!(rt; sink.bytes() == want.as_slice(), "{first:?}");
+    }
+    Ok(())
+}
+
+// What a sink takes that fails is the front of the whole text.
+#[test]
+fn rows_are_written_up_to_the_write_that_fails(rt: HostRuntime) -> Result<(), Fail> {
+    let mut whole = ByteSink::new(rt.alloc());
+    assert_eq!(rt; explain_all(rt.alloc(), THREE, ALL, &mut whole), Ok(()));
+    for room in 0..whole.bytes().len() {
+        let mut sink = ByteSink::new(rt.alloc()).failing_after(room);
+        let written = room as u64;
+        let stopped = explain_all(rt.alloc(), THREE, ALL, &mut sink);
+        assert_eq!(rt; stopped, Err(Unanswered::Stopped(Stop::Failed { written })));
+        assert!(rt; sink.bytes() == &whole.bytes()[..room], "{room}");
+    }
     Ok(())
 }
 

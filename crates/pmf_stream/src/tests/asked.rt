@@ -4,10 +4,9 @@ ghost use Rattle.std.specs.Prelude.{◌≡◌};
 
 use super::fakes::{PieceSource, failed_calls};
 use crate::answering::answer_stream;
-use crate::device::Device;
 use crate::excerpt::Excerpt;
 use crate::fault::StreamFault;
-use crate::memory::ByteSink;
+use pmf_device::{ByteSink, Device};
 use pmf_event::Profile;
 use pmf_query::{EventFault, EventRefusal, Linted, Overview, Query, Question, Sought, Whole};
 use pmf_storelog::{Cause, LogFault};

@@ -4,10 +4,9 @@ ghost use Rattle.std.specs.Prelude.{◌≡◌};
 
 use super::fakes::{PieceSource, failed_calls};
 use crate::checking::{CheckLogFault, Done, check_stream};
-use crate::device::Device;
 use crate::excerpt::Excerpt;
 use crate::fault::StreamFault;
-use crate::memory::ByteSink;
+use pmf_device::{ByteSink, Device};
 use pmf_event::Profile;
 use pmf_farm::{FarmFault, OpenGate};
 use pmf_request::Settings;

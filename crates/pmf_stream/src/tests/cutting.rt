@@ -4,12 +4,11 @@ ghost use Rattle.std.specs.Prelude.{◌≡◌, None};
 
 use super::fakes::{PieceSource, failed_calls};
 use crate::cutting::{Notes, Pieces, cut_stream};
-use crate::device::Device;
 use crate::excerpt::Excerpt;
 use crate::fault::StreamFault;
-use crate::memory::ByteSink;
 use crate::outlet::{NoFile, Outlet};
 use pmf_cut::CutFault;
+use pmf_device::{ByteSink, Device};
 use pmf_request::Lengths;
 use pmf_storelog::{Cause, LogFault};
 use std::alloc::Global;

@@ -6,7 +6,7 @@ use super::fakes::PieceSource;
 use crate::answering::answer_stream;
 use crate::checking::check_stream;
 use crate::excerpt::Excerpt;
-use crate::memory::ByteSink;
+use pmf_device::ByteSink;
 use pmf_event::Profile;
 use pmf_farm::OpenGate;
 use pmf_query::Overview;

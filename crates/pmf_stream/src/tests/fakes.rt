@@ -2,10 +2,8 @@
 
 ghost use Rattle.std.specs.Prelude.{◌≡◌, None, Some, IfOk};
 
-use crate::device::Device;
-use crate::failed::Failed;
 use crate::fault::StreamFault;
-use crate::source::Source;
+use pmf_device::{Device, Failed, Source};
 use std::alloc::Global;
 use std::io;
 use std::io::{Error, ErrorKind, Read, Write};

@@ -4,7 +4,7 @@ ghost use Rattle.std.specs.Prelude.{◌≡◌};
 
 use crate::fault::StreamFault;
 use crate::joining::{JoinTextFault, Joined, join_texts, join_to};
-use crate::memory::ByteSink;
+use pmf_device::ByteSink;
 use pmf_event::Name;
 use pmf_fixtures::LEDGER;
 use pmf_ledger::{JoinFault, LedgerFault};

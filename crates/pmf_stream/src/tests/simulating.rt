@@ -3,8 +3,8 @@
 ghost use Rattle.std.specs.Prelude.{◌≡◌};
 
 use crate::fault::StreamFault;
-use crate::memory::ByteSink;
 use crate::simulating::sim_to;
+use pmf_device::ByteSink;
 use pmf_world::SimFault;
 use std::alloc::Global;
 use std::process::Abort;

@@ -1,15 +1,10 @@
 //! A text that is written in pieces or cut off, and reads that fail.
 
 ghost use Rattle.std.specs.Prelude.{◌≡◌, ◌<◌};
-ghost use Rattle.pmf_stream.specs.Failures.{CanCountOneMore};
+ghost use Rattle.pmf_device.specs.Failures.{CanCountOneMore};
 
 use super::fakes::InterruptedOnce;
-use crate::device::Device;
-use crate::failed::Failed;
-use crate::memory::ByteSink;
-use crate::sink::{Sink, StdSink};
-use crate::source::{Source, StdSource, read_piece};
-use crate::writing::{Cut, write_text};
+use pmf_device::{ByteSink, Cut, Device, Failed, Sink, Source, StdSink, StdSource, read_piece, write_text};
 use std::process::Abort;
 use std::test::Fail;
 

@@ -1,0 +1,3 @@
+//! Tests of what is written part by part.
+
+mod pages;
