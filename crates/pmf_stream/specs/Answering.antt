@@ -1,5 +1,5 @@
 -- What each command answers that reads a stream and then writes one text. Defined here.
-use Rattle.std.specs.{Prelude.{◌≡◌, ℕ, ◌+◌, ◌<◌, List, length, take, Option, Result, Ok, Err}, Io.KnownBytes.{Appends}}
+use Rattle.std.specs.{Prelude.{◌≡◌, ◌⊎◌, ℕ, ◌+◌, ◌<◌, List, length, take, Option, Result, Ok, Err}, Io.KnownBytes.{Appends}}
 use Rattle.pmf_stream.specs.declared.fault.StreamFault.{StreamFault}
 use Rattle.pmf_stream.specs.declared.fault.StreamFault.TheVariants as fault
 
@@ -37,6 +37,29 @@ pub record TellsFaults {W T E : Type 0} (read read_then wrote wrote_then : ℕ) 
   pub reads : read_then ≡ read + failed_reads result
   pub writes : wrote_then ≡ wrote + failed_writes result
   pub unwritten : OnOtherFault result (sink_then ≡ sink)
+
+-- the fact of a failed read, or a refusal
+abbrev pub OnReading : {T E : Type 0} → Result T (StreamFault E) → Type 0 → Type 0
+OnReading (Err fault.ReadFault) P = P
+OnReading (Err (fault.Refused found)) P = P
+OnReading _ P = Unit {0}
+
+-- the fact of want of memory
+abbrev pub OnWant : {T E : Type 0} → Result T (StreamFault E) → Type 0 → Type 0
+OnWant (Err fault.OutOfMemory) P = P
+OnWant _ P = Unit {0}
+
+-- nothing was written, or the front of a text of what was done
+abbrev pub Begins : {T W : Type 0} → (T → List ℕ → Type 0) → (W → Option (List ℕ)) → W → W → Type 0
+Begins {T} IsText held sink sink_then =
+    (sink_then ≡ sink) ⊎ ((done : T) × (text : List ℕ) × (written : ℕ) × IsText done text × Appends (held sink) (held sink_then) (take written text))
+
+-- the same of a text that is written part by part: where memory is wanted, its front may have been written
+pub record TellsFaultsOfParts {W T E : Type 0} (IsText : T → List ℕ → Type 0) (held : W → Option (List ℕ)) (read read_then wrote wrote_then : ℕ) (sink sink_then : W) (result : Result T (StreamFault E)) : Type 0 where
+  pub reads : read_then ≡ read + failed_reads result
+  pub writes : wrote_then ≡ wrote + failed_writes result
+  pub unwritten : OnReading result (sink_then ≡ sink)
+  pub unfinished : OnWant result (Begins IsText held sink sink_then)
 
 -- at Ok the text of what was done was written, to a stream that held some bytes before and holds more after; at
 -- WriteFault exactly so many bytes of such a text, and not all; at a refusal what the refusal says

@@ -9,3 +9,5 @@ pub mod CuredLemmas
 pub mod MeetLemmas
 pub mod SectionLemmas
 pub mod CountLemmas
+pub mod GrowLemmas
+pub mod GoingOnLemmas

@@ -8,6 +8,12 @@ pair_more R [] (v ∷ ys) x y zip is = absurd zip
 pair_more R (u ∷ xs) [] x y zip is = absurd zip
 pair_more R (u ∷ xs) (v ∷ ys) x y zip is = (zip.0, pair_more R xs ys x y zip.1 is)
 
+pub pairs_append : {A B : Type 0} (R : A → B → Type 0) (xs : List A) (ys : List B) (us : List A) (vs : List B) → AllZip R xs ys → AllZip R us vs → AllZip R (xs ++ us) (ys ++ vs)
+pairs_append R [] [] us vs zip more = more
+pairs_append R [] (y ∷ ys) us vs zip more = absurd zip
+pairs_append R (x ∷ xs) [] us vs zip more = absurd zip
+pairs_append R (x ∷ xs) (y ∷ ys) us vs zip more = (zip.0, pairs_append R xs ys us vs zip.1 more)
+
 pub pair_length : {A B : Type 0} (R : A → B → Type 0) (xs : List A) (ys : List B) → AllZip R xs ys → length xs ≡ length ys
 pair_length R [] [] zip = refl
 pair_length R [] (v ∷ ys) zip = absurd zip

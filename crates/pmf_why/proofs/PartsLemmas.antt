@@ -4,7 +4,7 @@ use Rattle.std.specs.{List.{AllZip}, Result.{OnOk}}
 use Rattle.pmf_event.specs.Section.{Trace}
 use Rattle.pmf_request.specs.declared.settings.Reasons.{Reasons}
 use Rattle.pmf_cause.specs.Cure.{fails}
-use Rattle.pmf_why.specs.{declared.kind.Kind.{Kind}, declared.taking.Told.{Told}, declared.plan.Counts.{Counts}, declared.taking.Telling.{Telling}, Kinds.{IsKindOf}, Ending.{counts_at_end, left_in, like_in, missed_in, text_at_end, text_in}, Reasons.{Bad, Part, asked_rows, firsts, passes, rows_of_all, told_by, told_of, untold_of}, Telling.{HasParts, HasRows, IsToldAs, counts_of}, Why.{IsPart, TellsAll, TellsOf, count_with_all, missed_event, text_of_end, text_of_none, text_of_numbers, text_of_sums}, WhyText.{text_of_more}}
+use Rattle.pmf_why.specs.{declared.kind.Kind.{Kind}, declared.taking.Told.{Told}, declared.plan.Counts.{Counts}, declared.taking.Telling.{Telling}, Kinds.{IsKindOf}, Ending.{counts_at_end, left_in, like_in, likes_in, missed_in, text_at_end}, Reasons.{Bad, Part, asked_rows, firsts, passes, rows_of_all, told_by, told_of, untold_of}, Telling.{HasParts, HasRows, IsToldAs, counts_of, told_text}, Why.{IsPart, Tells, TellsAll, count_with_all, missed_event, text_of_end, text_of_likes, text_of_none, text_of_numbers, text_of_sums}, WhyText.{text_of_more}}
 use Rattle.pmf_why.proofs.{KindLemmas.{told_same}, PairLemmas.{pair_length, pair_more, same_sums}}
 
 rows-more : (asked : Reasons) (parts : List Part) (part : Part) → rows_of_all asked (parts ++ part ∷ []) ≡ rows_of_all asked parts ++ asked_rows asked part
@@ -47,22 +47,30 @@ pub parts_on : (asked : Reasons) (bytes : List ℕ) (sections : List Trace) (old
 parts_on asked bytes sections old has t part new is (Ok u) rows counts same are = parts_more asked bytes sections old has t part new is rows (same ∙ are)
 parts_on asked bytes sections old has t part new is (Err e) rows counts same are = rows
 
+-- the texts of what is told
+pub texts : (bads : List Bad) (told : List Told) → AllZip IsToldAs bads told → (ts : List (List ℕ)) × AllZip Tells bads ts × (told_text told ≡ flat_map (λ row. row) ts)
+unfolding told_text
+texts [] [] zip = ([], zip, refl)
+texts [] (t ∷ told) zip = absurd zip
+texts (b ∷ bads) [] zip = absurd zip
+texts (b ∷ bads) (t ∷ told) zip =
+    let rest = texts bads told zip.1 in (string_bytes t.text ∷ rest.0, (zip.0.tells, rest.1), ap (λ (bs : List ℕ). string_bytes t.text ++ bs) rest.2)
+
 module _ (asked : Reasons) (rows : List Bad) (kinds : List Kind) (are : AllZip IsKindOf rows kinds) where
-  -- the texts of what is told
-  texts : (bads : List Bad) (told : List Told) → AllZip IsToldAs bads told →
-      (ts : List (List ℕ)) × AllZip (TellsOf asked rows) bads ts × (text_in asked.all kinds told ≡ flat_map (λ row. row) ts)
-  unfolding text_in
-  texts [] [] zip = ([], zip, refl)
-  texts [] (t ∷ told) zip = absurd zip
-  texts (b ∷ bads) [] zip = absurd zip
-  texts (b ∷ bads) (t ∷ told) zip =
-      let rest = texts bads told zip.1 in
-      let text : List ℕ = string_bytes t.text ++ text_of_more (like_in asked.all kinds t) in
-      let one : TellsOf asked rows b text = record {
-        front = string_bytes t.text;
-        tells = zip.0.tells;
-        says = ap (λ (n : ℕ). string_bytes t.text ++ text_of_more n) (sym (told_same asked rows kinds b t are zip.0));
-      } in (text ∷ rest.0, (one, rest.1), ap (λ (bs : List ℕ). text ++ bs) rest.2)
+  -- for how many rows more each that is told stands
+  likes : (bads : List Bad) (told : List Told) → AllZip IsToldAs bads told →
+      likes_in asked.all kinds told ≡ flat_map (λ (bad : Bad). text_of_more bad.part.checked.section.name bad.row (told_by asked rows bad)) bads
+  unfolding likes_in
+  likes [] [] zip = refl
+  likes [] (t ∷ told) zip = absurd zip
+  likes (b ∷ bads) [] zip = absurd zip
+  likes (b ∷ bads) (t ∷ told) zip =
+      let is = zip.0 in
+      let behind = flat_map (λ (t : Told). text_of_more t.name t.row (like_in asked.all kinds t)) told in
+      ap (λ n. text_of_more n t.row (like_in asked.all kinds t) ++ behind) is.name
+      ∙ ap (λ r. text_of_more b.part.checked.section.name r (like_in asked.all kinds t) ++ behind) is.row
+      ∙ ap (λ n. text_of_more b.part.checked.section.name b.row n ++ behind) (sym (told_same asked rows kinds b t are is))
+      ∙ ap (λ bs. text_of_more b.part.checked.section.name b.row (told_by asked rows b) ++ bs) (likes bads told zip.1)
 
   sums : (bads : List Bad) (told : List Told) → AllZip IsToldAs bads told → sum_by (told_by asked rows) bads ≡ sum_by (λ (t : Told). like_in asked.all kinds t) told
   sums bads told zip = same_sums IsToldAs (told_by asked rows) (λ (t : Told). like_in asked.all kinds t) (λ b t is. told_same asked rows kinds b t are is) bads told zip
@@ -112,22 +120,26 @@ module _ (asked : Reasons) (bytes : List ℕ) (sections : List Trace) (t : Telli
       ap (λ (bs : List ℕ). bs ++ text_of_sums (sum_by (λ (c : Counts). c.pass) t.counts.items) (sum_by (λ (c : Counts). c.fail) t.counts.items)) front
       ∙ ap (λ (bs : List ℕ). text_of_numbers (length rows) (length (told_of asked rows)) (untold_of asked rows) ++ bs) behind
 
-  end : text_at_end t ≡ text_of_end asked has.parts
+  alike : likes_in t.asked.all t.kinds.items t.told.items ≡ text_of_likes asked rows
+  unfolding text_of_likes
+  alike = ap (λ (a : Reasons). likes_in a.all t.kinds.items t.told.items) has.rows.asked_is ∙ likes asked rows t.kinds.items has.rows.kinds (told_of asked rows) t.told.items has.rows.told
+
+  pub end : text_at_end t ≡ text_of_end asked has.parts
   unfolding text_at_end text_of_end
   end =
-      ap (λ (a : Reasons). text_of_none (missed_in a t.kinds.items) (counts_at_end t)) has.rows.asked_is
-      ∙ ap (λ (n : ℕ). text_of_none (cond (n == 0) asked.event None) (counts_at_end t)) many
-      ∙ ap (λ (bs : List ℕ). text_of_none (missed_event asked rows) bs) counts
+      ap (λ (bs : List ℕ). bs ++ text_of_none (missed_in t.asked t.kinds.items) (counts_at_end t)) alike
+      ∙ ap (λ (a : Reasons). text_of_likes asked rows ++ text_of_none (missed_in a t.kinds.items) (counts_at_end t)) has.rows.asked_is
+      ∙ ap (λ (n : ℕ). text_of_likes asked rows ++ text_of_none (cond (n == 0) asked.event None) (counts_at_end t)) many
+      ∙ ap (λ (bs : List ℕ). text_of_likes asked rows ++ text_of_none (missed_event asked rows) bs) counts
 
   -- the text of all that was met
-  pub tells_all : (text : List ℕ) → text ≡ text_in t.asked.all t.kinds.items t.told.items ++ text_at_end t → TellsAll asked bytes sections text
+  pub tells_all : (text : List ℕ) → text ≡ told_text t.told.items ++ text_at_end t → TellsAll asked bytes sections text
   tells_all text is =
-      let them = texts asked rows t.kinds.items has.rows.kinds (told_of asked rows) t.told.items has.rows.told in
-      let front : text_in t.asked.all t.kinds.items t.told.items ≡ flat_map (λ row. row) them.0 = ap (λ (a : Reasons). text_in a.all t.kinds.items t.told.items) has.rows.asked_is ∙ them.2 in
+      let them = texts (told_of asked rows) t.told.items has.rows.told in
       record {
         parts = has.parts;
         are = has.are;
         rows = them.0;
         tell = them.1;
-        text_is = is ∙ ap (λ (bs : List ℕ). bs ++ text_at_end t) front ∙ ap (λ (bs : List ℕ). flat_map (λ row. row) them.0 ++ bs) end;
+        text_is = is ∙ ap (λ (bs : List ℕ). bs ++ text_at_end t) them.2 ∙ ap (λ (bs : List ℕ). flat_map (λ row. row) them.0 ++ bs) end;
       }

@@ -1,9 +1,10 @@
 -- The sections that are asked for, with one more, and a section that is missing.
-use Rattle.std.{proofs.Common.{◌≡◌, ℕ, zero, suc, ◌==◌, ◌<◌, ◌||◌, Bool, true, false, cond, List, [], ◌∷◌, ◌++◌, Option, None, Some, Result, Ok, Err, Contains, length, map, get_or, refl, sym, ap, subst, ◌∙◌, arith, append-nil, is_none, eq-eqb}, proofs.lemmas.Bool.{false≢true}, proofs.lemmas.List.Elements.{filter-append}, specs.Result.{OnOk}}
+use Rattle.std.{proofs.Common.{◌≡◌, ℕ, zero, suc, ◌==◌, ◌<◌, ◌||◌, Bool, true, false, cond, List, [], ◌∷◌, ◌++◌, Option, None, Some, Result, Ok, Err, Contains, length, map, take, drop, ◌+◌, get_or, take-append-drop, refl, sym, ap, subst, ◌∙◌, arith, append-nil, is_none, eq-eqb}, proofs.lemmas.Bool.{false≢true}, proofs.lemmas.List.{map-append, map_more}, proofs.lemmas.List.Elements.{filter-append}, specs.{Option.{unwrap_or}, Result.{OnOk}}}
 use Rattle.std.specs.List.{list_any}
 use Rattle.pmf_event.specs.Section.{Trace}
 use Rattle.pmf_request.specs.declared.settings.Reasons.{Reasons}
-use Rattle.pmf_why.specs.{declared.taking.Telling.{Telling}, Reasons.{is_asked}, Telling.{HasParts}, Why.{asked_sections}}
+use Rattle.pmf_query.specs.{declared.refusal.{EventFault.{EventFault}, EventRefusal.{EventRefusal}}, declared.streaming.{Unanswered.{Unanswered}, Unanswered.TheVariants.{Refused}}, Streaming.{Recites}}
+use Rattle.pmf_why.specs.{declared.taking.Telling.{Telling}, Reasons.{is_asked}, Telling.{HasParts}, Why.{IsWhyFault, IsWhyRefusal, asked_sections, refusal_of}}
 
 module _ (asked : Reasons) (bytes : List ℕ) (sections : List Trace) (t : Trace) where
   section-more : (b : Bool) → is_asked asked.section t.name.number ≡ b → asked_sections asked (sections ++ t ∷ []) ≡ asked_sections asked sections ++ cond b (t ∷ []) []
@@ -38,3 +39,17 @@ pub missing : {A : Type 0} (value : A → Trace) (named : Option ℕ) (xs : List
     (number : ℕ) × (named ≡ Some number) × ((t : Trace) → Contains (map value xs) t → t.name.number ≡ number → ⊥)
 missing value None xs is = absurd cc
 missing value (Some number) xs is = (number, refl, λ t found same. none_has value number xs is found.0 t found.1 (ap (λ (s : Trace). s.name.number) found.2 ∙ same))
+
+-- a refusal, with which nothing is written
+pub refused_so : {W : Type 0} (IsText : Unit {0} → List ℕ → Type 0) (asked : Reasons) (bytes : List ℕ) (held : W → Option (List ℕ)) (sink : W) (why : Unanswered EventRefusal) (fault : EventFault) →
+    why ≡ Refused (refusal_of asked fault) → IsWhyFault asked bytes fault → Recites IsText (IsWhyRefusal asked bytes) held sink sink (Err why)
+refused_so IsText asked bytes held sink why fault is because =
+    subst (λ u. Recites IsText (IsWhyRefusal asked bytes) held sink sink (Err u)) (sym is) ((refl, λ number named. ap (λ o. unwrap_or o 0) named, because), refl)
+
+-- ---- the sections that were met, and one more
+
+pub met_parts : {A : Type 0} (value : A → Trace) (xs : List A) (i : ℕ) → map value xs ≡ map value (take i xs) ++ map value (drop i xs)
+met_parts value xs i = ap (map value) (sym (take-append-drop i xs)) ∙ map-append value (take i xs) (drop i xs)
+
+pub met_more : {A : Type 0} (value : A → Trace) (xs : List A) (i : ℕ) (x : A) → i < length xs → x ≡ get_or xs i x → map value (take (i + 1) xs) ≡ map value (take i xs) ++ value x ∷ []
+met_more value xs i x within is = map_more value xs i x within ∙ ap (λ y. map value (take i xs) ++ value y ∷ []) (sym is)

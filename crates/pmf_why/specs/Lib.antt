@@ -1,4 +1,8 @@
 pub use Rattle.pmf_event.specs.Store
+pub use Rattle.pmf_device.specs.Failures
+pub use Rattle.pmf_device.specs.Pages
+pub use Rattle.pmf_query.specs.Standing
+pub use Rattle.pmf_query.specs.Streaming
 pub use Rattle.pmf_storelog.specs.Records
 pub use Rattle.pmf_storelog.specs.Canonical
 pub use Rattle.pmf_verdict.specs.Checked

@@ -1,5 +1,5 @@
 -- What `why` answers of a log. Defined here.
-use Rattle.std.specs.{Prelude.{◌≡◌, ◌≢◌, ℕ, ◌==◌, ◌⊎◌, Bool, List, [], ◌++◌, length, filter, flat_map, count_by, sum_by, codes, Option, None, Some, Ok, Err, Contains, if◌then◌else◌}, Fmt.{decimal}, List.{AllZip}}
+use Rattle.std.specs.{Prelude.{◌≡◌, ◌≢◌, ℕ, ◌==◌, ◌⊎◌, Bool, List, [], ◌++◌, length, filter, flat_map, count_by, sum_by, codes, Option, None, Some, Ok, Err, Contains, if◌then◌else◌}, Fmt.{decimal}, List.{AllZip}, Option.{unwrap_or}}
 use Rattle.pmf_event.specs.{declared.row.Row.{Row}, Section.{Trace}}
 use Rattle.pmf_request.specs.declared.settings.Reasons.{Reasons}
 use Rattle.pmf_storelog.specs.{LogText.{log_of, out_of_memory}, LogValue.{LogValue}}
@@ -27,12 +27,6 @@ pub record Tells (bad : Bad) (text : List ℕ) : Type 0 where
   pub is : IsCure bad edits way
   pub says : text ≡ text_of_reason bad edits way
 
--- the text tells one of these rows, and how many of them are alike
-pub record TellsOf (asked : Reasons) (rows : List Bad) (bad : Bad) (text : List ℕ) : Type 0 where
-  pub front : List ℕ
-  pub tells : Tells bad front
-  pub says : text ≡ front ++ text_of_more (told_by asked rows bad)
-
 -- how many rows of a section with all its changes are such
 unfoldable pub count_with_all : (Row → Bool) → Part → ℕ
 count_with_all test part = count_by (λ row. test row) (rows_in (cured part.checked part.plan))
@@ -54,12 +48,17 @@ text_of_none (Some event) text = codes "no row at event " ++ decimal event ++ co
 abbrev pub missed_event : Reasons → List Bad → Option ℕ
 missed_event asked rows = if length rows == 0 then asked.event else None
 
--- how many rows there are, how many of them are told, for how many none that is told stands, and what a check finds with all
--- changes; or that an event that is asked for has no row
+-- of each row that is told, how many more of these rows it stands for
+unfoldable pub text_of_likes : Reasons → List Bad → List ℕ
+text_of_likes asked rows = flat_map (λ (bad : Bad). text_of_more bad.part.checked.section.name bad.row (told_by asked rows bad)) (told_of asked rows)
+
+-- that, and then how many rows there are, how many of them are told, for how many none that is told stands, and what a check finds with
+-- all changes; or that an event that is asked for has no row
 unfoldable pub text_of_end : Reasons → List Part → List ℕ
 text_of_end asked parts =
     let rows = rows_of_all asked parts in
-    text_of_none (missed_event asked rows)
+    text_of_likes asked rows
+    ++ text_of_none (missed_event asked rows)
     (text_of_numbers (length rows) (length (told_of asked rows)) (untold_of asked rows) ++ text_of_sums (sum_by (count_with_all passes) parts) (sum_by (count_with_all fails) parts))
 
 -- the text tells the rows of these sections of a log: those that are to be told, each with its cause and what cures it, and the counts
@@ -67,7 +66,7 @@ pub record TellsAll (asked : Reasons) (bytes : List ℕ) (sections : List Trace)
   pub parts : List Part
   pub are : AllZip (IsPart asked bytes) sections parts
   pub rows : List (List ℕ)
-  pub tell : AllZip (TellsOf asked (rows_of_all asked parts)) (told_of asked (rows_of_all asked parts)) rows
+  pub tell : AllZip Tells (told_of asked (rows_of_all asked parts)) rows
   pub text_is : text ≡ flat_map (λ row. row) rows ++ text_of_end asked parts
 
 -- the bytes are a log of the run, without a fault, and the text tells the rows of its sections that are asked for
@@ -86,6 +85,10 @@ IsWhyFault asked bytes (fault.Log found) = found ≢ out_of_memory → log_of as
 IsWhyFault asked bytes fault.NoSection = (log : LogValue) × (log_of asked.run bytes ≡ Ok log) × IsNoSection asked log
 IsWhyFault asked bytes fault.NoEvent = ⊥
 IsWhyFault asked bytes fault.OutOfMemory = (log : LogValue) × (log_of asked.run bytes ≡ Ok log)
+
+-- the refusal for this reason, with what was asked for
+abbrev pub refusal_of : Reasons → EventFault → EventRefusal
+refusal_of asked why = record { sought = record { run = asked.run; section = unwrap_or asked.section 0; event = unwrap_or asked.event 0 }; fault = why }
 
 -- the same, told with the run, and the section that is named
 abbrev pub IsWhyRefusal : Reasons → List ℕ → EventRefusal → Type 0

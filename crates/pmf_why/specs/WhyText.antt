@@ -110,6 +110,6 @@ text_of_reason bad edits way =
     ++ codes "  cause    " ++ text_of_cause bad.part.stands bad.cause ++ codes "\n"
     ++ codes "  cure     " ++ text_of_cure bad.part.stands edits way
 
--- how many rows more a row that is told stands for
-unfoldable pub text_of_more : ℕ → List ℕ
-text_of_more count = if nat_le count 1 then [] else codes "  alike    " ++ decimal (count - 1) ++ codes " more\n"
+-- how many rows more are like a row that is told, where there are more
+unfoldable pub text_of_more : Name → Row → ℕ → List ℕ
+text_of_more name row count = if nat_le count 1 then [] else decimal (count - 1) ++ codes " more like " ++ text_of_section name ++ text_of_row row

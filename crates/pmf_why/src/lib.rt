@@ -1,6 +1,6 @@
 //! Why the rows of a log are no PASS, and what cures them, as a text.
 //!
-//! [`why_text`] reads a log, and tells of each kind of row the first: the store that is lost, the one that is kept, the cause, and
+//! [`tell_why`] reads a log, and tells of each kind of row the first: the store that is lost, the one that is kept, the cause, and
 //! changes by which the row passes (`specs/WhyText`). Rows are alike that have one finding, one cause, and one place in the source, or
 //! one distance where none is known (`specs/Reasons`). A change is told as a cure only where a check of the section with it found
 //! that it is one (`specs/Cures`).
@@ -20,4 +20,4 @@ mod trial;
 mod why;
 
 pub use cure::Way;
-pub use why::{Why, why_text};
+pub use why::{Why, tell_why};

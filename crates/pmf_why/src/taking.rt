@@ -3,7 +3,7 @@
 ghost use Rattle.std.specs.{Prelude.{◌≡◌, ◌++◌, ◌∷◌, ℕ, ◌-◌, [], ◌≤◌, ◌<◌, ◌^◌, ◌||◌, ◌&&◌, Bool, List, not, nat_lt, length, map, count_by, sum_by, flat_map, slice_index_or, string_bytes, IfOk, IfSome, OnOk}, List.{list_any}};
 ghost use Rattle.pmf_verdict.specs.Checked.{rows_in};
 ghost use Rattle.pmf_cause.specs.Cause.{cause_of};
-ghost use Rattle.pmf_why.specs.{Kinds.{is_one_kind}, Reasons.{Bad, asked_row, asked_rows, is_asked}, Ending.{left_in, like_in, text_in}, Plans.{IsPlan}, Rows.{bad_of, part_of}, Why.{text_of_numbers, text_of_sums}};
+ghost use Rattle.pmf_why.specs.{Kinds.{is_one_kind}, Reasons.{Bad, asked_row, asked_rows, is_asked}, Ending.{left_in, like_in, likes_in}, Plans.{IsPlan}, Rows.{bad_of, part_of}, Why.{text_of_numbers, text_of_sums}};
 
 use crate::kind::Kind;
 use crate::plan::{Counts, Plan};
@@ -11,7 +11,7 @@ use crate::row::{BadRow, Taken};
 use crate::telling::{push_more, reason_text};
 use crate::trial::way_of;
 use pmf_cause::{Cause, Edit, Proposal, causes, propose};
-use pmf_event::{Row, Section};
+use pmf_event::{Name, Row, Section};
 use pmf_query::{Located, Standing};
 use pmf_request::Reasons;
 use pmf_verdict::check;
@@ -22,6 +22,9 @@ use std::sync::Arc;
 #[derive(Drop)]
 pub(crate) struct Told<'a> {
     pub(crate) kind: Kind<'a>,
+    /// The name of its section.
+    pub(crate) name: Name,
+    pub(crate) row: Row,
     pub(crate) text: String,
 }
 
@@ -42,11 +45,12 @@ impl<'a> Telling<'a> {
     ghost use Rattle.pmf_event.specs.Section.{Trace};
     ghost use Rattle.pmf_query.specs.{Locating.{AreLocations}, Standing.{Stands}};
     ghost use Rattle.pmf_request.specs.declared.settings.Reasons.{Reasons};
-    ghost use Rattle.pmf_why.specs.{Ending.{counts_at_end, missed_in, text_at_end}, Telling.{HasParts, HasRows, is_new_kind}, Why.{TellsAll, asked_sections}};
+    ghost use Rattle.pmf_why.specs.{Ending.{counts_at_end, missed_in, text_at_end}, Telling.{Grows, HasParts, HasRows, is_new_kind}, Why.{asked_sections, text_of_none}};
 
     /// Nothing yet. Takes no memory.
     pub(crate) fn new(alloc: Global, asked: Reasons, budget: usize) -> Telling<'a>
-        ensures { (bytes : List ℕ) → HasParts asked bytes [] result }
+        ensures parts { (bytes : List ℕ) → HasParts asked bytes [] result }
+        ensures none { result.told.items ≡ [] }
     {
         Telling {
             asked,
@@ -64,10 +68,11 @@ impl<'a> Telling<'a> {
         section: &Arc<Section>,
         standing: &Standing<'a>,
     ) -> Result<(), AllocError>
-        ensures { (asked : Reasons) (bytes : List ℕ) (sections : List Trace)
+        ensures parts { (asked : Reasons) (bytes : List ℕ) (sections : List Trace)
             → Stands bytes standing.now
             → HasParts asked bytes (asked_sections asked sections) self.old
             → OnOk result (HasParts asked bytes (asked_sections asked (sections ++ section.now.value ∷ [])) self.new) }
+        ensures grows { OnOk result (Grows self.old.told.items self.new.told.items) }
     {
         let number = section.name().number;
         if !is_number_asked(self.asked.section, number) {
@@ -83,10 +88,11 @@ impl<'a> Telling<'a> {
         section: &Arc<Section>,
         stands: &[Located<'a>],
     ) -> Result<(), AllocError>
-        ensures { (asked : Reasons) (bytes : List ℕ) (sections : List Trace)
+        ensures parts { (asked : Reasons) (bytes : List ℕ) (sections : List Trace)
             → AreLocations bytes section.now.value.name.number stands.now
             → HasParts asked bytes sections self.old
             → OnOk result (HasParts asked bytes (sections ++ section.now.value ∷ []) self.new) }
+        ensures grows { OnOk result (Grows self.old.told.items self.new.told.items) }
     {
         let verdict = match check(alloc, Arc::try_clone(section)?, self.asked.profile) {
             Ok(verdict) => verdict,
@@ -105,21 +111,19 @@ impl<'a> Telling<'a> {
         self.take_rows(alloc, &taken, &causes, &wanted, &own)
     }
 
-    /// The text of all that was met.
-    pub(crate) fn text(&self, alloc: Global) -> Result<String, AllocError>
-        ensures { (asked : Reasons) (bytes : List ℕ) (sections : List Trace)
-            → HasParts asked bytes sections self.now
-            → IfOk result (λ text. TellsAll asked bytes sections (string_bytes text)) }
+    /// What is written behind the rows that are told.
+    #[tactic(auto, unfolding(crate::specs::Ending::text_at_end))]
+    pub(crate) fn end(&self, alloc: Global) -> Result<String, AllocError>
+        ensures { IfOk result (λ text. string_bytes text ≡ text_at_end self.now) }
     {
-        let mut text = text_in(alloc, self.asked.all, &self.kinds, &self.told)?;
+        let mut text = likes_in(alloc, self.asked.all, &self.kinds, &self.told)?;
         self.push_end(&mut text)?;
         Ok(text)
     }
 
     // The counts, or that the event that is asked for has no row.
-    #[tactic(auto, unfolding(crate::specs::Ending::text_at_end))]
     fn push_end(&self, text: &mut String) -> Result<(), AllocError>
-        ensures { OnOk result (string_bytes text.new ≡ string_bytes text.old ++ text_at_end self.now) }
+        ensures { OnOk result (string_bytes text.new ≡ string_bytes text.old ++ text_of_none (missed_in self.now.asked self.now.kinds.items) (counts_at_end self.now)) }
     {
         match self.missed_event() {
             Some(event) => write!(text, "no row at event {event}\n"),
@@ -163,6 +167,7 @@ impl<'a> Telling<'a> {
         ensures rows { (asked : Reasons) (before : List Bad) → HasRows asked before self.old
             → OnOk result (HasRows asked (before ++ asked_rows asked (part_of taken.now)) self.new) }
         ensures counts { OnOk result (self.new.counts.items ≡ self.old.counts.items) }
+        ensures grows { OnOk result (Grows self.old.told.items self.new.told.items) }
     {
         for (index, row) in taken.verdict.rows().iter().enumerate() {
             let number = wanted.partition_point(|other| *other < index);
@@ -185,6 +190,7 @@ impl<'a> Telling<'a> {
         ensures rows { (asked : Reasons) (before : List Bad) → HasRows asked before self.old
             → OnOk result (HasRows asked (before ++ asked_row asked (part_of taken.now) row.now) self.new) }
         ensures counts { OnOk result (self.new.counts.items ≡ self.old.counts.items) }
+        ensures grows { OnOk result (Grows self.old.told.items self.new.told.items) }
     {
         if !is_asked(self.asked.event, row.place) {
             return Ok(());
@@ -211,6 +217,7 @@ impl<'a> Telling<'a> {
         ensures rows { (asked : Reasons) (before : List Bad) → HasRows asked before self.old
             → OnOk result (HasRows asked (before ++ bad_of bad.now ∷ []) self.new) }
         ensures counts { OnOk result (self.new.counts.items ≡ self.old.counts.items) }
+        ensures grows { OnOk result (Grows self.old.told.items self.new.told.items) }
         ensures asked { OnOk result (self.new.asked ≡ self.old.asked) }
     {
         let kind = Kind::of(bad);
@@ -220,7 +227,13 @@ impl<'a> Telling<'a> {
         }
         let way = way_of(alloc, bad, own, &mut self.budget)?;
         let text = reason_text(alloc, bad, own, way)?;
-        self.told.push(Told { kind, text })?;
+        let name = bad.taken.verdict.name();
+        self.told.push(Told {
+            kind,
+            name,
+            row: bad.row,
+            text,
+        })?;
         self.kinds.push(kind)?;
         Ok(())
     }
@@ -260,19 +273,19 @@ fn count_kind(kinds: &[Kind<'_>], kind: &Kind<'_>) -> usize
     count
 }
 
-#[tactic(auto, unfolding(crate::specs::Ending::text_in))]
-fn text_in(
+// Of what is told, for how many more it stands.
+#[tactic(auto, unfolding(crate::specs::Ending::likes_in))]
+fn likes_in(
     alloc: Global,
     all: bool,
     kinds: &[Kind<'_>],
     told: &[Told<'_>],
 ) -> Result<String, AllocError>
-    ensures { IfOk result (λ text. string_bytes text ≡ text_in all kinds.now told.now) }
+    ensures { IfOk result (λ text. string_bytes text ≡ likes_in all kinds.now told.now) }
 {
     let mut text = String::new(alloc);
     for one in told {
-        text.push_str(&one.text)?;
-        push_more(&mut text, like_in(all, kinds, one))?;
+        push_more(&mut text, one.name, &one.row, like_in(all, kinds, one))?;
     }
     Ok(text)
 }

@@ -38,16 +38,23 @@ pub(crate) fn reason_text(
     Ok(text)
 }
 
-/// How many rows more the row stands for, where there are more.
+/// How many rows more are like the row of this section, where so many are in all.
 #[tactic(auto, unfolding(crate::specs::WhyText::text_of_more))]
-pub(crate) fn push_more(text: &mut String, count: usize) -> Result<(), AllocError>
-    ensures { OnOk result (string_bytes text.new ≡ string_bytes text.old ++ text_of_more count) }
+pub(crate) fn push_more(
+    text: &mut String,
+    name: Name,
+    row: &Row,
+    count: usize,
+) -> Result<(), AllocError>
+    ensures { OnOk result (string_bytes text.new ≡ string_bytes text.old ++ text_of_more name row.now count) }
 {
     if count <= 1 {
         return Ok(());
     }
     let more = count - 1;
-    write!(text, "  alike    {more} more\n")
+    write!(text, "{more} more like ")?;
+    push_section(text, name)?;
+    push_row(text, row)
 }
 
 #[tactic(auto, unfolding(crate::specs::WhyText::text_of_section))]

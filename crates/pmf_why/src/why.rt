@@ -1,14 +1,17 @@
-//! The text that tells why the rows of a log are no PASS.
+//! What tells why the rows of a log are no PASS, written section for section.
 
-ghost use Rattle.std.specs.{Prelude.{◌≡◌, ◌||◌, List, ℕ, map, string_bytes, is_none, IfOk, MatchResult}, List.{list_any}};
-ghost use Rattle.pmf_why.specs.{Reasons.{is_asked}, Telling.{HasParts}, Why.{IsWhy, IsWhyFault, IsWhyRefusal, asked_sections, TellsAll}};
+ghost use Rattle.std.specs.{Prelude.{◌≡◌, ◌||◌, ◌+◌, ◌++◌, List, ℕ, Option, map, is_none, MatchResult}, List.{list_any}};
+ghost use Rattle.pmf_device.specs.{Failures.{CanCountOneMore}, Pages.{IsPage, StopsIn, WritesText, failed_puts}};
+ghost use Rattle.pmf_query.specs.{declared.streaming.Unanswered.TheVariants.{Refused}, Standing.{Stands}, Streaming.{Recites, failed_answers}};
+ghost use Rattle.pmf_why.specs.{Reasons.{is_asked}, Telling.{told_text}, Why.{IsWhy, IsWhyRefusal, asked_sections, refusal_of, TellsAll}};
 
-use crate::taking::{Telling, is_number_asked};
+use crate::taking::{Telling, Told, is_number_asked};
+use pmf_device::{Page, Sink, Stop};
 use pmf_event::Section;
-use pmf_query::{Answer, EventFault, EventRefusal, Query, Standing};
+use pmf_query::{EventFault, EventRefusal, Standing, StreamedQuery, Unanswered};
 use pmf_request::{Reasons, Sought};
 use pmf_storelog::read_log;
-use std::alloc::{AllocError, Global};
+use std::alloc::Global;
 use std::sync::Arc;
 
 /// Why rows are no PASS, as a question about a log.
@@ -18,7 +21,7 @@ pub struct Why {
     pub asked: Reasons,
 }
 
-impl Query for Why {
+impl StreamedQuery for Why {
     type Told = ();
 
     type Refusal = EventRefusal;
@@ -27,47 +30,62 @@ impl Query for Why {
 
     ghost IsRefusal = { λ why. IsWhyRefusal why.asked };
 
-    fn answer(&self, alloc: Global, log: &[u8]) -> Result<Answer<()>, EventRefusal> {
-        let text = why_text(alloc, log, self.asked)?;
-        Ok(Answer { told: (), text })
+    fn recite<W: Sink>(
+        &self,
+        alloc: Global,
+        log: &[u8],
+        writer: &mut W,
+    ) -> Result<(), Unanswered<EventRefusal>> {
+        tell_why(alloc, log, self.asked, writer)
     }
 }
 
-/// The text that tells why rows are no PASS: of each kind the first, with the store that is lost, its cause, and what cures it. A kind
-/// is what is found, the cause, and the place in the source where records tell one, or else how many events lie between.
+/// Writes why rows are no PASS: of each kind the first, with the store that is lost, its cause, and what cures it. A kind is what is
+/// found, the cause, and the place in the source where records tell one, or else how many events lie between.
 ///
 /// Reads the log twice, once for its events and once for where they stand; checks each section that is asked for, looks for causes
-/// and cures, and checks it once more with all of them. Then changes of single rows are checked, each by one check of its section,
-/// while these have fewer events than the log and 262,144 together. Takes memory for the events of the log and where each stands, what
-/// [`pmf_cause::propose`] and two checks take, a kind for each row that is asked for, and the text.
-pub fn why_text(alloc: Global, log: &[u8], asked: Reasons) -> Result<Vec<u8>, EventRefusal>
-    ensures { MatchResult result (λ text. IsWhy asked log.now text.items) (IsWhyRefusal asked log.now) }
-{
-    match tell(alloc, log, asked) {
-        Ok(text) => Ok(text),
-        Err(fault) => Err(EventRefusal {
-            sought: Sought {
-                run: asked.run,
-                section: asked.section.unwrap_or(0),
-                event: asked.event.unwrap_or(0),
-            },
-            fault,
-        }),
-    }
-}
-
-fn tell(alloc: Global, log: &[u8], asked: Reasons) -> Result<Vec<u8>, EventFault>
-    ensures { MatchResult result (λ text. IsWhy asked log.now text.items) (IsWhyFault asked log.now) }
+/// and cures, checks it once more with all of them, and writes what is to be told of it. At the end it tells how many rows are like those
+/// that are told. Changes of single rows are checked, each by one check of its section, while these have fewer events than the log and
+/// 262,144 together. Takes memory for the events of the log and where each stands, what [`pmf_cause::propose`] and two checks take, a
+/// kind for each row that is asked for, and the text.
+pub fn tell_why<W: Sink>(
+    alloc: Global,
+    log: &[u8],
+    asked: Reasons,
+    writer: &mut W,
+) -> Result<(), Unanswered<EventRefusal>>
+    requires { CanCountOneMore (W.failed_calls writer.old) }
+    ensures answer { Recites (λ _ text. IsWhy asked log.now text) (IsWhyRefusal asked log.now) W.held writer.old writer.new result }
+    ensures counted { W.failed_calls writer.new ≡ W.failed_calls writer.old + failed_answers result }
 {
     let read = match read_log(alloc, log, asked.run) {
         Ok(read) => read,
-        Err(fault) => return Err(EventFault::Log(fault)),
+        Err(fault) => return Err(refused(asked, EventFault::Log(fault))),
     };
     if !has_asked(read.sections(), asked.section) {
-        return Err(EventFault::NoSection);
+        return Err(refused(asked, EventFault::NoSection));
     }
-    let text = tell_sections(alloc, log, read.sections(), asked)?;
-    Ok(text.into_bytes())
+    let Ok(standing) = Standing::of(alloc, log) else {
+        return Err(refused(asked, EventFault::OutOfMemory));
+    };
+    match tell_sections(alloc, read.sections(), &standing, asked, writer) {
+        Ok(()) => Ok(()),
+        Err(stop) => Err(Unanswered::Stopped(stop)),
+    }
+}
+
+// The refusal for this reason, with what was asked for.
+fn refused(asked: Reasons, fault: EventFault) -> Unanswered<EventRefusal>
+    ensures { result ≡ Refused (refusal_of asked fault) }
+{
+    Unanswered::Refused(EventRefusal {
+        sought: Sought {
+            run: asked.run,
+            section: asked.section.unwrap_or(0),
+            event: asked.event.unwrap_or(0),
+        },
+        fault,
+    })
 }
 
 // Whether one of the sections has the number that is named, if one is.
@@ -85,21 +103,43 @@ fn has_asked(sections: &[Arc<Section>], named: Option<u64>) -> bool
     has
 }
 
-// The text of the sections that are asked for.
-fn tell_sections(
+// The rows of the sections that are asked for, section for section, and the counts.
+fn tell_sections<W: Sink>(
     alloc: Global,
-    log: &[u8],
     sections: &[Arc<Section>],
+    standing: &Standing<'_>,
     asked: Reasons,
-) -> Result<String, AllocError>
-    ensures { IfOk result (λ text. TellsAll asked log.now (asked_sections asked (map (λ s. s.value) sections.now)) (string_bytes text)) }
+    writer: &mut W,
+) -> Result<(), Stop>
+    requires { CanCountOneMore (W.failed_calls writer.old) }
+    ensures text { (bytes : List ℕ) → Stands bytes standing.now
+        → WritesText (TellsAll asked bytes (asked_sections asked (map (λ s. s.value) sections.now))) (W.held writer.old) (W.held writer.new) result }
+    ensures counted { W.failed_calls writer.new ≡ W.failed_calls writer.old + failed_puts result }
 {
-    let standing = Standing::of(alloc, log)?;
     let mut telling = Telling::new(alloc, asked, budget_of(sections));
+    let mut page = Page::new();
+    let mut sent = 0;
     for section in sections {
-        telling.meet(alloc, section, &standing)?;
+        telling.meet(alloc, section, standing)?;
+        write_told(&telling.told[sent..], writer, &mut page)?;
+        sent = telling.told.len();
     }
-    telling.text(alloc)
+    let end = telling.end(alloc)?;
+    page.put(writer, end.as_bytes())
+}
+
+// The text of what is told.
+fn write_told<W: Sink>(told: &[Told<'_>], writer: &mut W, page: &mut Page) -> Result<(), Stop>
+    requires { CanCountOneMore (W.failed_calls writer.old) }
+    ensures put { (held : Option (List ℕ)) (front : List ℕ) → IsPage held (W.held writer.old) front page.old
+        → MatchResult result (λ _. IsPage held (W.held writer.new) (front ++ told_text told.now) page.new)
+        (StopsIn (λ text. text ≡ front ++ told_text told.now) held (W.held writer.new)) }
+    ensures counted { W.failed_calls writer.new ≡ W.failed_calls writer.old + failed_puts result }
+{
+    for one in told {
+        page.put(writer, one.text.as_bytes())?;
+    }
+    Ok(())
 }
 
 // How many events the checks of changes for one row may have together.

@@ -1,8 +1,9 @@
 //! Causes and cures of whole logs.
 
-use crate::why_text;
+use crate::tell_why;
+use pmf_device::{ByteSink, Stop};
 use pmf_event::Profile;
-use pmf_query::{EventFault, EventRefusal};
+use pmf_query::{EventFault, EventRefusal, Unanswered};
 use pmf_request::{Reasons, Sought};
 use std::test::Fail;
 
@@ -52,8 +53,9 @@ fn asked_for() -> Reasons {
 
 #[test]
 fn each_row_has_its_cause_and_its_cure(rt: HostRuntime) -> Result<(), Fail> {
-    let text = why_text(rt.alloc(), LOG, asked_for())?;
-    assert!(rt; text.as_slice() == TEXT.as_bytes(), "{text:?}");
+    let mut text = ByteSink::new(rt.alloc());
+    assert_eq!(rt; tell_why(rt.alloc(), LOG, asked_for(), &mut text), Ok(()));
+    assert!(rt; text.bytes() == TEXT.as_bytes());
     Ok(())
 }
 
@@ -80,12 +82,12 @@ const LAST: &str = "0.4 4 PERSIST FAIL byte=0x80 crash=4
 #[test]
 fn rows_of_one_place_in_the_source_are_told_once(rt: HostRuntime) -> Result<(), Fail> {
     let alloc = rt.alloc();
-    let one_more = "  alike    1 more\n";
+    let one_more = "1 more like 0.0 3 PERSIST FAIL byte=0x0 crash=3\n";
     let end = "; with all cures: pass=3 fail=0\n";
     let cases: [(Reasons, String); 4] = [
         (
             asked_for(),
-            format!(in alloc; "{FIRST}{one_more}{LAST}rows=3 told=2 untold=0{end}")?,
+            format!(in alloc; "{FIRST}{LAST}{one_more}rows=3 told=2 untold=0{end}")?,
         ),
         (
             Reasons {
@@ -112,10 +114,28 @@ fn rows_of_one_place_in_the_source_are_told_once(rt: HostRuntime) -> Result<(), 
         ),
     ];
     for (asked, want) in cases {
-        let text = why_text(alloc, ALIKE, asked)?;
-        assert!(rt; text.as_slice() == want.as_bytes(), "{asked:?}");
+        let mut text = ByteSink::new(alloc);
+        assert_eq!(rt; tell_why(alloc, ALIKE, asked, &mut text), Ok(()));
+        assert!(rt; text.bytes() == want.as_bytes(), "{asked:?}");
     }
     Ok(())
+}
+
+// What a sink takes that fails is the front of the whole text.
+#[test]
+fn rows_are_told_up_to_the_write_that_fails(rt: HostRuntime) {
+    let mut whole = ByteSink::new(rt.alloc());
+    assert_eq!(rt;
+        tell_why(rt.alloc(), ALIKE, asked_for(), &mut whole),
+        Ok(())
+    );
+    for room in 0..whole.bytes().len() {
+        let mut text = ByteSink::new(rt.alloc()).failing_after(room);
+        let written = room as u64;
+        let stopped = tell_why(rt.alloc(), ALIKE, asked_for(), &mut text);
+        assert_eq!(rt; stopped, Err(Unanswered::Stopped(Stop::Failed { written })));
+        assert!(rt; text.bytes() == &whole.bytes()[..room], "{room}");
+    }
 }
 
 #[test]
@@ -133,15 +153,18 @@ fn a_section_that_is_named_has_to_be_there(rt: HostRuntime) {
         },
         fault: EventFault::NoSection,
     };
-    assert!(rt; why_text(rt.alloc(), ALIKE, asked) == Err(missing));
-    let faulty = why_text(rt.alloc(), b"FLUSH;1", asked);
+    let mut text = ByteSink::new(rt.alloc());
+    let refused = tell_why(rt.alloc(), ALIKE, asked, &mut text);
+    assert_eq!(rt; refused, Err(Unanswered::Refused(missing)));
+    let faulty = tell_why(rt.alloc(), b"FLUSH;1", asked, &mut text);
     assert!(rt;
         matches!(
             faulty,
-            Err(EventRefusal {
+            Err(Unanswered::Refused(EventRefusal {
                 fault: EventFault::Log(_),
                 ..
-            })
+            }))
         )
     );
+    assert!(rt; text.bytes().is_empty());
 }

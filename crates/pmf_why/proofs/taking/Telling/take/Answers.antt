@@ -4,8 +4,8 @@ use Rattle.pmf_request.specs.declared.settings.Reasons.{Reasons}
 use Rattle.pmf_why.{specs.declared.plan.Counts.{Counts}, specs.Reasons.{Part, rows_of_all}, proofs.CuredLemmas.{plan_spoils_nothing}, proofs.PartsLemmas.{parts_on}}
 use Rattle.pmf_why.proofs.taking.Telling.take.Goals as goal
 
-pub returns : goal.returns
-returns c = λ asked bytes sections stands has.
+pub returns-clause-parts : goal.returns-clause-parts
+returns-clause-parts c = λ asked bytes sections stands has.
     let part : Part = record { checked = c.in-Ok.verdict; stands = c.args.stands.now; plan = c.in_ok-plan.plan.edits.items } in
     let old = c.args.self.now in
     let checked : c.in-Ok.verdict ≡ record { section = c.args.section.now.value; profile = asked.profile } =

@@ -1,17 +1,19 @@
 use Rattle.std.proofs.{Common.{◌∙◌, ◌++◌, ◌+◌, refl, sym, ap, subst, arith, List, length, flat_map, take, append-nil}, lemmas.List.{take_all}}
 use Rattle.pmf_event.specs.declared.row.Row.{Row}
 use Rattle.pmf_verdict.specs.Checked.{rows_in}
-use Rattle.pmf_why.{specs.Reasons.{Bad, asked_row, asked_rows}, specs.Rows.{part_of}, specs.Telling.{HasRows}, proofs.MeetLemmas.{row_more}}
+use Rattle.pmf_why.{specs.Reasons.{Bad, asked_row, asked_rows}, specs.Rows.{part_of}, specs.Telling.{HasRows}, proofs.GrowLemmas.{grows_none, grows_on}, proofs.MeetLemmas.{row_more}}
 use Rattle.pmf_why.proofs.taking.Telling.take_rows.Goals as goal
 
 pub loop-index-init : goal.loop-index-init
 loop-index-init c = record {
+  grows = grows_none _ _ refl;
   counts = refl;
   rows = λ asked before has. subst (λ (bads : List Bad). HasRows asked bads c.args.self.now) (sym (append-nil before)) has;
 }
 
 pub loop-index-preserved : goal.loop-index-preserved
 loop-index-preserved c = record {
+  grows = grows_on _ _ _ c.loop-index.invariant.grows c.in_ok-meet_row.ensures.grows;
   counts = c.in_ok-meet_row.ensures.counts ∙ c.loop-index.invariant.counts;
   rows = λ asked before has.
       let f = asked_row asked (part_of c.args.taken.now) in
