@@ -89,7 +89,7 @@ IsAnsweredFrom (Explain asked log) s status =
     EndsAs status_of_asked status_of_event_refusal (IsAnswerOf (λ bytes _ text. IsExplanation asked.run asked.section asked.event asked.profile bytes text) s.left s.rest)
     (IsRefusalOf (IsEventRefusal (record { run = asked.run; section = asked.section; event = asked.event })) s.left s.rest) s.held s.holds status
 IsAnsweredFrom (ExplainAll asked log) s status =
-    EndsAs status_of_asked status_of_log_refusal (IsAnswerOf (λ bytes _ text. ExplainsAll asked.run asked.profile bytes text) s.left s.rest) (IsRefusalOf (IsLogRefusal asked.run) s.left s.rest) s.held s.holds status
+    EndsAs status_of_asked status_of_log_refusal (IsAnswerOf (λ bytes _ text. ExplainsAll asked bytes text) s.left s.rest) (IsRefusalOf (IsLogRefusal asked.run) s.left s.rest) s.held s.holds status
 IsAnsweredFrom (Why asked log) s status =
     EndsAs status_of_asked status_of_event_refusal (IsAnswerOf (λ bytes _ text. IsWhy asked bytes text) s.left s.rest) (IsRefusalOf (IsWhyRefusal asked) s.left s.rest) s.held s.holds status
 IsAnsweredFrom (Locate sought log) s status =

@@ -1,5 +1,5 @@
 pub use Rattle.pmf_storelog.specs.LogText
-pub use Rattle.pmf_stream.specs.Failures
+pub use Rattle.pmf_device.specs.Failures
 pub use Rattle.pmf_stream.specs.Answering
 pub use Rattle.pmf_stream.specs.Checking
 pub use Rattle.pmf_stream.specs.Asked

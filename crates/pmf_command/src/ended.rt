@@ -2,7 +2,8 @@
 
 ghost use Rattle.std.specs.{Prelude.{◌≡◌, ◌⊎◌, ◌↔◌, ◌+◌, map, OnOk, Result}, Io.KnownBytes.{Appends}, Process.{exit_status}};
 ghost use Rattle.clap.specs.Words.{kind_of};
-ghost use Rattle.pmf_stream.specs.{Simulated.{IsSimRefusalOf, IsSimulationOf}, Answering.{Answers, TellsFaults, failed_reads, failed_writes}, Asked.{IsAnswerOf, IsRefusalOf}, Checking.{IsCheckFaultOf, IsReportOf}, Failures.{CanCountOneMore}, Files.{IsCutOf}, Joining.{IsJoinedText, IsRefusalOfTexts}, declared.checking.CheckLogFault.{CheckLogFault}, declared.checking.Done.{Done}, declared.cutting.Pieces.{Pieces}, declared.fault.StreamFault.{StreamFault}, declared.joining.Joined.{Joined}, declared.joining.JoinTextFault.{JoinTextFault}};
+ghost use Rattle.pmf_device.specs.Failures.{CanCountOneMore};
+ghost use Rattle.pmf_stream.specs.{Simulated.{IsSimRefusalOf, IsSimulationOf}, Answering.{Answers, TellsFaults, TellsFaultsOfParts, failed_reads, failed_writes}, Asked.{IsAnswerOf, IsRefusalOf}, Checking.{IsCheckFaultOf, IsReportOf}, Files.{IsCutOf}, Joining.{IsJoinedText, IsRefusalOfTexts}, declared.checking.CheckLogFault.{CheckLogFault}, declared.checking.Done.{Done}, declared.cutting.Pieces.{Pieces}, declared.fault.StreamFault.{StreamFault}, declared.joining.Joined.{Joined}, declared.joining.JoinTextFault.{JoinTextFault}};
 ghost use Rattle.pmf_cut.specs.declared.fault.CutFault.{CutFault};
 ghost use Rattle.pmf_world.specs.declared.simulating.SimFault.{SimFault};
 ghost use Rattle.pmf_command.specs.{Statuses.{IsAnswerTo, exit_code_of, status_of, status_of_asked, status_of_check_fault, status_of_cut_fault, status_of_done, status_of_fault, status_of_joined, status_of_pieces, status_of_sim_fault, status_of_text_fault}, declared.status.Status.{Status}};
@@ -14,12 +15,13 @@ use crate::ending::Ending;
 use crate::hints::{print_hint, print_reason};
 use crate::shelf::Unread;
 use crate::status::Status;
+use pmf_device::{Device, Sink, Source, StdSink, write_text};
 use pmf_farm::OpenGate;
-use pmf_query::Query;
+use pmf_query::{Query, StreamedQuery};
 use pmf_request::{Lengths, Settings};
 use pmf_stream::{
-    Device, Excerpt, JoinTextFault, Joined, Outlet, Sink, Source, StdSink, StreamFault,
-    answer_stream, check_stream, cut_stream, join_to, sim_to, write_text,
+    Excerpt, JoinTextFault, Joined, Outlet, StreamFault, answer_stream, check_stream, cut_stream,
+    join_to, recite_stream, sim_to,
 };
 use std::alloc::Global;
 use std::fmt::Display;
@@ -159,6 +161,31 @@ pub(crate) fn answer_to<
 {
     let mut refused = Excerpt::none();
     let answer = answer_stream(alloc, source, sink, query, &mut refused);
+    report_ending(rt, answer, &refused, source.reason())
+}
+
+/// Reads the log of the source and writes the answer of what is asked of it to the sink, part by part.
+pub(crate) fn recite_to<
+    R: Eprint,
+    S: Source,
+    W: Sink,
+    T: Ending + Drop,
+    E: Ending + Display + Drop,
+    Q: StreamedQuery<Told = T, Refusal = E>,
+>(rt: &R, alloc: Global, source: &mut S, sink: &mut W, query: &Q) -> Ended
+    requires read { CanCountOneMore (S.failed_calls source.old) }
+    requires write { CanCountOneMore (W.failed_calls sink.old) }
+    ensures { (answer : Result T (StreamFault E))
+        × (result ≡ status_of T.ends_as E.ends_as answer)
+        × Answers (IsAnswerOf (Q.IsAnswer query.now) (S.left source.old) (S.left source.new))
+        (IsRefusalOf (Q.IsRefusal query.now) (S.left source.old) (S.left source.new))
+        (W.held sink.old) (W.held sink.new) answer
+        × TellsFaultsOfParts (IsAnswerOf (Q.IsAnswer query.now) (S.left source.old) (S.left source.new)) W.held
+        (S.failed_calls source.old) (S.failed_calls source.new)
+        (W.failed_calls sink.old) (W.failed_calls sink.new) sink.old sink.new answer }
+{
+    let mut refused = Excerpt::none();
+    let answer = recite_stream(alloc, source, sink, query, &mut refused);
     report_ending(rt, answer, &refused, source.reason())
 }
 

@@ -1,11 +1,13 @@
 //! The files that a log is cut into.
 
 ghost use Rattle.std.specs.Prelude.{◌≡◌, ◌+◌, None};
-ghost use Rattle.pmf_stream.specs.Failures.{CanCountOneMore, failed_files};
+ghost use Rattle.pmf_device.specs.Failures.{CanCountOneMore};
+ghost use Rattle.pmf_stream.specs.Files.{failed_files};
 
 use crate::diagnostics::fail_file;
 use crate::status::Status;
-use pmf_stream::{Device, Failed, NoFile, Outlet, Sink, write_whole};
+use pmf_device::{Device, Failed, Sink};
+use pmf_stream::{NoFile, Outlet, write_whole};
 use std::alloc::Global;
 use std::fs::{Files, OpenOptions};
 use std::io;

@@ -2,18 +2,20 @@
 
 ghost use Rattle.std.specs.Prelude.{◌≡◌, is_none, map, IfErr, IfOk};
 ghost use Rattle.pmf_ledger.specs.declared.loading.TheConstants.{LEDGER_LIMIT};
-ghost use Rattle.pmf_stream.specs.Failures.{CanCountOneMore};
+ghost use Rattle.pmf_device.specs.Failures.{CanCountOneMore};
 ghost use Rattle.pmf_command.specs.{Answered.{AreRead, IsAnswered, IsAnsweredFrom, IsUnread, JoinsFiles, Simulates, can_cut, input_of}, declared.status.Status.{Status}};
 
 use crate::ended::{
-    Ended, answer_to, check_to, cut_to, exhausted, join_all, play_to, refused, unanswered, unread,
+    Ended, answer_to, check_to, cut_to, exhausted, join_all, play_to, recite_to, refused,
+    unanswered, unread,
 };
 use crate::shelf::{Shelf, bytes_of};
+use pmf_device::{Device, Sink, Source};
 use pmf_event::EVENT_LIMIT;
 use pmf_ledger::LEDGER_LIMIT;
 use pmf_request::{Cuts, Files, Input, Overview, Request, Simulation};
 use pmf_storelog::LOG_LIMIT;
-use pmf_stream::{Device, Excerpt, Outlet, Sink, Source, read_all};
+use pmf_stream::{Excerpt, Outlet, read_all};
 use pmf_why::Why;
 use pmf_world::{SCHEDULE_LIMIT, SimFault};
 use std::alloc::Global;
@@ -118,10 +120,10 @@ fn answer_from<
     match request {
         Request::Check(settings, _) => check_to(rt, threads, alloc, source, sink, *settings),
         Request::Explain(question, _) => answer_to(rt, alloc, source, sink, question),
-        Request::ExplainAll(whole, _) => answer_to(rt, alloc, source, sink, whole),
+        Request::ExplainAll(whole, _) => recite_to(rt, alloc, source, sink, whole),
         Request::Why(reasons, _) => {
             let why = Why { asked: *reasons };
-            answer_to(rt, alloc, source, sink, &why)
+            recite_to(rt, alloc, source, sink, &why)
         }
         Request::Locate(sought, _) => answer_to(rt, alloc, source, sink, sought),
         Request::Lint(_) => answer_to(rt, alloc, source, sink, &Overview),

@@ -3,7 +3,8 @@
 ghost use Rattle.std.specs.Prelude.{◌≡◌, ◌<◌, ◌^◌, ℕ, List, Option, None, IfOk};
 ghost use Rattle.pmf_command.specs.Answered.{IsFileOf, IsReadOf};
 
-use pmf_stream::{Device, Source, StdSource, StreamFault, read_all};
+use pmf_device::{Device, Source, StdSource};
+use pmf_stream::{StreamFault, read_all};
 use std::alloc::Global;
 use std::fs::Files;
 use std::io::{ErrorKind, Read};

@@ -11,9 +11,12 @@ use Rattle.pmf_request.specs.declared.request.Request.TheVariants as request
 
 -- ---- the options
 
--- numbers below 2^32, below 2^64, and from 1 to 1000
+-- numbers below 2^32, those from 1 on, numbers below 2^64, and from 1 to 1000
 abbrev pub small_number : ValueParser
 small_number = vp.Signed (pos 0) (pos 4294967295)
+
+abbrev pub small_count : ValueParser
+small_count = vp.Signed (pos 1) (pos 4294967295)
 
 abbrev pub large_number : ValueParser
 large_number = vp.Unsigned 0 18446744073709551615
@@ -65,7 +68,7 @@ check_words words =
 -- with the flag `--all` no event is asked for
 abbrev pub explain_words : Bool → ValueParser → App
 explain_words true words =
-    with_rule (with_rule (with_rule (with_rule (new_app (codes "explain")) (flag (codes "all"))) run_option) (profile_option words)) log_word
+    with_rule (with_rule (with_rule (with_rule (with_rule (new_app (codes "explain")) (flag (codes "all"))) (maybe_number (codes "first") small_count)) run_option) (profile_option words)) log_word
 explain_words false words =
     with_rule (with_rule (with_rule (with_rule (with_rule (with_rule (new_app (codes "explain"))
     (asked (codes "section"))) (asked_number (codes "event") small_number)) (flag (codes "all"))) run_option) (profile_option words)) log_word
@@ -183,10 +186,11 @@ pub record IsExplainOf (rows : List Row) (q : Question) : Type 0 where
   pub profile_is : IsProfileOf rows q.profile
   pub event : IsNumberOf rows (codes "event") 32 q.event
 
--- the run and the profile are those that the words of `explain --all` name
+-- the run, the profile and how many rows are those that the words of `explain --all` name
 pub record IsExplainAllOf (rows : List Row) (w : Whole) : Type 0 where
   pub run : IsNumberOf rows (codes "run") 64 w.run
   pub profile_is : IsProfileOf rows w.profile
+  pub first : IsMaybeNumberOf rows (codes "first") 32 w.first
 
 -- the rows that are asked for are those that the words of `why` name
 pub record IsWhyOf (rows : List Row) (r : Reasons) : Type 0 where

@@ -5,7 +5,8 @@ ghost use Rattle.clap.specs.{Words.{App, Rule, new_app, rule_of, with_rule, with
 ghost use Rattle.pmf_words.specs.Words.{HasWords, check_words, cut_words, explain_words, join_words, lint_words, locate_words, pmfarm_words, profile_option, program_words, run_option, sim_words, why_words};
 
 use crate::options::{
-    all, all_rows, asked_number, bytes, event, events, file, files, first, ledger, log, log_file,
+    all, all_rows, asked_number, bytes, event, events, file, files, first, first_rows, ledger, log,
+    log_file,
     only_event, only_section, profile, run, section, step, workers,
 };
 use clap::{Arg, Command};
@@ -60,6 +61,8 @@ Examples:
                                     the same of a report with these options
   pmfarm explain --all store.log    each row that counts as fail, also one of
                                     a section's end, which has no event
+  pmfarm explain --all --first 3 store.log
+                                    the first three of them
 
 What is written of a row that fails:
   image crash=3 full=none           a crash after event 3; no line is there in
@@ -100,9 +103,11 @@ What is written of a row, and at the end:
   event        where no store is lost: the event of the row
   cure         changes of the log, and what a check with them found; or `none
                found`, or `with all cures this row passes`
-  alike        so many rows more have this finding, this cause, and this place
-               in the source
-  untold       so many rows are neither told nor alike to one that is
+  untold       so many rows are neither told nor like one that is
+
+Rows of one finding, one cause and one place in the source (or one distance of
+events) are one kind. Its first row is told; how many more are like it follows
+behind all rows that are told, as `2 more like 0.0 4 ORDERED FAIL ..`.
 
 Exit status:
   0  the causes were told, also where no row fails
@@ -242,6 +247,7 @@ fn explain_rows<'a>(alloc: Global) -> Result<Command<'a>, AllocError>
     let about = "Writes each row that counts as fail, and the crash image that shows it";
     let explain = Ok(head(alloc, "explain", about, EXPLAIN_HELP));
     let explain = with_option(explain, all(alloc));
+    let explain = with_option(explain, first_rows(alloc));
     let explain = with_run_and_profile(alloc, explain);
     with_option(explain, log_file(alloc))
 }

@@ -2,7 +2,7 @@
 
 ghost use Rattle.std.specs.Prelude.{◌≡◌, false, Some, codes};
 ghost use Rattle.clap.specs.{Words.{rule_of}, declared.builder.value_parser.ValueParser.{ValueParser}};
-ghost use Rattle.pmf_words.specs.Words.{asked, asked_number, file_words, flag, large_number, log_word, maybe_number, number, option, profile_option, row_count, run_option, small_number};
+ghost use Rattle.pmf_words.specs.Words.{asked, asked_number, file_words, flag, large_number, log_word, maybe_number, number, option, profile_option, row_count, run_option, small_count, small_number};
 
 use clap::builder::ValueParser;
 use clap::{Arg, ArgAction, value_parser};
@@ -110,6 +110,16 @@ pub(crate) fn only_event<'a>(alloc: Global) -> Arg<'a>
 {
     let help = "The only event of each section that is told of, counted from 1";
     parsed(alloc, "event", "K", help, value_parser!(u32))
+}
+
+// How many rows `explain --all` explains.
+pub(crate) fn first_rows<'a>(alloc: Global) -> Arg<'a>
+    ensures rule { rule_of result ≡ maybe_number (codes "first") small_count }
+    ensures local { result.global ≡ false }
+{
+    let help = "The most rows that are explained, 1 or more; all where it is left out";
+    let parser = value_parser!(u32).range(1..=4_294_967_295);
+    parsed(alloc, "first", "N", help, parser)
 }
 
 // How many rows `why` tells.

@@ -118,6 +118,7 @@ fn whole_of(explain: &ArgMatches<'_>) -> Whole
     Whole {
         run: explain.get_one::<u64>("run").unwrap_or(0),
         profile: profile_of(explain.get_str("profile")),
+        first: explain.get_one::<u32>("first"),
     }
 }
 

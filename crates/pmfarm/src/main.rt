@@ -12,17 +12,19 @@ mod words_tests;
 pub use pmf_command::{
     Cuts, Ended, Files, Input, Lengths, Reasons, Request, Simulation, Status, request_of,
 };
+pub use pmf_device::{
+    Counted, Cut, Device, Failed, Page, Sink, Source, StdSink, StdSource, Stop, write_text,
+};
 pub use pmf_farm::{FarmFault, Gate, OpenGate, Turn};
 pub use pmf_query::{
-    Answer, EventFault, EventRefusal, Linted, LogRefusal, Overview, Query, Question, Sought, Whole,
-    explain_all_text, explain_text,
+    Answer, EventFault, EventRefusal, Linted, LogRefusal, Overview, Query, Question, Sought,
+    StreamedQuery, Unanswered, Whole, explain_all, explain_text,
 };
 pub use pmf_stream::{
-    CheckLogFault, Counted, Cut, Device, Done, Excerpt, Failed, JoinTextFault, Joined, Settings,
-    Sink, Source, StdSink, StdSource, StreamFault, answer_stream, check_stream, join_texts,
-    join_to, read_all, sim_to, write_text,
+    CheckLogFault, Done, Excerpt, JoinTextFault, Joined, Settings, StreamFault, answer_stream,
+    check_stream, join_texts, join_to, read_all, recite_stream, sim_to,
 };
-pub use pmf_why::{Way, Why, why_text};
+pub use pmf_why::{Way, Why, tell_why};
 pub use pmf_world::{
     MOST_LEDGERS, SCHEDULE_LIMIT, SimFault, World, WorldAnswer, WorldFault, WorldNewFault,
     WorldStep, sim_text,

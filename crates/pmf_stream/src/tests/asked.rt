@@ -3,12 +3,14 @@
 ghost use Rattle.std.specs.Prelude.{◌≡◌};
 
 use super::fakes::{PieceSource, failed_calls};
-use crate::answering::answer_stream;
+use crate::answering::{answer_stream, recite_stream};
 use crate::excerpt::Excerpt;
 use crate::fault::StreamFault;
 use pmf_device::{ByteSink, Device};
 use pmf_event::Profile;
-use pmf_query::{EventFault, EventRefusal, Linted, Overview, Query, Question, Sought, Whole};
+use pmf_query::{
+    EventFault, EventRefusal, Linted, LogRefusal, Overview, Query, Question, Sought, Whole,
+};
 use pmf_storelog::{Cause, LogFault};
 use std::alloc::Global;
 use std::fmt::Debug;
@@ -104,14 +106,59 @@ fn what_is_told_of_a_log_and_the_text_that_is_written(rt: HostRuntime) {
         section: SOUGHT.section,
         event: SOUGHT.event,
     };
-    let whole = Whole { run, profile };
     let linted = Linted {
         is_suspicious: false,
     };
     tells(&rt, rt.alloc(), &question, (), EXPLAINED);
-    tells(&rt, rt.alloc(), &whole, (), ALL_EXPLAINED);
     tells(&rt, rt.alloc(), &SOUGHT, (), LOCATED);
     tells(&rt, rt.alloc(), &Overview, linted, HELD);
+}
+
+const WHOLE: Whole = Whole {
+    run: SOUGHT.run,
+    profile: Profile::One,
+    first: None,
+};
+
+// All rows are explained so, and the sink holds this text.
+fn recites(
+    rt: &impl Abort,
+    alloc: Global,
+    mut source: PieceSource,
+    mut sink: ByteSink,
+    want: Result<(), StreamFault<LogRefusal>>,
+    text: &[u8],
+)
+    requires read { source.failures ≡ 0 }
+    requires write { sink.failures ≡ 0 }
+{
+    let mut refused = Excerpt::none();
+    let answer = recite_stream(alloc, &mut source, &mut sink, &WHOLE, &mut refused);
+    assert_eq!(rt; answer, want);
+    assert!(rt; sink.bytes() == text, "{want:?}");
+    let failed = (source.failures(), sink.failures());
+    assert_eq!(rt; failed, failed_calls(&want), "{want:?}");
+}
+
+#[test]
+fn what_is_written_part_by_part(rt: HostRuntime) {
+    let alloc = rt.alloc();
+    for most in [1, 7, 64, 65_536] {
+        let source = PieceSource::new(LOG).giving(most);
+        let sink = ByteSink::new(alloc).taking(most);
+        recites(&rt, alloc, source, sink, Ok(()), ALL_EXPLAINED);
+    }
+    for room in 0..ALL_EXPLAINED.len() {
+        let sink = ByteSink::new(alloc).failing_after(room);
+        let written = room as u64;
+        let cut = Err(StreamFault::WriteFault { written });
+        recites(&rt, alloc, PieceSource::new(LOG), sink, cut, &ALL_EXPLAINED[..room]);
+    }
+    let refused = Err(StreamFault::Refused(LogRefusal::Log(FAULT)));
+    recites(&rt, alloc, PieceSource::new(FAULTY), ByteSink::new(alloc), refused, b"");
+    let unread = Err(StreamFault::ReadFault);
+    let source = PieceSource::new(LOG).failing(true);
+    recites(&rt, alloc, source, ByteSink::new(alloc), unread, b"");
 }
 
 #[test]

@@ -1,6 +1,6 @@
 use Rattle.std.proofs.Common.{◌∙◌, arith, codes}
 use Rattle.clap.{specs.Words.{found_of}, proofs.WalkLemmas.{first_value-rows}}
-use Rattle.pmf_words.proofs.RequestLemmas.{number-named}
+use Rattle.pmf_words.proofs.RequestLemmas.{maybe-number-named, number-named}
 use Rattle.pmf_words.proofs.request.whole_of.Goals as goal
 
 pub returns : goal.returns
@@ -11,4 +11,5 @@ returns c =
         one = λ is. c.profile_of.ensures.one (c.get_str.ensures ∙ first_value-rows f (codes "profile") ∙ is);
         two = λ is. c.profile_of.ensures.two (c.get_str.ensures ∙ first_value-rows f (codes "profile") ∙ is);
       };
+      first = maybe-number-named 32 f (codes "first") c.get_one-2.result (λ k below. omega (arith, below)) c.get_one-2.ensures.none c.get_one-2.ensures.value;
     }
