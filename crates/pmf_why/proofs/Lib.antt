@@ -9,3 +9,4 @@ pub mod CuredLemmas
 pub mod MeetLemmas
 pub mod SectionLemmas
 pub mod CountLemmas
+pub mod PatchLemmas

@@ -18,3 +18,4 @@ pub mod Plans
 pub mod Kinds
 pub mod Telling
 pub mod Ending
+pub mod Patching

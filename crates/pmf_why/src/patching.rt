@@ -1,0 +1,143 @@
+//! The bytes of a log with changes put in.
+
+use crate::patch::Patched;
+use pmf_cause::Edit;
+use pmf_event::Event;
+use pmf_query::{Located, Standing};
+use pmf_storelog::push_event;
+use std::alloc::{AllocError, Global};
+
+// What is done where a record begins or ends.
+#[derive(Clone, Copy)]
+enum Act {
+    // The event's text line is put in.
+    PutInFront(Event),
+    // The same behind a record that may be the log's last one.
+    PutBehind(Event),
+    // So many bytes are left out.
+    LeaveOut(usize),
+}
+
+#[derive(Clone, Copy)]
+struct Piece {
+    offset: usize,
+    act: Act,
+}
+
+/// The log with the changes of all its sections. Takes memory for the text, the changes, and where each event stands.
+pub(crate) fn text_with(
+    alloc: Global,
+    log: &[u8],
+    cures: &[Patched],
+) -> Result<Vec<u8>, AllocError> {
+    let pieces = pieces_of(alloc, log, cures)?;
+    let mut writing = Writing {
+        log,
+        done: 0,
+        line: String::new(alloc),
+        text: Vec::with_capacity(alloc, log.len())?,
+    };
+    for piece in &pieces {
+        writing.go_to(piece.offset)?;
+        writing.act(piece.act)?;
+    }
+    writing.go_to(log.len())?;
+    Ok(writing.text)
+}
+
+// The changes by their offsets, those at one offset in the order in which they are made.
+fn pieces_of(alloc: Global, log: &[u8], cures: &[Patched]) -> Result<Vec<Piece>, AllocError> {
+    let standing = Standing::of(alloc, log)?;
+    let mut pieces = Vec::new(alloc);
+    for cure in cures {
+        let stands = standing.in_section(cure.section.name().number);
+        for edit in &cure.edits {
+            if let Some(piece) = piece_of(*edit, stands) {
+                pieces.push(piece)?;
+            }
+        }
+    }
+    pieces.sort_by_key(|piece| piece.offset)?;
+    Ok(pieces)
+}
+
+// The change of a section whose events stand so.
+fn piece_of(edit: Edit, stands: &[Located<'_>]) -> Option<Piece> {
+    let at = stands.get(edit.place().saturating_sub(1) as usize);
+    match edit {
+        Edit::Put { event, .. } => match at {
+            Some(record) => Some(Piece {
+                offset: record.offset as usize,
+                act: Act::PutInFront(event),
+            }),
+            None => behind(event, stands.last()),
+        },
+        Edit::LeaveOut { .. } => {
+            let record = at?;
+            Some(Piece {
+                offset: record.offset as usize,
+                act: Act::LeaveOut(record.text.len()),
+            })
+        }
+    }
+}
+
+// The event behind the last record of its section.
+fn behind(event: Event, last: Option<&Located<'_>>) -> Option<Piece> {
+    let record = last?;
+    let offset = (record.offset as usize).saturating_add(record.text.len());
+    Some(Piece {
+        offset,
+        act: Act::PutBehind(event),
+    })
+}
+
+// A log that is being written with changes.
+#[derive(Drop)]
+struct Writing<'a> {
+    log: &'a [u8],
+    // How many bytes of it are written or left out.
+    done: usize,
+    // Room for a text line.
+    line: String,
+    text: Vec<u8>,
+}
+
+impl Writing<'_> {
+    // Writes what stands in front of the offset, and is neither written nor left out.
+    fn go_to(&mut self, offset: usize) -> Result<(), AllocError> {
+        if self.done < offset && offset <= self.log.len() {
+            self.text.extend_from_slice(&self.log[self.done..offset])?;
+            self.done = offset;
+        }
+        Ok(())
+    }
+
+    fn act(&mut self, act: Act) -> Result<(), AllocError> {
+        match act {
+            Act::PutInFront(event) => self.put_in_front(event),
+            Act::PutBehind(event) => self.put_behind(event),
+            Act::LeaveOut(length) => {
+                self.done = self.done.saturating_add(length);
+                Ok(())
+            }
+        }
+    }
+
+    fn put_in_front(&mut self, event: Event) -> Result<(), AllocError> {
+        self.line.clear();
+        push_event(&mut self.line, &event)?;
+        self.text.extend_from_slice(self.line.as_bytes())
+    }
+
+    // The separator behind the record ends the text line, or the end of the log.
+    fn put_behind(&mut self, event: Event) -> Result<(), AllocError> {
+        self.line.clear();
+        self.line.push_str("\n")?;
+        push_event(&mut self.line, &event)?;
+        match self.line.as_bytes().split_last() {
+            Some((_, line)) => self.text.extend_from_slice(line),
+            None => Ok(()),
+        }
+    }
+}
