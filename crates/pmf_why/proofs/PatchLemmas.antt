@@ -1,11 +1,11 @@
 -- What sections become, and what is read of them again.
-use Rattle.std.{proofs.Common.{◌≡◌, ◌⊎◌, inl, inr, List, [], ◌∷◌, Option, None, Some, map, true, subst, sym, ap, ◌∙◌}, specs.Option.{MatchOption}}
+use Rattle.std.{proofs.Common.{◌≡◌, inr, List, [], ◌∷◌, map, true, subst, ap, ◌∙◌}}
 use Rattle.std.specs.List.{AllZip}
 use Rattle.pmf_event.specs.Section.{Trace}
 use Rattle.pmf_request.specs.declared.settings.Patches.{Patches}
 use Rattle.pmf_verdict.specs.Checked.{Checked}
 use Rattle.pmf_cause.specs.{declared.edit.Edit.{Edit}, declared.trial.Trial.{Trial}, Cure.{cured, IsTrial, SpoilsNothing}}
-use Rattle.pmf_why.specs.{Patching.{IsCured, IsPatched, checked_by}, Reasons.{is_asked}}
+use Rattle.pmf_why.specs.{Patching.{IsPatched, checked_by}, Reasons.{is_asked}}
 
 pub pair_mapped : {A B C : Type 0} (R : A → C → Type 0) (f : B → C) (xs : List A) (ys : List B) → AllZip (λ x y. R x (f y)) xs ys → AllZip R xs (map f ys)
 pair_mapped R f [] [] zip = zip

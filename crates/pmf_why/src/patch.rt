@@ -141,10 +141,10 @@ fn patched_of(alloc: Global, section: &Arc<Section>, asked: Patches) -> Result<P
         Err(_) => return Err(AllocError),
     };
     let proposal = propose(alloc, &verdict, &[])?;
-    let plan = Plan::of(alloc, &verdict, proposal.all)?;
-    match plan.trial {
+    let Plan { edits, trial } = Plan::of(alloc, &verdict, proposal.all)?;
+    match trial {
         Some(trial) => Ok(Patched {
-            edits: plan.edits,
+            edits,
             section: Arc::try_clone(trial.verdict().section())?,
         }),
         None => unchanged(alloc, section),

@@ -7,21 +7,15 @@ use pmf_query::{Located, Standing};
 use pmf_storelog::push_event;
 use std::alloc::{AllocError, Global};
 
-// What is done where a record begins or ends.
-#[derive(Clone, Copy)]
-enum Act {
-    // The event's text line is put in.
-    PutInFront(Event),
-    // The same behind a record that may be the log's last one.
-    PutBehind(Event),
-    // So many bytes are left out.
-    LeaveOut(usize),
-}
-
+// A change, and where in the log it is made.
 #[derive(Clone, Copy)]
 struct Piece {
     offset: usize,
-    act: Act,
+    // How long the record is that is left out.
+    length: usize,
+    edit: Edit,
+    // Whether an event is put behind the record that ends there, which may be the log's last one.
+    is_behind: bool,
 }
 
 /// The log with the changes of all its sections. Takes memory for the text, the changes, and where each event stands.
@@ -39,7 +33,7 @@ pub(crate) fn text_with(
     };
     for piece in &pieces {
         writing.go_to(piece.offset)?;
-        writing.act(piece.act)?;
+        writing.make(*piece)?;
     }
     writing.go_to(log.len())?;
     Ok(writing.text)
@@ -63,33 +57,28 @@ fn pieces_of(alloc: Global, log: &[u8], cures: &[Patched]) -> Result<Vec<Piece>,
 
 // The change of a section whose events stand so.
 fn piece_of(edit: Edit, stands: &[Located<'_>]) -> Option<Piece> {
-    let at = stands.get(edit.place().saturating_sub(1) as usize);
-    match edit {
-        Edit::Put { event, .. } => match at {
-            Some(record) => Some(Piece {
-                offset: record.offset as usize,
-                act: Act::PutInFront(event),
-            }),
-            None => behind(event, stands.last()),
-        },
-        Edit::LeaveOut { .. } => {
-            let record = at?;
-            Some(Piece {
-                offset: record.offset as usize,
-                act: Act::LeaveOut(record.text.len()),
-            })
-        }
+    let index = edit.place().saturating_sub(1) as usize;
+    match stands.get(index) {
+        Some(record) => Some(Piece {
+            offset: record.offset as usize,
+            length: record.text.len(),
+            edit,
+            is_behind: false,
+        }),
+        None => piece_behind(edit, stands.last()),
     }
 }
 
-// The event behind the last record of its section.
-fn behind(event: Event, last: Option<&Located<'_>>) -> Option<Piece> {
-    let record = last?;
-    let offset = (record.offset as usize).saturating_add(record.text.len());
-    Some(Piece {
-        offset,
-        act: Act::PutBehind(event),
-    })
+fn piece_behind(edit: Edit, last: Option<&Located<'_>>) -> Option<Piece> {
+    match last {
+        Some(record) => Some(Piece {
+            offset: (record.offset as usize).saturating_add(record.text.len()),
+            length: 0,
+            edit,
+            is_behind: true,
+        }),
+        None => None,
+    }
 }
 
 // A log that is being written with changes.
@@ -113,15 +102,27 @@ impl Writing<'_> {
         Ok(())
     }
 
-    fn act(&mut self, act: Act) -> Result<(), AllocError> {
-        match act {
-            Act::PutInFront(event) => self.put_in_front(event),
-            Act::PutBehind(event) => self.put_behind(event),
-            Act::LeaveOut(length) => {
+    fn make(&mut self, piece: Piece) -> Result<(), AllocError> {
+        let Piece {
+            length,
+            edit,
+            is_behind,
+            ..
+        } = piece;
+        match edit {
+            Edit::Put { event, .. } => self.put(event, is_behind),
+            Edit::LeaveOut { .. } => {
                 self.done = self.done.saturating_add(length);
                 Ok(())
             }
         }
+    }
+
+    fn put(&mut self, event: Event, is_behind: bool) -> Result<(), AllocError> {
+        if is_behind {
+            return self.put_behind(event);
+        }
+        self.put_in_front(event)
     }
 
     fn put_in_front(&mut self, event: Event) -> Result<(), AllocError> {

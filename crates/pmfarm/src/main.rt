@@ -10,7 +10,7 @@
 mod words_tests;
 
 pub use pmf_command::{
-    Cuts, Ended, Files, Input, Lengths, Reasons, Request, Simulation, Status, request_of,
+    Cuts, Ended, Files, Input, Lengths, Patches, Reasons, Request, Simulation, Status, request_of,
 };
 pub use pmf_farm::{FarmFault, Gate, OpenGate, Turn};
 pub use pmf_query::{
@@ -22,7 +22,7 @@ pub use pmf_stream::{
     Sink, Source, StdSink, StdSource, StreamFault, answer_stream, check_stream, join_texts,
     join_to, read_all, sim_to, write_text,
 };
-pub use pmf_why::{Way, Why, why_text};
+pub use pmf_why::{Patch, PatchRefusal, Way, Why, patch_text, why_text};
 pub use pmf_world::{
     MOST_LEDGERS, SCHEDULE_LIMIT, SimFault, World, WorldAnswer, WorldFault, WorldNewFault,
     WorldStep, sim_text,
