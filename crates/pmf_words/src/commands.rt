@@ -45,8 +45,8 @@ Examples:
 
 Exit status:
   0  no row of the report counts as fail (which is not the same as: checked), or
-     the rows were explained, the causes were told, also where no row fails, the
-     log was patched, the event was located, `lint` has no warning, the log was
+     the rows were explained, the causes were told or the log was patched, also
+     where no row fails, the event was located, `lint` has no warning, the log was
      cut and nothing may be lost, or the schedule was played
   1  some row counts as fail, `lint` warns, or what a cut may change was told
   2  the input or the command line was refused
@@ -109,7 +109,7 @@ What is written of a row, and at the end:
   untold       so many rows are neither told nor alike to one that is
 
 Exit status:
-  0  the causes were told, also where no row fails, or the log was patched
+  0  the causes were told or the log was patched, also where no row fails
   2  the input or the command line was refused
   3  memory ran out
   4  a read or a write failed";
