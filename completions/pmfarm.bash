@@ -13,7 +13,7 @@ _pmfarm() {
     elif [ "$command" = explain ] && [[ "$before" != --@(run|section|event) ]]; then
         mapfile -t COMPREPLY < <(compgen -W '--section --event --all --run --profile --help -h' -- "$word")
     elif [ "$command" = why ] && [[ "$before" != --@(run|section|event|first) ]]; then
-        mapfile -t COMPREPLY < <(compgen -W '--section --event --first --all-rows --run --profile --help -h' -- "$word")
+        mapfile -t COMPREPLY < <(compgen -W '--section --event --first --all-rows --patch --run --profile --help -h' -- "$word")
     elif [ "$command" = locate ] && [[ "$before" != --@(run|section|event) ]]; then
         mapfile -t COMPREPLY < <(compgen -W '--section --event --run --help -h' -- "$word")
     elif [ "$command" = lint ]; then

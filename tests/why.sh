@@ -113,6 +113,25 @@ a_cure_is_one() {
         "$program" check <"$scratch/cured.log" | same examples/c/append_log.report -
 }
 
+# patched INPUT TEXT WORD..: `why --patch` writes exactly these bytes; printf reads both.
+patched() {
+    printf "$1" >"$scratch/whole.log" && printf "$2" >"$scratch/wanted" || return
+    shift 2
+    "$program" why --patch "$@" <"$scratch/whole.log" >"$scratch/report" 2>"$scratch/diagnostics"
+    ended 0 $? && same /dev/null "$scratch/diagnostics" && cmp "$scratch/wanted" "$scratch/report"
+}
+
+# The same log by `why --patch`, from a file and from standard input.
+patch_is_the_cured_log() {
+    cured "$append_log" >"$scratch/wanted" && "$program" why --patch "$append_log" >"$scratch/report" 2>"$scratch/diagnostics"
+    ended 0 $? && same /dev/null "$scratch/diagnostics" && cmp "$scratch/wanted" "$scratch/report" &&
+        "$program" why --patch <"$append_log" | cmp "$scratch/wanted" - &&
+        "$program" check "$scratch/report" | same examples/c/append_log.report -
+}
+
+# Two sections of one text line each, whose stores are not fenced.
+two_unfenced='STORE;0x0;1;8;a (x.c:1)|FLUSH;0;64|PMT.PERSIST;0x0;8\nPMT.SECTION;4|STORE;0x40;1;8|FLUSH;0x40;64|PMT.PERSIST;0x40;8\n'
+
 try_why() {
     check 'why tells a missing fence' told 0 "$unfenced" "$why_unfenced" '' why
     check 'why tells a missing write-back, and skipped records count' told 0 "$unwritten" "$why_unwritten" '' why --run 7
@@ -150,6 +169,35 @@ rows=1 told=1 untold=0; with all cures: pass=9 fail=0" '' why --event 12 "$appen
     check 'why --all is refused' refused why --all
     check 'why --all-rows tells each row of the examples that fails or warns' tells_all_rows
     check 'a log with its cures put in passes' a_cure_is_one
+    check 'why --patch writes the log with its cures' patch_is_the_cured_log
+    check 'why --patch puts events into a log of one text line' patched \
+        'START|STORE;0x1000;7;8|FENCE|PMT.PERSIST;0x1000;8' \
+        'START|STORE;0x1000;7;8|FLUSH;0x1000;0x40\nFENCE|PMT.PERSIST;0x1000;8'
+    check "why --patch puts a cure behind a section's last record" patched 'PMT.CHECKSTART' 'PMT.CHECKSTART\nPMT.CHECKEND'
+    check 'and in front of the records of another section' patched \
+        'PMT.CHECKSTART;x \r\n|PMT.SECTION;1|FENCE\n' 'PMT.CHECKSTART;x\nPMT.CHECKEND \r\n|PMT.SECTION;1|FENCE\n'
+    check 'why --patch leaves out a write-back that is needless' patched \
+        'STORE;0;1;8|FLUSH;0;64|\tFLUSH;0;64;b (x.c:7) |FENCE' 'STORE;0;1;8|FLUSH;0;64|\t |FENCE'
+    check 'why --patch cures all sections' patched "$two_unfenced" \
+        'STORE;0x0;1;8;a (x.c:1)|FLUSH;0;64|FENCE\nPMT.PERSIST;0x0;8\nPMT.SECTION;4|STORE;0x40;1;8|FLUSH;0x40;64|FENCE\nPMT.PERSIST;0x40;8\n'
+    check 'why --patch --section cures that section alone' patched "$two_unfenced" \
+        'STORE;0x0;1;8;a (x.c:1)|FLUSH;0;64|PMT.PERSIST;0x0;8\nPMT.SECTION;4|STORE;0x40;1;8|FLUSH;0x40;64|FENCE\nPMT.PERSIST;0x40;8\n' \
+        --section 4
+    check 'why --patch takes a section of another run' patched "$two_unfenced" \
+        'STORE;0x0;1;8;a (x.c:1)|FLUSH;0;64|FENCE\nPMT.PERSIST;0x0;8\nPMT.SECTION;4|STORE;0x40;1;8|FLUSH;0x40;64|PMT.PERSIST;0x40;8\n' \
+        --section 9.0 --run 3
+    check 'why --patch writes a log with nothing to cure as it is' patched ' FENCE |\r\n||x\\|y;\xff\n' ' FENCE |\r\n||x\\|y;\xff\n'
+    check 'and one of which no cure is known' patched "$one_store" "$one_store"
+    check 'and an empty one' patched '' ''
+    check 'why --patch takes a profile' patched 'STORE;0;1;8|STORE;8;1;8|PMT.ORDERED;0;8;8;8' 'STORE;0;1;8|STORE;8;1;8|PMT.ORDERED;0;8;8;8' --profile 2
+    check 'why --patch takes no event' refused why --patch --event 1
+    check 'why --patch takes no count of rows' refused why --patch --first 5
+    check 'why --patch takes no other flag' refused why --all-rows --patch
+    check 'why --patch refuses a section that is missing' told 2 FENCE '' 'pmfarm: no section 9.7' why --patch --section 9.7
+    check 'why --patch refuses a faulty log first' told 2 'FENCE|PMT.PERSITS;0x0;8' '' \
+        $'pmfarm: record 2: unknown marker\npmfarm: hint: PMT.PERSITS: PMT.PERSIST?' why --patch --section 7
+    check 'a full device as standard output of why --patch' full_output "$append_log" why --patch
+    check 'each request for memory of why --patch refused in turn' sweep examples/order_and_warnings.log why --patch
     check 'what why tells as a cure of rows of random logs is one' tests/try-why "$program"
     check 'a full device as standard output of why' full_output "$append_log" why
     check 'a directory as standard input of why' unreadable why

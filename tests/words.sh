@@ -48,7 +48,7 @@ from_files() {
     local log words wanted
     printf 'FENCE|PMT.PERSITS;8;8' >"$scratch/misspelt.log"
     for log in examples/order_and_warnings.log examples/first.log "$scratch/misspelt.log" /dev/null examples; do
-        for words in check 'check --ledger --run 7' lint 'explain --all' 'explain --section 0.0 --event 1' why 'why --section 4 --all-rows' 'locate --section 0 --event 1'; do
+        for words in check 'check --ledger --run 7' lint 'explain --all' 'explain --section 0.0 --event 1' why 'why --section 4 --all-rows' 'why --patch' 'locate --section 0 --event 1'; do
             # (the words are parted at blanks)
             "$program" $words <"$log" >"$scratch/wanted" 2>"$scratch/told"
             wanted=$?
@@ -111,6 +111,7 @@ cut_off_texts() {
         "examples/written_back_at_one_fence.log $scratch/image explain --section 0 --event 6" \
         "examples/written_back_at_one_fence.log $scratch/images explain --all" \
         "examples/c/append_log.missing_fence.log $scratch/causes why" \
+        'examples/c/append_log.missing_fence.log examples/c/append_log.log why --patch' \
         "examples/written_back_at_one_fence.log $scratch/place locate --section 0 --event 6" \
         "examples/order_and_warnings.log $scratch/holds lint" \
         'examples/shared_a.log examples/shared_a.log cut' \

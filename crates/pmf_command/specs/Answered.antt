@@ -6,13 +6,13 @@ use Rattle.pmf_ledger.specs.declared.loading.TheConstants.{LEDGER_LIMIT}
 use Rattle.pmf_storelog.specs.LogValue.{LogValue}
 use Rattle.pmf_ledger.specs.AllKept.{AllKept}
 use Rattle.pmf_request.specs.declared.settings.Settings.{Settings}
-use Rattle.pmf_request.specs.declared.request.{Cuts.{Cuts}, Files.{Files}, Input.{Input}, Input.TheVariants.{Standard, File}, Simulation.{Simulation}, Request.{Request}, Request.TheVariants.{Check, Explain, ExplainAll, Why, Locate, Lint, Cut, Join, Sim}}
+use Rattle.pmf_request.specs.declared.request.{Cuts.{Cuts}, Files.{Files}, Input.{Input}, Input.TheVariants.{Standard, File}, Simulation.{Simulation}, Request.{Request}, Request.TheVariants.{Check, Explain, ExplainAll, Why, Patch, Locate, Lint, Cut, Join, Sim}}
 use Rattle.pmf_cut.specs.declared.fault.CutFault.{CutFault}
 use Rattle.pmf_query.specs.{Explanation.{IsExplanation}, AllExplained.{ExplainsAll}, Locating.{IsLocationText}, Linting.{Overviews}, Refusals.{IsEventRefusal, IsLogRefusal}}
-use Rattle.pmf_why.specs.Why.{IsWhy, IsWhyRefusal}
+use Rattle.pmf_why.specs.{Patching.{IsPatch, IsPatchRefusal}, Why.{IsWhy, IsWhyRefusal}}
 use Rattle.pmf_stream.specs.{Answering.{Answers}, Asked.{IsAnswerOf, IsRefusalOf}, Checking.{IsCheckFaultOf, IsLogOf, IsReportOf}, Files.{IsCutOf}, Joining.{IsJoinedText, IsRefusalOfTexts}, Reading.{HasReadAll}, Simulated.{IsSimRefusalOf, IsSimulationOf}, declared.cutting.Pieces.{Pieces}, declared.fault.StreamFault.{StreamFault}}
 use Rattle.pmf_world.specs.declared.simulating.{TheConstants.{SCHEDULE_LIMIT}}
-use Rattle.pmf_command.specs.{Statuses.{status_of, status_of_asked, status_of_check_fault, status_of_cut_fault, status_of_done, status_of_event_refusal, status_of_joined, status_of_linted, status_of_log_refusal, status_of_pieces, status_of_sim_fault, status_of_text_fault}, declared.status.{Status.{Status}, Status.TheVariants.{NoFail, Refused, NoMemory, DeviceFault}}}
+use Rattle.pmf_command.specs.{Statuses.{status_of, status_of_asked, status_of_check_fault, status_of_cut_fault, status_of_done, status_of_event_refusal, status_of_joined, status_of_linted, status_of_log_refusal, status_of_patch_refusal, status_of_pieces, status_of_sim_fault, status_of_text_fault}, declared.status.{Status.{Status}, Status.TheVariants.{NoFail, Refused, NoMemory, DeviceFault}}}
 
 -- a file that is opened has the bytes that its name has, where they are known
 abbrev pub IsFileOf : Option (List ℕ) → Option (List ℕ) → Type 0
@@ -92,6 +92,8 @@ IsAnsweredFrom (ExplainAll asked log) s status =
     EndsAs status_of_asked status_of_log_refusal (IsAnswerOf (λ bytes _ text. ExplainsAll asked bytes text) s.left s.rest) (IsRefusalOf (IsLogRefusal asked.run) s.left s.rest) s.held s.holds status
 IsAnsweredFrom (Why asked log) s status =
     EndsAs status_of_asked status_of_event_refusal (IsAnswerOf (λ bytes _ text. IsWhy asked bytes text) s.left s.rest) (IsRefusalOf (IsWhyRefusal asked) s.left s.rest) s.held s.holds status
+IsAnsweredFrom (Patch asked log) s status =
+    EndsAs status_of_asked status_of_patch_refusal (IsAnswerOf (λ bytes _ text. IsPatch asked bytes text) s.left s.rest) (IsRefusalOf (IsPatchRefusal asked) s.left s.rest) s.held s.holds status
 IsAnsweredFrom (Locate sought log) s status =
     EndsAs status_of_asked status_of_event_refusal (IsAnswerOf (λ bytes _ text. IsLocationText sought.section sought.event bytes text) s.left s.rest) (IsRefusalOf (IsEventRefusal sought) s.left s.rest) s.held s.holds status
 IsAnsweredFrom (Lint log) s status = EndsAs status_of_linted status_of_log_refusal (IsAnswerOf Overviews s.left s.rest) (IsRefusalOf (IsLogRefusal 0) s.left s.rest) s.held s.holds status
@@ -105,6 +107,7 @@ input_of (Check settings log) = log
 input_of (Explain asked log) = log
 input_of (ExplainAll asked log) = log
 input_of (Why asked log) = log
+input_of (Patch asked log) = log
 input_of (Locate sought log) = log
 input_of (Lint log) = log
 input_of _ = Standard

@@ -7,6 +7,7 @@ use Rattle.pmf_ledger.specs.declared.{joining.JoinFault.{JoinFault}, loading.Led
 use Rattle.pmf_farm.specs.declared.fault.FarmFault.{FarmFault}
 use Rattle.pmf_stream.specs.declared.{checking.CheckLogFault.{CheckLogFault}, checking.Done.{Done}, cutting.Pieces.{Pieces}, joining.Joined.{Joined}, joining.JoinTextFault.{JoinTextFault}, fault.StreamFault.{StreamFault}}
 use Rattle.pmf_query.specs.declared.{lint.Linted.{Linted}, refusal.EventFault.{EventFault}, refusal.EventRefusal.{EventRefusal}, refusal.LogRefusal.{LogRefusal}}
+use Rattle.pmf_why.specs.declared.refusal.PatchRefusal.{PatchRefusal}
 use Rattle.pmf_world.specs.declared.{fault.WorldNewFault.{WorldNewFault}, simulating.SimFault.{SimFault}}
 use Rattle.pmf_command.specs.declared.status.{Status.{Status}, Status.TheVariants.{NoFail, SomeFail, Refused, NoMemory, DeviceFault}}
 use Rattle.pmf_cut.specs.declared.fault.CutFault.TheVariants as cutting
@@ -17,6 +18,7 @@ use Rattle.pmf_farm.specs.declared.fault.FarmFault.TheVariants as farm
 use Rattle.pmf_stream.specs.declared.checking.CheckLogFault.TheVariants as checking
 use Rattle.pmf_query.specs.declared.refusal.EventFault.TheVariants as event
 use Rattle.pmf_query.specs.declared.refusal.LogRefusal.TheVariants as whole
+use Rattle.pmf_why.specs.declared.refusal.PatchRefusal.TheVariants as patching
 use Rattle.pmf_stream.specs.declared.joining.JoinTextFault.TheVariants as texts
 use Rattle.pmf_stream.specs.declared.fault.StreamFault.TheVariants as stream
 use Rattle.pmf_world.specs.declared.fault.WorldNewFault.TheVariants as new
@@ -69,7 +71,7 @@ abbrev pub status_of_check_fault : CheckLogFault → Status
 status_of_check_fault (checking.Log fault) = status_of_log_fault fault
 status_of_check_fault (checking.Farm fault) = status_of_farm_fault fault
 
--- how the program ends where rows are explained, causes told, an event located, or the schedule played
+-- how the program ends where rows are explained, causes told, a log patched, an event located, or the schedule played
 abbrev pub status_of_asked : Unit {0} → Status
 status_of_asked done = NoFail
 
@@ -82,6 +84,11 @@ status_of_event_fault event.OutOfMemory = NoMemory
 
 abbrev pub status_of_event_refusal : EventRefusal → Status
 status_of_event_refusal refusal = status_of_event_fault refusal.fault
+
+-- how the program ends where a log is not patched
+abbrev pub status_of_patch_refusal : PatchRefusal → Status
+status_of_patch_refusal (patching.Why found) = status_of_event_refusal found
+status_of_patch_refusal patching.TooLong = Refused
 
 -- how the program ends where a log is not told of
 abbrev pub status_of_log_refusal : LogRefusal → Status

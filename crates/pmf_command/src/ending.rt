@@ -1,7 +1,7 @@
 //! The status of each answer of a command.
 
 ghost use Rattle.std.specs.Prelude.{◌≡◌};
-ghost use Rattle.pmf_command.specs.{Statuses.{status_of_asked, status_of_check_fault, status_of_cut_fault, status_of_done, status_of_event_refusal, status_of_farm_fault, status_of_fails, status_of_fault, status_of_join_fault, status_of_joined, status_of_ledger_fault, status_of_linted, status_of_log_fault, status_of_log_refusal, status_of_new_fault, status_of_pieces, status_of_sim_fault, status_of_text_fault}, declared.status.Status.{Status}};
+ghost use Rattle.pmf_command.specs.{Statuses.{status_of_asked, status_of_check_fault, status_of_cut_fault, status_of_done, status_of_event_refusal, status_of_farm_fault, status_of_fails, status_of_fault, status_of_join_fault, status_of_joined, status_of_ledger_fault, status_of_linted, status_of_log_fault, status_of_log_refusal, status_of_new_fault, status_of_patch_refusal, status_of_pieces, status_of_sim_fault, status_of_text_fault}, declared.status.Status.{Status}};
 
 use crate::status::Status;
 use pmf_cut::CutFault;
@@ -10,6 +10,7 @@ use pmf_ledger::{JoinFault, LedgerFault};
 use pmf_query::{EventFault, EventRefusal, Linted, LogRefusal};
 use pmf_storelog::{Cause, LogFault};
 use pmf_stream::{CheckLogFault, Done, JoinTextFault, Joined, Pieces, StreamFault};
+use pmf_why::PatchRefusal;
 use pmf_world::{SimFault, WorldNewFault};
 
 /// What a command did, or why it refused: the program ends as this says.
@@ -121,6 +122,25 @@ impl Ending for EventRefusal {
         match self.fault {
             EventFault::Log(fault) => fault.cause(),
             _ => None,
+        }
+    }
+}
+
+/// A log is not patched.
+impl Ending for PatchRefusal {
+    ghost ends_as = { status_of_patch_refusal };
+
+    fn status(&self) -> Status {
+        match self {
+            PatchRefusal::Why(found) => found.status(),
+            PatchRefusal::TooLong => Status::Refused,
+        }
+    }
+
+    fn cause(&self) -> Option<Cause> {
+        match self {
+            PatchRefusal::Why(found) => found.cause(),
+            PatchRefusal::TooLong => Some(Cause::TooLong),
         }
     }
 }

@@ -21,6 +21,6 @@ mod status;
 pub use commands::execute;
 pub use ended::Ended;
 pub use ending::Ending;
-pub use pmf_request::{Cuts, Files, Input, Lengths, Reasons, Request, Simulation};
+pub use pmf_request::{Cuts, Files, Input, Lengths, Patches, Reasons, Request, Simulation};
 pub use pmf_words::request_of;
 pub use status::Status;

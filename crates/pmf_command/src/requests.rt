@@ -16,7 +16,7 @@ use pmf_ledger::LEDGER_LIMIT;
 use pmf_request::{Cuts, Files, Input, Overview, Request, Simulation};
 use pmf_storelog::LOG_LIMIT;
 use pmf_stream::{Excerpt, Outlet, read_all};
-use pmf_why::Why;
+use pmf_why::{Patch, Why};
 use pmf_world::{SCHEDULE_LIMIT, SimFault};
 use std::alloc::Global;
 use std::io::Eprint;
@@ -78,6 +78,7 @@ pub(crate) fn input_of<'a>(request: &Request<'a>) -> Input<'a>
         | Request::Explain(_, input)
         | Request::ExplainAll(_, input)
         | Request::Why(_, input)
+        | Request::Patch(_, input)
         | Request::Locate(_, input)
         | Request::Lint(input) => *input,
         Request::Cut(_) | Request::Join(_) | Request::Sim(_) => Input::Standard,
@@ -124,6 +125,10 @@ fn answer_from<
         Request::Why(reasons, _) => {
             let why = Why { asked: *reasons };
             recite_to(rt, alloc, source, sink, &why)
+        }
+        Request::Patch(patches, _) => {
+            let patch = Patch { asked: *patches };
+            answer_to(rt, alloc, source, sink, &patch)
         }
         Request::Locate(sought, _) => answer_to(rt, alloc, source, sink, sought),
         Request::Lint(_) => answer_to(rt, alloc, source, sink, &Overview),

@@ -1,7 +1,7 @@
 //! What a command can be asked for.
 //!
 //! Types alone, with no function: [`Request`] is what the words of a command line come to, [`Input`] where a log is read from, and
-//! [`Settings`], [`Question`], [`Whole`], [`Sought`], [`Reasons`], [`Overview`] and [`Lengths`] are what the commands are told. Each field is public, and any value of its
+//! [`Settings`], [`Question`], [`Whole`], [`Sought`], [`Reasons`], [`Patches`], [`Overview`] and [`Lengths`] are what the commands are told. Each field is public, and any value of its
 //! type is one.
 //!
 //! Not promised here: which words ask for which request (`pmf_words`), or what is done for it (`pmf_stream`).
@@ -11,4 +11,4 @@ mod request;
 mod settings;
 
 pub use request::{Cuts, Files, Input, Request, Simulation};
-pub use settings::{Lengths, Overview, Question, Reasons, Settings, Sought, Whole};
+pub use settings::{Lengths, Overview, Patches, Question, Reasons, Settings, Sought, Whole};

@@ -1,6 +1,6 @@
 //! What the words of a command line ask for.
 
-use crate::settings::{Lengths, Question, Reasons, Settings, Sought, Whole};
+use crate::settings::{Lengths, Patches, Question, Reasons, Settings, Sought, Whole};
 
 /// Where a log is read from.
 #[derive(Clone, Copy, Debug, PartialEq, Drop)]
@@ -55,6 +55,8 @@ pub enum Request<'a> {
     Locate(Sought, Input<'a>),
     /// Read the log, and write why rows are no PASS, and what cures them, to standard output.
     Why(Reasons, Input<'a>),
+    /// Read the log, and write it with the changes put in that are to cure its rows to standard output.
+    Patch(Patches, Input<'a>),
     /// Read the log, and write what it holds to standard output.
     Lint(Input<'a>),
     /// Read the log on standard input, and write it with its sections cut to standard output, or to files.

@@ -67,6 +67,17 @@ pub struct Reasons {
     pub all: bool,
 }
 
+/// What `why --patch` is told by its words.
+#[derive(Clone, Copy, Debug, PartialEq, Eq)]
+pub struct Patches {
+    /// The run in the name of each section.
+    pub run: u64,
+    /// By which rule order assertions judge two bytes of one line.
+    pub profile: Profile,
+    /// The number of the only section that is changed, if one is named.
+    pub section: Option<u64>,
+}
+
 /// What `lint` is told by its words: nothing.
 #[derive(Clone, Copy, Debug, PartialEq, Eq)]
 pub struct Overview;

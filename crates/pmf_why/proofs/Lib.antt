@@ -11,3 +11,4 @@ pub mod SectionLemmas
 pub mod CountLemmas
 pub mod GrowLemmas
 pub mod GoingOnLemmas
+pub mod PatchLemmas

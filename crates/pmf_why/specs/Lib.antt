@@ -22,3 +22,4 @@ pub mod Plans
 pub mod Kinds
 pub mod Telling
 pub mod Ending
+pub mod Patching

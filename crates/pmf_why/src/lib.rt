@@ -5,12 +5,17 @@
 //! one distance where none is known (`specs/Reasons`). A change is told as a cure only where a check of the section with it found
 //! that it is one (`specs/Cures`).
 //!
+//! [`patch_text`] writes the log itself with such changes put in, and promises what the text says where it is read again (`specs/Patching`).
+//!
 //! Not promised here: that a cure is told wherever there is one.
 #![tactic(auto)]
 
 mod cure;
 mod kind;
+mod patch;
+mod patching;
 mod plan;
+mod refusal;
 mod row;
 mod taking;
 mod telling;
@@ -20,4 +25,6 @@ mod trial;
 mod why;
 
 pub use cure::Way;
+pub use patch::{Patch, patch_text};
+pub use refusal::PatchRefusal;
 pub use why::{Why, tell_why};

@@ -1,3 +1,4 @@
-//! Tests of the text.
+//! Tests of the texts.
 
+mod patched;
 mod whole;

@@ -88,9 +88,9 @@ fn refused(asked: Reasons, fault: EventFault) -> Unanswered<EventRefusal>
     })
 }
 
-// Whether one of the sections has the number that is named, if one is.
+/// Whether one of the sections has the number that is named, if one is.
 #[tactic(auto, using(std::proofs::lemmas::Grind::common_steps, std::proofs::lemmas::List::Folds::list_any_more))]
-fn has_asked(sections: &[Arc<Section>], named: Option<u64>) -> bool
+pub(crate) fn has_asked(sections: &[Arc<Section>], named: Option<u64>) -> bool
     ensures { result ≡ is_none named || list_any (λ s. is_asked named s.value.name.number) sections.now }
 {
     let Some(_) = named else {

@@ -87,7 +87,9 @@ pub any-map : {X : Type 0} (f : X → Text) (p : Text → Bool) (xs : List X) �
 any-map f p [] = refl
 any-map f p (x ∷ xs) = ap (λ b. p (f x) || b) (any-map f p xs)
 
-pub is_simple-words : (all : Bool) (p q r : ValueParser) → is_simple (pmfarm_words all p q r) ≡ true
+pub is_simple-words : (all patch : Bool) (p q r : ValueParser) → is_simple (pmfarm_words all patch p q r) ≡ true
 unfolding clap_on_literals
-is_simple-words true p q r = refl
-is_simple-words false p q r = refl
+is_simple-words true true p q r = refl
+is_simple-words true false p q r = refl
+is_simple-words false true p q r = refl
+is_simple-words false false p q r = refl

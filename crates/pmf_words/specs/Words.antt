@@ -3,7 +3,7 @@
 use Rattle.std.specs.{Prelude.{◌≡◌, ℕ, ◌<◌, ◌^◌, pos, Bool, true, false, List, [], ◌∷◌, ◌++◌, map, Option, option_map, None, Some, codes, bytes_eq, decimal, if◌then◌else◌}, List.{list_any}}
 use Rattle.clap.specs.{Words.{App, Row, Rule, Text, all_of, first_of, one_of, app_of, new_app, new_rule, subcommand_of, with_rule, with_subcommand}, Simple.{new_shape}, declared.builder.action.ArgAction.TheVariants.{Append, SetTrue}, declared.builder.command.Command.{Command, out-Command}, declared.builder.value_parser.ValueParser.{ValueParser}}
 use Rattle.pmf_event.specs.declared.profile.Profile.{Profile}
-use Rattle.pmf_request.specs.declared.{settings.Question.{Question}, settings.Reasons.{Reasons}, settings.Settings.{Settings}, settings.Sought.{Sought}, settings.Whole.{Whole}, request.Cuts.{Cuts}, request.Files.{Files}, request.Input.{Input}, request.Simulation.{Simulation}, request.Request.{Request}}
+use Rattle.pmf_request.specs.declared.{settings.Patches.{Patches}, settings.Question.{Question}, settings.Reasons.{Reasons}, settings.Settings.{Settings}, settings.Sought.{Sought}, settings.Whole.{Whole}, request.Cuts.{Cuts}, request.Files.{Files}, request.Input.{Input}, request.Simulation.{Simulation}, request.Request.{Request}}
 use Rattle.clap.specs.declared.builder.value_parser.ValueParser.TheVariants as vp
 use Rattle.pmf_event.specs.declared.profile.Profile.TheVariants as profile
 use Rattle.pmf_request.specs.declared.request.Input.TheVariants as input
@@ -73,12 +73,14 @@ explain_words false words =
     with_rule (with_rule (with_rule (with_rule (with_rule (with_rule (new_app (codes "explain"))
     (asked (codes "section"))) (asked_number (codes "event") small_number)) (flag (codes "all"))) run_option) (profile_option words)) log_word
 
--- with neither a section nor an event, the rows of all sections are told of
-abbrev pub why_words : ValueParser → App
-why_words words =
-    with_rule (with_rule (with_rule (with_rule (with_rule (with_rule (with_rule (new_app (codes "why"))
+-- with the flag `--patch` no row is told of; else, with neither a section nor an event, those of all sections are
+abbrev pub why_words : Bool → ValueParser → App
+why_words true words =
+    with_rule (with_rule (with_rule (with_rule (with_rule (new_app (codes "why")) (option (codes "section"))) (flag (codes "patch"))) run_option) (profile_option words)) log_word
+why_words false words =
+    with_rule (with_rule (with_rule (with_rule (with_rule (with_rule (with_rule (with_rule (new_app (codes "why"))
     (option (codes "section"))) (maybe_number (codes "event") small_number)) (maybe_number (codes "first") row_count)) (flag (codes "all-rows")))
-    run_option) (profile_option words)) log_word
+    (flag (codes "patch"))) run_option) (profile_option words)) log_word
 
 abbrev pub locate_words : App
 locate_words =
@@ -111,16 +113,16 @@ sim_words =
     with_rule (with_rule (with_rule (new_app (codes "sim"))
     (asked (codes "log"))) (asked_number (codes "workers") small_number)) (asked_number (codes "ledgers") small_number)
 
--- the program with its eight commands, and whether an explanation of all is asked for
+-- the program with its eight commands, and whether an explanation of all, and whether a patched log is asked for
 abbrev pub program_words : App
 program_words = record (new_app (codes "pmfarm")) {
   top = record (new_shape (codes "pmfarm")) { has_version = true; subcommand_required = true };
 }
 
-abbrev pub pmfarm_words : Bool → ValueParser → ValueParser → ValueParser → App
-pmfarm_words all p q r =
+abbrev pub pmfarm_words : Bool → Bool → ValueParser → ValueParser → ValueParser → App
+pmfarm_words all patch p q r =
     with_subcommand (with_subcommand (with_subcommand (with_subcommand (with_subcommand (with_subcommand (with_subcommand (with_subcommand program_words (check_words p).top)
-    (explain_words all q).top) (why_words r).top) locate_words.top) lint_words.top) cut_words.top) join_words.top) sim_words.top
+    (explain_words all q).top) (why_words patch r).top) locate_words.top) lint_words.top) cut_words.top) join_words.top) sim_words.top
 
 -- the command has these words, and no option that its subcommands share
 pub record HasWords (words : App) (c : Command) : Type 0 where
@@ -200,6 +202,11 @@ pub record IsWhyOf (rows : List Row) (r : Reasons) : Type 0 where
   pub first : IsFirstOf rows r.all r.first
   pub all : IsFlagOf rows (codes "all-rows") r.all
 
+-- the log is patched as the words of `why --patch` name
+pub record IsPatchOf (rows : List Row) (p : Patches) : Type 0 where
+  pub section : IsMaybeSectionOf rows p.run p.section
+  pub profile_is : IsProfileOf rows p.profile
+
 -- the event is the one that the words of `locate` name
 pub record IsLocateOf (rows : List Row) (s : Sought) : Type 0 where
   pub section : IsSectionOf rows s.run s.section
@@ -233,9 +240,10 @@ IsExplainBy false rows (request.Explain question log) = IsExplainOf rows questio
 IsExplainBy true rows (request.ExplainAll whole log) = IsExplainAllOf rows whole × IsInputOf rows log
 IsExplainBy all rows _ = ⊥
 
-abbrev pub IsWhyBy : List Row → Request → Type 0
-IsWhyBy rows (request.Why reasons log) = IsWhyOf rows reasons × IsInputOf rows log
-IsWhyBy rows _ = ⊥
+abbrev pub IsWhyBy : Bool → List Row → Request → Type 0
+IsWhyBy false rows (request.Why reasons log) = IsWhyOf rows reasons × IsInputOf rows log
+IsWhyBy true rows (request.Patch patches log) = IsPatchOf rows patches × IsInputOf rows log
+IsWhyBy patch rows _ = ⊥
 
 abbrev pub IsLocateBy : List Row → Request → Type 0
 IsLocateBy rows (request.Locate sought log) = IsLocateOf rows sought × IsInputOf rows log
@@ -258,22 +266,29 @@ IsSimBy rows (request.Sim simulation) = IsSimOf rows simulation
 IsSimBy rows _ = ⊥
 
 -- the request is what a command and its words ask for
-pub record IsRequestBy (all : Bool) (command : Text) (rows : List Row) (asked : Request) : Type 0 where
+pub record IsRequestBy (all patch : Bool) (command : Text) (rows : List Row) (asked : Request) : Type 0 where
   pub check : command ≡ codes "check" → IsCheckBy rows asked
   pub explain : command ≡ codes "explain" → IsExplainBy all rows asked
-  pub why : command ≡ codes "why" → IsWhyBy rows asked
+  pub why : command ≡ codes "why" → IsWhyBy patch rows asked
   pub locate : command ≡ codes "locate" → IsLocateBy rows asked
   pub lint : command ≡ codes "lint" → IsLintBy rows asked
   pub cut : command ≡ codes "cut" → IsCutBy rows asked
   pub join : command ≡ codes "join" → IsJoinBy rows asked
   pub sim : command ≡ codes "sim" → IsSimBy rows asked
 
--- whether one of the words is `--all`
+-- whether one of the words is this one
+abbrev pub has_word : Text → List Text → Bool
+has_word named words = list_any (λ word. bytes_eq word named) words
+
+-- whether one of the words is `--all`; whether one is `--patch`
 abbrev pub names_all : List Text → Bool
-names_all words = list_any (λ word. bytes_eq word (codes "--all")) words
+names_all words = has_word (codes "--all") words
+
+abbrev pub names_patch : List Text → Bool
+names_patch words = has_word (codes "--patch") words
 
 -- the request is what these words ask for, the first of which names the program
 abbrev pub IsRequestOf : List Text → Request → Type 0
 IsRequestOf words asked =
-    (p q r : ValueParser) × ((command : Text) (rows : List Row) → subcommand_of (pmfarm_words (names_all words) p q r) words ≡ Some (command, rows) →
-    IsRequestBy (names_all words) command rows asked)
+    (p q r : ValueParser) × ((command : Text) (rows : List Row) → subcommand_of (pmfarm_words (names_all words) (names_patch words) p q r) words ≡ Some (command, rows) →
+    IsRequestBy (names_all words) (names_patch words) command rows asked)

@@ -6,8 +6,7 @@ ghost use Rattle.pmf_words.specs.Words.{HasWords, check_words, cut_words, explai
 
 use crate::options::{
     all, all_rows, asked_number, bytes, event, events, file, files, first, first_rows, ledger, log,
-    log_file,
-    only_event, only_section, profile, run, section, step, workers,
+    log_file, only_event, only_section, patch, profile, run, section, step, workers,
 };
 use clap::{Arg, Command};
 use std::alloc::{AllocError, Global};
@@ -31,6 +30,8 @@ Examples:
   pmfarm why store.log              why each kind of row is no PASS, and a cure
   pmfarm why --all-rows --section 0.3 store.log
                                     the same of each row of `section 0.3`
+  pmfarm why --patch store.log > cured.log
+                                    the log with all cures put in, to be checked
   pmfarm locate --section 0.0 --event 6 store.log
                                     the record that gave event 6
   pmfarm lint store.log             what the log holds, and what is strange in it
@@ -44,9 +45,9 @@ Examples:
 
 Exit status:
   0  no row of the report counts as fail (which is not the same as: checked), or
-     the rows were explained, the causes were told, also where no row fails, the
-     event was located, `lint` has no warning, the log was cut and nothing may be
-     lost, or the schedule was played
+     the rows were explained, the causes were told or the log was patched, also
+     where no row fails, the event was located, `lint` has no warning, the log was
+     cut and nothing may be lost, or the schedule was played
   1  some row counts as fail, `lint` warns, or what a cut may change was told
   2  the input or the command line was refused
   3  memory ran out
@@ -89,6 +90,8 @@ Examples:
                                     the row of event 6 of that section
   pmfarm why --all-rows --first 100 store.log
                                     the first 100 rows, each by itself
+  pmfarm why --patch store.log > cured.log
+                                    the log with all cures put in, to be checked
 
 What is written of a row, and at the end:
   0.0 4 ORDERED FAIL byte=0x10040 after=0x10000 crash=3
@@ -110,18 +113,19 @@ events) are one kind. Its first row is told; how many more are like it follows
 behind all rows that are told, as `2 more like 0.0 4 ORDERED FAIL ..`.
 
 Exit status:
-  0  the causes were told, also where no row fails
+  0  the causes were told or the log was patched, also where no row fails
   2  the input or the command line was refused
   3  memory ran out
   4  a read or a write failed";
 
-/// The program with its eight commands. Which words `explain` takes depends on whether it is asked for all rows.
-pub(crate) fn program<'a>(alloc: Global, all: bool) -> Result<Command<'a>, AllocError>
-    ensures { (p q r : ValueParser) × IfOk result (HasWords (pmfarm_words all p q r)) }
+/// The program with its eight commands. Which words `explain` takes depends on whether it is asked for all rows, and which `why` takes on
+/// whether it is asked for a patched log.
+pub(crate) fn program<'a>(alloc: Global, all: bool, patch: bool) -> Result<Command<'a>, AllocError>
+    ensures { (p q r : ValueParser) × IfOk result (HasWords (pmfarm_words all patch p q r)) }
 {
     let program = with(no_command(alloc), check(alloc));
     let program = with(program, explain(alloc, all));
-    let program = with(program, why(alloc));
+    let program = with(program, why(alloc, patch));
     let program = with(program, locate(alloc));
     let program = with(program, lint(alloc));
     let program = with(program, cut(alloc));
@@ -252,8 +256,17 @@ fn explain_rows<'a>(alloc: Global) -> Result<Command<'a>, AllocError>
     with_option(explain, log_file(alloc))
 }
 
-fn why<'a>(alloc: Global) -> Result<Command<'a>, AllocError>
-    ensures { (q : ValueParser) × IfOk result (HasWords (why_words q)) }
+fn why<'a>(alloc: Global, patch: bool) -> Result<Command<'a>, AllocError>
+    ensures { (q : ValueParser) × IfOk result (HasWords (why_words patch q)) }
+{
+    if patch {
+        return why_patch(alloc);
+    }
+    why_rows(alloc)
+}
+
+fn why_rows<'a>(alloc: Global) -> Result<Command<'a>, AllocError>
+    ensures { (q : ValueParser) × IfOk result (HasWords (why_words false q)) }
 {
     let about = "Writes why rows are no PASS: the lost store, its cause, and a checked cure";
     let why = Ok(head(alloc, "why", about, WHY_HELP));
@@ -261,6 +274,19 @@ fn why<'a>(alloc: Global) -> Result<Command<'a>, AllocError>
     let why = with_option(why, only_event(alloc));
     let why = with_option(why, first(alloc));
     let why = with_option(why, all_rows(alloc));
+    let why = with_option(why, patch(alloc));
+    let why = with_run_and_profile(alloc, why);
+    with_option(why, log_file(alloc))
+}
+
+// With `--patch` no row is told of.
+fn why_patch<'a>(alloc: Global) -> Result<Command<'a>, AllocError>
+    ensures { (q : ValueParser) × IfOk result (HasWords (why_words true q)) }
+{
+    let about = "Writes the log with the changes put in that are to cure its rows";
+    let why = Ok(head(alloc, "why", about, WHY_HELP));
+    let why = with_option(why, only_section(alloc));
+    let why = with_option(why, patch(alloc));
     let why = with_run_and_profile(alloc, why);
     with_option(why, log_file(alloc))
 }

@@ -100,7 +100,7 @@ pub(crate) fn only_section<'a>(alloc: Global) -> Arg<'a>
     ensures rule { rule_of result ≡ option (codes "section") }
     ensures local { result.global ≡ false }
 {
-    let help = "The only section that is told of: its number, or R.N as in a report";
+    let help = "The only section that is told of, or cured: its number, or R.N as in a report";
     option(alloc, "section", "N", help)
 }
 
@@ -205,13 +205,21 @@ pub(crate) fn all<'a>(alloc: Global) -> Arg<'a>
     flag(alloc, "all", help)
 }
 
-// The flag of `why`.
+// The flags of `why`.
 pub(crate) fn all_rows<'a>(alloc: Global) -> Arg<'a>
     ensures rule { rule_of result ≡ flag (codes "all-rows") }
     ensures local { result.global ≡ false }
 {
     let help = "Tell each row, and not only the first of each kind";
     flag(alloc, "all-rows", help)
+}
+
+pub(crate) fn patch<'a>(alloc: Global) -> Arg<'a>
+    ensures rule { rule_of result ≡ flag (codes "patch") }
+    ensures local { result.global ≡ false }
+{
+    let help = "Write the log with all cures put in, in place of the rows";
+    flag(alloc, "patch", help)
 }
 
 // The file of the log that a command reads.

@@ -3,14 +3,15 @@
 ghost use Rattle.std.specs.{Prelude.{◌≡◌, List, false, true, Some, codes, map, option_map, IfOk, IfSome, bytes_eq, string_bytes, if◌then◌else◌}, List.{list_any}};
 ghost use Rattle.clap.specs.Words.{Row, Text, found_of, rows_of, subcommand_rows_of};
 ghost use Rattle.pmf_event.specs.declared.profile.Profile.{Profile};
-ghost use Rattle.pmf_words.specs.Words.{IsCheckOf, IsCutOf, IsExplainAllOf, IsExplainBy, IsExplainOf, IsFirstOf, IsInputOf, IsJoinOf, IsLocateOf, IsMaybeSectionOf, IsRequestBy, IsRequestOf, IsSectionOf, IsSimOf, IsWhyOf, NamesSection};
+ghost use Rattle.pmf_words.specs.Words.{IsCheckOf, IsCutOf, IsExplainAllOf, IsExplainBy, IsExplainOf, IsFirstOf, IsInputOf, IsJoinOf, IsLocateOf, IsMaybeSectionOf, IsPatchOf, IsRequestBy, IsRequestOf, IsSectionOf, IsSimOf, IsWhyBy, IsWhyOf, NamesSection};
 
 use crate::commands::program;
 use clap::error::ErrorKind;
 use clap::{ArgMatches, Error};
 use pmf_event::Profile;
 use pmf_request::{
-    Cuts, Files, Input, Lengths, Question, Reasons, Request, Settings, Simulation, Sought, Whole,
+    Cuts, Files, Input, Lengths, Patches, Question, Reasons, Request, Settings, Simulation, Sought,
+    Whole,
 };
 use std::alloc::{AllocError, Global};
 
@@ -19,18 +20,19 @@ use std::alloc::{AllocError, Global};
 pub fn request_of<'a>(alloc: Global, words: &'a [String]) -> Result<Request<'a>, Error>
     ensures { IfOk result (IsRequestOf (map string_bytes words.entry.now)) }
 {
-    let all = names_all(words);
-    let matches = program(alloc, all)?.try_get_matches_from(words)?;
-    let request = request_by(alloc, &matches, all)?;
+    let all = has_word(words, "--all");
+    let patch = has_word(words, "--patch");
+    let matches = program(alloc, all, patch)?.try_get_matches_from(words)?;
+    let request = request_by(alloc, &matches, all, patch)?;
     Ok(request)
 }
 
-// Whether one of the words is `--all`.
-fn names_all(words: &[String]) -> bool
-    ensures { result ≡ list_any (λ word. bytes_eq (string_bytes word) (codes "--all")) words.now }
+// Whether one of the words is this one.
+fn has_word(words: &[String], named: &str) -> bool
+    ensures { result ≡ list_any (λ word. bytes_eq (string_bytes word) named.now) words.now }
 {
     for word in words {
-        if word.as_str() == "--all" {
+        if word.as_str() == named {
             return true;
         }
     }
@@ -38,17 +40,21 @@ fn names_all(words: &[String]) -> bool
 }
 
 // What the command that was found and its words ask for.
-fn request_by<'a>(alloc: Global, matches: &ArgMatches<'a>, all: bool) -> Result<Request<'a>, Error>
+fn request_by<'a>(
+    alloc: Global,
+    matches: &ArgMatches<'a>,
+    all: bool,
+    patch: bool,
+) -> Result<Request<'a>, Error>
     ensures { IfOk result (λ request. (command : Text) (rows : List Row)
-        → subcommand_rows_of matches.now ≡ Some (command, rows) → IsRequestBy all command rows request) }
+        → subcommand_rows_of matches.now ≡ Some (command, rows) → IsRequestBy all patch command rows request) }
 {
     // There are eight commands, and the parser lets nothing pass without one.
     if let Some(explain) = matches.subcommand_matches("explain") {
         return explain_by(alloc, explain, all);
     }
     if let Some(why) = matches.subcommand_matches("why") {
-        let reasons = reasons_of(alloc, why)?;
-        return Ok(Request::Why(reasons, input_of(why)));
+        return why_by(alloc, why, patch);
     }
     if let Some(locate) = matches.subcommand_matches("locate") {
         let sought = sought_of(alloc, locate)?;
@@ -120,6 +126,30 @@ fn whole_of(explain: &ArgMatches<'_>) -> Whole
         profile: profile_of(explain.get_str("profile")),
         first: explain.get_one::<u32>("first"),
     }
+}
+
+// What the words of `why` ask for, with `--patch` or without it.
+fn why_by<'a>(alloc: Global, why: &ArgMatches<'a>, patch: bool) -> Result<Request<'a>, Error>
+    ensures { IfOk result (IsWhyBy patch (rows_of (found_of why.now))) }
+{
+    let input = input_of(why);
+    if patch {
+        let patches = patches_of(alloc, why)?;
+        return Ok(Request::Patch(patches, input));
+    }
+    let reasons = reasons_of(alloc, why)?;
+    Ok(Request::Why(reasons, input))
+}
+
+fn patches_of(alloc: Global, why: &ArgMatches<'_>) -> Result<Patches, Error>
+    ensures { IfOk result (IsPatchOf (rows_of (found_of why.now))) }
+{
+    let (run, only) = maybe_section_of(alloc, why)?;
+    Ok(Patches {
+        run,
+        profile: profile_of(why.get_str("profile")),
+        section: only,
+    })
 }
 
 fn reasons_of(alloc: Global, why: &ArgMatches<'_>) -> Result<Reasons, Error>
@@ -231,7 +261,7 @@ fn error_of(alloc: Global, word: &str) -> Result<Error, AllocError> {
     let message = format!(in alloc;
         "invalid value '{word}' for '--section <N>': a section is named N, or R.N as in a report"
     )?;
-    program(alloc, false)?.error(ErrorKind::ValueValidation, message.as_str())
+    program(alloc, false, false)?.error(ErrorKind::ValueValidation, message.as_str())
 }
 
 fn cuts_of<'a>(cut: &ArgMatches<'a>) -> Cuts<'a>

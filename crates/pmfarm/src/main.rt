@@ -10,7 +10,7 @@
 mod words_tests;
 
 pub use pmf_command::{
-    Cuts, Ended, Files, Input, Lengths, Reasons, Request, Simulation, Status, request_of,
+    Cuts, Ended, Files, Input, Lengths, Patches, Reasons, Request, Simulation, Status, request_of,
 };
 pub use pmf_device::{
     Counted, Cut, Device, Failed, Page, Sink, Source, StdSink, StdSource, Stop, write_text,
@@ -24,7 +24,7 @@ pub use pmf_stream::{
     CheckLogFault, Done, Excerpt, JoinTextFault, Joined, Settings, StreamFault, answer_stream,
     check_stream, join_texts, join_to, read_all, recite_stream, sim_to,
 };
-pub use pmf_why::{Way, Why, tell_why};
+pub use pmf_why::{Patch, PatchRefusal, Way, Why, patch_text, tell_why};
 pub use pmf_world::{
     MOST_LEDGERS, SCHEDULE_LIMIT, SimFault, World, WorldAnswer, WorldFault, WorldNewFault,
     WorldStep, sim_text,

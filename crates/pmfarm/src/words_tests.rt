@@ -1,8 +1,8 @@
 //! What the words of the command line ask for, and the status where they are refused.
 
 use crate::{
-    Cuts, Files, Input, Lengths, Question, Reasons, Request, Settings, Simulation, Sought, Status,
-    Whole, request_of,
+    Cuts, Files, Input, Lengths, Patches, Question, Reasons, Request, Settings, Simulation, Sought,
+    Status, Whole, request_of,
 };
 use pmf_event::Profile;
 use std::alloc::{AllocError, Global};
@@ -215,6 +215,38 @@ fn why_takes_a_section_an_event_a_count_and_a_flag(rt: HostRuntime) -> Result<()
 }
 
 #[test]
+fn why_with_patch_takes_a_section_alone(rt: HostRuntime) -> Result<(), Fail> {
+    for (line, run, profile, section) in [
+        ("why --patch", 0, Profile::One, None),
+        (
+            "why --run 5 --patch --profile=2 --section 3",
+            5,
+            Profile::Two,
+            Some(3),
+        ),
+        (
+            "why --section 9.3 --run 5 --patch",
+            9,
+            Profile::One,
+            Some(3),
+        ),
+    ] {
+        let patches = Patches {
+            run,
+            profile,
+            section,
+        };
+        asks(
+            &rt,
+            rt.alloc(),
+            line,
+            Request::Patch(patches, Input::Standard),
+        )?;
+    }
+    Ok(())
+}
+
+#[test]
 fn locate_takes_a_section_and_an_event_and_lint_nothing(rt: HostRuntime) -> Result<(), Fail> {
     let sought = Sought {
         run: 2,
@@ -362,6 +394,11 @@ const REFUSED: &[&str] = &[
     "why --section 0.1.2",
     "why --section 1 --section 1",
     "why --all-rows --all-rows",
+    "why --patch --patch",
+    "why --patch --all-rows",
+    "why --patch --event 1",
+    "why --first 1 --patch",
+    "explain --all --patch",
     "why --workers 1",
     "lint a.log b.log",
     "lint --run 1",
@@ -384,6 +421,7 @@ const HELP: &[&str] = &[
     "explain --help",
     "explain --all --help",
     "why --help",
+    "why --patch --help",
     "locate --help",
     "lint --help",
     "cut --help",

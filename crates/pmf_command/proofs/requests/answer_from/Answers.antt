@@ -11,3 +11,8 @@ pub returns-in-Why : goal.returns-in-Why
 returns-in-Why g c =
     let told = c.answer_to-in-Why.ensures in
     found c.args.request.now _ _ c.answer_to-in-Why.result c.in-Why.is (told.0, told.1, told.2)
+
+pub returns-in-Patch : goal.returns-in-Patch
+returns-in-Patch g c =
+    let made = c.answer_to-in-Patch.ensures in
+    found c.args.request.now _ _ c.answer_to-in-Patch.result c.in-Patch.is (made.0, made.1, made.2)
