@@ -11,6 +11,9 @@ use pmf_storelog::read_log;
 use std::alloc::{AllocError, Global};
 use std::sync::Arc;
 
+/// More than how many events may be checked with one row's changes alone, over all rows.
+const BUDGET: usize = 262_144;
+
 /// Why rows are no PASS, as a question about a log.
 #[derive(Clone, Copy, Debug)]
 pub struct Why {
@@ -38,7 +41,7 @@ impl Query for Why {
 ///
 /// Reads the log twice, once for its events and once for where they stand; checks each section that is asked for, looks for causes
 /// and cures, and checks it once more with all of them. Then changes of single rows are checked, each by one check of its section,
-/// while these have fewer events than the log and 262,144 together. Takes memory for the events of the log and where each stands, what
+/// while these have fewer than 262,144 events together. Takes memory for the events of the log and where each stands, what
 /// [`pmf_cause::propose`] and two checks take, a kind for each row that is asked for, and the text.
 pub fn why_text(alloc: Global, log: &[u8], asked: Reasons) -> Result<Vec<u8>, EventRefusal>
     ensures { MatchResult result (λ text. IsWhy asked log.now text.items) (IsWhyRefusal asked log.now) }
@@ -95,18 +98,9 @@ fn tell_sections(
     ensures { IfOk result (λ text. TellsAll asked log.now (asked_sections asked (map (λ s. s.value) sections.now)) (string_bytes text)) }
 {
     let standing = Standing::of(alloc, log)?;
-    let mut telling = Telling::new(alloc, asked, budget_of(sections));
+    let mut telling = Telling::new(alloc, asked, BUDGET);
     for section in sections {
         telling.meet(alloc, section, &standing)?;
     }
     telling.text(alloc)
-}
-
-// How many events the checks of changes for one row may have together.
-fn budget_of(sections: &[Arc<Section>]) -> usize {
-    let mut events = 1usize << 18;
-    for section in sections {
-        events = events.saturating_add(section.events().len());
-    }
-    events
 }
