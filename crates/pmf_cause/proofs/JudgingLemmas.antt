@@ -1,7 +1,8 @@
 -- The cause of a finding, from what is kept.
-use Rattle.std.proofs.Common.{◌≡◌, ℕ, suc, ◌-◌, ◌≤◌, get_or, nat_lt, if◌then◌else◌, List, length, sym, ap, ◌∙◌, arith, Some, None}
-use Rattle.pmf_event.{specs.declared.event.Event.{Event}, specs.declared.finding.Finding.{Finding}, specs.declared.finding.Finding.TheVariants.{PersistFail, CheckFail, OrderedFail, OrderedSameLine}, specs.Line.{line_of_byte}, specs.Places.{least}, specs.Store.{last_store, stores}, specs.Interval.{first_write_back, writes_back}, proofs.WriteBackLemmas.{last-bound}}
-use Rattle.pmf_cause.{specs.declared.need.Need.{Need}, specs.Cause.{cause_at, fence_after, lack_by, lack_of, need_at, of_need, write_back_after}, specs.Later.{AreFences, asked}, proofs.LaterLemmas.{write_back-bound, write_back-split}}
+use Rattle.std.proofs.Common.{◌≡◌, ℕ, suc, ◌-◌, ◌≤◌, get_or, nat_lt, if◌then◌else◌, true, false, List, length, refl, sym, ap, ◌∙◌, arith, Some, None}
+use Rattle.pmf_event.{specs.declared.event.Event.{Event}, specs.declared.finding.Finding.{Finding}, specs.declared.finding.Finding.TheVariants.{PersistPass, PersistEmpty, OrderedPass, OrderedEmpty, CheckPass, PersistFail, CheckFail, OrderedFail, OrderedSameLine}, specs.Line.{line_of_byte}, specs.Places.{least}, specs.Store.{last_store, stores}, specs.Interval.{first_write_back, writes_back}, proofs.WriteBackLemmas.{last-bound}}
+use Rattle.pmf_verdict.specs.Outcome.{outcome_of}
+use Rattle.pmf_cause.{specs.declared.need.Need.{Need}, specs.Cause.{cause_at, fence_after, lack_by, lack_of, need_at, of_need, write_back_after}, specs.Later.{AreFences, asked, asks_byte}, specs.Laws.{asks_why}, proofs.LaterLemmas.{write_back-bound, write_back-split}}
 
 module _ (es : List Event) (p : ℕ) where
   -- the cause of what asks for something
@@ -12,6 +13,25 @@ module _ (es : List Event) (p : ℕ) where
   by_need (OrderedFail b after crash) n is = ap (of_need es) (sym is)
   by_need (OrderedSameLine b after) n is = ap (of_need es) (sym is)
   by_need _ n is = let bad : None ≡ Some n = is in cc
+
+  -- a row that counts neither as fail nor as a warning has none
+  pub no_cause : (f : Finding) → asks_why (outcome_of f) ≡ false → None ≡ cause_at es p f
+  unfolding need_at cause_at
+  no_cause PersistPass is = refl
+  no_cause PersistEmpty is = refl
+  no_cause OrderedPass is = refl
+  no_cause OrderedEmpty is = refl
+  no_cause CheckPass is = refl
+  no_cause _ is = let bad : true ≡ false = is in cc
+
+  -- what asks for something asks for a byte
+  pub need_byte : (f : Finding) (n : Need) → need_at es p f ≡ Some n → asks_byte f ≡ true
+  unfolding need_at asks_byte
+  need_byte (PersistFail b) n is = refl
+  need_byte (CheckFail b) n is = refl
+  need_byte (OrderedFail b after crash) n is = refl
+  need_byte (OrderedSameLine b after) n is = refl
+  need_byte _ n is = let bad : None ≡ Some n = is in cc
 
   -- it is the byte that is asked for, and its last store
   pub need_asks : (f : Finding) (n : Need) → need_at es p f ≡ Some n → (n.byte ≡ asked f) × (n.last ≡ last_store es p n.byte)

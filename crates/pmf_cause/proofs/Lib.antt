@@ -1,3 +1,4 @@
+pub mod WatchLemmas
 pub mod StoredLemmas
 pub mod MarksLemmas
 pub mod PastLemmas

@@ -10,6 +10,7 @@ pub use Rattle.pmf_runs.specs.Runs
 pub mod Cause
 pub mod Laws
 pub mod States
+pub mod Watching
 pub mod Past
 pub mod Later
 pub mod Changed

@@ -1,20 +1,51 @@
 //! The cause of a row, from what is kept of the events in front of it and behind it.
 
-ghost use Rattle.std.specs.Prelude.{◌≡◌, ◌≤◌, ℕ, suc, None, Some, List, if◌then◌else◌, nat_lt, length};
+ghost use Rattle.std.specs.Prelude.{◌≡◌, ◌≤◌, ℕ, suc, true, false, None, Some, List, if◌then◌else◌, nat_lt, length, IfOk, OnOk};
 ghost use Rattle.pmf_event.specs.{declared.event.Event.{Event}, declared.section.TheConstants.{EVENT_LIMIT}, Line.{line_of_byte}, Store.{last_store}};
-ghost use Rattle.pmf_cause.specs.{Cause.{begun_at, cause_at, lack_by, need_at, of_need, write_back_after}, Past.{IsPast}, Later.{AreFences, asked}};
+ghost use Rattle.pmf_cause.specs.{Cause.{begun_at, cause_at, cause_of, lack_by, need_at, of_need, write_back_after}, Past.{IsPast}, Later.{AreFences, asked, asks_byte, behind_row}, Laws.{asks_why}, Watching.{Asks, has_line}};
+ghost use Rattle.pmf_verdict.specs.Outcome.{outcome_of};
 
 use crate::cause::Cause;
 use crate::lack::Lack;
 use crate::need::Need;
 use crate::past::Past;
-use pmf_event::{Event, Finding};
+use pmf_event::{Event, Finding, Row};
+use pmf_verdict::{Outcome, outcome_of};
+use std::alloc::AllocError;
 
 impl Past {
-    /// The cause of what is found of the next event, or at the section's end. The line of the byte that is asked for is written back
-    /// behind the place at `written_back` first, and `fences` has the first fence behind each place, from the last one on.
+    /// The cause of the row, behind whose place nothing was passed. The line of the byte that it asks for, if it does, is written back
+    /// first at `written_back`, of the places that do not come before the row, and `fences` has the first fence behind each place, from
+    /// the last one on.
+    pub(crate) fn cause_of(
+        &mut self,
+        events: &[Event],
+        row: &Row,
+        written_back: u32,
+        fences: &[u32],
+    ) -> Result<Option<Cause>, AllocError>
+        requires past { IsPast self.old events.now }
+        requires asks { Asks self.old.watch row.now.finding }
+        requires before { suc self.old.place ≤ row.now.place }
+        requires within { row.now.place ≤ suc (length events.now) }
+        requires few { length events.now ≤ EVENT_LIMIT }
+        requires behind { asks_byte row.now.finding ≡ true → written_back ≡ behind_row events.now row.now }
+        requires fences { asks_byte row.now.finding ≡ true → AreFences events.now fences.now }
+        ensures is { IfOk result (λ cause. cause ≡ cause_of events.now row.now) }
+        ensures past { OnOk result (IsPast self.new events.now) }
+        ensures watch { OnOk result (self.new.watch ≡ self.old.watch) }
+        ensures place { OnOk result (suc self.new.place ≤ row.now.place) }
+    {
+        if !asks_why(row.finding) {
+            return Ok(None);
+        }
+        self.go_to(events, row.place - 1)?;
+        Ok(self.cause(events, row.finding, written_back, fences))
+    }
+
+    // The cause of what is found of the next event, or at the section's end.
     #[tactic(auto, using(crate::proofs::JudgingLemmas::by_need, crate::proofs::JudgingLemmas::need_asks))]
-    pub(crate) fn cause(
+    fn cause(
         &self,
         events: &[Event],
         finding: Finding,
@@ -22,10 +53,11 @@ impl Past {
         fences: &[u32],
     ) -> Option<Cause>
         requires past { IsPast self.now events.now }
+        requires asks { Asks self.now.watch finding }
         requires within { self.now.place ≤ length events.now }
         requires few { length events.now ≤ EVENT_LIMIT }
-        requires behind { written_back ≡ write_back_after events.now (line_of_byte (asked finding)) self.now.place }
-        requires fences { AreFences events.now fences.now }
+        requires behind { asks_byte finding ≡ true → written_back ≡ write_back_after events.now (line_of_byte (asked finding)) self.now.place }
+        requires fences { asks_byte finding ≡ true → AreFences events.now fences.now }
         ensures { result ≡ cause_at events.now self.now.place finding }
     {
         match self.need(finding) {
@@ -35,10 +67,10 @@ impl Past {
     }
 
     // What the finding asks for.
-    #[tactic(auto, unfolding(crate::specs::Cause::need_at))]
+    #[tactic(auto, unfolding(crate::specs::Cause::need_at, crate::specs::Watching::Asks))]
     fn need(&self, finding: Finding) -> Option<Need>
         requires { self.now.place ≤ EVENT_LIMIT }
-        ensures { (es : List Event) → IsPast self.now es → result ≡ need_at es self.now.place finding }
+        ensures { (es : List Event) → IsPast self.now es → Asks self.now.watch finding → result ≡ need_at es self.now.place finding }
     {
         let (byte, due) = match finding {
             Finding::PersistFail { byte } | Finding::CheckFail { byte } => (byte, self.place + 1),
@@ -65,6 +97,7 @@ impl Past {
     ) -> Option<Cause>
         requires past { IsPast self.now events.now }
         requires within { self.now.place ≤ length events.now }
+        requires watched { has_line self.now.watch.stored need.byte ≡ true }
         requires last { need.last ≡ last_store events.now self.now.place need.byte }
         requires behind { written_back ≡ write_back_after events.now (line_of_byte need.byte) self.now.place }
         requires fences { AreFences events.now fences.now }
@@ -79,10 +112,10 @@ impl Past {
     }
 
     // The cause of a finding that asks for nothing.
-    #[tactic(auto, unfolding(crate::specs::Cause::cause_at))]
+    #[tactic(auto, unfolding(crate::specs::Cause::cause_at, crate::specs::Watching::Asks))]
     fn misplaced(&self, finding: Finding) -> Option<Cause>
         requires { self.now.marks.outside ≤ EVENT_LIMIT }
-        ensures { (es : List Event) → IsPast self.now es → need_at es self.now.place finding ≡ None
+        ensures { (es : List Event) → IsPast self.now es → Asks self.now.watch finding → need_at es self.now.place finding ≡ None
             → result ≡ cause_at es self.now.place finding }
     {
         let cause = match finding {
@@ -122,6 +155,18 @@ impl Past {
         ensures { (es : List Event) → IsPast self.now es → result ≡ begun_at es self.now.place }
     {
         self.marks.outside + 1
+    }
+}
+
+/// Whether a row with this finding has a cause: whether it counts as fail or as a warning.
+pub(crate) fn asks_why(finding: Finding) -> bool
+    ensures { result ≡ asks_why (outcome_of finding) }
+{
+    match outcome_of(finding) {
+        Outcome::Fail => true,
+        Outcome::Warn => true,
+        Outcome::Pass => false,
+        Outcome::Empty => false,
     }
 }
 

@@ -27,6 +27,7 @@ mod stored;
 mod tests;
 mod trial;
 mod walk;
+mod watch;
 
 pub use cause::Cause;
 pub use edit::Edit;

@@ -5,10 +5,12 @@ ghost use Rattle.pmf_event.specs.declared.section.TheConstants.{EVENT_LIMIT};
 ghost use Rattle.pmf_cause.specs.Reaching.{IsReached};
 
 use crate::edit::Edit;
+use crate::judging::asks_why;
 use crate::plan::Plan;
 use crate::reach::{Lacking, Reach};
+use crate::watch::{Watch, put_all, put_lines};
 use pmf_event::{Event, Finding, LINE_SIZE, Row, Span};
-use pmf_verdict::{Outcome, Verdict, outcome_of};
+use pmf_verdict::Verdict;
 use std::alloc::{AllocError, Global};
 
 /// The most changes that are proposed for one row.
@@ -33,15 +35,16 @@ pub struct Proposal {
 /// TXADD that adds nothing, take a step for each run of bytes with one last TXADD that they cover. Takes memory for what is kept of the
 /// events, and for what is proposed.
 pub fn propose(alloc: Global, verdict: &Verdict, wanted: &[usize]) -> Result<Proposal, AllocError> {
-    let events = verdict.section().events();
-    let mut seeker = Seeker::new(alloc, events.len(), verdict.rows().len());
-    let mut reach = Reach::new(alloc);
+    let (events, rows) = (verdict.section().events(), verdict.rows());
+    let mut seeker = Seeker::new(alloc, events.len(), rows.len());
+    let watch = watched(alloc, events, rows)?;
+    let mut reach = Reach::new(alloc, watch, ask_of_scopes(rows));
     let mut plan = Plan::new(alloc);
     let mut own = Vec::new(alloc);
     let mut left = wanted;
-    for (index, row) in verdict.rows().iter().enumerate() {
-        reach.go_to(events, row.place.saturating_sub(1))?;
-        seeker.seek(&reach, events, row)?;
+    for (index, row) in rows.iter().enumerate() {
+        reach.go_before(events, row)?;
+        seeker.seek(&reach, events, rows, index)?;
         if !plan.cures(&seeker.needs, &seeker.edits) {
             plan.take(&seeker.edits)?;
         }
@@ -80,14 +83,29 @@ impl Seeker {
     }
 
     // The changes for the row, where there are any: what is kept stands in front of its place.
-    fn seek(&mut self, reach: &Reach, events: &[Event], row: &Row) -> Result<(), AllocError> {
+    fn seek(
+        &mut self,
+        reach: &Reach,
+        events: &[Event],
+        rows: &[Row],
+        index: usize,
+    ) -> Result<(), AllocError> {
         self.needs.clear();
         self.edits.clear();
-        if matches!(outcome_of(row.finding), Outcome::Pass | Outcome::Empty) {
+        let Some(row) = rows.get(index) else {
+            return Ok(());
+        };
+        if !asks_why(row.finding) {
             return Ok(());
         }
-        match events.get(row.place.saturating_sub(1) as usize) {
-            Some(event) => self.seek_at(reach, events, event, row)?,
+        match event_of(events, row) {
+            Some(event) => self.seek_at(
+                reach,
+                events,
+                event,
+                row,
+                warn_of_all(rows, index, event),
+            )?,
             None => self.close(reach, row.place)?,
         }
         if self.edits.len() > MOST {
@@ -96,13 +114,14 @@ impl Seeker {
         Ok(())
     }
 
-    // The same, for a row of an event.
+    // The same, for a row of an event, which warns of all lines that it writes back or does not.
     fn seek_at(
         &mut self,
         reach: &Reach,
         events: &[Event],
         event: &Event,
         row: &Row,
+        warned: bool,
     ) -> Result<(), AllocError> {
         let place = row.place;
         match event {
@@ -112,7 +131,7 @@ impl Seeker {
             }
             Event::Ordered(before, after) => self.order(reach, *before, *after),
             Event::Store(span) => self.back_up(reach, place, *span),
-            Event::Flush(span) if does_nothing(reach, *span) => self.leave_out(place, event),
+            Event::Flush(_) if warned => self.leave_out(place, event),
             Event::TxAdd(span) if adds_nothing(reach, *span) => self.leave_out(place, event),
             Event::CheckEnd => self.check_end(reach, events, event, row),
             Event::TxEnd | Event::CheckStart => self.leave_out(place, event),
@@ -246,13 +265,84 @@ impl Seeker {
     }
 }
 
-// Whether each line of the span is clean, or waits for a fence already.
-fn does_nothing(reach: &Reach, span: Span) -> bool {
-    let lines = reach.shadow.flush_lines(span);
-    let pending = lines.pending.map_or(0, |lines| lines.count);
-    let clean = lines.clean.map_or(0, |lines| lines.count);
+// The event of the row, unless it is of the section's end.
+fn event_of<'a>(events: &'a [Event], row: &Row) -> Option<&'a Event> {
+    events.get(row.place.saturating_sub(1) as usize)
+}
+
+// The lines that the changes for the rows depend on.
+fn watched(alloc: Global, events: &[Event], rows: &[Row]) -> Result<Watch, AllocError> {
+    let mut watch = Watch::new(alloc);
+    for row in rows {
+        if asks_why(row.finding) {
+            put_row(&mut watch, event_of(events, row), row.finding)?;
+        }
+    }
+    Ok(watch)
+}
+
+fn put_row(watch: &mut Watch, event: Option<&Event>, finding: Finding) -> Result<(), AllocError> {
+    if is_of_scope(finding) {
+        return put_all(&mut watch.stored);
+    }
+    match event {
+        Some(Event::Persist(span)) => put_lines(&mut watch.stored, span),
+        Some(Event::Ordered(before, after)) => {
+            put_lines(&mut watch.stored, before)?;
+            put_lines(&mut watch.stored, after)
+        }
+        Some(Event::Store(span)) => put_lines(&mut watch.added, span),
+        Some(Event::TxAdd(span)) => put_lines(&mut watch.added, span),
+        _ => Ok(()),
+    }
+}
+
+// Whether the changes for some row depend on the bytes of a scope.
+fn ask_of_scopes(rows: &[Row]) -> bool {
+    for row in rows {
+        if is_of_scope(row.finding) {
+            return true;
+        }
+    }
+    false
+}
+
+fn is_of_scope(finding: Finding) -> bool {
+    matches!(
+        finding,
+        Finding::CheckFail { .. } | Finding::Unclosed { .. }
+    )
+}
+
+// Whether the event is a write-back, and its warnings, of which the row with this index is one, are of all its lines.
+fn warn_of_all(rows: &[Row], index: usize, event: &Event) -> bool {
+    let Event::Flush(span) = event else {
+        return false;
+    };
     let all = (span.end() - 1) / LINE_SIZE - span.first() / LINE_SIZE + 1;
-    pending.saturating_add(clean) == all
+    let place = rows.get(index).map_or(0, |row| row.place);
+    let here = warned_at(rows, Some(index), place);
+    let before = warned_at(rows, index.checked_sub(1), place);
+    let behind = warned_at(rows, index.checked_add(1), place);
+    here.saturating_add(before).saturating_add(behind) == all
+}
+
+// The lines of which the row with this index warns, if it is of the place.
+fn warned_at(rows: &[Row], index: Option<usize>, place: u32) -> u64 {
+    let Some(index) = index else {
+        return 0;
+    };
+    match rows.get(index) {
+        Some(row) if row.place == place => warned_lines(row.finding),
+        _ => 0,
+    }
+}
+
+fn warned_lines(finding: Finding) -> u64 {
+    match finding {
+        Finding::FlushDoubled { lines, .. } | Finding::FlushNeedless { lines, .. } => lines,
+        _ => 0,
+    }
 }
 
 // Whether no transaction runs, or it has backed up each byte of the span.

@@ -4,19 +4,23 @@ ghost use Rattle.std.specs.Prelude.{◌≡◌, ◌<◌, ◌≤◌, ℕ, suc, Lis
 ghost use Rattle.pmf_event.specs.{declared.event.Event.{Event}, declared.section.TheConstants.{EVENT_LIMIT}, Store.{event_at}};
 ghost use Rattle.pmf_cause.specs.Reaching.{IsReached};
 
+use crate::judging::asks_why;
 use crate::past::Past;
-use pmf_event::{ADDRESS_LIMIT, Event, LINE_SIZE, Span, line_of};
+use crate::watch::{Watch, are_met};
+use pmf_event::{ADDRESS_LIMIT, Event, LINE_SIZE, Row, Span, line_of};
 use pmf_places::Place;
 use pmf_runs::{IsIn, IsOut, PutIn, RunMap, Test};
 use pmf_shadow::{Shadow, Standing};
 use std::alloc::{AllocError, Global};
 
-/// What is kept of the first events of a section.
+/// What is kept of the first events of a section, for the lines that are watched.
 #[derive(Debug, Drop)]
 pub(crate) struct Reach {
     alloc: Global,
     pub(crate) past: Past,
     pub(crate) shadow: Shadow,
+    /// Whether the bytes of scopes are asked for.
+    of_scopes: bool,
     /// The bytes that the scope's transactions stored to.
     scoped: RunMap<bool>,
     /// The fences.
@@ -38,20 +42,33 @@ pub(crate) struct Lacking {
 
 impl Reach {
     /// Of no event.
-    pub(crate) fn new(alloc: Global) -> Reach
+    pub(crate) fn new(alloc: Global, watch: Watch, of_scopes: bool) -> Reach
         ensures { (es : List Event) → IsReached result es }
     {
         Reach {
             alloc,
-            past: Past::new(alloc),
+            past: Past::new(alloc, watch),
             shadow: Shadow::new(alloc),
+            of_scopes,
             scoped: RunMap::new(alloc, false),
             fences: Vec::new(alloc),
         }
     }
 
-    /// Goes on to the place, or as far as there are events.
-    pub(crate) fn go_to(&mut self, events: &[Event], place: u32) -> Result<(), AllocError>
+    /// Goes on to the place in front of the row, if it counts as fail or as a warning.
+    pub(crate) fn go_before(&mut self, events: &[Event], row: &Row) -> Result<(), AllocError>
+        requires reached { IsReached self.old events.now }
+        requires few { length events.now ≤ EVENT_LIMIT }
+        ensures { OnOk result (IsReached self.new events.now) }
+    {
+        if !asks_why(row.finding) {
+            return Ok(());
+        }
+        self.go_to(events, row.place.saturating_sub(1))
+    }
+
+    // Goes on to the place, or as far as there are events.
+    fn go_to(&mut self, events: &[Event], place: u32) -> Result<(), AllocError>
         requires reached { IsReached self.old events.now }
         requires few { length events.now ≤ EVENT_LIMIT }
         ensures { OnOk result (IsReached self.new events.now) }
@@ -74,7 +91,8 @@ impl Reach {
         ensures place { OnOk result (self.new.past.place ≡ suc self.old.past.place) }
     {
         let place = self.past.place + 1;
-        self.shadow.follow(place, *event)?;
+        let shown = shown(&self.past.watch.stored, *event);
+        self.shadow.follow(place, shown)?;
         self.past.go_to(events, place)?;
         self.note(event)?;
         Ok(())
@@ -87,13 +105,18 @@ impl Reach {
     {
         match *event {
             Event::Fence => self.fences.push(self.past.place)?,
-            Event::Store(span) if self.past.marks.scope > 0 && self.past.marks.depth > 0 => {
+            Event::Store(span) if self.notes_stores() => {
                 self.scoped.change(span.first(), span.end(), &PutIn)?
             }
             Event::CheckStart | Event::CheckEnd => self.scoped = RunMap::new(self.alloc, false),
             _ => {}
         }
         Ok(())
+    }
+
+    // Whether a store counts for the scope.
+    fn notes_stores(&self) -> bool {
+        self.of_scopes && self.past.marks.scope > 0 && self.past.marks.depth > 0
     }
 
     /// The last fence in front of the place, or 0.
@@ -225,6 +248,20 @@ impl Reach {
             .added
             .first_where(start, end, &From { place: begin });
         Some((start, until.unwrap_or(end)))
+    }
+}
+
+// The event as the shadow follows it: one that changes nothing of a shadow, in place of one that meets none of the lines.
+fn shown(lines: &RunMap<bool>, event: Event) -> Event {
+    match event {
+        Event::Store(span) | Event::Flush(span) | Event::Exclude(span) | Event::Include(span) => {
+            if are_met(lines, &span) {
+                event
+            } else {
+                Event::TxBegin
+            }
+        }
+        _ => event,
     }
 }
 

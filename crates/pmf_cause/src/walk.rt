@@ -6,8 +6,9 @@ ghost use Rattle.pmf_cause.specs.{Cause.{cause_of}, Later.{AreInOrder}};
 ghost use Rattle.pmf_verdict.specs.Checked.{rows_in};
 
 use crate::cause::Cause;
-use crate::later::{fences_behind, written_back_behind};
+use crate::later::{fences_for, written_back_behind};
 use crate::past::Past;
+use crate::watch::Watch;
 use pmf_event::{Event, Row};
 use pmf_verdict::Verdict;
 use std::alloc::{AllocError, Global};
@@ -32,14 +33,14 @@ fn causes_of(
     requires order { AreInOrder rows.now (length events.now) }
     ensures { IfOk result (λ causes. causes.items ≡ map (cause_of events.now) rows.now) }
 {
-    let fences = fences_behind(alloc, events)?;
-    let behind = written_back_behind(alloc, events, rows)?;
-    let mut past = Past::new(alloc);
-    let mut causes = Vec::new(alloc);
+    let watch = Watch::of(alloc, rows)?;
+    let fences = fences_for(alloc, events, rows)?;
+    let behind = written_back_behind(alloc, &watch, events, rows)?;
+    let mut past = Past::new(alloc, watch);
+    let mut causes = Vec::with_capacity(alloc, rows.len())?;
     for (index, row) in rows.iter().enumerate() {
-        past.go_to(events, row.place - 1)?;
         let written_back = behind[rows.len() - 1 - index];
-        causes.push(past.cause(events, row.finding, written_back, &fences))?;
+        causes.push(past.cause_of(events, row, written_back, &fences)?)?;
     }
     Ok(causes)
 }

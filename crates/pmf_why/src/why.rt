@@ -14,6 +14,9 @@ use pmf_storelog::read_log;
 use std::alloc::Global;
 use std::sync::Arc;
 
+/// More than how many events may be checked with one row's changes alone, over all rows.
+const BUDGET: usize = 262_144;
+
 /// Why rows are no PASS, as a question about a log.
 #[derive(Clone, Copy, Debug)]
 pub struct Why {
@@ -45,9 +48,9 @@ impl StreamedQuery for Why {
 ///
 /// Reads the log twice, once for its events and once for where they stand; checks each section that is asked for, looks for causes
 /// and cures, checks it once more with all of them, and writes what is to be told of it. At the end it tells how many rows are like those
-/// that are told. Changes of single rows are checked, each by one check of its section, while these have fewer events than the log and
-/// 262,144 together. Takes memory for the events of the log and where each stands, what [`pmf_cause::propose`] and two checks take, a
-/// kind for each row that is asked for, and the text.
+/// that are told. Changes of single rows are checked, each by one check of its section, while these have fewer than 262,144 events
+/// together. Takes memory for the events of the log and where each stands, what [`pmf_cause::propose`] and two checks take, a kind for
+/// each row that is asked for, and the text.
 pub fn tell_why<W: Sink>(
     alloc: Global,
     log: &[u8],
@@ -116,7 +119,7 @@ fn tell_sections<W: Sink>(
         → WritesText (TellsAll asked bytes (asked_sections asked (map (λ s. s.value) sections.now))) (W.held writer.old) (W.held writer.new) result }
     ensures counted { W.failed_calls writer.new ≡ W.failed_calls writer.old + failed_puts result }
 {
-    let mut telling = Telling::new(alloc, asked, budget_of(sections));
+    let mut telling = Telling::new(alloc, asked, BUDGET);
     let mut page = Page::new();
     let mut sent = 0;
     for section in sections {
@@ -140,13 +143,4 @@ fn write_told<W: Sink>(told: &[Told<'_>], writer: &mut W, page: &mut Page) -> Re
         page.put(writer, one.text.as_bytes())?;
     }
     Ok(())
-}
-
-// How many events the checks of changes for one row may have together.
-fn budget_of(sections: &[Arc<Section>]) -> usize {
-    let mut events = 1usize << 18;
-    for section in sections {
-        events = events.saturating_add(section.events().len());
-    }
-    events
 }

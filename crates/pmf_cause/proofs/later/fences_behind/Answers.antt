@@ -8,7 +8,7 @@ pub loop-left-init : goal.loop-left-init
 loop-left-init c =
     let es = c.args.events.now in
     let items = c.in_ok-push.ensures.items in
-    let none = c.new-fences.ensures.items in
+    let none = c.in_ok-fences.ensures.items in
     record {
       within = omega arith;
       fence = sym (fence-last es);

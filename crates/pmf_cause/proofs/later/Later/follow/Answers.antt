@@ -10,10 +10,10 @@ returns-clause-later c = λ es p at_place here within later.
     let e = c.args.event.now in
     let now : p ≡ old.place - 1 = omega arith in
     record {
-      each = λ b. let line = line_of_byte b in
-          c.in_ok-write_back.ensures b
+      each = λ b has. let line = line_of_byte b in
+          c.in_ok-write_back_watched.ensures b has
           ∙ ap (λ k. if flushes line e then k else (state_at old.written_back b).of) at_place
-          ∙ ap (λ k. if flushes line e then suc p else k) (later.each b ∙ ap (write_back_after es line) at_place)
+          ∙ ap (λ k. if flushes line e then suc p else k) (later.each b has ∙ ap (write_back_after es line) at_place)
           ∙ sym (write_back-step es p e here within line)
           ∙ ap (write_back_after es line) now;
     }

@@ -4,7 +4,7 @@ use Rattle.pmf_cause.proofs.later.Later.go_to.Given as goal
 
 abbrev pub invariant-loop-self : goal.invariant-loop-self
 invariant-loop-self l = record {
-  later : IsLater l.self l.events;
+  later : IsLater l.watch l.self l.events;
   behind : l.place ≤ l.self.place;
   within : l.self.place ≤ length l.events;
 }

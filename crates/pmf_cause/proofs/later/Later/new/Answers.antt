@@ -5,6 +5,6 @@ use Rattle.pmf_cause.{specs.Cause.{write_back_after}, proofs.LaterLemmas.{write_
 use Rattle.pmf_cause.proofs.later.Later.new.Goals as goal
 
 pub returns-clause-later : goal.returns-clause-later
-returns-clause-later c = λ es last. record {
-  each = λ b. ap (λ (s : Place). s.of) (c.new.ensures.states b) ∙ sym (write_back-last es (line_of_byte b)) ∙ ap (write_back_after es (line_of_byte b)) (sym last);
+returns-clause-later c = λ watch es last. record {
+  each = λ b has. ap (λ (s : Place). s.of) (c.new.ensures.states b) ∙ sym (write_back-last es (line_of_byte b)) ∙ ap (write_back_after es (line_of_byte b)) (sym last);
 }

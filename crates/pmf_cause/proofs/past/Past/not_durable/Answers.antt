@@ -8,7 +8,7 @@ overflow_sub-fence c =
     let es = c.args.events.now in
     let need = c.args.need in
     let is = by_is es c.args.self.now.place need c.last_store.result.written_back c.args.written_back c.place_or-by.result c.requires.within c.requires.last c.place_or-by.ensures
-    (c.last_store.ensures.written_back es c.requires.past) c.requires.behind in
+    (c.last_store.ensures.written_back es c.requires.past c.requires.watched) c.requires.behind in
     let bound = write_back-bound es (line_of_byte need.byte) need.last in omega arith
 
 pub returns-in-Some : goal.returns-in-Some
@@ -16,7 +16,7 @@ returns-in-Some c =
     let es = c.args.events.now in
     let need = c.args.need in
     let is = by_is es c.args.self.now.place need c.last_store.result.written_back c.args.written_back c.place_or-by.result c.requires.within c.requires.last c.place_or-by.ensures
-    (c.last_store.ensures.written_back es c.requires.past) c.requires.behind in
+    (c.last_store.ensures.written_back es c.requires.past c.requires.watched) c.requires.behind in
     ap (not_durable need) (sym c.in-Some.is ∙ c.lack_by.ensures ∙ lack_is es need c.place_or-by.result c.args.fences.now is c.requires.fences)
 
 pub returns-in-None : goal.returns-in-None
@@ -24,5 +24,5 @@ returns-in-None c =
     let es = c.args.events.now in
     let need = c.args.need in
     let is = by_is es c.args.self.now.place need c.last_store.result.written_back c.args.written_back c.place_or-by.result c.requires.within c.requires.last c.place_or-by.ensures
-    (c.last_store.ensures.written_back es c.requires.past) c.requires.behind in
+    (c.last_store.ensures.written_back es c.requires.past c.requires.watched) c.requires.behind in
     ap (not_durable need) (sym c.in-None.is ∙ c.lack_by.ensures ∙ lack_is es need c.place_or-by.result c.args.fences.now is c.requires.fences)
