@@ -10,8 +10,8 @@ _pmfarm() {
         mapfile -t COMPREPLY < <(compgen -f -- "$word")
     elif [ "$command" = check ] && [[ "$before" != --@(run|workers) ]]; then
         mapfile -t COMPREPLY < <(compgen -W '--workers --run --profile --ledger --help -h' -- "$word")
-    elif [ "$command" = explain ] && [[ "$before" != --@(run|section|event) ]]; then
-        mapfile -t COMPREPLY < <(compgen -W '--section --event --all --run --profile --help -h' -- "$word")
+    elif [ "$command" = explain ] && [[ "$before" != --@(run|section|event|first) ]]; then
+        mapfile -t COMPREPLY < <(compgen -W '--section --event --all --first --run --profile --help -h' -- "$word")
     elif [ "$command" = why ] && [[ "$before" != --@(run|section|event|first) ]]; then
         mapfile -t COMPREPLY < <(compgen -W '--section --event --first --all-rows --patch --run --profile --help -h' -- "$word")
     elif [ "$command" = locate ] && [[ "$before" != --@(run|section|event) ]]; then

@@ -38,6 +38,16 @@ explains_all_rows() {
     ended 3 "$(grep -c '^section ' "$scratch/report")"
 }
 
+# The first so many of the rows of a log with three that fail, in two sections; all of them, where there are fewer.
+explains_the_first() {
+    local first
+    "$program" explain --all "$scratch/unclosed.log" >"$scratch/all" || return
+    for first in 1 2 3 4 4294967295; do
+        awk -v "first=$first" '/^section / { seen++ } seen <= first' "$scratch/all" >"$scratch/wanted"
+        "$program" explain --all --first "$first" <"$scratch/unclosed.log" | same "$scratch/wanted" - || return
+    done
+}
+
 try_explain() {
     local log=examples/written_back_at_one_fence.log
     check 'explain tells no skipped record' told 0 'START|FENCE' 'no image' '' explain --section 0 --event 1
@@ -59,6 +69,9 @@ try_explain() {
     check 'a directory as standard input of explain' unreadable explain --section 0 --event 1
     check 'explain agrees with the rows of the examples' tests/explain-fails examples/*.log
     check 'explain --all explains each row that fails, as explain does' explains_all_rows
+    check 'explain --all --first explains so many of them' explains_the_first
+    check 'explain --all --first 0 is refused' refused explain --all --first 0
+    check 'explain --first without --all is refused' refused explain --section 0 --event 1 --first 1
     check 'explain --all writes nothing where no row fails' told 0 "$(cat examples/first.log)" '' '' explain --all
     check 'explain --all refuses a faulty log' told 2 'FENCE|PMT.X' '' 'pmfarm: record 2: unknown marker' explain --all
     check 'explain --all with a section is refused' refused explain --all --section 0

@@ -24,7 +24,7 @@ why_unwritten='7.0 3 PERSIST FAIL byte=0x1000 crash=3
            this row then passes
 rows=1 told=1 untold=0; with all cures: pass=1 fail=0'
 
-# The second of three rows is alike to the first; of the third more events lie between the two stores.
+# The second of three rows is like the first; of the third more events lie between the two stores.
 append_log=examples/c/append_log.missing_fence.log
 why_first_append='0.0 4 ORDERED FAIL byte=0x10040 after=0x10000 crash=3
   lost     record 1 STORE;0x10040;0x0;0x18
@@ -44,9 +44,10 @@ why_third_append='0.0 21 ORDERED FAIL byte=0x10070 after=0x10000 crash=20
   cause    not fenced: written back by record 18, no fence before record 20; too late by record 23
   cure     before record 20: FENCE
            this row then passes'
+one_more='1 more like 0.0 4 ORDERED FAIL byte=0x10040 after=0x10000 crash=3'
 why_appends="$why_first_append
-  alike    1 more
 $why_third_append
+$one_more
 rows=3 told=2 untold=0; with all cures: pass=9 fail=0"
 
 why_warnings='0.3 3 FLUSH DOUBLED line=0x1000 lines=1
@@ -142,7 +143,7 @@ $why_second_append
 $why_third_append
 rows=3 told=3 untold=0; with all cures: pass=9 fail=0" '' why --all-rows "$append_log"
     check 'why --first 1 leaves a kind untold' told 0 '' "$why_first_append
-  alike    1 more
+$one_more
 rows=3 told=1 untold=1; with all cures: pass=9 fail=0" '' why --first 1 "$append_log"
     check 'why --all-rows --first 1 leaves two rows untold' told 0 '' "$why_first_append
 rows=3 told=1 untold=2; with all cures: pass=9 fail=0" '' why --first 1 --all-rows "$append_log"

@@ -35,7 +35,7 @@ help_of_why() {
     ended 0 $? && same /dev/null "$scratch/diagnostics" || return
     sed -n 's/^  \(  .*\|0\.0 .*\|rows=.*\)$/\1/p' "$scratch/report" | grep -x -F -f <(printf '%s\n' "$why_unfenced") |
         said "$why_unfenced" - || return
-    for words in lost event cause cure alike; do
+    for words in lost event cause cure; do
         grep -q "^| \`  $words " docs/FORMATS.md && grep -Eq "^\.BR? \"?$words" man/pmfarm.1 || {
             printf 'docs/FORMATS.md or the man page lacks %s\n' "$words"
             return 1

@@ -1,5 +1,5 @@
 -- A text that is written part by part, and stops.
-use Rattle.std.{proofs.Common.{◌≡◌, ℕ, ◌+◌, ◌≤◌, ◌<◌, List, [], ◌++◌, Option, Result, Ok, Err, length, take, refl, sym, ap, subst, ◌∙◌, arith, length-append}, proofs.KnownBytes.{Appends-nil, Appends-trans}, proofs.lemmas.List.{take-append-le}, proofs.Math.Seq.{take-append_seam, take-append-add}, specs.{Io.KnownBytes.{Appends}, Result.{IsErr, IsErrAnd}}}
+use Rattle.std.{proofs.Common.{◌≡◌, ℕ, ◌+◌, ◌≤◌, ◌<◌, List, [], ◌++◌, Option, Result, Ok, Err, length, take, refl, sym, ap, subst, ◌∙◌, arith, length-append, append-nil, MatchResult}, proofs.KnownBytes.{Appends-nil, Appends-trans}, proofs.lemmas.List.{take-append-le}, proofs.Math.Seq.{take-append_seam, take-append-add}, specs.{Io.KnownBytes.{Appends}, Result.{IsErr, IsErrAnd}}}
 use Rattle.pmf_device.specs.{declared.page.{Page.{Page}, Stop.{Stop}}, Pages.{IsPage, StopsIn, WritesText}}
 use Rattle.pmf_device.specs.declared.page.Stop.TheVariants as stop
 
@@ -50,6 +50,12 @@ pub blank : (held : Option (List ℕ)) → IsPage held held [] (record { written
 blank held = record { written = Appends-nil held; count = refl }
 
 -- an error that is passed on
-pub stops_so : {X : Type 0} (P : List ℕ → Type 0) (held holds : Option (List ℕ)) (result : Result X Stop) (why : Stop) → IsErr result × IsErrAnd result (λ e. e ≡ why) → StopsIn P held holds why → WritesText P held holds result
-stops_so P held holds (Ok done) why is stops = absurd cc
-stops_so P held holds (Err e) why is stops = subst (StopsIn P held holds) (sym is.1) stops
+pub stops_so : {X E : Type 0} (Done : X → Type 0) (Why : E → Type 0) (result : Result X E) (e : E) → IsErr result × IsErrAnd result (λ other. other ≡ e) → Why e → MatchResult result Done Why
+stops_so Done Why (Ok done) e is because = absurd cc
+stops_so Done Why (Err other) e is because = subst Why (sym is.1) because
+
+-- the last part
+pub ends_so : {X : Type 0} (IsText : List ℕ → Type 0) (held holds : Option (List ℕ)) (whole : List ℕ) (page : Page) (result : Result X Stop) → IsText whole →
+    MatchResult result (λ done. IsPage held holds whole page) (StopsIn (λ text. text ≡ whole) held holds) → WritesText IsText held holds result
+ends_so IsText held holds whole page (Ok done) is put = (whole, is, put.written)
+ends_so IsText held holds whole page (Err why) is put = stops_on (λ text. text ≡ whole) IsText held holds why (λ text same. ([], subst IsText (sym (append-nil text ∙ same)) is)) put

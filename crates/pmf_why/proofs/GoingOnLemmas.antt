@@ -1,6 +1,5 @@
 -- What was told of the first sections goes on to what is told of all.
-use Rattle.std.{proofs.Common.{◌≡◌, ℕ, ◌<◌, Bool, true, false, List, [], ◌∷◌, ◌++◌, length, flat_map, map, take, refl, sym, ap, subst, ◌∙◌, inl, inr, append-nil, append_assoc, Option, Result, Ok, Err, MatchResult}, proofs.lemmas.Bool.{cases_lt}, proofs.lemmas.Grind.{flat_map-append}, proofs.lemmas.List.Elements.{filter-append}, specs.{List.{AllZip}, Result.{IsErr, IsErrAnd}}}
-use Rattle.pmf_device.{specs.declared.page.{Page.{Page}, Stop.{Stop}}, specs.Pages.{IsPage, StopsIn, WritesText}, proofs.PageLemmas.{stops_on}}
+use Rattle.std.{proofs.Common.{◌≡◌, ℕ, ◌<◌, Bool, true, false, List, [], ◌∷◌, ◌++◌, length, flat_map, map, take, refl, sym, ap, subst, ◌∙◌, inl, inr, append-nil, append_assoc}, proofs.lemmas.Bool.{cases_lt}, proofs.lemmas.Grind.{flat_map-append}, proofs.lemmas.List.Elements.{filter-append}, specs.List.{AllZip}}
 use Rattle.pmf_event.specs.Section.{Trace}
 use Rattle.pmf_request.specs.declared.settings.Reasons.{Reasons}
 use Rattle.pmf_query.specs.{declared.standing.Standing.{Standing}, Standing.{Stands, located_in}}
@@ -75,16 +74,3 @@ module _ (asked : Reasons) (bytes : List ℕ) (standing : Standing) (stands : St
               ∙ ap (λ front. front ++ text_of_end asked parts) (sym (flat_map-append (λ row. row) these.0 (map plain then.0)));
         },
       )
-
--- ---- a text that is written part by part
-
--- an error that is passed on
-pub fails_so : {X E : Type 0} (Done : X → Type 0) (Why : E → Type 0) (result : Result X E) (e : E) → IsErr result × IsErrAnd result (λ other. other ≡ e) → Why e → MatchResult result Done Why
-fails_so Done Why (Ok done) e is because = absurd cc
-fails_so Done Why (Err other) e is because = subst Why (sym is.1) because
-
--- the last part
-pub ends_so : {X : Type 0} (IsText : List ℕ → Type 0) (held holds : Option (List ℕ)) (whole : List ℕ) (page : Page) (result : Result X Stop) → IsText whole →
-    MatchResult result (λ done. IsPage held holds whole page) (StopsIn (λ text. text ≡ whole) held holds) → WritesText IsText held holds result
-ends_so IsText held holds whole page (Ok done) is put = (whole, is, put.written)
-ends_so IsText held holds whole page (Err why) is put = stops_on (λ text. text ≡ whole) IsText held holds why (λ text same. ([], subst IsText (sym (append-nil text ∙ same)) is)) put

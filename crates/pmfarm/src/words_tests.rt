@@ -88,7 +88,11 @@ fn a_log_is_read_from_a_file_where_one_is_named(rt: HostRuntime) -> Result<(), F
         section,
         event,
     };
-    let whole = Whole { run, profile };
+    let whole = Whole {
+        run,
+        profile,
+        first: None,
+    };
     let input = Input::File("a.log");
     for line in [
         "check --workers 2 --ledger a.log",
@@ -159,11 +163,18 @@ fn explain_takes_a_section_and_an_event_or_all(rt: HostRuntime) -> Result<(), Fa
             Request::Explain(question, Input::Standard),
         )?;
     }
-    for (line, run, profile) in [
-        ("explain --all", 0, Profile::One),
-        ("explain --run=5 --all --profile 2", 5, Profile::Two),
+    let most = "explain --first=4294967295 --all";
+    for (line, run, profile, first) in [
+        ("explain --all", 0, Profile::One, None),
+        ("explain --run=5 --all --profile 2", 5, Profile::Two, None),
+        ("explain --all --first 1", 0, Profile::One, Some(1)),
+        (most, 0, Profile::One, Some(u32::MAX)),
     ] {
-        let whole = Whole { run, profile };
+        let whole = Whole {
+            run,
+            profile,
+            first,
+        };
         asks(
             &rt,
             rt.alloc(),
@@ -363,6 +374,9 @@ const REFUSED: &[&str] = &[
     "explain --all --all",
     "explain --all --section 0",
     "explain --all --event 1",
+    "explain --all --first 0",
+    "explain --all --first 4294967296",
+    "explain --section 0 --event 1 --first 1",
     "explain --section 0",
     "explain --event 1",
     "explain --section x --event 1",

@@ -1,6 +1,6 @@
 use Rattle.std.specs.Option.{option_map}
 use Rattle.std.proofs.{Common.{◌≡◌, ◌++◌, ◌∷◌, ◌+◌, ◌-◌, [], flat_map, length, ◌∙◌, refl, sym, ap, subst, map, take, drop, arith, take-append-drop}, lemmas.List.{map-append, map_more}}
-use Rattle.pmf_device.{specs.Pages.{IsPage}, specs.declared.page.Stop.TheVariants.{OutOfMemory}, proofs.PageLemmas.{stops_here, stops_on, stops_so}}
+use Rattle.pmf_device.{specs.Pages.{IsPage, StopsIn}, specs.declared.page.Stop.TheVariants.{OutOfMemory}, proofs.PageLemmas.{stops_here, stops_on, stops_so}}
 use Rattle.pmf_query.{specs.AllExplained.{failures, first_of, text_of_failed}, proofs.FirstLemmas.{goes_on, left_none, left_of, left_one, text_first, text_none, text_one}}
 use Rattle.pmf_query.proofs.explaining.write_sections.Goals as goal
 
@@ -25,7 +25,7 @@ returns-in_err-text-clause-text g c =
     let all = map (λ s. s.value) sections in
     let parted : all ≡ met ++ more = ap (map (λ s. s.value)) (sym (take-append-drop i sections)) ∙ map-append (λ s. s.value) (take i sections) (drop i sections) in
     let on = goes_on profile first met more all parted (text_first profile first met) refl in
-    stops_so (λ text. text ≡ text_first profile first all) _ _ c.from_residual.result OutOfMemory c.from_residual.ensures
+    stops_so _ (StopsIn (λ text. text ≡ text_first profile first all) _ _) c.from_residual.result OutOfMemory c.from_residual.ensures
     (stops_here (λ text. text ≡ text_first profile first all) _ _ (text_first profile first met) on.0 c.loop-section.page c.loop-section.invariant.page on.1)
 
 pub returns-in_err-put-clause-text : goal.returns-in_err-put-clause-text
@@ -44,7 +44,7 @@ returns-in_err-put-clause-text g c =
     let part_is = c.as_bytes.ensures.value ∙ c.in_ok-text.ensures.text ∙ ap (λ l. flat_map text_of_failed (first_of l (failures profile t))) c.loop-section.invariant.left in
     let front = text_first profile first met in
     let tells = ap (λ p. front ++ p) part_is ∙ sym (text_one profile first met t) in
-    stops_so (λ text. text ≡ text_first profile first all) _ _ c.from_residual-in_err-put.result c.in_err-put.field-0.0 c.from_residual-in_err-put.ensures
+    stops_so _ (StopsIn (λ text. text ≡ text_first profile first all) _ _) c.from_residual-in_err-put.result c.in_err-put.field-0.0 c.from_residual-in_err-put.ensures
     (stops_on (λ text. text ≡ front ++ part) (λ text. text ≡ text_first profile first all) _ _ c.in_err-put.field-0.0
     (λ text is. goes_on profile first (met ++ t ∷ []) more all parted text (is ∙ tells))
     (c.in_err-put.ensures.put _ front c.loop-section.invariant.page))

@@ -1,6 +1,6 @@
 use Rattle.std.proofs.Common.{◌++◌, ◌+◌, ◌∙◌, refl, sym, ap, subst, length, map, take, drop, take_all, arith}
-use Rattle.pmf_device.{specs.Pages.{IsPage}, specs.declared.page.Stop.TheVariants.{OutOfMemory}, proofs.PageLemmas.{stops_here, stops_on, stops_so}}
-use Rattle.pmf_why.{specs.Telling.{HasParts, told_text}, specs.Why.{TellsAll, asked_sections}, proofs.GoingOnLemmas.{ends_so, goes_on}, proofs.GrowLemmas.{text_since, told_since}, proofs.PartsLemmas.{tells_all}, proofs.SectionLemmas.{met_more, met_parts}}
+use Rattle.pmf_device.{specs.Pages.{IsPage, StopsIn}, specs.declared.page.Stop.TheVariants.{OutOfMemory}, proofs.PageLemmas.{ends_so, stops_here, stops_on, stops_so}}
+use Rattle.pmf_why.{specs.Telling.{HasParts, told_text}, specs.Why.{TellsAll, asked_sections}, proofs.GoingOnLemmas.{goes_on}, proofs.GrowLemmas.{text_since, told_since}, proofs.PartsLemmas.{tells_all}, proofs.SectionLemmas.{met_more, met_parts}}
 use Rattle.pmf_why.proofs.why.tell_sections.Goals as goal
 
 pub loop-section-init : goal.loop-section-init
@@ -22,7 +22,7 @@ returns-in_err-meet-clause-text g c = λ bytes stands.
     let held = g.W.Sink.held c.args.writer.now in
     let t = c.loop-section.telling in
     let on = goes_on c.args.asked bytes c.args.standing.now stands (map (λ s. s.value) (take i sections)) (map (λ s. s.value) (drop i sections)) all t (met_parts (λ s. s.value) sections i) (c.loop-section.invariant.parts bytes stands) in
-    stops_so IsText held (g.W.Sink.held c.loop-section.writer) c.from_residual.result OutOfMemory c.from_residual.ensures
+    stops_so _ (StopsIn IsText held (g.W.Sink.held c.loop-section.writer)) c.from_residual.result OutOfMemory c.from_residual.ensures
     (stops_here IsText held (g.W.Sink.held c.loop-section.writer) (told_text t.told.items) on.0 c.loop-section.page c.loop-section.invariant.page on.1)
 
 pub returns-in_err-write_told-clause-text : goal.returns-in_err-write_told-clause-text
@@ -42,7 +42,7 @@ returns-in_err-write_told-clause-text g c = λ bytes stands.
     let has = subst (λ ts. HasParts c.args.asked bytes (asked_sections c.args.asked ts) new) (sym met)
     (c.in_ok-meet.ensures.parts c.args.asked bytes _ stands (c.loop-section.invariant.parts bytes stands)) in
     let on = goes_on c.args.asked bytes c.args.standing.now stands (map (λ s. s.value) (take (i + 1) sections)) (map (λ s. s.value) (drop (i + 1) sections)) all new (met_parts (λ s. s.value) sections (i + 1)) has in
-    stops_so IsText held holds c.from_residual-in_err-write_told.result c.in_err-write_told.field-0.0 c.from_residual-in_err-write_told.ensures
+    stops_so _ (StopsIn IsText held holds) c.from_residual-in_err-write_told.result c.in_err-write_told.field-0.0 c.from_residual-in_err-write_told.ensures
     (stops_on _ IsText held holds c.in_err-write_told.field-0.0
     (λ text tells. (on.0, subst IsText (ap (λ bs. bs ++ on.0) (sym (tells ∙ whole))) on.1))
     (c.in_err-write_told.ensures.put held (told_text old.told.items) c.loop-section.invariant.page))
@@ -76,7 +76,7 @@ returns-in_err-end-clause-text g c = λ bytes stands.
     let holds = g.W.Sink.held c.loop-section.writer in
     let t = c.loop-section.telling in
     let on = goes_on c.args.asked bytes c.args.standing.now stands (map (λ s. s.value) (take i sections)) (map (λ s. s.value) (drop i sections)) all t (met_parts (λ s. s.value) sections i) (c.loop-section.invariant.parts bytes stands) in
-    stops_so IsText held holds c.from_residual-in_err-end.result OutOfMemory c.from_residual-in_err-end.ensures
+    stops_so _ (StopsIn IsText held holds) c.from_residual-in_err-end.result OutOfMemory c.from_residual-in_err-end.ensures
     (stops_here IsText held holds (told_text t.told.items) on.0 c.loop-section.page c.loop-section.invariant.page on.1)
 
 pub returns-clause-text : goal.returns-clause-text
