@@ -1,5 +1,5 @@
 -- The sections that are asked for, with one more, and a section that is missing.
-use Rattle.std.{proofs.Common.{◌≡◌, ℕ, zero, suc, ◌==◌, ◌<◌, ◌||◌, Bool, true, false, cond, List, [], ◌∷◌, ◌++◌, Option, None, Some, Result, Ok, Err, Contains, length, map, take, drop, ◌+◌, get_or, take-append-drop, refl, sym, ap, subst, ◌∙◌, arith, append-nil, is_none, eq-eqb}, proofs.lemmas.Bool.{false≢true}, proofs.lemmas.List.{map-append, map_more}, proofs.lemmas.List.Elements.{filter-append}, specs.{Option.{unwrap_or}, Result.{OnOk}}}
+use Rattle.std.{proofs.Common.{◌≡◌, ℕ, zero, suc, ◌==◌, ◌<◌, ◌||◌, Bool, true, false, cond, List, [], ◌∷◌, ◌++◌, Option, None, Some, Result, Ok, Err, Contains, length, map, take, drop, ◌+◌, get_or, take-append-drop, refl, sym, ap, subst, ◌∙◌, arith, append-nil, is_none, eq-eqb}, proofs.lemmas.Bool.{eqb-true, false≢true}, proofs.lemmas.List.{map-append, map_more}, proofs.lemmas.List.Elements.{Contains-append_left, Contains-append_right, Contains-push, filter-append}, specs.{Option.{unwrap_or}, Result.{OnOk}}}
 use Rattle.std.specs.List.{list_any}
 use Rattle.pmf_event.specs.Section.{Trace}
 use Rattle.pmf_request.specs.declared.settings.Reasons.{Reasons}
@@ -39,6 +39,28 @@ pub missing : {A : Type 0} (value : A → Trace) (named : Option ℕ) (xs : List
     (number : ℕ) × (named ≡ Some number) × ((t : Trace) → Contains (map value xs) t → t.name.number ≡ number → ⊥)
 missing value None xs is = absurd cc
 missing value (Some number) xs is = (number, refl, λ t found same. none_has value number xs is found.0 t found.1 (ap (λ (s : Trace). s.name.number) found.2 ∙ same))
+
+same_number : (a b : ℕ) → ◌≡◌ {A = Option ℕ} (Some a) (Some b) → a ≡ b
+same_number a b is = cc
+
+-- a section of this number, among some that have one
+abbrev HasNumber : List Trace → ℕ → Type 0
+HasNumber ts number = (t : Trace) × Contains ts t × (t.name.number ≡ number)
+
+by_first : (t : Trace) (ts : List Trace) (number : ℕ) (first rest : Bool) → (t.name.number == number) ≡ first → (rest ≡ true → HasNumber ts number) → (first || rest) ≡ true → HasNumber (t ∷ ts) number
+by_first t ts number true rest same later some = (t, Contains-append_left (t ∷ []) ts t (Contains-push [] t), eqb-true _ _ same)
+by_first t ts number false rest same later some = let found = later some in (found.0, Contains-append_right (t ∷ []) ts found.0 found.1, found.2)
+
+one_has : {A : Type 0} (value : A → Trace) (number : ℕ) (xs : List A) → list_any (λ s. (value s).name.number == number) xs ≡ true → HasNumber (map value xs) number
+one_has value number [] some = absurd cc
+one_has value number (x ∷ xs) some =
+    by_first (value x) (map value xs) number ((value x).name.number == number) (list_any (λ s. (value s).name.number == number) xs) refl (one_has value number xs) some
+
+-- the section that is named is there
+pub named_there : {A : Type 0} (value : A → Trace) (named : Option ℕ) (xs : List A) → (is_none named || list_any (λ s. is_asked named (value s).name.number) xs) ≡ true →
+    (number : ℕ) → named ≡ Some number → (t : Trace) × Contains (map value xs) t × (t.name.number ≡ number)
+named_there value None xs some number is = absurd cc
+named_there value (Some n) xs some number is = let found = one_has value n xs some in (found.0, found.1, found.2 ∙ same_number n number is)
 
 -- a refusal, with which nothing is written
 pub refused_so : {W : Type 0} (IsText : Unit {0} → List ℕ → Type 0) (asked : Reasons) (bytes : List ℕ) (held : W → Option (List ℕ)) (sink : W) (why : Unanswered EventRefusal) (fault : EventFault) →

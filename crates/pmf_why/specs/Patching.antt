@@ -6,7 +6,7 @@ use Rattle.pmf_storelog.specs.{LogText.{log_of}, LogValue.{LogValue}}
 use Rattle.pmf_verdict.specs.Checked.{Checked}
 use Rattle.pmf_cause.specs.{declared.edit.Edit.{Edit}, Cure.{cured, SpoilsNothing}}
 use Rattle.pmf_query.specs.Refusals.{text_of_refusal}
-use Rattle.pmf_why.specs.{declared.refusal.PatchRefusal.{PatchRefusal}, Reasons.{is_asked}, Why.{IsWhyRefusal}}
+use Rattle.pmf_why.specs.{declared.refusal.PatchRefusal.{PatchRefusal}, Reasons.{is_asked}, Why.{HasNamed, IsWhyRefusal}}
 use Rattle.pmf_why.specs.declared.refusal.PatchRefusal.TheVariants as refusal
 
 -- the section, to be checked by the profile that is asked for
@@ -36,9 +36,9 @@ pub record IsPatchOf (asked : Patches) (log : LogValue) (text : List ℕ) : Type
 abbrev pub IsWell : Patches → List ℕ → Type 0
 IsWell asked bytes = (log : LogValue) × (log_of asked.run bytes ≡ Ok log)
 
--- the same, and the text is it with changes put in
+-- the same, it has the section that is named, and the text is it with changes put in
 abbrev pub IsPatch : Patches → List ℕ → List ℕ → Type 0
-IsPatch asked bytes text = (log : LogValue) × (log_of asked.run bytes ≡ Ok log) × IsPatchOf asked log text
+IsPatch asked bytes text = (log : LogValue) × (log_of asked.run bytes ≡ Ok log) × HasNamed asked.section log × IsPatchOf asked log text
 
 -- ---- no answer
 

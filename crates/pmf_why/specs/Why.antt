@@ -69,9 +69,14 @@ pub record TellsAll (asked : Reasons) (bytes : List ℕ) (sections : List Trace)
   pub tell : AllZip Tells (told_of asked (rows_of_all asked parts)) rows
   pub text_is : text ≡ flat_map (λ row. row) rows ++ text_of_end asked parts
 
--- the bytes are a log of the run, without a fault, and the text tells the rows of its sections that are asked for
+-- the section that is named, if one is, is one of the log's
+abbrev pub HasNamed : Option ℕ → LogValue → Type 0
+HasNamed named log = (number : ℕ) → named ≡ Some number → (t : Trace) × Contains log.sections t × (t.name.number ≡ number)
+
+-- the bytes are a log of the run, without a fault, which has the section that is named, and the text tells the rows of its sections that
+-- are asked for
 abbrev pub IsWhy : Reasons → List ℕ → List ℕ → Type 0
-IsWhy asked bytes text = (log : LogValue) × (log_of asked.run bytes ≡ Ok log) × TellsAll asked bytes (asked_sections asked log.sections) text
+IsWhy asked bytes text = (log : LogValue) × (log_of asked.run bytes ≡ Ok log) × HasNamed asked.section log × TellsAll asked bytes (asked_sections asked log.sections) text
 
 -- ---- no answer
 
