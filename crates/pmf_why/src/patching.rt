@@ -7,6 +7,9 @@ use pmf_query::{Located, Standing};
 use pmf_storelog::push_event;
 use std::alloc::{AllocError, Global};
 
+/// More bytes than the text line of an event that is put in has.
+const ROOM: usize = 64;
+
 // A change, and where in the log it is made.
 #[derive(Clone, Copy)]
 struct Piece {
@@ -25,11 +28,12 @@ pub(crate) fn text_with(
     cures: &[Patched],
 ) -> Result<Vec<u8>, AllocError> {
     let pieces = pieces_of(alloc, log, cures)?;
+    let room = log.len().saturating_add(pieces.len().saturating_mul(ROOM));
     let mut writing = Writing {
         log,
         done: 0,
         line: String::new(alloc),
-        text: Vec::with_capacity(alloc, log.len())?,
+        text: Vec::with_capacity(alloc, room)?,
     };
     for piece in &pieces {
         writing.go_to(piece.offset)?;
