@@ -18,6 +18,7 @@ mod later;
 pub mod laws;
 mod marks;
 mod need;
+mod needs;
 mod past;
 mod plan;
 mod proposing;

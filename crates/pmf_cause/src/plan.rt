@@ -1,7 +1,8 @@
 //! Changes for many rows together, without those that earlier ones make needless.
 
 use crate::edit::Edit;
-use crate::reach::{Before, Lacking};
+use crate::needs::Lacking;
+use crate::reach::Before;
 use pmf_event::{Event, Span};
 use pmf_places::{NO_PLACE, Place, Put};
 use pmf_runs::RunMap;

@@ -6,15 +6,14 @@ ghost use Rattle.pmf_cause.specs.Reaching.{IsReached};
 
 use crate::edit::Edit;
 use crate::judging::asks_why;
+use crate::needs::{MOST, Needs};
 use crate::plan::Plan;
-use crate::reach::{Lacking, Reach};
+use crate::reach::{Looks, Reach};
 use crate::watch::{Watch, put_all, put_lines};
 use pmf_event::{Event, Finding, LINE_SIZE, Row, Span};
+use pmf_runs::RunMap;
 use pmf_verdict::Verdict;
 use std::alloc::{AllocError, Global};
-
-/// The most changes that are proposed for one row.
-const MOST: usize = 64;
 
 /// Changes that may cure rows. The places of each list rise.
 #[derive(Debug, Drop)]
@@ -31,21 +30,21 @@ pub struct Proposal {
 /// between its last store and that place, it is written back in front of that fence. A byte without a backup is added in front of
 /// its store. An event that is too many is left out, and one that is missing is put in. Not more than 64 changes are proposed for a row.
 ///
-/// After some steps over runs of bytes for each event and row, no more is looked for that is not durable. A store without a backup, and a
-/// TXADD that adds nothing, take a step for each run of bytes with one last TXADD that they cover. Takes memory for what is kept of the
-/// events, and for what is proposed.
+/// After some steps over runs of bytes for each event and row, no more is looked for that is not durable. Takes memory for what is kept of
+/// the lines that rows ask of, and for what is proposed.
 pub fn propose(alloc: Global, verdict: &Verdict, wanted: &[usize]) -> Result<Proposal, AllocError> {
     let (events, rows) = (verdict.section().events(), verdict.rows());
     let mut seeker = Seeker::new(alloc, events.len(), rows.len());
     let watch = watched(alloc, events, rows)?;
-    let mut reach = Reach::new(alloc, watch, ask_of_scopes(rows));
+    let looks = looked_at(alloc, events, rows)?;
+    let mut reach = Reach::new(alloc, watch, looks);
     let mut plan = Plan::new(alloc);
     let mut own = Vec::new(alloc);
     let mut left = wanted;
     for (index, row) in rows.iter().enumerate() {
         reach.go_before(events, row)?;
         seeker.seek(&reach, events, rows, index)?;
-        if !plan.cures(&seeker.needs, &seeker.edits) {
+        if !plan.cures(&seeker.needs.each, &seeker.edits) {
             plan.take(&seeker.edits)?;
         }
         if left.first() == Some(&index) {
@@ -65,7 +64,7 @@ struct Seeker {
     alloc: Global,
     // How many more steps over runs of bytes are taken.
     steps: u32,
-    needs: Vec<Lacking>,
+    needs: Needs,
     edits: Vec<Edit>,
 }
 
@@ -77,7 +76,7 @@ impl Seeker {
             steps: u32::try_from(steps)
                 .unwrap_or(u32::MAX)
                 .saturating_add(65_536),
-            needs: Vec::new(alloc),
+            needs: Needs::new(alloc),
             edits: Vec::new(alloc),
         }
     }
@@ -189,12 +188,12 @@ impl Seeker {
     fn make_durable(&mut self, reach: &Reach, due: u32) -> Result<(), AllocError> {
         let fence = reach.fence_before(due);
         let mut last = 0;
-        let mut waits = self.needs.is_empty();
-        for need in &self.needs {
+        let mut waits = self.needs.each.is_empty();
+        for need in &self.needs.each {
             last = need.last.max(last);
             waits = waits || need.written_back > 0;
         }
-        if self.needs.is_empty() {
+        if self.needs.each.is_empty() {
             return Ok(());
         }
         if !waits && last < fence {
@@ -208,8 +207,8 @@ impl Seeker {
     fn write_back(&mut self, before: u32) -> Result<(), AllocError> {
         let mut first = 0;
         let mut end = 0;
-        for index in 0..self.needs.len() {
-            let Some(need) = self.needs.get(index).copied() else {
+        for index in 0..self.needs.each.len() {
+            let Some(need) = self.needs.each.get(index).copied() else {
                 break;
             };
             if need.written_back > 0 {
@@ -270,7 +269,7 @@ fn event_of<'a>(events: &'a [Event], row: &Row) -> Option<&'a Event> {
     events.get(row.place.saturating_sub(1) as usize)
 }
 
-// The lines that the changes for the rows depend on.
+// The lines whose stores and write-backs the changes for the rows depend on.
 fn watched(alloc: Global, events: &[Event], rows: &[Row]) -> Result<Watch, AllocError> {
     let mut watch = Watch::new(alloc);
     for row in rows {
@@ -291,8 +290,28 @@ fn put_row(watch: &mut Watch, event: Option<&Event>, finding: Finding) -> Result
             put_lines(&mut watch.stored, before)?;
             put_lines(&mut watch.stored, after)
         }
-        Some(Event::Store(span)) => put_lines(&mut watch.added, span),
-        Some(Event::TxAdd(span)) => put_lines(&mut watch.added, span),
+        _ => Ok(()),
+    }
+}
+
+// What they depend on beside that.
+fn looked_at(alloc: Global, events: &[Event], rows: &[Row]) -> Result<Looks, AllocError> {
+    let mut backups = RunMap::new(alloc, false);
+    for row in rows {
+        if asks_why(row.finding) {
+            put_backup(&mut backups, event_of(events, row))?;
+        }
+    }
+    Ok(Looks {
+        backups,
+        at_scopes: ask_of_scopes(rows),
+    })
+}
+
+fn put_backup(lines: &mut RunMap<bool>, event: Option<&Event>) -> Result<(), AllocError> {
+    match event {
+        Some(Event::Store(span)) => put_lines(lines, span),
+        Some(Event::TxAdd(span)) => put_lines(lines, span),
         _ => Ok(()),
     }
 }

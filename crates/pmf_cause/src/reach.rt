@@ -5,6 +5,7 @@ ghost use Rattle.pmf_event.specs.{declared.event.Event.{Event}, declared.section
 ghost use Rattle.pmf_cause.specs.Reaching.{IsReached};
 
 use crate::judging::asks_why;
+use crate::needs::{Lacking, Needs};
 use crate::past::Past;
 use crate::watch::{Watch, are_met};
 use pmf_event::{ADDRESS_LIMIT, Event, LINE_SIZE, Row, Span, line_of};
@@ -19,37 +20,36 @@ pub(crate) struct Reach {
     alloc: Global,
     pub(crate) past: Past,
     pub(crate) shadow: Shadow,
-    /// Whether the bytes of scopes are asked for.
-    of_scopes: bool,
+    /// What more is asked for.
+    looks: Looks,
+    /// The bytes that the running transaction has backed up, of the lines of which that is asked.
+    backed: RunMap<bool>,
     /// The bytes that the scope's transactions stored to.
     scoped: RunMap<bool>,
     /// The fences.
     fences: Vec<u32>,
 }
 
-/// Some bytes that are not durable in time, and alike.
-#[derive(Clone, Copy, Debug)]
-pub(crate) struct Lacking {
-    /// The first byte of their first line.
-    pub(crate) first: u64,
-    /// The byte behind their last line.
-    pub(crate) end: u64,
-    /// The last store of these bytes.
-    pub(crate) last: u32,
-    /// The write-back behind that store and in front of the place that asks for it, or 0.
-    pub(crate) written_back: u32,
+/// What changes depend on, beside what is watched.
+#[derive(Debug, Drop)]
+pub(crate) struct Looks {
+    /// The lines of bytes of which it is asked whether the running transaction has backed them up.
+    pub(crate) backups: RunMap<bool>,
+    /// Whether the bytes of scopes are asked for.
+    pub(crate) at_scopes: bool,
 }
 
 impl Reach {
     /// Of no event.
-    pub(crate) fn new(alloc: Global, watch: Watch, of_scopes: bool) -> Reach
+    pub(crate) fn new(alloc: Global, watch: Watch, looks: Looks) -> Reach
         ensures { (es : List Event) → IsReached result es }
     {
         Reach {
             alloc,
             past: Past::new(alloc, watch),
             shadow: Shadow::new(alloc),
-            of_scopes,
+            looks,
+            backed: RunMap::new(alloc, false),
             scoped: RunMap::new(alloc, false),
             fences: Vec::new(alloc),
         }
@@ -109,6 +109,12 @@ impl Reach {
                 self.scoped.change(span.first(), span.end(), &PutIn)?
             }
             Event::CheckStart | Event::CheckEnd => self.scoped = RunMap::new(self.alloc, false),
+            Event::TxAdd(span) if self.notes_backup(&span) => {
+                self.backed.change(span.first(), span.end(), &PutIn)?
+            }
+            Event::TxEnd if self.past.marks.depth == 0 => {
+                self.backed = RunMap::new(self.alloc, false)
+            }
             _ => {}
         }
         Ok(())
@@ -116,7 +122,12 @@ impl Reach {
 
     // Whether a store counts for the scope.
     fn notes_stores(&self) -> bool {
-        self.of_scopes && self.past.marks.scope > 0 && self.past.marks.depth > 0
+        self.looks.at_scopes && self.past.marks.scope > 0 && self.past.marks.depth > 0
+    }
+
+    // Whether a TXADD of the span counts for the transaction.
+    fn notes_backup(&self, span: &Span) -> bool {
+        self.past.marks.depth > 0 && are_met(&self.looks.backups, span)
     }
 
     /// The last fence in front of the place, or 0.
@@ -133,12 +144,13 @@ impl Reach {
         self.past.marks.depth
     }
 
-    /// The bytes of the span that are checked and not durable, put behind the others as long as there are steps left.
+    /// The bytes of the span that are checked and not durable, put behind the others as long as these are not too many and there are
+    /// steps left.
     pub(crate) fn find_open(
         &self,
         first: u64,
         end: u64,
-        found: &mut Vec<Lacking>,
+        needs: &mut Needs,
         steps: &mut u32,
     ) -> Result<(), AllocError> {
         let mut from = first;
@@ -146,14 +158,14 @@ impl Reach {
             let Some(byte) = self.shadow.least_open(Span::between(from, end)) else {
                 return Ok(());
             };
-            if *steps == 0 || byte < from || byte >= end {
+            if *steps == 0 || needs.are_too_many() || byte < from || byte >= end {
                 return Ok(());
             }
             *steps -= 1;
             let (standing, until) = self.shadow.standing_from(byte, end);
             let last = standing.last.unwrap_or(0);
             let written_back = self.past.last_store(byte).written_back;
-            found.push(lines_lacking(byte, until, last, written_back))?;
+            needs.push(lines_lacking(byte, until, last, written_back))?;
             from = until;
         }
         Ok(())
@@ -162,7 +174,7 @@ impl Reach {
     /// The same of the bytes of the scope.
     pub(crate) fn find_open_of_scope(
         &self,
-        found: &mut Vec<Lacking>,
+        needs: &mut Needs,
         steps: &mut u32,
     ) -> Result<(), AllocError> {
         let mut from = 0;
@@ -174,11 +186,11 @@ impl Reach {
                 Some(end) => end,
                 None => ADDRESS_LIMIT,
             };
-            if *steps == 0 || end <= from {
+            if *steps == 0 || needs.are_too_many() || end <= from {
                 return Ok(());
             }
             *steps -= 1;
-            self.find_open(first, end, found, steps)?;
+            self.find_open(first, end, needs, steps)?;
             from = end;
         }
         Ok(())
@@ -205,18 +217,18 @@ impl Reach {
     }
 
     /// The checked bytes of the span that are not durable by the place. None where one of them was stored to at the place or behind it,
-    /// or the steps are used up.
+    /// where they are too many, or the steps are used up.
     pub(crate) fn find_late(
         &self,
         span: Span,
         due: u32,
-        found: &mut Vec<Lacking>,
+        needs: &mut Needs,
         steps: &mut u32,
     ) -> Result<Option<()>, AllocError> {
         let fence = self.fence_before(due);
         let mut from = span.first();
         while from < span.end() {
-            if *steps == 0 {
+            if *steps == 0 || needs.are_too_many() {
                 return Ok(None);
             }
             *steps -= 1;
@@ -228,7 +240,7 @@ impl Reach {
                 let by = self.past.last_store(from).written_back;
                 let in_time = if by < due { by } else { 0 };
                 if in_time == 0 || fence < in_time {
-                    found.push(lines_lacking(from, until, last, in_time))?;
+                    needs.push(lines_lacking(from, until, last, in_time))?;
                 }
             }
             from = until;
@@ -238,15 +250,8 @@ impl Reach {
 
     /// The first byte of a range that the running transaction has not backed up, and the byte up to which it has not.
     pub(crate) fn not_backed(&self, first: u64, end: u64) -> Option<(u64, u64)> {
-        let begin = self.past.marks.outside.saturating_add(2);
-        let start = self
-            .past
-            .added
-            .first_where(first, end, &Before { place: begin })?;
-        let until = self
-            .past
-            .added
-            .first_where(start, end, &From { place: begin });
+        let start = self.backed.first_where(first, end, &IsOut)?;
+        let until = self.backed.first_where(start, end, &IsIn);
         Some((start, until.unwrap_or(end)))
     }
 }
@@ -296,26 +301,6 @@ impl Test<Place> for Before {
 
     fn passes(&self, state: Place) -> bool {
         state.of < self.place
-    }
-
-    fn may_pass(&self, _summary: ()) -> bool {
-        true
-    }
-}
-
-/// Whether the place is this one or behind it.
-#[derive(Clone, Copy, Debug, Drop)]
-pub(crate) struct From {
-    pub(crate) place: u32,
-}
-
-impl Test<Place> for From {
-    ghost use Rattle.std.specs.Prelude.{nat_le};
-
-    ghost passes = { λ test state. nat_le test.place state.of };
-
-    fn passes(&self, state: Place) -> bool {
-        self.place <= state.of
     }
 
     fn may_pass(&self, _summary: ()) -> bool {
