@@ -1,6 +1,6 @@
 -- What sections become, and what is read of them again.
-use Rattle.std.{proofs.Common.{◌≡◌, inr, List, [], ◌∷◌, map, true, subst, ap, ◌∙◌}}
-use Rattle.std.specs.List.{AllZip}
+use Rattle.std.{proofs.Common.{◌≡◌, inr, ℕ, Option, None, Some, IfSome, List, [], ◌∷◌, map, true, subst, ap, ◌∙◌}}
+use Rattle.std.specs.{List.{AllZip}, Option.{MatchOption}}
 use Rattle.pmf_event.specs.Section.{Trace}
 use Rattle.pmf_request.specs.declared.settings.Patches.{Patches}
 use Rattle.pmf_verdict.specs.Checked.{Checked}
@@ -22,3 +22,9 @@ tried_is asked t checked edits trial section named is tried same = inr (record {
   spoils_nothing = subst (λ (c : Checked). SpoilsNothing c edits) is tried.spoils_nothing;
   is = same ∙ ap (λ (c : Checked). c.section) tried.verdict ∙ ap (λ (c : Checked). (cured c edits).section) is;
 })
+
+-- what is made, if it is
+pub made_so : {X : Type 0} (text_of : X → List ℕ) (made : Option X) (None_so : Type 0) (P Q : List ℕ → Type 0) → None_so → ((text : List ℕ) → P text → Q text) → IfSome made (λ x. P (text_of x)) →
+    MatchOption made None_so (λ x. Q (text_of x))
+made_so text_of None None_so P Q none on is = none
+made_so text_of (Some x) None_so P Q none on is = on (text_of x) is

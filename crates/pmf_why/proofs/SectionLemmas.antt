@@ -48,8 +48,8 @@ abbrev HasNumber : List Trace → ℕ → Type 0
 HasNumber ts number = (t : Trace) × Contains ts t × (t.name.number ≡ number)
 
 by_first : (t : Trace) (ts : List Trace) (number : ℕ) (first rest : Bool) → (t.name.number == number) ≡ first → (rest ≡ true → HasNumber ts number) → (first || rest) ≡ true → HasNumber (t ∷ ts) number
-by_first t ts number true rest same later some = (t, Contains-append_left (t ∷ []) ts t (Contains-push [] t), eqb-true _ _ same)
-by_first t ts number false rest same later some = let found = later some in (found.0, Contains-append_right (t ∷ []) ts found.0 found.1, found.2)
+by_first t ts number true rest is later some = (t, Contains-append_left (t ∷ []) ts t (Contains-push [] t), eqb-true _ _ is)
+by_first t ts number false rest is later some = let found = later some in (found.0, Contains-append_right (t ∷ []) ts found.0 found.1, found.2)
 
 one_has : {A : Type 0} (value : A → Trace) (number : ℕ) (xs : List A) → list_any (λ s. (value s).name.number == number) xs ≡ true → HasNumber (map value xs) number
 one_has value number [] some = absurd cc

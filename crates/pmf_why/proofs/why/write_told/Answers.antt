@@ -16,7 +16,7 @@ returns-in_err-put-clause-put g c = λ held front is.
     let i = c.loop-one.one-index in
     let holds = g.W.Sink.held c.put.new.writer in
     let part = c.as_bytes.result.now in
-    stops_so _ (StopsIn (λ text. text ≡ front ++ told_text told) held holds) c.from_residual.result c.in_err-put.field-0.0 c.from_residual.ensures
+    stops_so (λ done. IsPage held holds (front ++ told_text told) c.put.new.self) (StopsIn (λ text. text ≡ front ++ told_text told) held holds) c.from_residual.result c.in_err-put.field-0.0 c.from_residual.ensures
     (stops_on (λ text. text ≡ (front ++ told_text (take i told)) ++ part) (λ text. text ≡ front ++ told_text told) held holds c.in_err-put.field-0.0
     (λ text tells. told_on told i c.one-item.result c.loop-one-test.true c.one-item.is front part text c.as_bytes.ensures.value tells)
     (c.in_err-put.ensures.put held _ (c.loop-one.invariant.put held front is)))
