@@ -10,5 +10,4 @@ pub mod LawLemmas
 pub mod FencedLemmas
 pub mod ChangedLemmas
 pub mod TrialLemmas
-pub mod ReachLemmas
 pub mod WorkedCauses

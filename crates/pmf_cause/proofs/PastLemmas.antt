@@ -1,5 +1,5 @@
 -- What is kept of one more event.
-use Rattle.std.proofs.Common.{◌≡◌, ℕ, suc, true, if◌then◌else◌, List, Some, sym, subst}
+use Rattle.std.proofs.Common.{◌≡◌, ℕ, suc, true, if◌then◌else◌, List, Some}
 use Rattle.pmf_event.specs.{declared.event.Event.{Event}, Line.{line_of_byte}, Store.{event_at, flushes}, Transactions.{adds}}
 use Rattle.pmf_runs.specs.Runs.{state_at}
 use Rattle.pmf_places.proofs.PlaceLemmas.{last_next}

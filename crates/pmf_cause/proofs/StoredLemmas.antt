@@ -3,11 +3,11 @@ use Rattle.std.proofs.{Common.{◌≡◌, ℕ, suc, ◌+◌, Bool, true, false, 
 use Rattle.pmf_event.{specs.declared.event.Event.{Event}, specs.declared.event.Event.TheVariants.{Store, Flush}, specs.Span.{Extent}, specs.Line.{line_of_byte, meets_line}, specs.Places.{least}, specs.Store.{at, event_at, flushes, last_store, stores}, specs.Interval.{writes_back, first_write_back}, proofs.PlacesLemmas.{least-none_behind, least-zero}, proofs.EventLemmas.{last-here, last-none, last-other, last-step}, proofs.WriteBackLemmas.{first_write_back-next, or-zero}}
 use Rattle.pmf_runs.specs.{declared.members.Members.{Members}, declared.runs.RunMap.{RunMap}, contracts.members.BoolState.TheImpl.{ghosts}, Runs.{is_between, state_at, ChangesBetween}}
 use Rattle.pmf_places.proofs.PlaceLemmas.{no_flush}
-use Rattle.pmf_cause.{specs.declared.stored.Stored.{Stored}, specs.States.{stored_at, written_back_at}, specs.Past.{AreStores}, specs.Watching.{has_line}, proofs.WatchLemmas.{not_covered}}
+use Rattle.pmf_cause.{specs.declared.stored.{Behind.{Behind}, Stored.{Stored}}, specs.States.{stored_at, written_back_at}, specs.Past.{AreStores}, specs.Watching.{has_line}, proofs.WatchLemmas.{not_covered}}
 use Rattle.pmf_cause.specs.contracts.stored.StoredState.TheImpl as stores_kept
 
 abbrev Stores : Type 0
-Stores = RunMap Stored Bool stores_kept.ghosts
+Stores = RunMap Stored Behind stores_kept.ghosts
 
 abbrev Lines : Type 0
 Lines = RunMap Bool Members ghosts

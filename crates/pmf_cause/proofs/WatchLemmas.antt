@@ -1,5 +1,5 @@
 -- The lines that are watched: one more is put in, and a span that meets none.
-use Rattle.std.proofs.{Common.{◌≡◌, ℕ, suc, ◌+◌, ◌-◌, ◌<◌, ◌≤◌, ◌%◌, Bool, true, false, ◌&&◌, nat_le, nat_lt, if◌then◌else◌, List, length, get_or, Option, is_some, refl, sym, subst, ap, ◌∙◌, arith, inl, inr}, lemmas.Bool.{cases_eq}, lemmas.List.{get_or_default}, lemmas.Grind.{common_steps}}
+use Rattle.std.proofs.{Common.{◌≡◌, ℕ, ◌+◌, ◌-◌, ◌<◌, Bool, true, false, if◌then◌else◌, List, length, get_or, is_some, sym, subst, ap, ◌∙◌, arith, inl, inr}, lemmas.Bool.{cases_eq}, lemmas.List.{get_or_default}, lemmas.Grind.{common_steps}}
 use Rattle.pmf_event.{specs.declared.event.Event.{Event}, specs.declared.event.Event.TheVariants.{Flush, TxAdd}, specs.declared.row.Row.{Row}, specs.declared.finding.Finding.{Finding}, specs.declared.finding.Finding.TheVariants.{PersistFail, CheckFail, OrderedFail, OrderedSameLine, FlushDoubled, FlushNeedless, DupLog}, specs.Span.{Extent, covers_byte}, specs.Line.{line_of_byte, meets_line}, specs.Ranges.{first_from}, specs.Store.{flushes}, specs.Transactions.{adds}, proofs.RangeLemmas.{none-from, none-passes}}
 use Rattle.pmf_runs.specs.{declared.members.Members.{Members}, declared.runs.RunMap.{RunMap}, contracts.members.BoolState.TheImpl.{ghosts}, Runs.{is_between, passing, state_at, ChangesBetween}}
 use Rattle.pmf_places.specs.declared.places.Place.{Place}

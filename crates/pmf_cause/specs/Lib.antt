@@ -16,4 +16,3 @@ pub mod Later
 pub mod Changed
 pub mod Changing
 pub mod Cure
-pub mod Reaching

@@ -3,12 +3,12 @@ use Rattle.std.specs.Prelude.{◌≡◌, ℕ, Bool, true, List}
 use Rattle.pmf_event.specs.{declared.event.Event.{Event}, Line.{line_of_byte}, Places.{greatest}, Store.{last, last_store, stores}, Interval.{first_write_back}, Transactions.{closes_scope, depth_at, ends, is_outside, scope_at}}
 use Rattle.pmf_runs.specs.{declared.members.Members.{Members}, declared.runs.RunMap.{RunMap}, contracts.members.BoolState.TheImpl.{ghosts}, Runs.{state_at}}
 use Rattle.pmf_places.specs.declared.places.Place.{Place}
-use Rattle.pmf_cause.specs.{declared.marks.Marks.{Marks}, declared.past.Past.{Past}, declared.stored.Stored.{Stored}, Cause.{last_add, last_flush}, Watching.{has_line}}
+use Rattle.pmf_cause.specs.{declared.marks.Marks.{Marks}, declared.past.Past.{Past}, declared.stored.{Behind.{Behind}, Stored.{Stored}}, Cause.{last_add, last_flush}, Watching.{has_line}}
 use Rattle.pmf_cause.specs.contracts.stored.StoredState.TheImpl as stores_kept
 use Rattle.pmf_places.specs.contracts.places.PlaceState.TheImpl as places
 
 -- the last store at p of each byte of these lines, and the first write-back of its line behind it
-pub record AreStores (lines : RunMap Bool Members ghosts) (runs : RunMap Stored Bool stores_kept.ghosts) (es : List Event) (p : ℕ) : Type 0 where
+pub record AreStores (lines : RunMap Bool Members ghosts) (runs : RunMap Stored Behind stores_kept.ghosts) (es : List Event) (p : ℕ) : Type 0 where
   pub last : (b : ℕ) → has_line lines b ≡ true → (state_at runs b).last ≡ last_store es p b
   pub written_back : (b : ℕ) → has_line lines b ≡ true → (state_at runs b).written_back ≡ first_write_back (stores b) (line_of_byte b) es p
 

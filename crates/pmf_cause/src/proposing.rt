@@ -2,7 +2,7 @@
 
 ghost use Rattle.std.specs.Prelude.{◌≤◌, length};
 ghost use Rattle.pmf_event.specs.declared.section.TheConstants.{EVENT_LIMIT};
-ghost use Rattle.pmf_cause.specs.Reaching.{IsReached};
+ghost use Rattle.pmf_cause.specs.Past.{IsPast};
 
 use crate::edit::Edit;
 use crate::judging::asks_why;

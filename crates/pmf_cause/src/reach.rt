@@ -1,17 +1,17 @@
 //! What cures look at of the events up to a place.
 
-ghost use Rattle.std.specs.Prelude.{◌≡◌, ◌<◌, ◌≤◌, ℕ, suc, List, Some, length, OnOk};
-ghost use Rattle.pmf_event.specs.{declared.event.Event.{Event}, declared.section.TheConstants.{EVENT_LIMIT}, Store.{event_at}};
-ghost use Rattle.pmf_cause.specs.Reaching.{IsReached};
+ghost use Rattle.std.specs.Prelude.{◌≡◌, ◌<◌, ◌≤◌, suc, List, length, OnOk};
+ghost use Rattle.pmf_event.specs.{declared.event.Event.{Event}, declared.section.TheConstants.{EVENT_LIMIT}};
+ghost use Rattle.pmf_cause.specs.Past.{IsPast};
 
 use crate::judging::asks_why;
 use crate::needs::{Lacking, Needs};
 use crate::past::Past;
+use crate::stored::{IsOpen, IsOther, Stored};
 use crate::watch::{Watch, are_met};
 use pmf_event::{ADDRESS_LIMIT, Event, LINE_SIZE, Row, Span, line_of};
-use pmf_places::Place;
+use pmf_places::{NO_PLACE, Place, Put};
 use pmf_runs::{IsIn, IsOut, PutIn, RunMap, Test};
-use pmf_shadow::{Shadow, Standing};
 use std::alloc::{AllocError, Global};
 
 /// What is kept of the first events of a section, for the lines that are watched.
@@ -19,7 +19,8 @@ use std::alloc::{AllocError, Global};
 pub(crate) struct Reach {
     alloc: Global,
     pub(crate) past: Past,
-    pub(crate) shadow: Shadow,
+    /// For each byte of the watched lines whether it is excluded: 1, or 0.
+    excluded: RunMap<Place>,
     /// What more is asked for.
     looks: Looks,
     /// The bytes that the running transaction has backed up, of the lines of which that is asked.
@@ -42,12 +43,12 @@ pub(crate) struct Looks {
 impl Reach {
     /// Of no event.
     pub(crate) fn new(alloc: Global, watch: Watch, looks: Looks) -> Reach
-        ensures { (es : List Event) → IsReached result es }
+        ensures { (es : List Event) → IsPast result.past es }
     {
         Reach {
             alloc,
             past: Past::new(alloc, watch),
-            shadow: Shadow::new(alloc),
+            excluded: RunMap::new(alloc, NO_PLACE),
             looks,
             backed: RunMap::new(alloc, false),
             scoped: RunMap::new(alloc, false),
@@ -57,9 +58,9 @@ impl Reach {
 
     /// Goes on to the place in front of the row, if it counts as fail or as a warning.
     pub(crate) fn go_before(&mut self, events: &[Event], row: &Row) -> Result<(), AllocError>
-        requires reached { IsReached self.old events.now }
+        requires reached { IsPast self.old.past events.now }
         requires few { length events.now ≤ EVENT_LIMIT }
-        ensures { OnOk result (IsReached self.new events.now) }
+        ensures { OnOk result (IsPast self.new.past events.now) }
     {
         if !asks_why(row.finding) {
             return Ok(());
@@ -69,9 +70,9 @@ impl Reach {
 
     // Goes on to the place, or as far as there are events.
     fn go_to(&mut self, events: &[Event], place: u32) -> Result<(), AllocError>
-        requires reached { IsReached self.old events.now }
+        requires reached { IsPast self.old.past events.now }
         requires few { length events.now ≤ EVENT_LIMIT }
-        ensures { OnOk result (IsReached self.new events.now) }
+        ensures { OnOk result (IsPast self.new.past events.now) }
     {
         let end = place.min(events.len() as u32);
         while self.past.place < end {
@@ -83,16 +84,13 @@ impl Reach {
 
     // Goes on over the next of the events.
     fn follow(&mut self, events: &[Event], event: &Event) -> Result<(), AllocError>
-        requires reached { IsReached self.old events.now }
-        requires here { event_at events.now (suc self.old.past.place) ≡ Some event.now }
+        requires reached { IsPast self.old.past events.now }
         requires within { self.old.past.place < length events.now }
         requires few { length events.now ≤ EVENT_LIMIT }
-        ensures reached { OnOk result (IsReached self.new events.now) }
+        ensures reached { OnOk result (IsPast self.new.past events.now) }
         ensures place { OnOk result (self.new.past.place ≡ suc self.old.past.place) }
     {
         let place = self.past.place + 1;
-        let shown = shown(&self.past.watch.stored, *event);
-        self.shadow.follow(place, shown)?;
         self.past.go_to(events, place)?;
         self.note(event)?;
         Ok(())
@@ -101,13 +99,14 @@ impl Reach {
     // Notes a fence, and what a scope is of.
     fn note(&mut self, event: &Event) -> Result<(), AllocError>
         ensures past { self.new.past ≡ self.old.past }
-        ensures shadow { self.new.shadow ≡ self.old.shadow }
     {
         match *event {
             Event::Fence => self.fences.push(self.past.place)?,
             Event::Store(span) if self.notes_stores() => {
                 self.scoped.change(span.first(), span.end(), &PutIn)?
             }
+            Event::Exclude(span) => self.mark(&span, 1)?,
+            Event::Include(span) => self.mark(&span, 0)?,
             Event::CheckStart | Event::CheckEnd => self.scoped = RunMap::new(self.alloc, false),
             Event::TxAdd(span) if self.notes_backup(&span) => {
                 self.backed.change(span.first(), span.end(), &PutIn)?
@@ -116,6 +115,17 @@ impl Reach {
                 self.backed = RunMap::new(self.alloc, false)
             }
             _ => {}
+        }
+        Ok(())
+    }
+
+    // Notes that the bytes of the span are excluded, or that they are not.
+    fn mark(&mut self, span: &Span, excluded: u32) -> Result<(), AllocError>
+        ensures past { self.new.past ≡ self.old.past }
+    {
+        if are_met(&self.past.watch.stored, span) {
+            self.excluded
+                .change(span.first(), span.end(), &Put { place: excluded })?;
         }
         Ok(())
     }
@@ -153,19 +163,22 @@ impl Reach {
         needs: &mut Needs,
         steps: &mut u32,
     ) -> Result<(), AllocError> {
+        let open = IsOpen {
+            fence: self.fence_before(u32::MAX),
+        };
         let mut from = first;
-        while from < end && end <= ADDRESS_LIMIT {
-            let Some(byte) = self.shadow.least_open(Span::between(from, end)) else {
+        while from < end {
+            let Some(byte) = self.past.stored.first_where(from, end, &open) else {
                 return Ok(());
             };
             if *steps == 0 || needs.are_too_many() || byte < from || byte >= end {
                 return Ok(());
             }
             *steps -= 1;
-            let (standing, until) = self.shadow.standing_from(byte, end);
-            let last = standing.last.unwrap_or(0);
-            let written_back = self.past.last_store(byte).written_back;
-            needs.push(lines_lacking(byte, until, last, written_back))?;
+            let until = self.alike_until(byte, end);
+            if let Some(stored) = self.checked(byte) {
+                needs.push(lines_lacking(byte, until, stored.last, stored.written_back))?;
+            }
             from = until;
         }
         Ok(())
@@ -205,13 +218,12 @@ impl Reach {
                 return 0;
             }
             *steps -= 1;
-            let (standing, until) = self.shadow.standing_from(from, span.end());
-            if let Some(last) = checked(standing) {
-                if least == 0 || last < least {
-                    least = last;
+            if let Some(stored) = self.checked(from) {
+                if least == 0 || stored.last < least {
+                    least = stored.last;
                 }
             }
-            from = until;
+            from = self.alike_until(from, span.end());
         }
         least
     }
@@ -232,20 +244,48 @@ impl Reach {
                 return Ok(None);
             }
             *steps -= 1;
-            let (standing, until) = self.shadow.standing_from(from, span.end());
-            if let Some(last) = checked(standing) {
-                if last >= due {
+            let until = self.alike_until(from, span.end());
+            if let Some(stored) = self.checked(from) {
+                if stored.last >= due {
                     return Ok(None);
                 }
-                let by = self.past.last_store(from).written_back;
+                let by = stored.written_back;
                 let in_time = if by < due { by } else { 0 };
                 if in_time == 0 || fence < in_time {
-                    needs.push(lines_lacking(from, until, last, in_time))?;
+                    needs.push(lines_lacking(from, until, stored.last, in_time))?;
                 }
             }
             from = until;
         }
         Ok(Some(()))
+    }
+
+    // The last store of the byte, and what follows it, where it is checked.
+    fn checked(&self, byte: u64) -> Option<Stored> {
+        let stored = self.past.stored.at(byte);
+        if stored.last == 0 || self.excluded.at(byte).of > 0 {
+            return None;
+        }
+        Some(stored)
+    }
+
+    // The byte up to which bytes stand as the first one does.
+    fn alike_until(&self, first: u64, end: u64) -> u64
+        requires { first < end }
+        ensures further { first < result }
+        ensures within { result ≤ end }
+    {
+        let state = self.past.stored.at(first);
+        let other = IsOther { state };
+        let until = until_or(first, self.past.stored.first_where(first, end, &other), end);
+        let marked = IsMarkedElse {
+            place: self.excluded.at(first).of,
+        };
+        until_or(
+            first,
+            self.excluded.first_where(first, until, &marked),
+            until,
+        )
     }
 
     /// The first byte of a range that the running transaction has not backed up, and the byte up to which it has not.
@@ -256,26 +296,16 @@ impl Reach {
     }
 }
 
-// The event as the shadow follows it: one that changes nothing of a shadow, in place of one that meets none of the lines.
-fn shown(lines: &RunMap<bool>, event: Event) -> Event {
-    match event {
-        Event::Store(span) | Event::Flush(span) | Event::Exclude(span) | Event::Include(span) => {
-            if are_met(lines, &span) {
-                event
-            } else {
-                Event::TxBegin
-            }
-        }
-        _ => event,
+// The byte that was found behind the first one, or the end.
+fn until_or(first: u64, found: Option<u64>, end: u64) -> u64
+    requires { first < end }
+    ensures further { first < result }
+    ensures within { result ≤ end }
+{
+    match found {
+        Some(byte) if first < byte && byte < end => byte,
+        _ => end,
     }
-}
-
-// The last store of bytes that stand so, where they are checked.
-fn checked(standing: Standing) -> Option<u32> {
-    if standing.excluded {
-        return None;
-    }
-    standing.last
 }
 
 // Bytes from the first one on, with the lines that they lie on.
@@ -301,6 +331,26 @@ impl Test<Place> for Before {
 
     fn passes(&self, state: Place) -> bool {
         state.of < self.place
+    }
+
+    fn may_pass(&self, _summary: ()) -> bool {
+        true
+    }
+}
+
+/// Whether the place is another.
+#[derive(Clone, Copy, Debug, Drop)]
+pub(crate) struct IsMarkedElse {
+    pub(crate) place: u32,
+}
+
+impl Test<Place> for IsMarkedElse {
+    ghost use Rattle.std.specs.Prelude.{not, ◌==◌};
+
+    ghost passes = { λ test state. not (state.of == test.place) };
+
+    fn passes(&self, state: Place) -> bool {
+        state.of != self.place
     }
 
     fn may_pass(&self, _summary: ()) -> bool {

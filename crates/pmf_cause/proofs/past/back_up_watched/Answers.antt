@@ -1,5 +1,3 @@
-use Rattle.std.proofs.Common.{◌∙◌, ap, sym}
-use Rattle.pmf_event.specs.Transactions.{adds}
 use Rattle.pmf_places.proofs.PlaceLemmas.{not_added}
 use Rattle.pmf_cause.proofs.WatchLemmas.{not_added_here}
 use Rattle.pmf_cause.proofs.past.back_up_watched.Goals as goal

@@ -1,4 +1,3 @@
-use Rattle.std.proofs.Common.{◌∙◌, ap, sym}
 use Rattle.pmf_places.proofs.PlaceLemmas.{not_flushed}
 use Rattle.pmf_cause.proofs.WatchLemmas.{not_flushed_here}
 use Rattle.pmf_cause.proofs.past.write_back_watched.Goals as goal

@@ -1,4 +1,4 @@
-use Rattle.std.proofs.{Common.{◌≡◌, ◌+◌, ◌-◌, suc, true, length, get_or, map, take, [], ◌∷◌, ◌++◌, sym, subst, ◌∙◌, ap, arith, rules}, lemmas.List.{get_or_default, map-append, take_more}}
+use Rattle.std.proofs.{Common.{◌≡◌, ◌+◌, ◌-◌, suc, length, get_or, map, take, [], ◌∷◌, ◌++◌, sym, subst, ◌∙◌, ap, arith, rules}, lemmas.List.{get_or_default, map-append, take_more}}
 use Rattle.pmf_event.specs.{declared.finding.Finding.TheVariants.{PersistPass}, declared.row.Row.{Row}}
 use Rattle.pmf_cause.specs.{Cause.{cause_of}, Later.{AllAsk, AreFences}}
 use Rattle.pmf_cause.proofs.walk.causes_of.Goals as goal

@@ -1,4 +1,4 @@
-use Rattle.std.proofs.Common.{◌-◌, suc, ◌≡◌, ap, ◌∙◌, arith}
+use Rattle.std.proofs.Common.{ap, ◌∙◌}
 use Rattle.pmf_event.specs.Line.{line_of_byte}
 use Rattle.pmf_cause.{specs.Cause.{write_back_after}, specs.Later.{asked}, specs.Watching.{has_line}, proofs.WatchLemmas.{asks_line}}
 use Rattle.pmf_cause.proofs.later.Later.behind.Goals as goal

@@ -1,6 +1,4 @@
-use Rattle.std.proofs.{Common.{◌≡◌, ◌<◌, ◌≤◌, ◌∙◌, ap, subst, sym, arith, inl, inr}, lemmas.Bool.{cases_lt}, lemmas.List.{get_or_default}}
-use Rattle.pmf_event.specs.declared.row.Row.{Row}
-use Rattle.pmf_cause.{specs.Watching.{Asks}, proofs.WatchLemmas.{asks_all}}
+use Rattle.pmf_cause.{proofs.WatchLemmas.{asks_all}}
 use Rattle.pmf_cause.proofs.watch.Watch.of.Goals as goal
 
 pub loop-row-preserved : goal.loop-row-preserved

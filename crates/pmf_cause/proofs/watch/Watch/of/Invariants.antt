@@ -1,4 +1,4 @@
-use Rattle.std.proofs.Common.{◌≡◌, ◌<◌, ℕ, length, get_or}
+use Rattle.std.proofs.Common.{◌<◌, ℕ, get_or}
 use Rattle.pmf_event.specs.declared.row.Row.{Row}
 use Rattle.pmf_cause.specs.Watching.{Asks}
 use Rattle.pmf_cause.proofs.watch.Watch.of.Given as goal
