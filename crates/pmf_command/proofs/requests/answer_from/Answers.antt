@@ -9,8 +9,8 @@ found request made s status is said = subst (λ r. IsAnsweredFrom r s status) (s
 
 pub returns-in-Why : goal.returns-in-Why
 returns-in-Why g c =
-    let told = c.answer_to-in-Why.ensures in
-    found c.args.request.now _ _ c.answer_to-in-Why.result c.in-Why.is (told.0, told.1, told.2)
+    let told = c.recite_to-in-Why.ensures in
+    found c.args.request.now _ _ c.recite_to-in-Why.result c.in-Why.is (told.0, told.1, told.2)
 
 pub returns-in-Patch : goal.returns-in-Patch
 returns-in-Patch g c =
