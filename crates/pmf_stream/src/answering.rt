@@ -57,13 +57,7 @@ pub fn answer_stream<R: Source, W: Sink, T: Drop, E: Drop, Q: Query<Told = T, Re
 /// Refusals: [`StreamFault::ReadFault`] and [`StreamFault::OutOfMemory`] as the reading goes, then [`StreamFault::Refused`], with
 /// which nothing is written; then [`StreamFault::WriteFault`] and [`StreamFault::OutOfMemory`], whichever comes first, behind the front
 /// of an answer. Takes memory for the bytes of the log, and what one part of the answer takes.
-pub fn recite_stream<
-    R: Source,
-    W: Sink,
-    T: Drop,
-    E: Drop,
-    Q: StreamedQuery<Told = T, Refusal = E>,
->(
+pub fn recite_stream<R: Source, W: Sink, T: Drop, E: Drop, Q: StreamedQuery<Told = T, Refusal = E>>(
     alloc: Global,
     reader: &mut R,
     writer: &mut W,

@@ -15,6 +15,7 @@ mod cutting;
 mod excerpt;
 mod fault;
 mod joining;
+mod memory;
 mod outlet;
 mod reading;
 mod simulating;

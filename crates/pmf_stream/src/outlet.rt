@@ -4,7 +4,7 @@ ghost use Rattle.std.specs.{Prelude.{◌≡◌, ◌+◌, ◌==◌, ℕ, List, []
 ghost use Rattle.pmf_device.specs.Failures.{CanCountOneMore};
 ghost use Rattle.pmf_stream.specs.Files.{AppendsTo, failed_files};
 
-use pmf_device::{ByteSink, Counted, Device, Sink, write_text};
+use pmf_device::{Counted, Device, Sink, write_text};
 use std::io::Write;
 
 /// Why a text is not in a file.
@@ -31,19 +31,6 @@ pub trait Outlet: Device {
 /// One stream, which is the first file; there is no other.
 impl<W: Write> Outlet for Counted<W> {
     ghost held_in = { λ s file. if file == 0 then W.contents s.device else Some [] };
-
-    fn write_to(&mut self, file: usize, text: &[u8]) -> Result<(), NoFile> {
-        if file > 0 {
-            self.failures += 1;
-            return Err(NoFile::Failed { written: 0 });
-        }
-        write_whole(self, text)
-    }
-}
-
-/// The sink is the first file; there is no other.
-impl Outlet for ByteSink {
-    ghost held_in = { λ s file. if file == 0 then Some s.bytes.items else Some [] };
 
     fn write_to(&mut self, file: usize, text: &[u8]) -> Result<(), NoFile> {
         if file > 0 {

@@ -152,10 +152,24 @@ fn what_is_written_part_by_part(rt: HostRuntime) {
         let sink = ByteSink::new(alloc).failing_after(room);
         let written = room as u64;
         let cut = Err(StreamFault::WriteFault { written });
-        recites(&rt, alloc, PieceSource::new(LOG), sink, cut, &ALL_EXPLAINED[..room]);
+        recites(
+            &rt,
+            alloc,
+            PieceSource::new(LOG),
+            sink,
+            cut,
+            &ALL_EXPLAINED[..room],
+        );
     }
     let refused = Err(StreamFault::Refused(LogRefusal::Log(FAULT)));
-    recites(&rt, alloc, PieceSource::new(FAULTY), ByteSink::new(alloc), refused, b"");
+    recites(
+        &rt,
+        alloc,
+        PieceSource::new(FAULTY),
+        ByteSink::new(alloc),
+        refused,
+        b"",
+    );
     let unread = Err(StreamFault::ReadFault);
     let source = PieceSource::new(LOG).failing(true);
     recites(&rt, alloc, source, ByteSink::new(alloc), unread, b"");

@@ -4,7 +4,9 @@ ghost use Rattle.std.specs.Prelude.{◌≡◌, ◌<◌};
 ghost use Rattle.pmf_device.specs.Failures.{CanCountOneMore};
 
 use super::fakes::InterruptedOnce;
-use pmf_device::{ByteSink, Cut, Device, Failed, Sink, Source, StdSink, StdSource, read_piece, write_text};
+use pmf_device::{
+    ByteSink, Cut, Device, Failed, Sink, Source, StdSink, StdSource, read_piece, write_text,
+};
 use std::process::Abort;
 use std::test::Fail;
 
