@@ -15,8 +15,9 @@ use std::alloc::{AllocError, Global};
 
 /// The cause of each row, in the order of the rows; None for one that counts as pass or empty.
 ///
-/// Takes time in proportion to the events and the rows, but for a factor of the logarithm of the runs of bytes that are kept, and
-/// memory for these runs and for a place of each event and of each row.
+/// Walks up to the last row that has a cause, and keeps runs of bytes of the lines alone that these rows ask of. Takes time in
+/// proportion to the events and the rows, but for a factor of the logarithm of those runs, and memory for them and for a place of each
+/// event and of each row.
 pub fn causes(alloc: Global, verdict: &Verdict) -> Result<Vec<Option<Cause>>, AllocError>
     ensures { IfOk result (λ causes. causes.items ≡ map (cause_of verdict.now.section.events) (rows_in verdict.now)) }
 {
