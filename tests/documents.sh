@@ -21,16 +21,16 @@ version_of_changelog() {
 
 # read_by_promises FOLDER: a copy of what tools/promises reads.
 read_by_promises() {
-    mkdir -p "$1/docs" && cp -r tools "$1" && cp docs/TRUST.md docs/DEFINITIONS.md "$1/docs" && cp crates.txt README.md "$1" &&
+    mkdir -p "$1/docs" && cp -r tools "$1" && cp docs/TRUST.md docs/DEFINITIONS.md docs/PROMISES.md "$1/docs" && cp crates.txt README.md "$1" &&
         ln -sfn "$top/crates" "$1/crates"
 }
 
-# refused_by_promises FILE COMMAND TEXT: docs/PROMISES.md is not written where sed makes FILE so; in a copy.
+# refused_by_promises FILE COMMAND TEXT: docs/PERSIST_PASS.md is not written where sed makes FILE so; in a copy.
 refused_by_promises() {
     local repo=$scratch/promises
     read_by_promises "$repo" && sed -i "$2" "$repo/$1" || return
     "$repo/tools/promises" >"$scratch/report" 2>"$scratch/diagnostics"
-    ended 1 $? && said "promises: $1: $3" "$scratch/diagnostics" && [ ! -e "$repo/docs/PROMISES.md" ]
+    ended 1 $? && said "promises: $1: $3" "$scratch/diagnostics" && [ ! -e "$repo/docs/PERSIST_PASS.md" ]
 }
 
 # Each entry has a number one above that of the entry before, and its status below its title.
@@ -43,12 +43,12 @@ decisions_have_a_status() {
 # What a claim names has to be in the sources, and each file of definitions in the list.
 claims_are_of_the_sources() {
     local claim='A section takes each event up to the 2^20th, and is unchanged by a refusal'
-    refused_by_promises tools/claims.md 's/`Section::push`/`Section::pull`/' "$claim: no function Section::pull
-promises: tools/claims.md: $claim: no clause ok
-promises: tools/claims.md: $claim: no clause too_many
-promises: tools/claims.md: $claim: no clause unchanged" &&
-        refused_by_promises tools/claims.md 's/`too_many`/`too_few`/' "$claim: no clause too_few" &&
-        refused_by_promises tools/claims.md 's/`push.drops_the_event`/`push.drops_nothing`/' "$claim: no mutant push.drops_nothing" &&
+    refused_by_promises docs/PROMISES.md 's/`Section::push`/`Section::pull`/' "$claim: no function Section::pull
+promises: docs/PROMISES.md: $claim: no clause ok
+promises: docs/PROMISES.md: $claim: no clause too_many
+promises: docs/PROMISES.md: $claim: no clause unchanged" &&
+        refused_by_promises docs/PROMISES.md 's/`too_many`/`too_few`/' "$claim: no clause too_few" &&
+        refused_by_promises docs/PROMISES.md 's/`push.drops_the_event`/`push.drops_nothing`/' "$claim: no mutant push.drops_nothing" &&
         refused_by_promises README.md 's/`gathers`/`gather`/' '`Ledger::join`: no clause gather' &&
         refused_by_promises docs/TRUST.md 's/^- `pmf_words`: `Words`$//' 'pmf_words.specs.Words is missing' &&
         refused_by_promises docs/TRUST.md 's/`Span`, `Line`, `Address`/`Line`, `Span`, `Address`/' \
@@ -67,14 +67,10 @@ promises: tools/persist_pass.md: Ledger::report: `.0` is in no table of notation
 
 # What tools/promises has written is fresh, and stale once it is another.
 a_stale_file_is_told() {
-    local repo=$scratch/stale file
-    read_by_promises "$repo" && "$repo/tools/promises" && "$repo/tools/promises" --check || return
-    for file in PROMISES PERSIST_PASS; do
-        cp "$repo/docs/$file.md" "$scratch/fresh" && echo >>"$repo/docs/$file.md" || return
-        "$repo/tools/promises" --check 2>"$scratch/diagnostics"
-        ended 1 $? && said "promises: docs/$file.md is stale; run tools/promises" "$scratch/diagnostics" &&
-            cp "$scratch/fresh" "$repo/docs/$file.md" || return
-    done
+    local repo=$scratch/stale
+    read_by_promises "$repo" && "$repo/tools/promises" && "$repo/tools/promises" --check && echo >>"$repo/docs/PERSIST_PASS.md" || return
+    "$repo/tools/promises" --check 2>"$scratch/diagnostics"
+    ended 1 $? && said 'promises: docs/PERSIST_PASS.md is stale; run tools/promises' "$scratch/diagnostics"
 }
 
 # The recipes of docs/FARM.md, and what it says of failures.
@@ -104,8 +100,8 @@ try_farms() {
 try_documents() {
     check 'the sessions of README.md and docs/GUIDE.md' tests/try-sessions "$program" README.md docs/GUIDE.md
     check 'each entry of docs/DECISIONS.md has a status' decisions_have_a_status
-    check 'docs/PROMISES.md and docs/PERSIST_PASS.md are fresh' tools/promises --check
-    check 'tools/promises tells which of them is stale' a_stale_file_is_told
+    check 'docs/PROMISES.md names what is in the sources, and docs/PERSIST_PASS.md is fresh' tools/promises --check
+    check 'tools/promises tells where it is stale' a_stale_file_is_told
     check 'docs/PERSIST_PASS.md names all its notation' the_page_is_whole
     check 'a claim names what is in the sources, and docs/TRUST.md each file of definitions' claims_are_of_the_sources
     check 'the man page and the completions have the options of help, and the program does what they tell' tests/flags
