@@ -319,6 +319,10 @@ try_tools() {
     check 'tools/rows writes the frames of a log' rows_with_frames
     check 'tools/rows refuses what is no report, or not a whole one' rows_refused
     check 'tools/rows gives each row of the examples, and ends with its reader' rows_of_examples
+    check 'tools/rows writes rows as SARIF, JUnit and commands of GitHub' tests/try-rows "$program" formats
+    check 'tools/rows writes any bytes of a log as each form has them' tests/try-rows "$program" escapes
+    check 'tools/rows knows the failures of a baseline' tests/try-rows "$program" baselines
+    check 'tools/rows refuses words, reports, logs and baselines that are wrong' tests/try-rows "$program" words
     check 'the example in C writes its logs, with the fence and without' example_by 'cc -std=c11' 'cc -std=c99 -O2'
     check 'the markers in C tell the sections of threads' sections_of_threads
     check 'the markers in C refuse a section beside those of threads' sections_by cc -std=c99 -x c
