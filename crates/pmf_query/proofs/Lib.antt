@@ -13,6 +13,11 @@ pub mod LintTextLemmas
 pub mod WorkedNames
 pub mod InsideLemmas
 pub mod CoverLemmas
+pub mod FieldLemmas
+pub mod NotingLemmas
+pub mod EndingLemmas
+pub mod LeavingLemmas
+pub mod UpkeepLemmas
 pub mod TallySumLemmas
 pub mod LintLemmas
 pub mod FirstLemmas

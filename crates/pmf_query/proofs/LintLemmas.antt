@@ -1,7 +1,7 @@
 -- What is told of a log that was read.
-use Rattle.std.proofs.{Common.{◌≡◌, ℕ, List, [], ◌∷◌, ◌++◌, Ok, length, take, sym, ap, subst, arith}, lemmas.List.{length-map}, lemmas.Grind.{common_steps}}
+use Rattle.std.proofs.{Common.{◌≡◌, ◌∙◌, ℕ, List, [], ◌∷◌, ◌++◌, Ok, length, take, sym, ap, subst, arith}, lemmas.List.{length-map}, lemmas.Grind.{common_steps}}
 use Rattle.pmf_storelog.specs.{Separators.{records_of}, LogValue.{LogValue}, LogText.{fault_of, log_of, numbers_of, sections_of, skipped_of, value_of}}
-use Rattle.pmf_query.{specs.Linting.{IsLint}, specs.Locating.{IsFaultless}, specs.Summing.{sums_of}, specs.declared.summing.Sums.{Sums}, specs.Walking.{IsNext}, specs.declared.counting.NameCounts.{NameCounts}, specs.Counting.{Tallies}, proofs.NumberFoundLemmas.{by_fault}}
+use Rattle.pmf_query.{specs.Linting.{IsLint}, specs.Locating.{IsFaultless}, specs.Summing.{sums_of}, specs.declared.summing.Sums.{Sums}, specs.Walking.{IsNext}, specs.declared.counting.NameCounts.{NameCounts}, specs.declared.warnings.Warnings.{Warnings}, specs.Counting.{Tallies}, specs.Warnings.{warnings_by}, proofs.NumberFoundLemmas.{by_fault}}
 
 pub skipped_so : (run : ℕ) (bytes : List ℕ) (log : LogValue) → log_of run bytes ≡ Ok log → log.skipped ≡ skipped_of (records_of bytes)
 unfolding log_of value_of
@@ -15,6 +15,18 @@ pub tallied_next : (bytes : List ℕ) (start offset : ℕ) (text : List ℕ) (ne
 tallied_next bytes start offset text next counts found tallies = subst (Tallies counts) (sym found.adds) tallies
 
 pub told_so : (bytes : List ℕ) (counts : NameCounts) (skipped sections : ℕ) (sums : Sums) → IsFaultless bytes → Tallies counts (records_of bytes) → skipped ≡ skipped_of (records_of bytes) →
-    sections ≡ length (numbers_of (records_of bytes)) → sums ≡ sums_of (sections_of 0 (records_of bytes)) →
-    IsLint bytes (record { records = counts.records; known = counts.known; skipped = skipped; listed = counts.listing.listed; others = counts.listing.others; has_near = counts.listing.has_near; has_strange = counts.listing.has_strange; sections = sections; sums = sums })
-told_so bytes counts skipped sections sums faultless tallies skipped_is sections_are sums_are = grind (arith, common_steps)
+    sections ≡ length (numbers_of (records_of bytes)) → sums ≡ sums_of (sections_of 0 (records_of bytes)) → (warnings : Warnings) → warnings ≡ warnings_by bytes (records_of bytes) sums →
+    IsLint bytes (record { records = counts.records; known = counts.known; skipped = skipped; listed = counts.listing.listed; others = counts.listing.others; sections = sections; sums = sums; warnings = warnings })
+told_so bytes counts skipped sections sums faultless tallies skipped_is sections_are sums_are warnings due = record {
+  faultless = faultless;
+  records = tallies.count;
+  names = tallies.names;
+  known = tallies.known;
+  skipped = skipped_is;
+  first = tallies.skipped.first;
+  listed = tallies.skipped.listed;
+  others = tallies.skipped.others;
+  sections = sections_are;
+  sums = sums_are;
+  warnings = due ∙ ap (warnings_by bytes (records_of bytes)) sums_are;
+}

@@ -2,7 +2,7 @@
 use Rattle.std.{proofs.Common.{◌≡◌, ℕ, zero, suc, ◌+◌, ◌-◌, ◌^◌, ◌<◌, ◌≤◌, Bool, true, false, cond, List, [], ◌∷◌, ◌++◌, Some, None, length, take, get_or, map, All, refl, sym, ap, subst, ◌∙◌, arith, length-append, not, ◌||◌, filter, is_some, bytes_eq, append-nil}, proofs.lemmas.Slice.Eq.{bytes_eq-Decides}, specs.List.{list_any}, proofs.lemmas.Bool.{false≢true}, proofs.lemmas.List.{map-append, length-map, take_more}, proofs.lemmas.List.Elements.{All-append, All-cons, filter-append}, proofs.lemmas.List.Folds.{list_any-append}, proofs.lemmas.List.Sums.{sum_by-append, count_by-le-length, length-filter}, proofs.lemmas.Grind.{common_steps}}
 use Rattle.memchr.specs.Find.{IsFirstByte, is_byte}
 use Rattle.pmf_storelog.{specs.LogText.{is_skipped}, specs.Records.{fields_of, is_field_end}, proofs.SplitLemmas.{split_none, split_some}}
-use Rattle.pmf_query.{specs.declared.naming.Named.{Named}, specs.declared.naming.TheConstants.{LISTED}, specs.declared.listing.Listing.{Listing}, specs.declared.counting.NameCounts.{NameCounts}, proofs.FirstNamesLemmas.{all_first, among_others, first_again, first_full, first_new, is_other}, specs.Nearness.{has_near, has_strange, is_text, near_of}, specs.Counting.{Lists, Tallies}, specs.Naming.{Count, first_names, known_names, count_named, count_others, counting, first_field, is_among, name_of, names_in, names_of, skipped_names}}
+use Rattle.pmf_query.{specs.declared.naming.Named.{Named}, specs.declared.naming.TheConstants.{LISTED}, specs.declared.listing.Listing.{Listing}, specs.declared.counting.NameCounts.{NameCounts}, proofs.FirstNamesLemmas.{all_first, among_others, first_again, first_full, first_new, is_other}, specs.Counting.{AreNotes, Lists, Tallies}, specs.Naming.{Count, first_names, known_names, count_named, count_others, counting, first_field, is_among, name_of, names_in, names_of, skipped_names}}
 
 count_named-push : (n name : List ℕ) (names : List (List ℕ)) → count_named n (names ++ name ∷ []) ≡ count_named n names + cond (bytes_eq n name) 1 0
 unfolding count_named
@@ -121,26 +121,11 @@ module _ (listed : List (List ℕ)) (name : List ℕ) (apart : is_among listed n
 
 -- ---- what a listing and a counts hold
 
-has_near-push : (names : List (List ℕ)) (name : List ℕ) → has_near (names ++ name ∷ []) ≡ (has_near names || is_some (near_of name))
-unfolding has_near
-has_near-push names name = list_any-append (λ n. is_some (near_of n)) names (name ∷ []) ∙ ap (λ b. list_any (λ n. is_some (near_of n)) names || b) (or_last (is_some (near_of name)))
+pub lists_none : (listing : Listing) → listing.listed.items ≡ [] → listing.others ≡ 0 → Lists listing []
+unfolding first_names
+lists_none listing empty none = grind (arith, common_steps, others_nil)
 
-has_strange-push : (names : List (List ℕ)) (name : List ℕ) → has_strange (names ++ name ∷ []) ≡ (has_strange names || not (is_text name))
-unfolding has_strange
-has_strange-push names name = list_any-append (λ n. not (is_text n)) names (name ∷ []) ∙ ap (λ b. list_any (λ n. not (is_text n)) names || b) (or_last (not (is_text name)))
-
-pub lists_none : (listing : Listing) → listing.listed.items ≡ [] → listing.others ≡ 0 → listing.has_near ≡ false → listing.has_strange ≡ false → Lists listing []
-unfolding first_names has_near has_strange
-lists_none listing empty none near strange = grind (arith, common_steps, others_nil)
-
-module _ (old new : Listing) (names : List (List ℕ)) (lists : Lists old names) (name : List ℕ)
-    (nearer : new.has_near ≡ (old.has_near || is_some (near_of name))) (stranger : new.has_strange ≡ (old.has_strange || not (is_text name))) where
-  near_more : new.has_near ≡ has_near (names ++ name ∷ [])
-  near_more = nearer ∙ ap (λ b. b || is_some (near_of name)) lists.near ∙ sym (has_near-push names name)
-
-  strange_more : new.has_strange ≡ has_strange (names ++ name ∷ [])
-  strange_more = stranger ∙ ap (λ b. b || not (is_text name)) lists.strange ∙ sym (has_strange-push names name)
-
+module _ (old new : Listing) (names : List (List ℕ)) (lists : Lists old names) (name : List ℕ) where
   -- one more of a listed name
   pub lists_again : is_among (names_in old.listed.items) name ≡ true → new.listed.items ≡ map (counting name) old.listed.items → new.others ≡ old.others → Lists new (names ++ name ∷ [])
   lists_again among counted kept =
@@ -148,8 +133,6 @@ module _ (old new : Listing) (names : List (List ℕ)) (lists : Lists old names)
         first = same ∙ first_again (names_in old.listed.items) names name lists.first among;
         listed = subst (λ (cs : List Named). Count cs (names ++ name ∷ [])) (sym counted) (Count-push old.listed.items names name lists.listed);
         others = kept ∙ lists.others ∙ sym (ap (λ (ls : List (List ℕ)). count_others ls (names ++ name ∷ [])) same ∙ others-listed (names_in old.listed.items) names name among);
-        near = near_more;
-        strange = strange_more;
       }
 
   -- a name that is listed now
@@ -164,8 +147,6 @@ module _ (old new : Listing) (names : List (List ℕ)) (lists : Lists old names)
         listed = subst (λ (cs : List Named). Count cs (names ++ name ∷ [])) (sym pushed)
             (Count-new (names_in old.listed.items) name apart old.listed.items names c refl none named once lists.listed);
         others = kept ∙ lists.others ∙ none ∙ sym (ap (λ (ls : List (List ℕ)). count_others ls (names ++ name ∷ [])) all ∙ still_none (names_in old.listed.items) name apart names none);
-        near = near_more;
-        strange = strange_more;
       }
 
   -- a name that is not
@@ -177,8 +158,6 @@ module _ (old new : Listing) (names : List (List ℕ)) (lists : Lists old names)
         ∙ ap (λ b. count_named (get_or old.listed.items k d).name.now names + cond b 1 0) (apart_from old.listed.items name apart k d within)
         ∙ (let e : count_named (get_or old.listed.items k d).name.now names + 0 ≡ count_named (get_or old.listed.items k d).name.now names = omega arith in e)));
     others = more ∙ ap (λ n. n + 1) lists.others ∙ sym (ap (λ (cs : List Named). count_others (names_in cs) (names ++ name ∷ [])) same ∙ others-more (names_in old.listed.items) names name apart);
-    near = near_more;
-    strange = strange_more;
   }
 
 pub skipped_few : (records : List (List ℕ)) → length (skipped_names records) ≤ length records
@@ -189,12 +168,12 @@ pub names_long : (records : List (List ℕ)) → length (names_of records) ≡ l
 unfolding names_of
 names_long records = length-map records (λ text. name_of text)
 
-pub tallies_none : (counts : NameCounts) → counts.records ≡ 0 → names_in counts.known.items ≡ known_names → Count counts.known.items [] → Lists counts.listing [] → Tallies counts []
+pub tallies_none : (counts : NameCounts) → counts.records ≡ 0 → names_in counts.known.items ≡ known_names → Count counts.known.items [] → Lists counts.listing [] → AreNotes counts.notes [] → Tallies counts []
 unfolding names_of skipped_names
-tallies_none counts none names known lists = record { count = none; names = names; known = known; skipped = lists }
+tallies_none counts none names known lists notes = record { count = none; names = names; known = known; skipped = lists; notes = notes }
 
 module _ (old new : NameCounts) (records : List (List ℕ)) (tallies : Tallies old records) (text : List ℕ) (more : new.records ≡ old.records + 1)
-    (counted : new.known.items ≡ map (counting (name_of text)) old.known.items) where
+    (counted : new.known.items ≡ map (counting (name_of text)) old.known.items) (notes : AreNotes new.notes (records ++ text ∷ [])) where
   one_more : new.records ≡ length (records ++ text ∷ [])
   one_more = omega (arith, tallies.count, length-append records (text ∷ []))
 

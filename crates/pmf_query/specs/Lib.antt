@@ -23,6 +23,11 @@ pub mod Naming
 pub mod Nearness
 pub mod Counting
 pub mod Covering
+pub mod Ending
+pub mod Leaving
+pub mod Misread
+pub mod Upkeep
 pub mod Summing
+pub mod Warnings
 pub mod Linting
 pub mod LintText

@@ -1,6 +1,6 @@
 -- The text that tells what a log holds: ASCII, in text lines. Defined here.
-use Rattle.std.specs.{Prelude.{ℕ, ◌/◌, ◌%◌, Bool, false, not, ◌&&◌, ◌||◌, ◌==◌, nat_le, List, [], ◌∷◌, ◌++◌, Option, None, Some, length, take, codes, if◌then◌else◌, flat_map}, Fmt.{decimal, digit_glyph}}
-use Rattle.pmf_query.specs.{declared.lint.Lint.{Lint}, declared.naming.Named.{Named}, declared.summing.Sums.{Sums}, declared.telling.TheConstants.{SHOWN}, Nearness.{is_printed, near_of}}
+use Rattle.std.specs.{Prelude.{ℕ, ◌/◌, ◌%◌, Bool, false, ◌==◌, nat_le, List, [], ◌∷◌, ◌++◌, Option, None, Some, length, take, codes, if◌then◌else◌, flat_map}, Fmt.{decimal, digit_glyph}}
+use Rattle.pmf_query.specs.{declared.lint.Lint.{Lint}, declared.naming.Named.{Named}, declared.summing.Sums.{Sums}, declared.upkeep.Upkeep.{Upkeep}, declared.warnings.Warnings.{Warnings}, declared.telling.TheConstants.{SHOWN}, Nearness.{is_printed, near_of}}
 
 -- ---- names
 
@@ -54,34 +54,43 @@ line_of_assertions s = codes "assertions=" ++ decimal s.assertions ++ codes " em
 unfoldable pub line_of_stores : Sums → List ℕ
 line_of_stores s = codes "stores=" ++ decimal s.stores ++ codes " unasserted=" ++ decimal s.unasserted ++ codes "\n"
 
+-- `unwritten=W unfenced=F overwriting=O`
+unfoldable pub line_of_left : Upkeep → List ℕ
+line_of_left u =
+    codes "unwritten=" ++ decimal u.unwritten ++ codes " unfenced=" ++ decimal u.unfenced ++ codes " overwriting=" ++ decimal u.overwriting ++ codes "\n"
+
+-- `fences=N idle=I`
+unfoldable pub line_of_fences : Upkeep → List ℕ
+line_of_fences u = codes "fences=" ++ decimal u.fences ++ codes " idle=" ++ decimal u.idle ++ codes "\n"
+
 -- ---- warnings
 
--- whether nothing is asserted
-unfoldable pub asserts_nothing : Sums → Bool
-asserts_nothing s = s.assertions == 0
+-- a warning behind some words, where it is due
+abbrev pub warned : List ℕ → Bool → List ℕ → List ℕ
+warned words due text = if due then words ++ codes "warning: " ++ text ++ codes "\n" else []
 
--- whether something is, and no assertion had anything to check
-unfoldable pub checks_nothing : Sums → Bool
-checks_nothing s = not (s.assertions == 0) && s.empty == s.assertions
+-- those that are due of what is asserted, each behind some words
+unfoldable pub lines_of_asserted : List ℕ → Warnings → List ℕ
+lines_of_asserted words w =
+    warned words w.asserts_nothing (codes "nothing is asserted")
+    ++ warned words w.checks_nothing (codes "each assertion is empty")
+    ++ warned words w.is_misread (codes "an empty assertion would not be if its decimal address were hexadecimal")
 
--- whether one of the warnings is due
-unfoldable pub is_suspicious : Lint → Bool
-is_suspicious lint = asserts_nothing lint.sums || (checks_nothing lint.sums || (lint.has_near || lint.has_strange))
-
--- a warning, where it is due
-abbrev pub warned : Bool → List ℕ → List ℕ
-warned due text = if due then text else []
+-- those that are due of the records
+unfoldable pub lines_of_records : List ℕ → Warnings → List ℕ
+lines_of_records words w =
+    warned words w.has_near (codes "a skipped name is near a known one")
+    ++ warned words w.has_strange (codes "a skipped name is not text")
+    ++ warned words w.is_open_ended (codes "no end stands behind the last record")
+    ++ warned words w.lacks_stop (codes "START stands without STOP")
 
 -- the warnings that are due
-unfoldable pub lines_of_warnings : Lint → List ℕ
-lines_of_warnings lint =
-    warned (asserts_nothing lint.sums) (codes "warning: nothing is asserted\n")
-    ++ warned (checks_nothing lint.sums) (codes "warning: each assertion is empty\n")
-    ++ warned lint.has_near (codes "warning: a skipped name is near a known one\n")
-    ++ warned lint.has_strange (codes "warning: a skipped name is not text\n")
+abbrev pub lines_of_warnings : List ℕ → Warnings → List ℕ
+lines_of_warnings words w = lines_of_asserted words w ++ lines_of_records words w
 
 -- the whole text
 unfoldable pub text_of_lint : Lint → List ℕ
 text_of_lint lint =
     line_of_counts lint ++ flat_map (λ c. line_of_known c) lint.known.items ++ flat_map (λ c. line_of_skipped c) lint.listed.items
-    ++ line_of_others lint.others ++ line_of_assertions lint.sums ++ line_of_stores lint.sums ++ lines_of_warnings lint
+    ++ line_of_others lint.others ++ line_of_assertions lint.sums ++ line_of_stores lint.sums ++ line_of_left lint.sums.upkeep
+    ++ line_of_fences lint.sums.upkeep ++ lines_of_warnings [] lint.warnings

@@ -1,11 +1,11 @@
 -- What is told of a whole log. Defined here.
 use Rattle.std.specs.Prelude.{◌≡◌, ℕ, List, length, take}
 use Rattle.pmf_storelog.specs.{Separators.{records_of}, LogText.{numbers_of, sections_of, skipped_of}}
-use Rattle.pmf_query.specs.{Locating.{IsFaultless}, Naming.{Count, count_others, first_names, known_names, names_in, names_of, skipped_names}, Nearness.{has_near, has_strange}, Summing.{sums_of}, declared.naming.TheConstants.{LISTED}, declared.lint.Lint.{Lint}, declared.lint.Linted.{Linted}, LintText.{is_suspicious, text_of_lint}}
+use Rattle.pmf_query.specs.{Locating.{IsFaultless}, Naming.{Count, count_others, first_names, known_names, names_in, names_of, skipped_names}, Summing.{sums_of}, Warnings.{are_due, warnings_of}, declared.naming.TheConstants.{LISTED}, declared.lint.Lint.{Lint}, declared.lint.Linted.{Linted}, LintText.{text_of_lint}}
 
 -- the log is faultless, and this is told of it: its records; how many have each known name; how many are skipped; of their
--- names the first different ones, how many have each of these, how many have none, and whether one is near to a known name, or no
--- text; its sections, and what they hold
+-- names the first different ones, how many have each of these, and how many have none; its sections, and what they hold; and which
+-- warnings are due
 pub record IsLint (bytes : List ℕ) (lint : Lint) : Type 0 where
   pub faultless : IsFaultless bytes
   pub records : lint.records ≡ length (records_of bytes)
@@ -15,11 +15,10 @@ pub record IsLint (bytes : List ℕ) (lint : Lint) : Type 0 where
   pub first : names_in lint.listed.items ≡ take LISTED (first_names (skipped_names (records_of bytes)))
   pub listed : Count lint.listed.items (skipped_names (records_of bytes))
   pub others : lint.others ≡ count_others (names_in lint.listed.items) (skipped_names (records_of bytes))
-  pub near : lint.has_near ≡ has_near (skipped_names (records_of bytes))
-  pub strange : lint.has_strange ≡ has_strange (skipped_names (records_of bytes))
   pub sections : lint.sections ≡ length (numbers_of (records_of bytes))
   pub sums : lint.sums ≡ sums_of (sections_of 0 (records_of bytes))
+  pub warnings : lint.warnings ≡ warnings_of bytes
 
 -- of the log this is told, and this text written
 abbrev pub Overviews : List ℕ → Linted → List ℕ → Type 0
-Overviews bytes told text = (lint : Lint) × IsLint bytes lint × (told.is_suspicious ≡ is_suspicious lint) × (text ≡ text_of_lint lint)
+Overviews bytes told text = (lint : Lint) × IsLint bytes lint × (told.is_suspicious ≡ are_due lint.warnings) × (text ≡ text_of_lint lint)

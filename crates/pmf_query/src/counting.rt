@@ -4,6 +4,7 @@ ghost use Rattle.std.specs.Prelude.{◌≡◌, ◌+◌, ◌<◌, ◌^◌, ℕ, L
 
 use crate::listing::Listing;
 use crate::naming::{Named, count_name, is_skipped, known_counts, name_of};
+use crate::noting::Notes;
 use std::alloc::{AllocError, Global};
 
 /// How many records of each name a walk has passed.
@@ -15,6 +16,7 @@ pub(crate) struct NameCounts<'a> {
     pub(crate) known: Vec<Named<'a>>,
     /// The names of those that are skipped.
     pub(crate) listing: Listing<'a>,
+    pub(crate) notes: Notes,
 }
 
 impl<'a> NameCounts<'a> {
@@ -29,6 +31,7 @@ impl<'a> NameCounts<'a> {
             records: 0,
             known,
             listing: Listing::new(alloc),
+            notes: Notes::none(),
         })
     }
 
@@ -42,7 +45,9 @@ impl<'a> NameCounts<'a> {
         self.records += 1;
         let name = name_of(text);
         count_name(&mut self.known, name);
-        if is_skipped(text) {
+        let skipped = is_skipped(text);
+        self.notes = self.notes.and(text, name, skipped);
+        if skipped {
             self.listing.take(name)?;
         }
         Ok(())

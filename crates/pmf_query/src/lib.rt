@@ -16,15 +16,20 @@
 
 mod counting;
 mod covering;
+mod ending;
 mod explain;
 mod explaining;
+mod fields;
 mod inside;
 pub mod laws;
+mod leaving;
 mod lint;
 mod listing;
 mod locate;
+mod misread;
 mod naming;
 mod nearness;
+mod noting;
 mod passing;
 mod query;
 mod refusal;
@@ -35,10 +40,13 @@ mod summing;
 mod telling;
 #[cfg(test)]
 mod tests;
+mod upkeep;
 mod walking;
+mod warnings;
 
 pub use explain::explain_text;
 pub use explaining::explain_all;
+pub use fields::field;
 pub use lint::{Lint, Linted, lint_log};
 pub use locate::{Located, locate_event, locate_text};
 pub use naming::{LISTED, Named};
@@ -49,4 +57,6 @@ pub use refusal::{EventFault, EventRefusal, LogRefusal};
 pub use standing::Standing;
 pub use streaming::{StreamedQuery, Unanswered};
 pub use summing::Sums;
-pub use telling::{lint_text, push_ascii};
+pub use telling::{lint_text, push_ascii, push_warnings};
+pub use upkeep::Upkeep;
+pub use warnings::Warnings;

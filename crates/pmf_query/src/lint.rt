@@ -2,16 +2,20 @@
 
 ghost use Rattle.std.specs.Prelude.{◌≡◌, MatchResult, IfOk};
 ghost use Rattle.pmf_storelog.specs.Separators.{records_of};
-ghost use Rattle.pmf_query.specs.{Counting.{Tallies}, Linting.{IsLint, Overviews}, Refusals.{IsLogRefusal}};
+ghost use Rattle.pmf_query.specs.{Counting.{AreNotes, Tallies}, Linting.{IsLint, Overviews}, Refusals.{IsLogRefusal}, Warnings.{warnings_by}};
 
 use crate::counting::NameCounts;
+use crate::covering::both;
+use crate::ending::is_open_ended;
 use crate::listing::Listing;
 use crate::naming::Named;
+use crate::noting::Notes;
 use crate::query::{Answer, Query};
 use crate::refusal::LogRefusal;
 use crate::summing::{Sums, sum};
 use crate::telling::lint_text;
 use crate::walking::next_record;
+use crate::warnings::Warnings;
 use pmf_request::Overview;
 use pmf_storelog::read_log;
 use std::alloc::{AllocError, Global};
@@ -36,7 +40,7 @@ impl Query for Overview {
     fn answer(&self, alloc: Global, log: &[u8]) -> Result<Answer<Linted>, LogRefusal> {
         let lint = lint_log(alloc, log)?;
         let told = Linted {
-            is_suspicious: lint.is_suspicious(),
+            is_suspicious: lint.warnings.are_due(),
         };
         match lint_text(alloc, &lint) {
             Ok(text) => Ok(Answer { told, text }),
@@ -58,15 +62,12 @@ pub struct Lint<'a> {
     pub listed: Vec<Named<'a>>,
     /// How many skipped ones have none of these.
     pub others: u64,
-    /// Whether the name of a skipped one, listed or not, is near to a known name, as a misspelt one is ([`crate::near`]).
-    pub has_near: bool,
-    /// Whether the name of a skipped one, listed or not, is not text ([`crate::is_text`]), as in a packed log, in UTF-16, or behind
-    /// a byte order mark.
-    pub has_strange: bool,
     /// The sections.
     pub sections: u64,
     /// What these hold.
     pub sums: Sums,
+    /// Why the log may not be what its user believes it is.
+    pub warnings: Warnings,
 }
 
 /// What the log holds. A faulty log is refused with its first fault.
@@ -86,46 +87,64 @@ pub fn lint_log<'a>(alloc: Global, log: &'a [u8]) -> Result<Lint<'a>, LogRefusal
     match count_names(alloc, log) {
         Ok(counts) => {
             let sections = read.sections().len() as u64;
-            Ok(told(counts, read.skipped(), sections, sums))
+            let warnings = warnings_by(log, counts.notes, sums);
+            Ok(told(counts, read.skipped(), sections, sums, warnings))
         }
         Err(_) => Err(LogRefusal::OutOfMemory),
     }
 }
 
-fn told<'a>(counts: NameCounts<'a>, skipped: u64, sections: u64, sums: Sums) -> Lint<'a>
+// Which warnings are due of the log whose records tell this, and whose sections hold this.
+#[tactic(auto, unfolding(crate::specs::Warnings::warnings_by, crate::specs::Ending::lacks_stop))]
+fn warnings_by(log: &[u8], notes: Notes, sums: Sums) -> Warnings
+    requires { AreNotes notes (records_of log.now) }
+    ensures { result ≡ warnings_by log.now (records_of log.now) sums }
+{
+    Warnings {
+        asserts_nothing: sums.asserts_nothing(),
+        checks_nothing: sums.checks_nothing(),
+        has_near: notes.has_near,
+        has_strange: notes.has_strange,
+        is_open_ended: is_open_ended(log),
+        lacks_stop: both(notes.starts, !notes.stops),
+        is_misread: both(notes.has_decimal, sums.misread > 0),
+    }
+}
+
+fn told<'a>(
+    counts: NameCounts<'a>,
+    skipped: u64,
+    sections: u64,
+    sums: Sums,
+    warnings: Warnings,
+) -> Lint<'a>
     ensures { result ≡ record {
       records = counts.entry.records;
       known = counts.entry.known;
       skipped = skipped;
       listed = counts.entry.listing.listed;
       others = counts.entry.listing.others;
-      has_near = counts.entry.listing.has_near;
-      has_strange = counts.entry.listing.has_strange;
       sections = sections;
       sums = sums;
+      warnings = warnings;
     } }
 {
     let NameCounts {
         records,
         known,
         listing,
+        ..
     } = counts;
-    let Listing {
-        listed,
-        others,
-        has_near,
-        has_strange,
-    } = listing;
+    let Listing { listed, others } = listing;
     Lint {
         records,
         known,
         skipped,
         listed,
         others,
-        has_near,
-        has_strange,
         sections,
         sums,
+        warnings,
     }
 }
 

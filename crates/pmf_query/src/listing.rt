@@ -1,21 +1,15 @@
-//! The first different names of skipped records.
+//! The first different ones of some names.
 
 ghost use Rattle.std.specs.Prelude.{◌≡◌, ◌+◌, ◌<◌, ◌^◌, ℕ, List, [], ◌∷◌, ◌++◌, length, OnOk};
 
-use crate::covering::either;
 use crate::naming::{LISTED, Named, count_name, is_among};
-use crate::nearness::{is_misspelt, is_text};
 use std::alloc::{AllocError, Global};
 
-/// How many of some names are each of the first different ones, how many are none of these, and what is hinted at of all.
+/// How many of some names are each of the first different ones, and how many are none of these.
 #[derive(Debug, Drop)]
 pub(crate) struct Listing<'a> {
     pub(crate) listed: Vec<Named<'a>>,
     pub(crate) others: u64,
-    /// Whether one is near to a known name.
-    pub(crate) has_near: bool,
-    /// Whether one is no text.
-    pub(crate) has_strange: bool,
 }
 
 impl<'a> Listing<'a> {
@@ -28,8 +22,6 @@ impl<'a> Listing<'a> {
         Listing {
             listed: Vec::new(alloc),
             others: 0,
-            has_near: false,
-            has_strange: false,
         }
     }
 
@@ -40,8 +32,6 @@ impl<'a> Listing<'a> {
         ensures { (names : List (List ℕ)) → Lists self.old names
             → OnOk result (Lists self.new (names ++ name.now ∷ [])) }
     {
-        self.has_near = either(self.has_near, is_misspelt(name));
-        self.has_strange = either(self.has_strange, !is_text(name));
         if is_among(&self.listed, name) {
             count_name(&mut self.listed, name);
             return Ok(());

@@ -4,7 +4,9 @@ ghost use Rattle.std.specs.Prelude.{◌≡◌, ◌-◌, ◌<◌, ◌^◌, [], �
 ghost use Rattle.pmf_query.specs.Summing.{IsWithin, asserts, both, empty_of, is_empty_row, is_store, sums_of};
 
 use crate::covering::{count_uncovered, one_if};
+use crate::leaving::Left;
 use crate::refusal::LogRefusal;
+use crate::upkeep::{Upkeep, Walk, upkeep_of};
 use pmf_event::{Event, Profile, Row, Section};
 use pmf_verdict::{Outcome, check, outcome_of};
 use std::alloc::Global;
@@ -19,11 +21,15 @@ pub struct Sums {
     pub assertions: u128,
     /// Rows of assertions that had nothing to check.
     pub empty: u128,
+    /// Assertions that had nothing to check, and would have had if their addresses were hexadecimal.
+    pub misread: u128,
     /// Events that are stores.
     pub stores: u128,
     /// Those of them that no later assertion covers: none names one of their bytes, and no `PMT.CHECKEND` closes a scope in
     /// which they stand inside a transaction.
     pub unasserted: u128,
+    /// How the stores are made durable.
+    pub upkeep: Upkeep,
 }
 
 impl Sums {
@@ -35,8 +41,10 @@ impl Sums {
             events: 0,
             assertions: 0,
             empty: 0,
+            misread: 0,
             stores: 0,
             unasserted: 0,
+            upkeep: Upkeep::none(),
         }
     }
 
@@ -49,12 +57,16 @@ impl Sums {
         let empty = count_empty(alloc, section)?;
         let events = section.events();
         let unasserted = count_uncovered(alloc, events)?;
+        let walk = Walk::over(alloc, events)?;
+        let left = Left::of(alloc, &walk.shadow, events.len())?;
         Ok(Sums {
             events: events.len() as u128,
             assertions: u128::from(count_assertions(events)),
             empty: u128::from(empty),
+            misread: u128::from(walk.misread),
             stores: u128::from(count_stores(events)),
             unasserted: u128::from(unasserted),
+            upkeep: upkeep_of(&walk, &left),
         })
     }
 
@@ -65,8 +77,10 @@ impl Sums {
         self.events += more.events;
         self.assertions += more.assertions;
         self.empty += more.empty;
+        self.misread += more.misread;
         self.stores += more.stores;
         self.unasserted += more.unasserted;
+        self.upkeep = self.upkeep.and(more.upkeep);
     }
 }
 

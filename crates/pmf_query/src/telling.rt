@@ -1,47 +1,18 @@
 //! The text that tells what a log holds, and its warnings.
 
 ghost use Rattle.std.specs.Prelude.{◌≡◌, [], ◌∷◌, ◌++◌, true, IfOk, OnOk, flat_map, string_bytes};
-ghost use Rattle.pmf_query.specs.{LintText.{asserts_nothing, checks_nothing, escaped, hint_of, is_suspicious, line_of_assertions, line_of_counts, line_of_known, line_of_others, line_of_skipped, line_of_stores, lines_of_warnings, shown_byte, shown_name, shown_text, text_of_lint, warned}, Nearness.{is_printed, near_of}};
+ghost use Rattle.pmf_query.specs.{LintText.{escaped, hint_of, line_of_assertions, line_of_counts, line_of_fences, line_of_known, line_of_left, line_of_others, line_of_skipped, line_of_stores, lines_of_asserted, lines_of_records, lines_of_warnings, shown_byte, shown_name, shown_text, text_of_lint, warned}, Nearness.{is_printed, near_of}};
 
 use crate::lint::Lint;
 use crate::naming::Named;
 use crate::nearness::{is_printed, near};
 use crate::summing::Sums;
+use crate::upkeep::Upkeep;
+use crate::warnings::Warnings;
 use std::alloc::{AllocError, Global};
 
 /// How many bytes of a name are written at most.
 pub const SHOWN: usize = 64;
-
-impl Sums {
-    /// Whether no event asserts anything, so that a check of the log says nothing of the program.
-    #[tactic(auto, unfolding(crate::specs::LintText::asserts_nothing))]
-    pub fn asserts_nothing(&self) -> bool
-        ensures { result ≡ asserts_nothing self.now }
-    {
-        self.assertions == 0
-    }
-
-    /// Whether something is asserted, and no assertion had anything to check.
-    #[tactic(auto, unfolding(crate::specs::LintText::checks_nothing))]
-    pub fn checks_nothing(&self) -> bool
-        ensures { result ≡ checks_nothing self.now }
-    {
-        self.assertions != 0 && self.empty == self.assertions
-    }
-}
-
-impl Lint<'_> {
-    /// Whether a warning is due: the log may not be what its user believes it is.
-    #[tactic(auto, unfolding(crate::specs::LintText::is_suspicious))]
-    pub fn is_suspicious(&self) -> bool
-        ensures { result ≡ is_suspicious self.now }
-    {
-        if self.sums.asserts_nothing() || self.sums.checks_nothing() {
-            return true;
-        }
-        self.has_near || self.has_strange
-    }
-}
 
 /// The text that tells what a log holds: ASCII, in text lines that LF ends. Takes memory for the text alone.
 #[tactic(auto, unfolding(crate::specs::LintText::text_of_lint))]
@@ -55,7 +26,9 @@ pub fn lint_text(alloc: Global, lint: &Lint<'_>) -> Result<Vec<u8>, AllocError>
     push_others(&mut text, lint.others)?;
     push_assertions(&mut text, lint.sums)?;
     push_stores(&mut text, lint.sums)?;
-    push_warnings(&mut text, lint)?;
+    push_left(&mut text, lint.sums.upkeep)?;
+    push_fences(&mut text, lint.sums.upkeep)?;
+    push_warnings(&mut text, "", lint.warnings)?;
     Ok(text.into_bytes())
 }
 
@@ -167,42 +140,91 @@ fn push_stores(text: &mut String, sums: Sums) -> Result<(), AllocError>
     write!(text, " unasserted={unasserted}\n")
 }
 
-#[tactic(auto, unfolding(crate::specs::LintText::lines_of_warnings))]
-fn push_warnings(text: &mut String, lint: &Lint<'_>) -> Result<(), AllocError>
-    ensures { OnOk result (string_bytes text.new
-        ≡ string_bytes text.old ++ lines_of_warnings lint.now) }
+#[tactic(auto, unfolding(crate::specs::LintText::line_of_left))]
+fn push_left(text: &mut String, upkeep: Upkeep) -> Result<(), AllocError>
+    ensures { OnOk result (string_bytes text.new ≡ string_bytes text.old ++ line_of_left upkeep) }
 {
-    let sums = lint.sums;
+    let Upkeep {
+        unwritten,
+        unfenced,
+        overwriting,
+        ..
+    } = upkeep;
+    write!(text, "unwritten={unwritten}")?;
+    write!(text, " unfenced={unfenced}")?;
+    write!(text, " overwriting={overwriting}\n")
+}
+
+#[tactic(auto, unfolding(crate::specs::LintText::line_of_fences))]
+fn push_fences(text: &mut String, upkeep: Upkeep) -> Result<(), AllocError>
+    ensures { OnOk result (string_bytes text.new ≡ string_bytes text.old ++ line_of_fences upkeep) }
+{
+    let Upkeep { fences, idle, .. } = upkeep;
+    write!(text, "fences={fences}")?;
+    write!(text, " idle={idle}\n")
+}
+
+/// Writes the warnings that are due behind the text, each as a text line behind some words. After an `Err` some of them may stand there.
+pub fn push_warnings(text: &mut String, words: &str, due: Warnings) -> Result<(), AllocError>
+    ensures { OnOk result (string_bytes text.new
+        ≡ string_bytes text.old ++ lines_of_warnings words.now due) }
+{
+    push_asserted(text, words, due)?;
+    push_of_records(text, words, due)
+}
+
+#[tactic(auto, unfolding(crate::specs::LintText::lines_of_asserted))]
+fn push_asserted(text: &mut String, words: &str, due: Warnings) -> Result<(), AllocError>
+    ensures { OnOk result (string_bytes text.new
+        ≡ string_bytes text.old ++ lines_of_asserted words.now due) }
+{
+    push_warning(text, words, due.asserts_nothing, "nothing is asserted")?;
+    push_warning(text, words, due.checks_nothing, "each assertion is empty")?;
     push_warning(
         text,
-        sums.asserts_nothing(),
-        "warning: nothing is asserted\n",
-    )?;
-    push_warning(
-        text,
-        sums.checks_nothing(),
-        "warning: each assertion is empty\n",
-    )?;
-    push_warning(
-        text,
-        lint.has_near,
-        "warning: a skipped name is near a known one\n",
-    )?;
-    push_warning(
-        text,
-        lint.has_strange,
-        "warning: a skipped name is not text\n",
+        words,
+        due.is_misread,
+        "an empty assertion would not be if its decimal address were hexadecimal",
     )
 }
 
-fn push_warning(text: &mut String, due: bool, warning: &str) -> Result<(), AllocError>
+#[tactic(auto, unfolding(crate::specs::LintText::lines_of_records))]
+fn push_of_records(text: &mut String, words: &str, due: Warnings) -> Result<(), AllocError>
     ensures { OnOk result (string_bytes text.new
-        ≡ string_bytes text.old ++ warned due warning.now) }
+        ≡ string_bytes text.old ++ lines_of_records words.now due) }
+{
+    push_warning(
+        text,
+        words,
+        due.has_near,
+        "a skipped name is near a known one",
+    )?;
+    push_warning(text, words, due.has_strange, "a skipped name is not text")?;
+    push_warning(
+        text,
+        words,
+        due.is_open_ended,
+        "no end stands behind the last record",
+    )?;
+    push_warning(text, words, due.lacks_stop, "START stands without STOP")
+}
+
+fn push_warning(
+    text: &mut String,
+    words: &str,
+    due: bool,
+    warning: &str,
+) -> Result<(), AllocError>
+    ensures { OnOk result (string_bytes text.new
+        ≡ string_bytes text.old ++ warned words.now due warning.now) }
 {
     if !due {
         return Ok(());
     }
-    text.push_str(warning)
+    text.push_str(words)?;
+    text.push_str("warning: ")?;
+    text.push_str(warning)?;
+    text.push_str("\n")
 }
 
 fn push_name(text: &mut String, name: &[u8]) -> Result<(), AllocError>

@@ -13,6 +13,8 @@ pub struct Settings {
     pub profile: Profile,
     /// Whether the ledger text is written in the place of the report.
     pub ledger: bool,
+    /// Whether the log is looked through for warnings as well, and something has to pass.
+    pub strict: bool,
 }
 
 /// What `explain` is told by its words.
@@ -78,9 +80,12 @@ pub struct Patches {
     pub section: Option<u64>,
 }
 
-/// What `lint` is told by its words: nothing.
+/// What `lint` is told by its words.
 #[derive(Clone, Copy, Debug, PartialEq, Eq)]
-pub struct Overview;
+pub struct Overview {
+    /// Whether the stores are named that no assertion covers.
+    pub unasserted: bool,
+}
 
 /// What `cut` is told by its words.
 #[derive(Clone, Copy, Debug, PartialEq, Eq)]

@@ -1,6 +1,5 @@
 pub mod PairLemmas
 pub mod TellingLemmas
-pub mod FieldLemmas
 pub mod FirstsLemmas
 pub mod KindLemmas
 pub mod RowsLemmas

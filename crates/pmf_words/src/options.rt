@@ -196,6 +196,24 @@ pub(crate) fn ledger<'a>(alloc: Global) -> Arg<'a>
     )
 }
 
+// The flag of `check`.
+pub(crate) fn strict<'a>(alloc: Global) -> Arg<'a>
+    ensures rule { rule_of result ≡ flag (codes "strict") }
+    ensures local { result.global ≡ false }
+{
+    let help = "End with 1 also where `lint` warns of the log, or nothing passes";
+    flag(alloc, "strict", help)
+}
+
+// The flag of `lint`.
+pub(crate) fn unasserted<'a>(alloc: Global) -> Arg<'a>
+    ensures rule { rule_of result ≡ flag (codes "unasserted") }
+    ensures local { result.global ≡ false }
+{
+    let help = "Name the stores that no assertion covers";
+    flag(alloc, "unasserted", help)
+}
+
 // The flag of `explain`.
 pub(crate) fn all<'a>(alloc: Global) -> Arg<'a>
     ensures rule { rule_of result ≡ flag (codes "all") }

@@ -11,4 +11,4 @@ returns-in-Ok-count_names c =
     (told_so c.args.log.now c.in-Ok-count_names.counts _ _ _ so.0 c.in-Ok-count_names.ensures
     (c.skipped.ensures ∙ skipped_so 0 c.args.log.now c.in-Ok.read c.in-Ok.ensures)
     (sym (length-map c.sections-in-Ok-count_names.result.now (λ a. a.value)) ∙ ap (λ (ts : List Trace). length ts) (c.sections-in-Ok-count_names.ensures ∙ so.1) ∙ sections_long 0 (records_of c.args.log.now))
-    (c.in-Ok-sum.ensures ∙ ap sums_of (c.sections.ensures ∙ so.1)))
+    (c.in-Ok-sum.ensures ∙ ap sums_of (c.sections.ensures ∙ so.1)) c.warnings_by-warnings.result c.warnings_by-warnings.ensures)

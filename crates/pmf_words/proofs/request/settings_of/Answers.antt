@@ -13,4 +13,5 @@ returns c =
         two = λ is. c.profile_of.ensures.two (c.get_str.ensures ∙ first_value-rows f (codes "profile") ∙ is);
       };
       ledger = flag-named f (codes "ledger") c.get_flag.result c.get_flag.ensures.value c.get_flag.ensures.other;
+      strict = flag-named f (codes "strict") c.get_flag-2.result c.get_flag-2.ensures.value c.get_flag-2.ensures.other;
     }

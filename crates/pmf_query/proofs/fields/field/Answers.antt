@@ -1,6 +1,6 @@
 use Rattle.std.proofs.Common.{◌≡◌, ℕ, ◌+◌, ◌-◌, [], slice_index_or, ap, sym, ◌∙◌, arith}
 use Rattle.pmf_storelog.specs.Records.{fields_of}
-use Rattle.pmf_why.proofs.kind.field.Goals as goal
+use Rattle.pmf_query.proofs.fields.field.Goals as goal
 
 pub returns-in_default : goal.returns-in_default
 returns-in_default c =

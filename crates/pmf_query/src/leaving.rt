@@ -1,0 +1,120 @@
+//! Which stores of a section are not durable at its end.
+
+ghost use Rattle.std.specs.Prelude.{◌≡◌, ◌==◌, ◌&&◌, ◌||◌, ◌<◌, ℕ, suc, Bool, false, List, length, slice_index_or, IfOk};
+ghost use Rattle.pmf_event.specs.{declared.event.Event.{Event}, Places.{count}};
+ghost use Rattle.pmf_shadow.specs.{Shadow.{StandsFor}, Standing.{AllLeaveOpen}};
+ghost use Rattle.pmf_query.specs.Leaving.{AreLeft, AreLeftBelow, leaves_unfenced, leaves_unwritten};
+
+use crate::covering::{both, one_if};
+use pmf_event::ADDRESS_LIMIT;
+use pmf_shadow::{Shadow, Standing};
+use std::alloc::{AllocError, Global};
+
+/// Of each event of a section, by its index: what it leaves at the end.
+#[derive(Debug, Drop)]
+pub(crate) struct Left {
+    /// Whether it is a store with a byte that is not durable there.
+    pub(crate) left: Vec<bool>,
+    /// Whether it is one with such a byte that no write-back follows.
+    pub(crate) unwritten: Vec<bool>,
+}
+
+impl Left {
+    /// What the events leave for which the shadow stands, each told at its place. One look at each run of bytes that is not durable:
+    /// O(log n) steps for each of n runs. Takes two bytes for each event.
+    pub(crate) fn of(alloc: Global, shadow: &Shadow, places: usize) -> Result<Left, AllocError>
+        ensures { IfOk result (λ left. (es : List Event) → length es ≡ places → StandsFor shadow.now (λ k. k) es places → AreLeft es left) }
+    {
+        let mut left = Left {
+            left: none_of(alloc, places)?,
+            unwritten: none_of(alloc, places)?,
+        };
+        let mut first = 0;
+        while first < ADDRESS_LIMIT {
+            let (standing, end) = shadow.open_from(first, ADDRESS_LIMIT);
+            left.mark(standing);
+            first = end;
+        }
+        Ok(left)
+    }
+
+    /// How many stores leave a byte that no write-back follows, and how many others one that no fence follows.
+    pub(crate) fn counts(&self) -> (u64, u64)
+        ensures unwritten { (es : List Event) → AreLeft es self.now → result.0 ≡ count (leaves_unwritten es) (length es) }
+        ensures unfenced { (es : List Event) → AreLeft es self.now → result.1 ≡ count (leaves_unfenced es) (length es) }
+    {
+        let mut unwritten: u64 = 0;
+        let mut unfenced: u64 = 0;
+        for index in 0..self.left.len() {
+            unwritten += one_if(self.is_unwritten(index));
+            unfenced += one_if(self.is_unfenced(index));
+        }
+        (unwritten, unfenced)
+    }
+
+    /// Whether the event at the index is a store with a byte that no write-back follows.
+    pub(crate) fn is_unwritten(&self, index: usize) -> bool
+        ensures { (es : List Event) → AreLeft es self.now → index < length es → result ≡ leaves_unwritten es (suc index) }
+    {
+        if index < self.unwritten.len() {
+            return self.unwritten[index];
+        }
+        false
+    }
+
+    /// Whether it is another one, with a byte that no fence follows.
+    pub(crate) fn is_unfenced(&self, index: usize) -> bool
+        ensures { (es : List Event) → AreLeft es self.now → index < length es → result ≡ leaves_unfenced es (suc index) }
+    {
+        if self.is_unwritten(index) {
+            return false;
+        }
+        if index < self.left.len() {
+            return self.left[index];
+        }
+        false
+    }
+
+    // Marks the store of some neighbouring bytes that stand so.
+    fn mark(&mut self, standing: Standing)
+        ensures { (es : List Event) (first end : ℕ) → first < end → AllLeaveOpen (λ k. k) es (length es) first end standing
+            → AreLeftBelow es first self.old → AreLeftBelow es end self.new }
+    {
+        let Some(last) = standing.last else {
+            return;
+        };
+        let left = both(standing.undurable, !standing.excluded);
+        mark_if(&mut self.left, last, left);
+        mark_if(&mut self.unwritten, last, both(left, standing.unwritten));
+    }
+}
+
+// So many places, none of them marked.
+fn none_of(alloc: Global, places: usize) -> Result<Vec<bool>, AllocError>
+    ensures long { IfOk result (λ marks. length marks.items ≡ places) }
+    ensures none { IfOk result (λ marks. (k : ℕ) (d : Bool) → k < places → slice_index_or marks.items k d ≡ false) }
+{
+    let mut marks = Vec::with_capacity(alloc, places)?;
+    for _ in 0..places {
+        marks.push(false)?;
+    }
+    Ok(marks)
+}
+
+// Marks the place where this is so.
+fn mark_if(marks: &mut Vec<bool>, place: u32, marked: bool)
+    ensures long { length marks.new.items ≡ length marks.old.items }
+    ensures each { (k : ℕ) (d : Bool) → k < length marks.old.items
+        → slice_index_or marks.new.items k d ≡ (slice_index_or marks.old.items k d || marked && suc k == place) }
+{
+    if !marked {
+        return;
+    }
+    if place == 0 {
+        return;
+    }
+    let index = place as usize - 1;
+    if index < marks.len() {
+        marks[index] = true;
+    }
+}

@@ -1,0 +1,83 @@
+//! What the records of a log tell of whether it is whole, and read as it was meant.
+
+ghost use Rattle.std.specs.Prelude.{◌≡◌, ◌∷◌, ◌++◌, [], List, ℕ, bytes_eq};
+ghost use Rattle.pmf_storelog.specs.LogText.{is_skipped};
+ghost use Rattle.pmf_query.specs.{Counting.{AreNotes}, Ending.{asserts_decimal, is_decimal}, Naming.{name_of}};
+
+use crate::covering::{both, either};
+use crate::fields::field;
+use crate::nearness::{is_misspelt, is_text};
+
+/// What some records tell.
+#[derive(Clone, Copy, Debug)]
+pub(crate) struct Notes {
+    /// Whether the name of a skipped one is near to a known name.
+    pub(crate) has_near: bool,
+    /// Whether the name of a skipped one is no text.
+    pub(crate) has_strange: bool,
+    /// Whether one is START.
+    pub(crate) starts: bool,
+    /// Whether one is STOP.
+    pub(crate) stops: bool,
+    /// Whether one asserts bytes of which it writes an address in decimal.
+    pub(crate) has_decimal: bool,
+}
+
+impl Notes {
+    /// Of no record.
+    pub(crate) fn none() -> Notes
+        ensures { AreNotes result [] }
+    {
+        Notes {
+            has_near: false,
+            has_strange: false,
+            starts: false,
+            stops: false,
+            has_decimal: false,
+        }
+    }
+
+    /// Of one record more, which has this name, and is skipped or not.
+    pub(crate) fn and(self, text: &[u8], name: &[u8], skipped: bool) -> Notes
+        requires name { name.now ≡ name_of text.now }
+        requires skipped { skipped ≡ is_skipped text.now }
+        ensures { (records : List (List ℕ)) → AreNotes self records → AreNotes result (records ++ text.now ∷ []) }
+    {
+        Notes {
+            has_near: either(self.has_near, both(skipped, is_misspelt(name))),
+            has_strange: either(self.has_strange, both(skipped, !is_text(name))),
+            starts: either(self.starts, is_named(name, b"START")),
+            stops: either(self.stops, is_named(name, b"STOP")),
+            has_decimal: either(self.has_decimal, asserts_decimal(text, name)),
+        }
+    }
+}
+
+// Whether the record of this name asserts bytes of which it writes an address in decimal.
+#[tactic(auto, unfolding(crate::specs::Ending::asserts_decimal))]
+fn asserts_decimal(text: &[u8], name: &[u8]) -> bool
+    requires { name.now ≡ name_of text.now }
+    ensures { result ≡ asserts_decimal text.now }
+{
+    if is_named(name, b"PMT.PERSIST") {
+        return is_decimal(text, 1);
+    }
+    if is_named(name, b"PMT.ORDERED") {
+        return either(is_decimal(text, 1), is_decimal(text, 3));
+    }
+    false
+}
+
+fn is_named(name: &[u8], word: &[u8]) -> bool
+    ensures { result ≡ bytes_eq name.now word.now }
+{
+    name == word
+}
+
+// Whether the field begins without `0x`.
+#[tactic(auto, unfolding(crate::specs::Ending::is_decimal))]
+fn is_decimal(text: &[u8], index: usize) -> bool
+    ensures { result ≡ is_decimal text.now index }
+{
+    !field(text, index).starts_with(b"0x")
+}
