@@ -63,6 +63,31 @@ closed_output() {
 one_fence='section 7.0 events=1 pass=0 fail=0 warn=0 empty=0
 total sections=1 pass=0 fail=0 warn=0 empty=0'
 
+# strict STATUS DIAGNOSTICS LOG: how a strict check of the log ends, whose report is that of check.
+strict() {
+    printf '%b' "$3" >"$scratch/log"
+    "$program" check "$scratch/log" >"$scratch/wanted" 2>/dev/null
+    "$program" check --strict "$scratch/log" >"$scratch/report" 2>"$scratch/diagnostics"
+    ended "$1" $? && said "$2" "$scratch/diagnostics" && same "$scratch/wanted" "$scratch/report" || {
+        printf 'of %s\n' "$3"
+        return 1
+    }
+}
+
+# What passes, what fails, and what lint warns of, though no row fails.
+strict_ends() {
+    local holds='STORE;0x1000;7;8|FLUSH;0x1000;64|FENCE|PMT.PERSIST;0x1000;8'
+    strict 0 '' "$holds|" && strict 1 '' "$holds|STORE;0x2000;7;8|PMT.PERSIST;0x2000;8|" &&
+        strict 1 'pmfarm: warning: no end stands behind the last record' "$holds" &&
+        strict 1 'pmfarm: warning: nothing is asserted' 'FENCE|' &&
+        strict 1 $'pmfarm: warning: each assertion is empty\npmfarm: warning: an empty assertion would not be if its decimal address were hexadecimal' \
+            'STORE;0x1000;7;8|PMT.PERSIST;1000;8|' &&
+        strict 1 $'pmfarm: skipped 1 records\npmfarm: warning: a skipped name is near a known one' "$holds|PMT_PERSIST;0x1000;8|" &&
+        strict 1 $'pmfarm: skipped 1 records\npmfarm: warning: a skipped name is not text' "$holds|\\xff|" &&
+        strict 1 $'pmfarm: skipped 1 records\npmfarm: warning: START stands without STOP' "START|$holds|" &&
+        strict 0 'pmfarm: skipped 2 records' "START|$holds|STOP"
+}
+
 try_check() {
     local log name
     for log in examples/*.log; do
@@ -86,6 +111,9 @@ try_check() {
     check 'eleven skipped records are told of a ledger too' told 0 'a|b|c|d|e|f|g|h|i|j|k' $'PMFARM-LEDGER 1\nend verdicts=0' \
         'pmfarm: skipped 11 records' check --ledger
     check 'an unknown marker is refused' told 2 'FENCE|PMT.X' '' 'pmfarm: record 2: unknown marker' check
+    check 'strict checks end as lint warns' strict_ends
+    check 'a strict check tells no fault that check does not' told 2 'FENCE|PMT.X' '' 'pmfarm: record 2: unknown marker' check --strict
+    check 'each request for memory of check --strict refused in turn' sweep examples/order_and_warnings.log check --strict
     check 'a full device as standard output' full_output examples/first.log check
     check 'a write that fails in a long report tells how many bytes went out' cut_off_report
     check 'a closed standard output' closed_output

@@ -1,2 +1,3 @@
 pub mod ExplanationLemmas
+pub mod CheckedLemmas
 mod WorkedStatuses

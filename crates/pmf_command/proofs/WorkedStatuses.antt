@@ -9,8 +9,8 @@ use Rattle.pmf_world.specs.declared.simulating.SimFault.TheVariants.{BadStep}
 use Rattle.pmf_command.specs.{declared.status.Status.TheVariants.{NoFail, SomeFail, NoMemory}, Statuses.{exit_code_of, status_of, status_of_asked, status_of_check_fault, status_of_cut_fault, status_of_done, status_of_joined, status_of_linted, status_of_log_refusal, status_of_pieces, status_of_sim_fault, status_of_text_fault}}
 
 checks :
-    (exit_code_of (status_of status_of_done status_of_check_fault (Ok (record { skipped = 2; fails = 0 }))) ≡ 0)  -- no row counts as fail
-    × (exit_code_of (status_of status_of_done status_of_check_fault (Ok (record { skipped = 0; fails = 3 }))) ≡ 1)  -- three do
+    (exit_code_of (status_of status_of_done status_of_check_fault (Ok (record { skipped = 2; passes = 0; fails = 0; warnings = None }))) ≡ 0)  -- no row counts as fail
+    × (exit_code_of (status_of status_of_done status_of_check_fault (Ok (record { skipped = 0; passes = 5; fails = 3; warnings = None }))) ≡ 1)  -- three do
     × (exit_code_of (status_of status_of_done status_of_check_fault (Err (Refused (Log (record { at = 2; cause = BadNumber }))))) ≡ 2)  -- the log is refused
     × (exit_code_of (status_of status_of_done status_of_check_fault (Err (Refused (Farm NoWorkers)))) ≡ 2)  -- no workers
     × (exit_code_of (status_of status_of_done status_of_check_fault (Err (Refused (Log (record { at = 0; cause = OutOfMemory }))))) ≡ 3)  -- no room for an event

@@ -1,14 +1,14 @@
 -- How each request is answered, from the bytes that are read to the status with which the process ends. Defined here.
-use Rattle.std.specs.Prelude.{◌≡◌, ◌⊎◌, ◌+◌, ℕ, Bool, true, false, ◌&&◌, nat_le, nat_lt, List, [], ◌∷◌, map, take, Option, None, Some, Result, OnOk}
+use Rattle.std.specs.Prelude.{◌≡◌, ◌⊎◌, ◌+◌, ◌<◌, ℕ, Bool, true, false, ◌&&◌, nat_le, nat_lt, List, [], ◌∷◌, map, take, Option, None, Some, Result, OnOk}
 use Rattle.pmf_event.specs.declared.section.TheConstants.{EVENT_LIMIT}
 use Rattle.pmf_storelog.specs.declared.fault.TheConstants.{LOG_LIMIT}
 use Rattle.pmf_ledger.specs.declared.loading.TheConstants.{LEDGER_LIMIT}
 use Rattle.pmf_storelog.specs.LogValue.{LogValue}
-use Rattle.pmf_ledger.specs.AllKept.{AllKept}
+use Rattle.pmf_ledger.specs.{AllKept.{AllKept}, Gathered.{IsLedgerOf}, LedgerValue.{LedgerValue}, Report.{totals_of}}
 use Rattle.pmf_request.specs.declared.settings.Settings.{Settings}
 use Rattle.pmf_request.specs.declared.request.{Cuts.{Cuts}, Files.{Files}, Input.{Input}, Input.TheVariants.{Standard, File}, Simulation.{Simulation}, Request.{Request}, Request.TheVariants.{Check, Explain, ExplainAll, Why, Patch, Locate, Lint, Cut, Join, Sim}}
 use Rattle.pmf_cut.specs.declared.fault.CutFault.{CutFault}
-use Rattle.pmf_query.specs.{Explanation.{IsExplanation}, AllExplained.{ExplainsAll}, Locating.{IsLocationText}, Linting.{Overviews}, Refusals.{IsEventRefusal, IsLogRefusal}}
+use Rattle.pmf_query.specs.{Explanation.{IsExplanation}, AllExplained.{ExplainsAll}, Locating.{IsLocationText}, Linting.{Overviews}, Warnings.{are_due, warnings_of}, Refusals.{IsEventRefusal, IsLogRefusal}}
 use Rattle.pmf_why.specs.{Patching.{IsPatch, IsPatchRefusal}, Why.{IsWhy, IsWhyRefusal}}
 use Rattle.pmf_stream.specs.{Answering.{Answers}, Asked.{IsAnswerOf, IsRefusalOf}, Checking.{IsCheckFaultOf, IsLogOf, IsReportOf}, Files.{IsCutOf}, Joining.{IsJoinedText, IsRefusalOfTexts}, Reading.{HasReadAll}, Simulated.{IsSimRefusalOf, IsSimulationOf}, declared.cutting.Pieces.{Pieces}, declared.fault.StreamFault.{StreamFault}}
 use Rattle.pmf_world.specs.declared.simulating.{TheConstants.{SCHEDULE_LIMIT}}
@@ -137,3 +137,15 @@ EndsWellOnlyIfKept settings input s status =
 abbrev pub StatusZeroKeepsAll : Type 0
 StatusZeroKeepsAll =
     (settings : Settings) (input : Input) (s : Streams) (status : Status) → IsAnswered (Check settings input) s status → EndsWellOnlyIfKept settings input s status
+
+-- where `check --strict` ends with status 0, what was read is a log, and all that it asserts holds; some row passes, and no warning is due
+abbrev pub EndsStrictlyOnlyIfTrusted : Settings → Input → Streams → Status → Type 0
+EndsStrictlyOnlyIfTrusted settings input s status =
+    settings.strict ≡ true → status ≡ NoFail →
+    IsSaidOf input s (λ left rest. (log : LogValue) × (read : IsLogOf settings.run left rest log) × AllKept log.sections
+    × ((ledger : LedgerValue) × IsLedgerOf settings.profile log.sections ledger × (0 < (totals_of ledger.sections).pass)) × (are_due (warnings_of read.bytes) ≡ false))
+
+-- a law: what is answered of `check` says so, too
+abbrev pub StrictStatusZeroIsTrusted : Type 0
+StrictStatusZeroIsTrusted =
+    (settings : Settings) (input : Input) (s : Streams) (status : Status) → IsAnswered (Check settings input) s status → EndsStrictlyOnlyIfTrusted settings input s status

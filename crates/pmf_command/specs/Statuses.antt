@@ -1,12 +1,12 @@
 -- The exit statuses (defined here).
-use Rattle.std.specs.Prelude.{◌≡◌, ◌⊎◌, ℕ, ◌==◌, Result, Ok, Err, if◌then◌else◌}
+use Rattle.std.specs.Prelude.{◌≡◌, ◌⊎◌, ℕ, ◌==◌, nat_lt, Bool, true, not, ◌&&◌, Option, None, Some, Result, Ok, Err, if◌then◌else◌}
 use Rattle.clap.specs.declared.error.kind.{ErrorKind.{ErrorKind}, ErrorKind.TheVariants.{DisplayHelp, DisplayVersion, OutOfMemory}}
 use Rattle.pmf_storelog.specs.declared.fault.{Cause.{Cause}, LogFault.{LogFault}}
 use Rattle.pmf_cut.specs.declared.fault.CutFault.{CutFault}
 use Rattle.pmf_ledger.specs.declared.{joining.JoinFault.{JoinFault}, loading.LedgerFault.{LedgerFault}}
 use Rattle.pmf_farm.specs.declared.fault.FarmFault.{FarmFault}
 use Rattle.pmf_stream.specs.declared.{checking.CheckLogFault.{CheckLogFault}, checking.Done.{Done}, cutting.Pieces.{Pieces}, joining.Joined.{Joined}, joining.JoinTextFault.{JoinTextFault}, fault.StreamFault.{StreamFault}}
-use Rattle.pmf_query.specs.declared.{lint.Linted.{Linted}, refusal.EventFault.{EventFault}, refusal.EventRefusal.{EventRefusal}, refusal.LogRefusal.{LogRefusal}}
+use Rattle.pmf_query.specs.{declared.{lint.Linted.{Linted}, refusal.EventFault.{EventFault}, refusal.EventRefusal.{EventRefusal}, refusal.LogRefusal.{LogRefusal}, warnings.Warnings.{Warnings}}, Warnings.{are_due}}
 use Rattle.pmf_why.specs.declared.refusal.PatchRefusal.{PatchRefusal}
 use Rattle.pmf_world.specs.declared.{fault.WorldNewFault.{WorldNewFault}, simulating.SimFault.{SimFault}}
 use Rattle.pmf_command.specs.declared.status.{Status.{Status}, Status.TheVariants.{NoFail, SomeFail, Refused, NoMemory, DeviceFault}}
@@ -48,9 +48,14 @@ IsAnswerTo kind status =
 abbrev pub status_of_fails : ℕ → Status
 status_of_fails fails = if fails == 0 then NoFail else SomeFail
 
+-- whether no warning was asked for; or something passes, and none is due
+abbrev pub is_trusted : ℕ → Option Warnings → Bool
+is_trusted passes None = true
+is_trusted passes (Some warnings) = nat_lt 0 passes && not (are_due warnings)
+
 -- how the program ends where the log is reported
 abbrev pub status_of_done : Done → Status
-status_of_done done = status_of_fails done.fails
+status_of_done done = if is_trusted done.passes done.warnings then status_of_fails done.fails else SomeFail
 
 -- how the program ends where a log is refused for this cause
 abbrev pub status_of_cause : Cause → Status

@@ -3,7 +3,9 @@
 ghost use Rattle.std.specs.Prelude.{◌≡◌};
 
 use crate::status::Status;
+use pmf_query::{Warnings, push_warnings};
 use pmf_stream::Notes;
+use std::alloc::Global;
 use std::fmt::Display;
 use std::io::Eprint;
 
@@ -50,6 +52,15 @@ pub fn print_skipped<R: Eprint>(rt: &R, records: u64) {
     if records > 0 {
         let _ = eprintln!(rt; "pmfarm: skipped {records} records");
     }
+}
+
+/// Says on standard error which warnings of a log are due.
+pub fn print_warnings<R: Eprint>(rt: &R, alloc: Global, warnings: Warnings) {
+    let mut text = String::new(alloc);
+    let _ = match push_warnings(&mut text, "pmfarm: ", warnings) {
+        Ok(()) => eprint!(rt; "{text}"),
+        Err(_) => eprintln!(rt; "pmfarm: out of memory for the warnings"),
+    };
 }
 
 /// Says that a log is awaited from a terminal.

@@ -9,7 +9,7 @@ ghost use Rattle.pmf_world.specs.declared.simulating.SimFault.{SimFault};
 ghost use Rattle.pmf_command.specs.{Statuses.{IsAnswerTo, exit_code_of, status_of, status_of_asked, status_of_check_fault, status_of_cut_fault, status_of_done, status_of_fault, status_of_joined, status_of_pieces, status_of_sim_fault, status_of_text_fault}, declared.status.Status.{Status}};
 
 use crate::diagnostics::{
-    Spoken, fail, fail_file, out_of_memory, print_cuts, print_skipped, refuse_words,
+    Spoken, fail, fail_file, out_of_memory, print_cuts, print_skipped, print_warnings, refuse_words,
 };
 use crate::ending::Ending;
 use crate::hints::{print_hint, print_reason};
@@ -136,6 +136,9 @@ pub(crate) fn check_to<R: Eprint, T: Threads + Wait + Sync, S: Source, W: Sink>(
     );
     if let Ok(done) = &answer {
         print_skipped(rt, done.skipped);
+        if let Some(warnings) = done.warnings {
+            print_warnings(rt, alloc, warnings);
+        }
     }
     report_ending(rt, answer, &refused, source.reason())
 }

@@ -1,13 +1,13 @@
 //! The status of each answer of a command.
 
 ghost use Rattle.std.specs.Prelude.{◌≡◌};
-ghost use Rattle.pmf_command.specs.{Statuses.{status_of_asked, status_of_check_fault, status_of_cut_fault, status_of_done, status_of_event_refusal, status_of_farm_fault, status_of_fails, status_of_fault, status_of_join_fault, status_of_joined, status_of_ledger_fault, status_of_linted, status_of_log_fault, status_of_log_refusal, status_of_new_fault, status_of_patch_refusal, status_of_pieces, status_of_sim_fault, status_of_text_fault}, declared.status.Status.{Status}};
+ghost use Rattle.pmf_command.specs.{Statuses.{is_trusted, status_of_asked, status_of_check_fault, status_of_cut_fault, status_of_done, status_of_event_refusal, status_of_farm_fault, status_of_fails, status_of_fault, status_of_join_fault, status_of_joined, status_of_ledger_fault, status_of_linted, status_of_log_fault, status_of_log_refusal, status_of_new_fault, status_of_patch_refusal, status_of_pieces, status_of_sim_fault, status_of_text_fault}, declared.status.Status.{Status}};
 
 use crate::status::Status;
 use pmf_cut::CutFault;
 use pmf_farm::FarmFault;
 use pmf_ledger::{JoinFault, LedgerFault};
-use pmf_query::{EventFault, EventRefusal, Linted, LogRefusal};
+use pmf_query::{EventFault, EventRefusal, Linted, LogRefusal, Warnings};
 use pmf_storelog::{Cause, LogFault};
 use pmf_stream::{CheckLogFault, Done, JoinTextFault, Joined, Pieces, StreamFault};
 use pmf_why::PatchRefusal;
@@ -43,7 +43,20 @@ impl Ending for Done {
     ghost ends_as = { status_of_done };
 
     fn status(&self) -> Status {
-        status_of_fails(self.fails)
+        if is_trusted(self.passes, self.warnings) {
+            return status_of_fails(self.fails);
+        }
+        Status::SomeFail
+    }
+}
+
+// Whether no warning was asked for; or something passes, and none is due.
+fn is_trusted(passes: u128, warnings: Option<Warnings>) -> bool
+    ensures { result ≡ is_trusted passes warnings }
+{
+    match warnings {
+        None => true,
+        Some(warnings) => passes > 0 && !warnings.are_due(),
     }
 }
 

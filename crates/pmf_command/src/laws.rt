@@ -1,10 +1,15 @@
 //! Laws of how requests are answered, each the clause of an empty function.
 
-ghost use Rattle.pmf_command.specs.{Answered.{StatusZeroKeepsAll}, ExplanationTold.{ExplanationsTellTheirRows}};
+ghost use Rattle.pmf_command.specs.{Answered.{StatusZeroKeepsAll, StrictStatusZeroIsTrusted}, ExplanationTold.{ExplanationsTellTheirRows}};
 
 /// Where `check` ends with status 0, what was read is a log, and all that it asserts holds in every crash image.
 pub fn status_zero_keeps_all()
     ensures { StatusZeroKeepsAll }
+{}
+
+/// Where `check --strict` does, some row passes, too, and `lint` has no warning of what was read.
+pub fn strict_status_zero_is_trusted()
+    ensures { StrictStatusZeroIsTrusted }
 {}
 
 /// The text that explains an event tells, text line by text line, just the rows that were found there, where their numbers are below 2^64.

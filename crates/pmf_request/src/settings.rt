@@ -80,12 +80,9 @@ pub struct Patches {
     pub section: Option<u64>,
 }
 
-/// What `lint` is told by its words.
+/// What `lint` is told by its words: nothing.
 #[derive(Clone, Copy, Debug, PartialEq, Eq)]
-pub struct Overview {
-    /// Whether the stores are named that no assertion covers.
-    pub unasserted: bool,
-}
+pub struct Overview;
 
 /// What `cut` is told by its words.
 #[derive(Clone, Copy, Debug, PartialEq, Eq)]

@@ -1,7 +1,8 @@
 -- What check_stream reads, and the report or ledger text that it writes. Defined here.
-use Rattle.std.specs.{Prelude.{◌≡◌, ◌≢◌, ◌<◌, ◌≤◌, ◌⊎◌, Bool, true, false, List, ◌++◌, length, map, ℕ, Option, None, Ok, Err}, Io.KnownBytes.{IsAtEnd}}
+use Rattle.std.specs.{Prelude.{◌≡◌, ◌≢◌, ◌<◌, ◌≤◌, ◌⊎◌, Bool, true, false, List, ◌++◌, length, map, ℕ, Option, None, Some, Ok, Err}, Io.KnownBytes.{IsAtEnd}}
 use Rattle.pmf_storelog.specs.{declared.fault.LogFault.{LogFault}, declared.fault.TheConstants.{LOG_LIMIT}, LogValue.{LogValue}, LogText.{log_of, shown_fault, IsFaultOfAll, out_of_memory}}
 use Rattle.pmf_ledger.specs.{Gathered.{IsLedgerOf}, AllKept.{AllKept, AllFilled}, LedgerText.{text_of_ledger}, LedgerValue.{LedgerValue}, Report.{report_of, totals_of}, ReportTold.{sections_told, shown}}
+use Rattle.pmf_query.specs.{declared.warnings.Warnings.{Warnings}, Warnings.{warnings_of}}
 use Rattle.pmf_farm.specs.{declared.fault.FarmFault.{FarmFault}, Running.{IsTaken}}
 use Rattle.pmf_board.specs.{declared.board.TheConstants.{MOST_WORKERS}, Workers.{AreWorkers}}
 use Rattle.pmf_stream.specs.{declared.checking.CheckLogFault.{CheckLogFault}, declared.checking.Done.{Done}, declared.reading.TheConstants.{PIECE}, Reading.{HasReadBytes}}
@@ -44,13 +45,24 @@ pub record Reports (settings : Settings) (log : LogValue) (done : Done) (text : 
   pub text_is : text ≡ text_asked settings.ledger ledger
   pub told : settings.ledger ≡ false → sections_told text ≡ map shown ledger.sections
   pub skipped : done.skipped ≡ log.skipped
+  pub passes : done.passes ≡ (totals_of ledger.sections).pass
   pub fails : done.fails ≡ (totals_of ledger.sections).fail
   pub kept : done.fails ≡ 0 → AllKept log.sections
   pub filled : (totals_of ledger.sections).empty ≡ 0 → AllFilled log.sections
 
--- what was read is a log, and this is its report
+-- these are the warnings that `lint` has of a log, where they are asked for
+abbrev pub AreWarnings : Bool → List ℕ → Option Warnings → Type 0
+AreWarnings false bytes warnings = warnings ≡ None
+AreWarnings true bytes warnings = warnings ≡ Some (warnings_of bytes)
+
+-- what is so, and its bytes are those that were kept, where any are
+abbrev pub HasKept : Bool → List ℕ → (P : Type 0) → (P → List ℕ) → Type 0
+HasKept keeps kept P bytes = (is : P) × (keeps ≡ true → kept ≡ bytes is)
+
+-- what was read is a log, this is its report, and these are its warnings
 abbrev pub IsReportOf : Settings → Option (List ℕ) → Option (List ℕ) → Done → List ℕ → Type 0
-IsReportOf settings left rest done text = (log : LogValue) × IsLogOf settings.run left rest log × Reports settings log done text
+IsReportOf settings left rest done text =
+    (log : LogValue) × (read : IsLogOf settings.run left rest log) × Reports settings log done text × AreWarnings settings.strict read.bytes done.warnings
 
 -- what was read has this first fault, want of memory aside
 abbrev pub IsLogFaultOf : ℕ → Option (List ℕ) → Option (List ℕ) → LogFault → Type 0

@@ -5,7 +5,7 @@ ghost use Rattle.pmf_storelog.specs.{declared.fault.TheConstants.{LOG_LIMIT}, Lo
 ghost use Rattle.pmf_farm.specs.Running.{IsTaken};
 ghost use Rattle.pmf_ledger.specs.{Gathered.{IsLedgerOf}, Report.{totals_of}, ReportTold.{sections_told, shown}};
 ghost use Rattle.pmf_device.specs.Failures.{CanCountOneMore};
-ghost use Rattle.pmf_stream.specs.{Answering.{Answers, RefusesReading, TellsFaults, failed_reads}, Checking.{IsCheckFaultOf, IsLogOf, IsReportOf, Reports, text_asked}, Reading.{ReadsWithin}};
+ghost use Rattle.pmf_stream.specs.{Answering.{Answers, RefusesReading, TellsFaults, failed_reads}, Checking.{AreWarnings, HasKept, IsCheckFaultOf, IsLogOf, IsReportOf, Reports, text_asked}, Reading.{ReadsWithin}};
 
 use crate::excerpt::Excerpt;
 use crate::fault::StreamFault;
@@ -13,7 +13,8 @@ use crate::reading::{Intake, read_into};
 use crate::writing::write_answer;
 use pmf_device::{Failed, Sink, Source};
 use pmf_farm::{FarmFault, Gate, run};
-use pmf_ledger::Ledger;
+use pmf_ledger::{Ledger, Totals};
+use pmf_query::{Warnings, lint_log};
 use pmf_request::Settings;
 use pmf_storelog::{LOG_LIMIT, Log, LogFault, LogReader};
 use std::alloc::{AllocError, Global};
@@ -27,8 +28,12 @@ use std::thread::Threads;
 pub struct Done {
     /// How many records were skipped.
     pub skipped: u64,
-    /// How many rows of the report count as fail.
+    /// How many rows of the report count as pass.
+    pub passes: u128,
+    /// How many count as fail.
     pub fails: u128,
+    /// Which warnings `lint` has of the log, where they are asked for.
+    pub warnings: Option<Warnings>,
 }
 
 /// Why a log was not checked: it is faulty, or else its sections were not taken by the workers.
@@ -56,33 +61,45 @@ impl fmt::Display for CheckLogFault {
 
 impl Error for CheckLogFault {}
 
-// A log's reader, and the record for which it refuses a piece.
+// A log's reader, the record for which it refuses a piece, and the bytes that it has taken, where these are kept.
 #[derive(Drop)]
 struct Watched {
     log: LogReader,
     excerpt: Excerpt,
+    keeps: bool,
+    kept: Vec<u8>,
 }
 
 impl Intake for Watched {
     type Fault = LogFault;
 
-    ghost use Rattle.std.proofs.{Common.{append_assoc, sym, subst}, lemmas.List.{append-nil}};
-    ghost use Rattle.pmf_stream.specs.Pieces.{Refuses, StandsFor, Takes};
+    ghost use Rattle.std.proofs.{Common.{append_assoc, refl, sym, ap, subst, ◌∙◌}, lemmas.List.{append-nil}};
+    ghost use Rattle.pmf_stream.specs.Pieces.{Keeps, Refuses, StandsFor, Takes};
 
-    ghost Takes = { λ a xs b. Takes a.log xs b.log };
+    ghost Takes = { λ a xs b. Takes a.log xs b.log × Keeps a.keeps b.keeps a.kept.items xs b.kept.items };
 
     ghost Refuses = { λ a xs fault. Refuses a.log xs fault };
 
-    ghost takes_none = { λ a run bytes stands.
-        subst (λ xs. StandsFor run xs a.log) (sym (append-nil bytes)) stands };
+    ghost takes_none = { λ a. (
+      λ run bytes stands. subst (λ xs. StandsFor run xs a.log) (sym (append-nil bytes)) stands,
+      record { same = refl; all = λ is. sym (append-nil a.kept.items) },
+    ) };
 
-    ghost takes_more = { λ a b c xs ys first then run bytes stands.
-        subst (λ zs. StandsFor run zs c.log) (append_assoc bytes xs ys) (then run (bytes ++ xs) (first run bytes stands)) };
+    ghost takes_more = { λ a b c xs ys first then. (
+      λ run bytes stands. subst (λ zs. StandsFor run zs c.log) (append_assoc bytes xs ys) (then.0 run (bytes ++ xs) (first.0 run bytes stands)),
+      record {
+        same = then.1.same ∙ first.1.same;
+        all = λ is. then.1.all (first.1.same ∙ is) ∙ ap (λ zs. zs ++ ys) (first.1.all is) ∙ append_assoc a.kept.items xs ys;
+      },
+    ) };
 
     fn take(&mut self, piece: &[u8]) -> Result<(), LogFault> {
         match self.log.feed(piece) {
             Ok(()) => {
                 self.excerpt.pass(piece);
+                if self.keeps {
+                    self.kept.extend_from_slice(piece)?;
+                }
                 Ok(())
             }
             Err(fault) => {
@@ -93,15 +110,15 @@ impl Intake for Watched {
     }
 }
 
-/// Reads the log to the end of the stream, or to its first fault.
+/// Reads the log to the end of the stream, or to its first fault; its bytes, too, where the settings are strict.
 fn read_log<R: Source>(
     alloc: Global,
     reader: &mut R,
     settings: Settings,
     refused: &mut Excerpt,
-) -> Result<Log, StreamFault<CheckLogFault>>
+) -> Result<(Log, Vec<u8>), StreamFault<CheckLogFault>>
     requires { CanCountOneMore (R.failed_calls reader.old) }
-    ensures ok { IfOk result (IsLogOf settings.run (R.left reader.old) (R.left reader.new)) }
+    ensures ok { IfOk result (λ read. HasKept settings.strict read.1.items (IsLogOf settings.run (R.left reader.old) (R.left reader.new) read.0) (λ log. log.bytes)) }
     ensures faults { IfErr result
         (RefusesReading (IsCheckFaultOf settings (R.left reader.old) (R.left reader.new))) }
     ensures reads { R.failed_calls reader.new ≡ R.failed_calls reader.old + failed_reads result }
@@ -110,6 +127,8 @@ fn read_log<R: Source>(
     let mut watched = Watched {
         log: LogReader::new(alloc, settings.run),
         excerpt: Excerpt::none(),
+        keeps: settings.strict,
+        kept: Vec::new(alloc),
     };
     match read_into(reader, &mut watched, LOG_LIMIT) {
         Ok(Ok(())) => {}
@@ -120,30 +139,45 @@ fn read_log<R: Source>(
         }
         Err(Failed) => return Err(StreamFault::ReadFault),
     }
-    let Watched { log, excerpt } = watched;
+    let Watched {
+        log, excerpt, kept, ..
+    } = watched;
     *refused = excerpt;
     match log.finish() {
-        Ok(log) => Ok(log),
+        Ok(log) => Ok((log, kept)),
         Err(fault) => Err(StreamFault::Refused(CheckLogFault::Log(fault))),
     }
 }
 
-/// The text of the ledger that is asked for, and how many of its rows count as fail.
+/// The text of the ledger that is asked for, and how many of its rows count as what.
 pub(crate) fn write_asked(
     alloc: Global,
     ledger: &Ledger,
     as_ledger: bool,
-) -> Result<(Vec<u8>, u128), AllocError>
+) -> Result<(Vec<u8>, Totals), AllocError>
     ensures text { IfOk result (λ made. made.0.items ≡ text_asked as_ledger ledger.now) }
-    ensures fails { IfOk result (λ made. made.1 ≡ (totals_of ledger.now.sections).fail) }
+    ensures totals { IfOk result (λ made. made.1 ≡ totals_of ledger.now.sections) }
     ensures told { IfOk result (λ made. as_ledger ≡ false → sections_told made.0.items ≡ map shown ledger.now.sections) }
 {
     if as_ledger {
         let text = ledger.write_ledger(alloc)?;
-        return Ok((text, ledger.totals().fail));
+        return Ok((text, ledger.totals()));
     }
-    let (text, totals) = ledger.report(alloc)?;
-    Ok((text, totals.fail))
+    ledger.report(alloc)
+}
+
+/// Which warnings `lint` has of these bytes, where they are asked for. A log that was read without a fault is not refused again, but for want
+/// of memory.
+fn look(alloc: Global, bytes: &[u8], strict: bool) -> Result<Option<Warnings>, AllocError>
+    ensures { IfOk result (AreWarnings strict bytes.now) }
+{
+    if !strict {
+        return Ok(None);
+    }
+    match lint_log(alloc, bytes) {
+        Ok(lint) => Ok(Some(lint.warnings)),
+        Err(_) => Err(AllocError),
+    }
 }
 
 /// What is written of the log's ledger by the settings, and what is told of it.
@@ -152,15 +186,19 @@ fn report_log(
     log: &Log,
     ledger: &Ledger,
     settings: Settings,
+    warnings: Option<Warnings>,
 ) -> Result<(Vec<u8>, Done), AllocError>
     requires ledger { IsLedgerOf settings.profile log.now.sections ledger.now }
     requires taken { IsTaken settings.workers log.now.sections }
-    ensures { IfOk result (λ made. Reports settings log.now made.1 made.0.items) }
+    ensures reports { IfOk result (λ made. Reports settings log.now made.1 made.0.items) }
+    ensures warnings { IfOk result (λ made. made.1.warnings ≡ warnings) }
 {
-    let (text, fails) = write_asked(alloc, ledger, settings.ledger)?;
+    let (text, totals) = write_asked(alloc, ledger, settings.ledger)?;
     let done = Done {
         skipped: log.skipped(),
-        fails,
+        passes: totals.pass,
+        fails: totals.fail,
+        warnings,
     };
     Ok((text, done))
 }
@@ -173,7 +211,8 @@ fn report_log(
 ///
 /// Refusals: [`StreamFault::ReadFault`] and [`CheckLogFault::Log`] as the reading goes, then [`CheckLogFault::Farm`],
 /// then [`StreamFault::OutOfMemory`] (also as a cause of the two before), then [`StreamFault::WriteFault`]. Takes memory
-/// for the events, the verdicts and the report, and for no other byte of the log.
+/// for the events, the verdicts and the report, and for no other byte of the log; where the settings are strict for each of its bytes, and
+/// for what `lint` takes.
 pub fn check_stream<H: Threads + Wait + Sync, R: Source, W: Sink, G: Gate + Sync>(
     rt: &H,
     alloc: Global,
@@ -196,8 +235,8 @@ pub fn check_stream<H: Threads + Wait + Sync, R: Source, W: Sink, G: Gate + Sync
     // Whatever the answer is, at most one byte more than a log may have was read.
     ensures within { ReadsWithin LOG_LIMIT (R.left reader.old) (R.left reader.new) }
 {
-    let log = match read_log(alloc, reader, settings, refused) {
-        Ok(log) => log,
+    let (log, kept) = match read_log(alloc, reader, settings, refused) {
+        Ok(read) => read,
         Err(fault) => return Err(fault),
     };
     let ledger = match run(
@@ -211,6 +250,7 @@ pub fn check_stream<H: Threads + Wait + Sync, R: Source, W: Sink, G: Gate + Sync
         Ok(ledger) => ledger,
         Err(fault) => return Err(StreamFault::Refused(CheckLogFault::Farm(fault))),
     };
-    let (text, done) = report_log(alloc, &log, &ledger, settings)?;
+    let warnings = look(alloc, &kept, settings.strict)?;
+    let (text, done) = report_log(alloc, &log, &ledger, settings, warnings)?;
     write_answer(writer, &text, done)
 }

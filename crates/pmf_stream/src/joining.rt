@@ -165,6 +165,7 @@ pub fn join_to<W: Sink>(
         Err(JoinTextFault::OutOfMemory) => return Err(StreamFault::OutOfMemory),
         Err(fault) => return Err(StreamFault::Refused(fault)),
     };
-    let (text, fails) = write_asked(alloc, &ledger, as_ledger)?;
+    let (text, totals) = write_asked(alloc, &ledger, as_ledger)?;
+    let fails = totals.fail;
     write_answer(writer, &text, Joined { fails })
 }

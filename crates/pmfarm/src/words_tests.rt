@@ -43,20 +43,22 @@ fn check_takes_workers_a_run_a_profile_and_a_flag(rt: HostRuntime) -> Result<(),
         "check --run=18446744073709551615",
     );
     let (one, two) = (Profile::One, Profile::Two);
-    for (line, workers, run, profile, ledger) in [
-        ("check", 1, 0, one, false),
-        (most_run, 1, u64::MAX, one, false),
-        ("check --profile 1", 1, 0, one, false),
-        ("check --profile=2", 1, 0, two, false),
-        ("check --workers 0", 0, 0, one, false),
-        (most_workers, u32::MAX, 0, one, false),
-        ("check --ledger --run 3", 1, 3, one, true),
+    for (line, workers, run, profile, ledger, strict) in [
+        ("check", 1, 0, one, false, false),
+        (most_run, 1, u64::MAX, one, false, false),
+        ("check --profile 1", 1, 0, one, false, false),
+        ("check --profile=2", 1, 0, two, false, false),
+        ("check --workers 0", 0, 0, one, false, false),
+        (most_workers, u32::MAX, 0, one, false, false),
+        ("check --ledger --run 3", 1, 3, one, true, false),
+        ("check --strict", 1, 0, one, false, true),
     ] {
         let settings = Settings {
             workers,
             run,
             profile,
             ledger,
+            strict,
         };
         asks(
             &rt,
@@ -75,6 +77,7 @@ fn a_log_is_read_from_a_file_where_one_is_named(rt: HostRuntime) -> Result<(), F
         run: 0,
         profile: Profile::One,
         ledger: true,
+        strict: false,
     };
     let (run, section, event, profile) = (0, 7, 3, Profile::One);
     let sought = Sought {

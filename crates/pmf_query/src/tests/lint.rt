@@ -19,7 +19,11 @@ skipped STOER records=1 near=STORE
 skipped START records=2
 assertions=2 empty=1
 stores=2 unasserted=1
+unwritten=1 unfenced=0 overwriting=0
+fences=2 idle=1
 warning: a skipped name is near a known one
+warning: no end stands behind the last record
+warning: START stands without STOP
 ";
 
 fn text_of(alloc: Global, log: &[u8]) -> Result<Vec<u8>, LogRefusal> {
@@ -36,28 +40,28 @@ fn stores_of(alloc: Global, log: &[u8]) -> Result<(u128, u128), LogRefusal> {
 
 // What is suspicious: nothing is asserted, each assertion is empty, a name is near, a name is no text.
 fn warnings_of(alloc: Global, log: &[u8]) -> Result<(bool, bool, bool, bool), LogRefusal> {
-    let lint = lint_log(alloc, log)?;
+    let w = lint_log(alloc, log)?.warnings;
     Ok((
-        lint.sums.asserts_nothing(),
-        lint.sums.checks_nothing(),
-        lint.has_near,
-        lint.has_strange,
+        w.asserts_nothing,
+        w.checks_nothing,
+        w.has_near,
+        w.has_strange,
     ))
 }
 
 #[test]
 fn the_text_tells_names_sums_and_warnings(rt: HostRuntime) -> Result<(), Fail> {
     let lint = lint_log(rt.alloc(), MIXED)?;
-    assert!(rt; lint.is_suspicious());
+    assert!(rt; lint.warnings.are_due());
     let text = lint_text(rt.alloc(), &lint)?;
     assert!(rt; text.as_slice() == MIXED_TEXT.as_bytes());
     let empty = text_of(rt.alloc(), b"")?;
     let want =
-        "records=0 events=0 sections=0 skipped=0\nassertions=0 empty=0\nstores=0 unasserted=0\nwarning: nothing is asserted\n";
+        "records=0 events=0 sections=0 skipped=0\nassertions=0 empty=0\nstores=0 unasserted=0\nunwritten=0 unfenced=0 overwriting=0\nfences=0 idle=0\nwarning: nothing is asserted\n";
     assert!(rt; empty.as_slice() == want.as_bytes());
     let strange = text_of(rt.alloc(), b"\xef\xbb\xbfSTORE;0x10;0;8|a\\b|PMT.CHECKEND")?;
     let want =
-        "records=3 events=1 sections=1 skipped=2\nPMT.CHECKEND records=1\nskipped \\xef\\xbb\\xbfSTORE records=1 near=STORE\nskipped a\\\\b records=1\nassertions=1 empty=0\nstores=0 unasserted=0\nwarning: a skipped name is near a known one\nwarning: a skipped name is not text\n";
+        "records=3 events=1 sections=1 skipped=2\nPMT.CHECKEND records=1\nskipped \\xef\\xbb\\xbfSTORE records=1 near=STORE\nskipped a\\\\b records=1\nassertions=1 empty=0\nstores=0 unasserted=0\nunwritten=0 unfenced=0 overwriting=0\nfences=0 idle=0\nwarning: a skipped name is near a known one\nwarning: a skipped name is not text\nwarning: no end stands behind the last record\n";
     assert!(rt; strange.as_slice() == want.as_bytes());
     Ok(())
 }
@@ -76,7 +80,7 @@ fn a_long_name_is_cut_and_the_33rd_name_is_another(rt: HostRuntime) -> Result<()
     log.extend_from_slice(b"STOER|a\x7f|")?;
     let lint = lint_log(rt.alloc(), &log)?;
     assert_eq!(rt; (lint.skipped, lint.listed.len(), lint.others), (37, 32, 4));
-    assert!(rt; lint.has_near && lint.has_strange);
+    assert!(rt; lint.warnings.has_near && lint.warnings.has_strange);
     assert_eq!(rt; lint.listed[0].records, 2);
     assert_eq!(rt; lint.listed[31].name, b"a`".as_slice());
     let mut long = Vec::new(rt.alloc());
@@ -150,6 +154,100 @@ fn what_is_no_log_is_suspicious(rt: HostRuntime) {
     for (log, want) in cases {
         assert_eq!(rt; warnings_of(rt.alloc(), log), Ok(want), "at {}", log.len());
     }
+}
+
+#[test]
+fn a_log_may_be_cut_off_or_misread(rt: HostRuntime) -> Result<(), Fail> {
+    // Whether the last record has no end, START no STOP, and an empty assertion would not be if its address were hexadecimal.
+    let cases: [(&[u8], (bool, bool, bool)); 17] = [
+        (b"STORE;1;0;1|PMT.PERSIST;1;1|", (false, false, false)),
+        (b"STORE;1;0;1|PMT.PERSIST;1;1", (true, false, false)),
+        (b"STORE;1;0;1\nPMT.PERSIST;1;1\r ", (false, false, false)),
+        (
+            b"START|STORE;1;0;1|PMT.PERSIST;1;1| STOP\t",
+            (false, false, false),
+        ),
+        (b"START|FENCE|STOP;1", (true, false, false)),
+        (b"START|FENCE|STOPP|", (false, true, false)),
+        (b"FENCE|START;1", (true, true, false)),
+        (b"FENCE|STOP", (false, false, false)),
+        (
+            b"STORE;0x1000;0;8|PMT.PERSIST;1000;8|",
+            (false, false, true),
+        ),
+        (
+            b"STORE;0x1000;0;8|PMT.PERSIST;0x3e8;8|",
+            (false, false, false),
+        ),
+        (
+            b"STORE;0x1000;0;8|PMT.PERSIST;0x1000;8|PMT.ORDERED;0x1000;8;1000;8|",
+            (false, false, true),
+        ),
+        (
+            b"STORE;0x1000;0;8|PMT.ORDERED;0x1000;8;2000;8|",
+            (false, false, false),
+        ),
+        (
+            b"STORE;1000;0;8|PMT.PERSIST;1000;8|",
+            (false, false, false),
+        ),
+        (
+            b"PMT.PERSIST;1000;8|STORE;0x1000;0;8|",
+            (false, false, false),
+        ),
+        (
+            b"STORE;0x1000;0;8|PMT.SECTION;1|PMT.PERSIST;1000;8|",
+            (false, false, false),
+        ),
+        (
+            b"STORE;0x1000;0;8|PMT.EXCLUDE;0x1000;8|PMT.PERSIST;1000;8|",
+            (false, false, false),
+        ),
+        (
+            b"STORE;0x1000;0;8|PMT.PERSIST;9223372036854775800;8|",
+            (false, false, false),
+        ),
+    ];
+    for (log, want) in cases {
+        let w = lint_log(rt.alloc(), log)?.warnings;
+        let found = (w.is_open_ended, w.lacks_stop, w.is_misread);
+        assert_eq!(rt; found, want, "at {}", log.len());
+    }
+    Ok(())
+}
+
+#[test]
+fn stores_that_are_left_and_fences_are_counted(rt: HostRuntime) -> Result<(), Fail> {
+    // Stores that lack a write-back, others that lack a fence, stores over bytes that are not durable, fences, and idle ones.
+    let cases: [(&[u8], (u128, u128, u128, u128, u128)); 12] = [
+        (b"STORE;0;0;8|FLUSH;0;8|FENCE", (0, 0, 0, 1, 0)),
+        (b"STORE;0;0;8|FLUSH;0;8", (0, 1, 0, 0, 0)),
+        (b"STORE;0;0;8|FENCE", (1, 0, 0, 1, 1)),
+        (b"FLUSH;0;8|STORE;0;0;8|FENCE", (1, 0, 0, 1, 0)),
+        (b"STORE;0;0;8|STORE;4;0;8", (2, 0, 1, 0, 0)),
+        (b"STORE;0;0;8|STORE;0;0;8", (1, 0, 1, 0, 0)),
+        (
+            b"STORE;0;0;8|FLUSH;0;8|FENCE|STORE;0;0;8|FLUSH;0;8|FENCE|FENCE",
+            (0, 0, 0, 3, 1),
+        ),
+        (b"STORE;60;0;8|FLUSH;60;1|FENCE", (1, 0, 0, 1, 0)),
+        (b"STORE;60;0;8|FLUSH;60;1", (1, 0, 0, 0, 0)),
+        (
+            b"STORE;0;0;8|PMT.EXCLUDE;0;8|STORE;0;0;8",
+            (0, 0, 0, 0, 0),
+        ),
+        (
+            b"STORE;0;0;8|PMT.SECTION;1|FLUSH;0;8|FENCE|STORE;0;0;8|FLUSH;0;8",
+            (1, 1, 0, 1, 0),
+        ),
+        (b"STORE;0;0;4294967296|STORE;8;0;8", (2, 0, 1, 0, 0)),
+    ];
+    for (log, want) in cases {
+        let u = lint_log(rt.alloc(), log)?.sums.upkeep;
+        let found = (u.unwritten, u.unfenced, u.overwriting, u.fences, u.idle);
+        assert_eq!(rt; found, want, "at {}", log.len());
+    }
+    Ok(())
 }
 
 #[test]

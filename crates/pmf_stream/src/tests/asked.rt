@@ -57,6 +57,9 @@ PMT.SECTION records=1
 skipped START records=1
 assertions=1 empty=0
 stores=1 unasserted=0
+unwritten=1 unfenced=0 overwriting=0
+fences=1 idle=1
+warning: START stands without STOP
 ";
 
 // The question is answered so, and the sink holds this text.
@@ -107,7 +110,7 @@ fn what_is_told_of_a_log_and_the_text_that_is_written(rt: HostRuntime) {
         event: SOUGHT.event,
     };
     let linted = Linted {
-        is_suspicious: false,
+        is_suspicious: true,
     };
     tells(&rt, rt.alloc(), &question, (), EXPLAINED);
     tells(&rt, rt.alloc(), &SOUGHT, (), LOCATED);

@@ -46,6 +46,7 @@ fn checks(
         run: 0,
         profile: Profile::One,
         ledger: false,
+        strict: false,
     };
     let mut refused = Excerpt::none();
     let answer = check_stream(
@@ -67,7 +68,9 @@ fn checks(
 fn a_log_in_pieces_has_the_report_of_the_whole(rt: HostRuntime) {
     let done = Ok(Done {
         skipped: 0,
+        passes: 1,
         fails: 1,
+        warnings: None,
     });
     for most in [1, 7, 64, 65_536] {
         let source = PieceSource::new(LOG).giving(most);

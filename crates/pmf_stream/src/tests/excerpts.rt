@@ -31,6 +31,7 @@ fn keeps(
         run: 0,
         profile: Profile::One,
         ledger: false,
+        strict: false,
     };
     let mut sink = ByteSink::new(alloc);
     let mut refused = Excerpt::none();

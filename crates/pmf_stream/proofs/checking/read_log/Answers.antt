@@ -1,17 +1,19 @@
-use Rattle.pmf_stream.proofs.lemmas.StreamLemmas.{IsLogOf-all, IsLogFaultOf-shown, IsLogFaultOf-end}
+use Rattle.std.proofs.Common.{◌++◌, ◌∙◌, ap}
+use Rattle.pmf_stream.{specs.declared.checking.Watched.{Watched}, proofs.lemmas.StreamLemmas.{IsLogOf-kept, IsLogFaultOf-shown, IsLogFaultOf-end}}
 use Rattle.pmf_stream.proofs.checking.read_log.Goals as goal
 
 pub returns-in-Ok-Err-clause-faults : goal.returns-in-Ok-Err-clause-faults
 returns-in-Ok-Err-clause-faults g c =
-    IsLogFaultOf-shown (λ w. w.log) c.args.settings.run _ _ _ c.in-Ok-Err.fault (rw c.in-Ok-Err.field-0-is at c.in-Ok-Err.ensures.taken) c.new.ensures
+    IsLogFaultOf-shown (λ (w : Watched). w.log) _ (λ a xs b takes. takes.0) c.args.settings.run _ _ _ c.in-Ok-Err.fault (rw c.in-Ok-Err.field-0-is at c.in-Ok-Err.ensures.taken) c.new.ensures
 
 pub returns-in-Ok-clause-ok : goal.returns-in-Ok-clause-ok
 returns-in-Ok-clause-ok g c =
     let taken = rw c.in-Ok-Ok.field-0-is at c.in-Ok-Ok.ensures.taken in
-    IsLogOf-all c.args.settings.run _ _ c.new.result c.read_into.new.intake.log taken.0 c.in-Ok.log taken.1 taken.2 c.new.ensures (c.in-Ok.ensures.answers c.args.settings.run taken.0)
+    IsLogOf-kept c.args.settings.run _ _ c.new.result c.read_into.new.intake.log taken.0 c.in-Ok.log taken.1 taken.2.0 c.new.ensures (c.in-Ok.ensures.answers c.args.settings.run taken.0)
+    c.args.settings.strict c.read_into.new.intake.kept.items (λ strict. taken.2.1.all strict ∙ ap (λ xs. xs ++ taken.0) c.new-2.ensures.items)
 
 pub returns-in-Err-finish-clause-faults : goal.returns-in-Err-finish-clause-faults
 returns-in-Err-finish-clause-faults g c =
     let taken = rw c.in-Ok-Ok.field-0-is at c.in-Ok-Ok.ensures.taken in
-    IsLogFaultOf-end c.args.settings.run _ _ c.new.result c.read_into.new.intake.log taken.0 c.in-Err-finish.fault taken.1 taken.2 c.new.ensures
+    IsLogFaultOf-end c.args.settings.run _ _ c.new.result c.read_into.new.intake.log taken.0 c.in-Err-finish.fault taken.1 taken.2.0 c.new.ensures
     (c.in-Err-finish.ensures.answers c.args.settings.run taken.0)
