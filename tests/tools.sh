@@ -138,6 +138,15 @@ rows_of_examples() {
     ended '0 0' "${PIPESTATUS[*]}" && said '0.0 1 PERSIST PASS' "$scratch/rows" && same /dev/null "$scratch/diagnostics"
 }
 
+# One log of the examples stands there in each form.
+forms_of_the_example() {
+    local named=examples/traced_append_without_a_fence form
+    for form in text:rows.txt json:jsonl sarif:sarif junit:junit.xml github:github; do
+        tools/rows --program "$program" --format "${form%:*}" --log "$named.log" </dev/null >"$scratch/rows" && same "$named.${form#*:}" "$scratch/rows" ||
+            return
+    done
+}
+
 # compiled NAME WORD..: the example in C, compiled with these words and without a warning, writes the log of this name, and the program
 # what stands beside that log.
 compiled() {
@@ -394,6 +403,7 @@ try_tools() {
     check 'tools/rows refuses what is no report, or not a whole one' rows_refused
     check 'tools/rows gives each row of the examples, and ends with its reader' rows_of_examples
     check 'tools/rows writes rows as SARIF, JUnit and commands of GitHub' tests/try-rows "$program" formats
+    check 'the forms of rows in examples/ are what tools/rows writes' forms_of_the_example
     check 'tools/rows writes any bytes of a log as each form has them' tests/try-rows "$program" escapes
     check 'tools/rows knows the failures of a baseline' tests/try-rows "$program" baselines
     check 'tools/rows refuses words, reports, logs and baselines that are wrong' tests/try-rows "$program" words
