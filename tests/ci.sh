@@ -130,9 +130,10 @@ SH
         said $'job 9 has no ledger\n'"$day" "$scratch/rows"
 }
 
-# The files of YAML have what the systems ask for, and name what ci.sh leaves.
+# The files of the systems have what these ask for, and name what ci.sh leaves.
 ci_files_are_whole() {
-    python3 - <<'PY'
+    grep -qF "junit testResults: 'pmfarm.out/store.xml'" examples/recipes/Jenkinsfile &&
+        grep -qF "archiveArtifacts artifacts: 'pmfarm.out/*'" examples/recipes/Jenkinsfile && python3 - <<'PY'
 import yaml
 
 with open("examples/recipes/github.yaml") as file:
@@ -174,7 +175,7 @@ try_ci() {
     check 'ci-day.sh joins the ledgers of a day' ci_joins_a_day
     check_by 'a YAML parser for Python' 'the night of GitHub, played' ci_night_of_github
     check_by jq 'the night of GitLab, played' ci_night_of_gitlab
-    check_by 'a YAML parser for Python' 'the files for GitHub and GitLab have what these ask for' ci_files_are_whole
+    check_by 'a YAML parser for Python' 'the files for GitHub, GitLab and Jenkins have what these ask for' ci_files_are_whole
     check_by shellcheck 'the recipes pass shellcheck' well_formed shellcheck examples/recipes/*.sh
     check_by "$tracer" 'ci.sh traces a program of a project' ci_traces
 }
