@@ -379,7 +379,7 @@ well_formed() {
 # The program is built by ./pmfarm, here a script that plays it; words that are wrong are refused, and so is a build that fails.
 installs_what_it_builds() {
     local repo=$scratch/repo words
-    mkdir -p "$repo/tools" && cp tools/{install,rows,trace} "$repo/tools" && cp -r man completions trace "$repo" && cat >"$repo/pmfarm" <<'SH' || return
+    mkdir -p "$repo" && cp -r tools man completions trace "$repo" && cat >"$repo/pmfarm" <<'SH' || return
 #!/bin/sh
 top=${0%/*} && mkdir -p "$top/crates/pmfarm/out" && echo built >"$top/crates/pmfarm/out/pmfarm" && chmod +x "$top/crates/pmfarm/out/pmfarm"
 SH
