@@ -1,37 +1,27 @@
 # bash completion for pmfarm
 _pmfarm() {
-    local word=${COMP_WORDS[COMP_CWORD]} before=${COMP_WORDS[COMP_CWORD - 1]} command=${COMP_WORDS[1]}
+    local word=${COMP_WORDS[COMP_CWORD]} before=${COMP_WORDS[COMP_CWORD - 1]} command=${COMP_WORDS[1]} words=''
     COMPREPLY=()
+    case $command in
+        check) words='--workers --run --profile --ledger --help -h' ;;
+        explain) words='--section --event --all --first --run --profile --help -h' ;;
+        why) words='--section --event --first --all-rows --patch --run --profile --help -h' ;;
+        locate) words='--section --event --run --help -h' ;;
+        lint) words='--help -h' ;;
+        cut) words='--events --step --files --bytes --help -h' ;;
+        join) words='--ledger --help -h' ;;
+        sim) words='--log --workers --ledgers --help -h' ;;
+        help) words='check explain why locate lint cut join sim' ;;
+    esac
     if [ "$COMP_CWORD" -eq 1 ]; then
-        mapfile -t COMPREPLY < <(compgen -W 'check explain why locate lint cut join sim help --help -h --version -V' -- "$word")
-    elif [[ "$command" = @(check|explain|why) && "$before" = --profile ]]; then
-        mapfile -t COMPREPLY < <(compgen -W '1 2' -- "$word")
-    elif [[ "$command" = @(check|explain|why|locate|lint) && "$before" != --@(run|workers|profile|section|event|first) && "$word" != -* ]]; then
-        mapfile -t COMPREPLY < <(compgen -f -- "$word")
-    elif [ "$command" = check ] && [[ "$before" != --@(run|workers) ]]; then
-        mapfile -t COMPREPLY < <(compgen -W '--workers --run --profile --ledger --help -h' -- "$word")
-    elif [ "$command" = explain ] && [[ "$before" != --@(run|section|event|first) ]]; then
-        mapfile -t COMPREPLY < <(compgen -W '--section --event --all --first --run --profile --help -h' -- "$word")
-    elif [ "$command" = why ] && [[ "$before" != --@(run|section|event|first) ]]; then
-        mapfile -t COMPREPLY < <(compgen -W '--section --event --first --all-rows --patch --run --profile --help -h' -- "$word")
-    elif [ "$command" = locate ] && [[ "$before" != --@(run|section|event) ]]; then
-        mapfile -t COMPREPLY < <(compgen -W '--section --event --run --help -h' -- "$word")
-    elif [ "$command" = lint ]; then
-        mapfile -t COMPREPLY < <(compgen -W '--help -h' -- "$word")
-    elif [ "$command" = cut ] && [ "$before" = --files ]; then
-        mapfile -t COMPREPLY < <(compgen -f -- "$word")
-    elif [ "$command" = cut ] && [[ "$before" != --@(events|step|bytes) ]]; then
-        mapfile -t COMPREPLY < <(compgen -W '--events --step --files --bytes --help -h' -- "$word")
-    elif [ "$command" = join ] && [[ "$word" != -* ]]; then
-        mapfile -t COMPREPLY < <(compgen -f -- "$word")
-    elif [ "$command" = join ]; then
-        mapfile -t COMPREPLY < <(compgen -W '--ledger --help -h' -- "$word")
-    elif [ "$command" = sim ] && [ "$before" = --log ]; then
-        mapfile -t COMPREPLY < <(compgen -f -- "$word")
-    elif [ "$command" = sim ] && [[ "$before" != --@(workers|ledgers) ]]; then
-        mapfile -t COMPREPLY < <(compgen -W '--log --workers --ledgers --help -h' -- "$word")
-    elif [ "$command" = help ]; then
-        mapfile -t COMPREPLY < <(compgen -W 'check explain why locate lint cut join sim' -- "$word")
+        words='check explain why locate lint cut join sim help --help -h --version -V'
+    elif [ "$before" = --profile ]; then
+        words='1 2'
+    elif [[ "$before" = --@(workers|run|section|event|first|events|step|bytes|ledgers) ]]; then
+        words='' && compopt +o default 2>/dev/null
+    elif [[ "$before" = *[\<\>]* || "$before" = --@(files|log) || ("$command" = @(check|explain|why|locate|lint|join) && "$word" != -*) ]]; then
+        words='' # (bash offers the names of files)
     fi
+    mapfile -t COMPREPLY < <(compgen -W "$words" -- "$word")
 }
-complete -F _pmfarm pmfarm
+complete -o default -F _pmfarm pmfarm

@@ -138,6 +138,15 @@ rows_of_examples() {
     ended '0 0' "${PIPESTATUS[*]}" && said '0.0 1 PERSIST PASS' "$scratch/rows" && same /dev/null "$scratch/diagnostics"
 }
 
+# One log of the examples stands there in each form.
+forms_of_the_example() {
+    local named=examples/traced_append_without_a_fence form
+    for form in text:rows.txt json:jsonl sarif:sarif junit:junit.xml github:github; do
+        tools/rows --program "$program" --format "${form%:*}" --log "$named.log" </dev/null >"$scratch/rows" && same "$named.${form#*:}" "$scratch/rows" ||
+            return
+    done
+}
+
 # compiled NAME WORD..: the example in C, compiled with these words and without a warning, writes the log of this name, and the program
 # what stands beside that log.
 compiled() {
@@ -258,16 +267,24 @@ built_with_its_commit() {
     ! is_built_from_sources || tells_version "$program" "^pmfarm [0-9.]+ [(]commit $commit, [^)]+[)] *\$"
 }
 
-# The files that tools/install makes, below a prefix.
-installed='bin/pmfarm
-share/bash-completion/completions/pmfarm
-share/fish/vendor_completions.d/pmfarm.fish
-share/man/man1/pmfarm.1
-share/zsh/site-functions/_pmfarm'
+# The files and links that tools/install makes, below a prefix: of the program, of each tool, and of the tracer.
+installed() {
+    local name
+    for name in pmfarm pmfarm-rows pmfarm-trace; do
+        printf '%s\n' "bin/$name" "share/bash-completion/completions/$name" "share/fish/vendor_completions.d/$name.fish" \
+            "share/man/man1/$name.1" "share/pmfarm/${name/pmfarm-/tools/}" "share/zsh/site-functions/_$name"
+    done
+    find trace -type f | sed 's|^|share/pmfarm/|'
+}
 
-# files FOLDER: its files.
+# are_installed: standard input names these, in any order.
+are_installed() {
+    LC_ALL=C sort | diff -u <(installed | LC_ALL=C sort) -
+}
+
+# files FOLDER: its files and links.
 files() {
-    (cd "$1" && find . -type f | sed 's|^\./||' | LC_ALL=C sort)
+    (cd "$1" && find . ! -type d | sed 's|^\./||' | LC_ALL=C sort)
 }
 
 # Installed, it tells its commit and runs with nothing around it; uninstalled, none of its files is left, and another one is.
@@ -282,28 +299,94 @@ installs() {
     else
         said "install: the program is not stamped: $not_from_sources" "$scratch/diagnostics" || return
     fi
-    files "$root/usr" | grep -v '^bin/other$' | said "$installed" - &&
-        sed "s|^installed $root/usr/||" "$scratch/report" | LC_ALL=C sort | said "$installed" - &&
+    files "$root/usr" | grep -v '^bin/other$' | are_installed && sed "s|^installed $root/usr/||" "$scratch/report" | are_installed &&
         cmp "$program" "$root/usr/bin/pmfarm" && cmp man/pmfarm.1 "$root/usr/share/man/man1/pmfarm.1" &&
-        [ "$(stat -c %a "$root/usr/bin/pmfarm" "$root/usr/share/man/man1/pmfarm.1" | paste -s)" = $'755\t644' ] || return
+        [ "$(stat -c %a "$root"/usr/{bin/pmfarm,share/man/man1/pmfarm.1,share/pmfarm/trace/{build,main.c}} | paste -s -d ' ')" = '755 644 755 644' ] ||
+        return
     (cd / && env -i "$root/usr/bin/pmfarm" check) <examples/first.log >"$scratch/report" 2>"$scratch/diagnostics"
     ended 0 $? && same examples/first.report "$scratch/report" && same /dev/null "$scratch/diagnostics" || return
-    DESTDIR=$root tools/install --uninstall /usr >"$scratch/report" && files "$root" | said usr/bin/other - &&
-        sed "s|^removed $root/usr/||" "$scratch/report" | LC_ALL=C sort | said "$installed" - || return
+    DESTDIR=$root tools/install --uninstall /usr >"$scratch/report" && files "$root" | said usr/bin/other - && [ ! -e "$root/usr/share/pmfarm" ] &&
+        sed "s|^removed $root/usr/||" "$scratch/report" | are_installed || return
     DESTDIR=$root tools/install --uninstall /usr >"$scratch/report" && same /dev/null "$scratch/report"
+}
+
+# The tools are installed below a prefix, which is then moved. `alone` calls one from an empty folder, with next to no environment.
+installs_tools() {
+    mkdir "$scratch/empty" && tools/install --no-build "$scratch/first prefix" >"$scratch/report" 2>"$scratch/diagnostics" &&
+        mv "$scratch/first prefix" "$scratch/moved prefix"
+}
+
+alone() {
+    local tool=$1
+    shift
+    (cd "$scratch/empty" && env -i PATH="$PATH" HOME="$scratch" "$scratch/moved prefix/bin/pmfarm-$tool" "$@")
+}
+
+# helps TOOL: an installed tool tells its words by its own name.
+helps() {
+    alone "$1" --help </dev/null >"$scratch/report" 2>"$scratch/diagnostics"
+    ended 0 $? && same /dev/null "$scratch/diagnostics" && grep -q "pmfarm-$1 " "$scratch/report"
+}
+
+# The program that it runs is the installed one, also where another one is on the PATH.
+installed_rows() {
+    helps rows && mkdir "$scratch/other" && printf '#!/bin/sh\nexit 9\n' >"$scratch/other/pmfarm" && chmod +x "$scratch/other/pmfarm" || return
+    PATH=$scratch/other:$PATH alone rows --format text --fail --log "$top/examples/order_and_warnings.log" </dev/null >"$scratch/rows" 2>"$scratch/diagnostics"
+    ended 0 $? && tools/rows --fail examples/order_and_warnings.report | same - "$scratch/rows" && same /dev/null "$scratch/diagnostics"
+}
+
+installed_trace() {
+    helps trace && alone trace >"$scratch/report" 2>"$scratch/diagnostics" </dev/null
+    ended 2 $? && said 'trace: no program: pmfarm-trace [..] PROGRAM [ARG..]; see pmfarm-trace --help' "$scratch/diagnostics"
+}
+
+installed_trace_traces() {
+    cc -g -I trace/include -DMISSING_FENCE -o "$scratch/append_log" examples/c/append_log.c &&
+        alone trace --log "$scratch/log" "$scratch/append_log" pool </dev/null >"$scratch/report" 2>"$scratch/diagnostics" &&
+        same /dev/null "$scratch/diagnostics" && rm "$scratch/empty/pool" || return
+    "$program" check "$scratch/log" | tools/rows --fail | cut -d ' ' -f 3,4 | said $'ORDERED FAIL\nORDERED FAIL\nORDERED FAIL' -
+}
+
+# offers WANTED WORD..: what the completion in bash offers for the last word; nothing means the names of files.
+offers() {
+    local wanted=$1 by
+    shift
+    by=$(complete -p "$1" | sed -n 's/^complete -o default -F \([a-z_]*\) .*/\1/p')
+    COMP_WORDS=("$@") COMP_CWORD=$(($# - 1)) COMPREPLY=()
+    "$by" && said "$wanted" <(printf '%s' "${COMPREPLY[*]:+${COMPREPLY[*]}$'\n'}")
+}
+
+completes_in_bash() (
+    for it in completions/*.bash; do
+        . "$it" || exit
+    done
+    offers 'check cut' pmfarm c && offers '' pmfarm check '' && offers '' pmfarm check f && offers '--run' pmfarm check --r &&
+        offers '1 2' pmfarm why --profile '' && offers '' pmfarm check '<' '' && offers '' pmfarm cut '<' c && offers '' pmfarm cut '>' - &&
+        offers '' pmfarm check --run '' && offers '--events' pmfarm cut '<' log --e && offers '' pmfarm cut --files '' &&
+        offers '' pmfarm-rows '' && offers '--log' pmfarm-rows --lo && offers '' pmfarm-rows --log '' && offers '' pmfarm-rows '<' - &&
+        offers 'sarif' pmfarm-rows --format s && offers '--stacks' pmfarm-trace --st && offers 'threads none' pmfarm-trace --sections '' &&
+        offers '' pmfarm-trace ./program - && offers '' pmfarm-trace --stacks 3 ./program -- && offers '--pmem' pmfarm-trace --log log --pm
+)
+
+well_formed() {
+    local engine=$1 it
+    shift
+    for it in "$@"; do
+        $engine "$it" >/dev/null 2>"$scratch/diagnostics" && same /dev/null "$scratch/diagnostics" || return
+    done
 }
 
 # The program is built by ./pmfarm, here a script that plays it; words that are wrong are refused, and so is a build that fails.
 installs_what_it_builds() {
     local repo=$scratch/repo words
-    mkdir -p "$repo/tools" && cp tools/install "$repo/tools" && cp -r man completions "$repo" && cat >"$repo/pmfarm" <<'SH' || return
+    mkdir -p "$repo" && cp -r tools man completions trace "$repo" && cat >"$repo/pmfarm" <<'SH' || return
 #!/bin/sh
 top=${0%/*} && mkdir -p "$top/crates/pmfarm/out" && echo built >"$top/crates/pmfarm/out/pmfarm" && chmod +x "$top/crates/pmfarm/out/pmfarm"
 SH
     chmod +x "$repo/pmfarm" && "$repo/tools/install" --no-build "$scratch/prefix" >"$scratch/report" 2>"$scratch/diagnostics"
     ended 1 $? && said 'install: there is no built program: ./pmfarm builds it' "$scratch/diagnostics" && [ ! -e "$scratch/prefix" ] || return
     (cd "$scratch" && repo/tools/install prefix) >"$scratch/report" && said built "$scratch/prefix/bin/pmfarm" &&
-        files "$scratch/prefix" | said "$installed" - && printf '#!/bin/sh\nexit 2\n' >"$repo/pmfarm" || return
+        files "$scratch/prefix" | are_installed && printf '#!/bin/sh\nexit 2\n' >"$repo/pmfarm" || return
     "$repo/tools/install" "$scratch/prefix" >"$scratch/report" 2>"$scratch/diagnostics"
     ended 1 $? && said 'install: the program is not built' "$scratch/diagnostics" || return
     for words in '' '--uninstal /usr' '/usr /usr' --help; do
@@ -320,6 +403,7 @@ try_tools() {
     check 'tools/rows refuses what is no report, or not a whole one' rows_refused
     check 'tools/rows gives each row of the examples, and ends with its reader' rows_of_examples
     check 'tools/rows writes rows as SARIF, JUnit and commands of GitHub' tests/try-rows "$program" formats
+    check 'the forms of rows in examples/ are what tools/rows writes' forms_of_the_example
     check 'tools/rows writes any bytes of a log as each form has them' tests/try-rows "$program" escapes
     check 'tools/rows knows the failures of a baseline' tests/try-rows "$program" baselines
     check 'tools/rows refuses words, reports, logs and baselines that are wrong' tests/try-rows "$program" words
@@ -333,6 +417,14 @@ try_tools() {
     check 'a stamped program tells its commit and its kit, and is the same but for that' stamped
     check 'tools/install installs what is there, and removes it' installs
     check 'tools/install builds the program first' installs_what_it_builds
+    check 'tools/install installs the tools, below a prefix that is then moved' installs_tools
+    check 'the installed pmfarm-rows finds the installed program' installed_rows
+    check 'the installed pmfarm-trace tells its words' installed_trace
+    check_by "$tracer" 'the installed pmfarm-trace traces a program' installed_trace_traces
+    check 'the completions in bash offer words where one is wanted, and else the names of files' completes_in_bash
+    check_by zsh 'the completions for zsh are well-formed' well_formed 'zsh -n' completions/_*
+    check_by fish 'the completions for fish are well-formed' well_formed 'fish -n' completions/*.fish
+    check_by groff 'the man pages are well-formed' well_formed 'groff -man -ww -z' man/*.1
     check 'large logs within their limits of time and memory' tests/try-speed "$program"
     check 'inputs at the limits, and one past them' tests/limits "$program"
     check 'the gate: edits in batches, stamps, what runs beside what, and whole runs that are played' tests/try-gate

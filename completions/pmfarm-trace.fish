@@ -1,0 +1,11 @@
+# fish completion for pmfarm-trace
+complete -c pmfarm-trace -x -a '(__fish_complete_subcommand -- --log --pmem --range --stacks --sections)'
+complete -c pmfarm-trace -l log -r -F -d 'the file of the log'
+complete -c pmfarm-trace -l pmem -r -F -d 'files whose path begins so are persistent memory'
+complete -c pmfarm-trace -l range -x -d 'a range of memory, FIRST;SIZE'
+complete -c pmfarm-trace -l stacks -x -d 'the innermost frames at the end of each record'
+complete -c pmfarm-trace -l persist-at-end -d 'assert that each range is durable at its end'
+complete -c pmfarm-trace -l clflush-fence -d 'CLFLUSH counts as a fence'
+complete -c pmfarm-trace -l lock-fence -d 'an instruction with a LOCK prefix, or XCHG, counts as a fence'
+complete -c pmfarm-trace -l sections -x -a 'threads none' -d 'whose sections the events have'
+complete -c pmfarm-trace -l help -d 'print help'

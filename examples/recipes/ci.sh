@@ -1,0 +1,35 @@
+#!/bin/sh
+# One test in CI: traces a program, checks its log, and leaves in pmfarm.out what the CI system shows and keeps.
+#
+#     ci.sh RUN PROGRAM [ARG..]
+#
+# It is called at the top of the project, where known.json lists the failures that are known. RUN is the test's number, which no other
+# ledger has. Ends with 1 where a failure is new or `check` warns, with the status of the program where that fails, with 2 and above
+# where there is no verdict, and else with 0.
+set -u
+run=$1 out=pmfarm.out
+shift
+mkdir -p "$out" && rm -f "$out"/*.ledger "$out"/store.* || exit 4
+
+# rows FORM [WORD..]: the rows of the report in this form.
+rows() {
+    pmfarm-rows --log "$out/store.log" --source-root . --baseline known.json --format "$@" "$out/store.report"
+}
+
+# (a machine of CI has no persistent memory: files here stand for it)
+PMEM_IS_PMEM_FORCE=1 pmfarm-trace --stacks 8 --pmem "$PWD/" --log "$out/store.log" "$@" || exit
+pmfarm check --strict --run "$run" "$out/store.log" >"$out/store.report" 2>"$out/store.warnings"
+status=$?
+cat "$out/store.warnings" >&2
+[ "$status" -le 1 ] || exit "$status"
+pmfarm check --ledger --run "$run" "$out/store.log" >"$out/$run.ledger" 2>/dev/null || [ $? -eq 1 ] || exit 4
+rows sarif >"$out/store.sarif" 2>/dev/null
+rows junit >"$out/store.xml" 2>/dev/null
+if [ -n "${GITHUB_ACTIONS-}" ]; then
+    rows github
+else
+    rows text --fail
+fi
+status=$?
+[ "$status" -ne 0 ] || ! grep -q '^pmfarm: warning: ' "$out/store.warnings" || status=1
+exit "$status"
