@@ -3,7 +3,7 @@ _pmfarm() {
     local word=${COMP_WORDS[COMP_CWORD]} before=${COMP_WORDS[COMP_CWORD - 1]} command=${COMP_WORDS[1]} words=''
     COMPREPLY=()
     case $command in
-        check) words='--workers --run --profile --ledger --help -h' ;;
+        check) words='--workers --run --profile --ledger --strict --help -h' ;;
         explain) words='--section --event --all --first --run --profile --help -h' ;;
         why) words='--section --event --first --all-rows --patch --run --profile --help -h' ;;
         locate) words='--section --event --run --help -h' ;;

@@ -209,12 +209,7 @@ fn push_of_records(text: &mut String, words: &str, due: Warnings) -> Result<(), 
     push_warning(text, words, due.lacks_stop, "START stands without STOP")
 }
 
-fn push_warning(
-    text: &mut String,
-    words: &str,
-    due: bool,
-    warning: &str,
-) -> Result<(), AllocError>
+fn push_warning(text: &mut String, words: &str, due: bool, warning: &str) -> Result<(), AllocError>
     ensures { OnOk result (string_bytes text.new
         ≡ string_bytes text.old ++ warned words.now due warning.now) }
 {

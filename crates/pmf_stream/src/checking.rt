@@ -140,7 +140,10 @@ fn read_log<R: Source>(
         Err(Failed) => return Err(StreamFault::ReadFault),
     }
     let Watched {
-        log, excerpt, kept, ..
+        log,
+        excerpt,
+        kept,
+        ..
     } = watched;
     *refused = excerpt;
     match log.finish() {

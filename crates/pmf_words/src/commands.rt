@@ -21,6 +21,7 @@ Examples:
   pmfarm check --workers 4 store.log
                                     the same report, checked by four threads
   pmfarm check --run 7 store.log    the same, its sections named 7.N
+  pmfarm check --strict store.log   the same; status 1 also where `lint` warns
   pmfarm check --profile 2 store.log
                                     a pair on one line is also ordered by its stores
   ./myprogram | pmfarm check        the report of a log on standard input
@@ -48,7 +49,8 @@ Exit status:
      the rows were explained, the causes were told or the log was patched, also
      where no row fails, the event was located, `lint` has no warning, the log was
      cut and nothing may be lost, or the schedule was played
-  1  some row counts as fail, `lint` warns, or what a cut may change was told
+  1  some row counts as fail, `lint` or `check --strict` warns, or what a cut may
+     change was told
   2  the input or the command line was refused
   3  memory ran out
   4  a read or a write failed";

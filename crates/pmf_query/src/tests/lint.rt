@@ -187,10 +187,7 @@ fn a_log_may_be_cut_off_or_misread(rt: HostRuntime) -> Result<(), Fail> {
             b"STORE;0x1000;0;8|PMT.ORDERED;0x1000;8;2000;8|",
             (false, false, false),
         ),
-        (
-            b"STORE;1000;0;8|PMT.PERSIST;1000;8|",
-            (false, false, false),
-        ),
+        (b"STORE;1000;0;8|PMT.PERSIST;1000;8|", (false, false, false)),
         (
             b"PMT.PERSIST;1000;8|STORE;0x1000;0;8|",
             (false, false, false),
@@ -232,10 +229,7 @@ fn stores_that_are_left_and_fences_are_counted(rt: HostRuntime) -> Result<(), Fa
         ),
         (b"STORE;60;0;8|FLUSH;60;1|FENCE", (1, 0, 0, 1, 0)),
         (b"STORE;60;0;8|FLUSH;60;1", (1, 0, 0, 0, 0)),
-        (
-            b"STORE;0;0;8|PMT.EXCLUDE;0;8|STORE;0;0;8",
-            (0, 0, 0, 0, 0),
-        ),
+        (b"STORE;0;0;8|PMT.EXCLUDE;0;8|STORE;0;0;8", (0, 0, 0, 0, 0)),
         (
             b"STORE;0;0;8|PMT.SECTION;1|FLUSH;0;8|FENCE|STORE;0;0;8|FLUSH;0;8",
             (1, 1, 0, 1, 0),
