@@ -16,3 +16,8 @@ pub returns-in-Patch : goal.returns-in-Patch
 returns-in-Patch g c =
     let made = c.answer_to-in-Patch.ensures in
     found c.args.request.now _ _ c.answer_to-in-Patch.result c.in-Patch.is (made.0, made.1, made.2)
+
+pub returns-in-Check : goal.returns-in-Check
+returns-in-Check g c =
+    let made = c.check_to.ensures in
+    found c.args.request.now _ _ c.check_to.result c.in-Check.is (made.0, made.1, made.2)
