@@ -1,6 +1,6 @@
 -- Worked examples of how commands end, computed by the definitions: each status that `check` can end with, and the others of each command.
 use Rattle.std.proofs.Common.{◌≡◌, Bool, true, false, None, Some, Ok, Err, refl}
-use Rattle.pmf_query.specs.declared.warnings.Warnings.{Warnings}
+use Rattle.pmf_query.specs.{declared.warnings.Warnings.{Warnings}, Warnings.{are_due}}
 use Rattle.pmf_storelog.specs.declared.fault.Cause.TheVariants.{BadNumber, OutOfMemory}
 use Rattle.pmf_ledger.specs.declared.joining.JoinFault.TheVariants.{ProfileMismatch}
 use Rattle.pmf_farm.specs.declared.fault.FarmFault.TheVariants.{NoWorkers}
@@ -10,7 +10,7 @@ use Rattle.pmf_world.specs.declared.simulating.SimFault.TheVariants.{BadStep}
 use Rattle.pmf_command.specs.{declared.status.Status.TheVariants.{NoFail, SomeFail, NoMemory}, Statuses.{exit_code_of, status_of, status_of_asked, status_of_check_fault, status_of_cut_fault, status_of_done, status_of_joined, status_of_linted, status_of_log_refusal, status_of_pieces, status_of_sim_fault, status_of_text_fault}}
 
 -- the warnings of a log that may be cut off, if it is
-cut_off : Bool → Warnings
+abbrev cut_off : Bool → Warnings
 cut_off is =
     record { asserts_nothing = false; checks_nothing = false; has_near = false; has_strange = false; is_open_ended = is; lacks_stop = false; is_misread = false }
 
@@ -18,6 +18,7 @@ strictly :
     (exit_code_of (status_of status_of_done status_of_check_fault (Ok (record { skipped = 0; passes = 3; fails = 0; warnings = Some (cut_off false) }))) ≡ 0)
     × (exit_code_of (status_of status_of_done status_of_check_fault (Ok (record { skipped = 0; passes = 3; fails = 0; warnings = Some (cut_off true) }))) ≡ 1)  -- lint warns
     × (exit_code_of (status_of status_of_done status_of_check_fault (Ok (record { skipped = 0; passes = 0; fails = 0; warnings = Some (cut_off false) }))) ≡ 1)  -- nothing passes
+unfolding are_due
 strictly = (refl, refl, refl)
 
 checks :
