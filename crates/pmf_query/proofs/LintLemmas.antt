@@ -1,5 +1,5 @@
 -- What is told of a log that was read.
-use Rattle.std.proofs.{Common.{◌≡◌, ◌∙◌, ℕ, List, [], ◌∷◌, ◌++◌, Ok, length, take, sym, ap, subst, arith}, lemmas.List.{length-map}, lemmas.Grind.{common_steps}}
+use Rattle.std.proofs.{Common.{◌≡◌, ◌∙◌, ℕ, List, [], ◌∷◌, ◌++◌, Ok, length, take, sym, ap, subst}, lemmas.List.{length-map}}
 use Rattle.pmf_storelog.specs.{Separators.{records_of}, LogValue.{LogValue}, LogText.{fault_of, log_of, numbers_of, sections_of, skipped_of, value_of}}
 use Rattle.pmf_query.{specs.Linting.{IsLint}, specs.Locating.{IsFaultless}, specs.Summing.{sums_of}, specs.declared.summing.Sums.{Sums}, specs.Walking.{IsNext}, specs.declared.counting.NameCounts.{NameCounts}, specs.declared.warnings.Warnings.{Warnings}, specs.Counting.{Tallies}, specs.Warnings.{warnings_by}, proofs.NumberFoundLemmas.{by_fault}}
 
