@@ -1,0 +1,538 @@
+"""Pictures of a section of a log, as SVG: what is around one failure, what a crash leaves of its cache lines, and a time line of all.
+
+`Section` has the stores and write-backs of the cache lines that are drawn, and is read once. `Failure` draws its time line and its crash
+image by it, and `overview` the lines of a section by epochs. The classes of the paths stand in the style of `tools/page`.
+"""
+
+import array
+import bisect
+import collections
+import html
+import itertools
+
+LINE = 64
+# (of one picture; events that have to be shown may be more)
+EVENTS, LANES = 10, 3
+OVERVIEW_LINES, OVERVIEW_EPOCHS = 24, 40
+# How many times a cache line that is drawn may be met by an event, in one section: more would take too long.
+MEETS = 1_000_000
+
+NUMBERS = {b"STORE": (1, 3), b"FLUSH": (1, 2), b"PMT.PERSIST": (1, 2), b"PMT.EXCLUDE": (1, 2), b"PMT.INCLUDE": (1, 2), b"PMT.TXADD": (1, 2)}
+WORDS = {b"FLUSH": "write-back", b"PMT.TXBEGIN": "tx begin", b"PMT.TXADD": "tx add", b"PMT.TXEND": "tx end"}
+SCOPES = (b"PMT.TXBEGIN", b"PMT.TXADD", b"PMT.TXEND", b"PMT.CHECKSTART", b"PMT.CHECKEND")
+WORDS |= {b"PMT.CHECKSTART": "check start", b"PMT.CHECKEND": "check end"}
+
+
+def number(text):
+    """A number of a log."""
+    return int(text, 16 if text.startswith(b"0x") else 10)
+
+
+def spans(fields):
+    """The bytes that an event names, each as its first byte and the one behind the last."""
+    if fields[0] == b"PMT.ORDERED":
+        pairs = ((1, 2), (3, 4))
+    else:
+        pairs = (NUMBERS[fields[0]],) if fields[0] in NUMBERS else ()
+    for address, size in pairs:
+        first = number(fields[address])
+        yield first, first + number(fields[size])
+
+
+def word(fields):
+    """What an event is called in a picture."""
+    return WORDS.get(fields[0]) or fields[0].removeprefix(b"PMT.").decode("ascii").lower()
+
+
+def lines_of(fields):
+    """The first and the last cache line of an event's first bytes."""
+    first, behind = next(spans(fields))
+    return first // LINE, (behind - 1) // LINE
+
+
+def within(span, line):
+    """The part of a span that is in a cache line, as offsets, or None."""
+    first, behind = max(span[0] - line * LINE, 0), min(span[1] - line * LINE, LINE)
+    return (first, behind) if first < behind else None
+
+
+def behind(places, place):
+    """The first of these places behind one, or None."""
+    at = bisect.bisect_right(places, place)
+    return places[at] if at < len(places) else None
+
+
+class Section:
+    """The fences of a section, and the stores and write-backs of some of its cache lines."""
+
+    def __init__(self, events, asked):
+        """Takes lines, and for each the places at which its state is asked for, in the order in which they are wanted, as far as the work allows."""
+        self.events, self.fences, lines = events, array.array("Q"), sorted(asked)
+        meets, begins = [], [0] * (len(lines) + 1)
+        for place, fields in enumerate(events, 1):
+            if fields[0] == b"FENCE":
+                self.fences.append(place)
+            elif fields[0] in (b"STORE", b"FLUSH"):
+                first, last = lines_of(fields)
+                at = bisect.bisect_left(lines, first)
+                end = bisect.bisect_right(lines, last, at)
+                if at < end:
+                    meets.append((place, at, end))
+                    begins[at] += 1
+                    begins[end] -= 1
+        counts, left = dict(zip(lines, itertools.accumulate(begins))), MEETS
+        self.of, self.write_backs, self.asked, self.found = {}, {}, asked, {}
+        for line in asked:
+            if counts[line] <= left:
+                left -= counts[line]
+                self.of[line], self.write_backs[line] = array.array("Q"), array.array("Q")
+        taken = [(self.of.get(it), self.write_backs.get(it)) for it in lines]
+        for place, at, end in meets:
+            is_write_back = events[place - 1][0] == b"FLUSH"
+            for places, write_backs in taken[at:end]:
+                if places is not None:
+                    places.append(place)
+                    if is_write_back:
+                        write_backs.append(place)
+
+    def epoch(self, place):
+        """The epoch of a place, from 1: a fence ends the one that it stands in."""
+        return bisect.bisect_left(self.fences, place) + 1
+
+    def fence_behind(self, place):
+        return behind(self.fences, place)
+
+    def write_back_behind(self, line, place):
+        return behind(self.write_backs[line], place)
+
+    def state(self, line, place):
+        """The last store of each byte of a line by a place that is asked for, and the last durable one; 0 where there is none."""
+        if line not in self.found:
+            self.found[line] = self.states(line, self.asked[line])
+        return self.found[line][place]
+
+    def states(self, line, queries):
+        """The state at each of these places."""
+        last, durable, written, due, found, of_line = [0] * LINE, [0] * LINE, None, None, {}, set(self.of[line])
+        for place in sorted(of_line | queries):
+            if due is not None and due <= place:
+                durable, due = written, None
+            if place in of_line:
+                fields = self.events[place - 1]
+                if fields[0] == b"STORE":
+                    first, end = within(next(spans(fields)), line)
+                    last[first:end] = [place] * (end - first)
+                else:
+                    written, due = last[:], self.fence_behind(place)
+            if place in queries:
+                found[place] = last[:], durable
+        return found
+
+
+class Image:
+    """What `explain` tells of a crash: its place, the line that holds all its stores, and of each byte what it shows."""
+
+    def __init__(self, crash, full):
+        self.crash, self.full, self.bytes = crash, full, []
+
+
+class Ink:
+    """Paths by their classes, and texts, of one picture."""
+
+    def __init__(self, *order):
+        self.paths, self.texts, self.uses = {it: [] for it in order}, collections.defaultdict(list), []
+
+    def path(self, name, *pieces):
+        self.paths[name] += pieces
+
+    def box(self, name, x, y, width, height):
+        self.path(name, f"M{number_of(x)} {number_of(y)}h{number_of(width)}v{number_of(height)}H{number_of(x)}z")
+
+    def text(self, x, y, text, kind=""):
+        self.texts[number_of(y), kind].append((number_of(x), html.escape(text)))
+
+    def all_texts(self):
+        """The texts, those of one height and class as one element."""
+        for (y, kind), each in self.texts.items():
+            kind = f' class="{kind}"' if kind else ""
+            if len(each) == 1:
+                yield f'<text x="{each[0][0]}" y="{y}"{kind}>{each[0][1]}</text>'
+            else:
+                yield f'<text y="{y}"{kind}>' + "".join(f'<tspan x="{x}">{text}</tspan>' for x, text in each) + "</text>"
+
+    def svg(self, width, height, title, told, name=""):
+        paths = "".join(f'<path class="{name}" d="{"".join(pieces)}"/>' for name, pieces in self.paths.items() if pieces)
+        size = f'width="{number_of(width)}" height="{number_of(height)}"' + (f' class="{name}"' if name else "")
+        head = f"<title>{html.escape(title)}</title>" + (f"<desc>{html.escape(told)}</desc>" if told else "")
+        return f'<svg {size} role="img">{head}{paths}{"".join(self.uses)}{"".join(self.all_texts())}</svg>'
+
+
+def number_of(value):
+    """A length, as short as it can be told."""
+    return f"{value:.1f}".removesuffix(".0")
+
+
+# The sizes of a failure's picture: a byte, a lane, what is above the first lane and between lanes, and columns.
+BYTE, TOP, BETWEEN, LEFT, COLUMN, GAP, IMAGE = 1.75, 56, 28, 24, 58, 40, 190
+LANE = BYTE * LINE
+
+
+class Failure:
+    """The picture of one failure: its events on a time line for each cache line that it speaks of, and the crash image."""
+
+    def __init__(self, row, image, section, told, most=EVENTS):
+        """Draws by what is told of the row: the places of the lost store, of the kept one and of others, and the cures."""
+        lost, kept, others, cures = told
+        self.most, self.row, self.image, self.section = most, row, image, section
+        self.lost, self.kept, self.cures = lost, kept, cures
+        self.end = len(section.events)
+        self.lines = [it for it in lines_of_failure(row, section.events, lost) if it in section.of]
+        needed = [row.place, lost, kept, *others, *(place for place, _, _ in cures)]
+        if image:
+            needed += [image.crash, *(it["shows"] for it in image.bytes)]
+        self.shown = self.choose(sorted({it for it in needed if it and 1 <= it <= self.end + 1}))
+        self.columns()
+
+    def choose(self, needed):
+        """The places that are shown: those that are needed, and the nearest others up to the last of these."""
+        near, last = set(), needed[-1]
+        for places in [self.section.of[it] for it in self.lines] + [self.section.fences]:
+            at = bisect.bisect_right(places, last)
+            near |= set(places[max(at - self.most, 0) : at])
+        if not self.image:
+            near |= {it for it in range(max(last - self.most, 1), min(last + 2, self.end) + 1) if not self.lines or self.section.events[it - 1][0] in SCOPES}
+        order = sorted(near - set(needed), key=lambda it: (abs(it - self.row.place), it))
+        return sorted(needed + order[: max(self.most - len(needed), 0)])
+
+    def columns(self):
+        """What stands in each column: a place, a cure, or how many events are left out."""
+        self.each, x, before = [], LEFT, 0
+        for place in self.shown:
+            if place - before > 1:
+                self.each.append(("gap", place - before - 1, x))
+                x += GAP
+            for cure in (it for it in self.cures if it[0] == place and it[1] == "put"):
+                self.each.append(("cure", cure[2], x))
+                x += COLUMN
+            self.each.append(("event", place, x))
+            x += COLUMN
+            before = place
+        if self.end > before:
+            self.each.append(("gap", self.end - before, x))
+            x += GAP
+        for cure in (it for it in self.cures if it[0] is None):
+            self.each.append(("cure", cure[2], x))
+            x += COLUMN
+        # (the word of a crash at the end has to be within the picture)
+        self.width = x + (18 if self.image and self.each[-1][:2] == ("event", self.image.crash) else 6)
+        self.at = {value: x + COLUMN / 2 for kind, value, x in self.each if kind == "event"}
+        self.bottom = TOP + max(len(self.lines) * (LANE + BETWEEN) - BETWEEN, 0) + 4
+
+    def x(self, place):
+        """Where a place is on the time line, though it may be left out."""
+        if place is None:
+            return self.width - 6
+        if place in self.at:
+            return self.at[place]
+        following = next((it for it in self.shown if it > place), None)
+        return self.at[following] - COLUMN if following else self.width - 6 - GAP / 2
+
+    def y(self, lane, offset=0):
+        return TOP + lane * (LANE + BETWEEN) + BYTE * offset
+
+    def lanes(self, ink, width):
+        """The frame of each line, with its address and the offsets of its bytes."""
+        for it, line in enumerate(self.lines):
+            ink.box("i", LEFT, self.y(it), width, LANE)
+            ink.text(LEFT, self.y(it) - 5, f"line {line * LINE:#x}", "t")
+            ink.uses.append(f'<use href="#o" y="{number_of(self.y(it))}"/>')
+
+    def time_line(self):
+        """The events as SVG."""
+        ink, told = Ink("a", "i", "d", "p", "s", "l", "k", "q", "z", "w", "n", "g", "c", "x"), []
+        self.lanes(ink, self.width - LEFT - 6)
+        for kind, value, x in self.each:
+            if kind == "gap":
+                ink.text(x + GAP / 2, 14, f"+{value}", "h")
+            elif kind == "cure":
+                told.append(f"cure {word(value)}")
+                self.draw_cure(ink, value, x + COLUMN / 2)
+            else:
+                told.append(self.draw_event(ink, value, x))
+            if self.image and kind == "event" and value == self.image.crash:
+                told.append("crash")
+                self.draw_crash(ink, x + COLUMN)
+        height = self.bottom + (18 if self.image else 4)
+        return ink.svg(self.width, height, "Time line", ", ".join(told))
+
+    def draw_event(self, ink, place, x):
+        """Draws an event, and tells it."""
+        middle = x + COLUMN / 2
+        if place > self.end:
+            ink.text(middle, 28, "end")
+            ink.box("a", x + 2, 2, COLUMN - 4, self.bottom - 2)
+            return "the section's end"
+        fields = self.section.events[place - 1]
+        is_left_out = any(it[0] == place and it[1] == "out" for it in self.cures)
+        ink.text(middle, 14, str(place))
+        ink.text(middle, 28, word(fields), "u" if is_left_out else "")
+        if place == self.row.place:
+            ink.box("a", x + 2, 2, COLUMN - 4, self.bottom - 2)
+        if is_left_out:
+            ink.path("g", f"M{number_of(x + 6)} 36L{number_of(x + COLUMN - 6)} {number_of(self.bottom)}")
+        name, told = fields[0], f"{place} {word(fields)}"
+        if name == b"FENCE":
+            ink.path("n", f"M{number_of(middle)} 34V{number_of(self.bottom)}")
+        elif name == b"FLUSH":
+            self.draw_write_back(ink, "w", fields, middle)
+        elif name == b"STORE":
+            self.draw_store(ink, place, fields, middle)
+            told += " (lost)" if place == self.lost else " (kept)" if place == self.kept else ""
+        else:
+            self.draw_spans(ink, "q", fields, middle)
+        return told
+
+    def draw_spans(self, ink, name, fields, middle):
+        for span in spans(fields):
+            for it, line in enumerate(self.lines):
+                part = within(span, line)
+                if part:
+                    ink.box(name, middle - 15, self.y(it, part[0]), 30, BYTE * (part[1] - part[0]))
+        if fields is self.section.events[min(self.row.place, self.end) - 1]:
+            for it in ("byte", "after"):
+                self.draw_byte(ink, it, middle)
+
+    def draw_byte(self, ink, name, middle):
+        """Marks a byte that the row names."""
+        byte = int(self.row.values.get(name, "0x0"), 16)
+        if name in self.row.values and byte // LINE in self.lines:
+            y = self.y(self.lines.index(byte // LINE), byte % LINE)
+            ink.path("x", f"M{number_of(middle - 21)} {number_of(y - 3)}l6 3.8l-6 3.7z")
+
+    def draw_write_back(self, ink, name, fields, middle):
+        for span in spans(fields):
+            first, last = span[0] // LINE, (span[1] - 1) // LINE
+            for it, line in enumerate(self.lines):
+                if first <= line <= last:
+                    ink.path(name, f"M{number_of(middle)} {number_of(self.y(it) + 3)}v{number_of(LANE - 8)}m-6-8l6 8l6-8")
+
+    def draw_store(self, ink, place, fields, middle):
+        """Draws a store over its bytes, and how long it is not durable."""
+        name = "l" if place == self.lost else "k" if place == self.kept else "s"
+        for it, line in enumerate(self.lines):
+            part = within(next(spans(fields)), line)
+            if not part:
+                continue
+            y, height = self.y(it, part[0]), max(BYTE * (part[1] - part[0]), 2)
+            written = self.section.write_back_behind(line, place)
+            until = self.x(written)
+            ink.box(name, middle - 15, y, 30, height)
+            ink.box("d", middle + 15, y, max(until - middle - 15, 0), height)
+            if written:
+                ink.box("p", until, y, max(self.x(self.section.fence_behind(written)) - until, 0), height)
+        if fields is self.section.events[min(self.row.place, self.end) - 1]:
+            self.draw_byte(ink, "byte", middle)
+
+    def draw_cure(self, ink, fields, middle):
+        ink.text(middle, 14, "put in", "v")
+        ink.text(middle, 28, word(fields), "v")
+        if fields[0] == b"FENCE":
+            ink.path("g", f"M{number_of(middle)} 34V{number_of(self.bottom)}")
+        elif fields[0] == b"FLUSH":
+            self.draw_write_back(ink, "g", fields, middle)
+        else:
+            self.draw_spans(ink, "g", fields, middle)
+
+    def draw_crash(self, ink, x):
+        ink.path("c", f"M{number_of(x)} 34V{number_of(self.bottom + 4)}")
+        ink.box("z", x, 36, self.width - 6 - x, self.bottom - 36)
+        ink.text(x, self.bottom + 15, "crash", "r")
+
+    def runs(self):
+        """Of each line its runs of bytes: offsets, what the image shows, and what was stored last."""
+        for line in self.lines:
+            last = self.section.state(line, self.row.place)[0]
+            shows = self.section.state(line, self.image.crash)[0 if self.image.full == line * LINE else 1]
+            first, runs = 0, []
+            for it in range(1, LINE + 1):
+                if it == LINE or (shows[it], last[it]) != (shows[first], last[first]):
+                    runs.append((first, it, shows[first], last[first]))
+                    first = it
+            yield runs
+
+    def crash_image(self):
+        """The lines behind the crash, as SVG."""
+        ink, told, x, width = Ink("i", "k", "o", "l", "x"), [], LEFT, IMAGE - LEFT - 6
+        each = list(self.runs())
+        kept = {shows for runs in each for _, _, shows, last in runs if shows == last}
+        self.lanes(ink, width)
+        ink.text(x + width / 2, 14, "crash image")
+        ink.text(x + width / 2, 28, f"behind event {self.image.crash}")
+        for it, (line, runs) in enumerate(zip(self.lines, each)):
+            told.append(f"line {line * LINE:#x}")
+            for first, behind, shows, last in runs:
+                if not last:
+                    continue
+                kind, text = told_of(shows, last, kept)
+                told.append(f"{first} to {behind - 1}: {text}")
+                ink.box(kind, x, self.y(it, first), width, BYTE * (behind - first))
+                if behind - first > 6:
+                    ink.text(x + width / 2, self.y(it, (first + behind) / 2) + 3.5, text)
+        for name in ("byte", "after"):
+            self.draw_byte(ink, name, x + 23)
+        return ink.svg(IMAGE, self.bottom + 18, "Crash image", "; ".join(told), "after")
+
+
+def told_of(shows, last, kept):
+    """The class and the words of bytes whose last store is one, and that show another one."""
+    if shows == last:
+        return "k", f"event {last}"
+    torn = ", torn" if last in kept else ""
+    return ("o", f"event {shows}, not {last}{torn}") if shows else ("l", f"nothing, not event {last}{torn}")
+
+
+def lines_of_failure(row, events, lost):
+    """The cache lines that a row speaks of: those of its bytes, then the others of the store that is lost, or of the row's event."""
+    found = [int(row.values[it], 16) // LINE for it in ("byte", "after") if it in row.values]
+    place = lost or min(row.place, len(events))
+    fields = events[place - 1] if place else [b""]
+    if fields[0] in NUMBERS:
+        first, last = lines_of(fields)
+        around = found[0] if found else first
+        found += range(max(first, around - 1), min(last, around + 1) + 1)
+    return list(dict.fromkeys(found))[:LANES]
+
+
+class Touched:
+    """The cache lines of a section in the order of their first stores and write-backs, and those that are not written back at its end."""
+
+    def __init__(self, events):
+        self.lines, self.unwritten, self.is_whole, work = {}, {}, True, 0
+        for fields in events:
+            if fields[0] not in (b"STORE", b"FLUSH"):
+                continue
+            first, last = lines_of(fields)
+            if fields[0] == b"FLUSH" and last - first > max(len(self.unwritten), 16):
+                met = [it for it in self.unwritten if first <= it <= last]
+                work += len(self.unwritten)
+            else:
+                met = range(first, min(last, first + MEETS) + 1)
+                work += last - first
+            if work > MEETS:
+                self.is_whole = False
+                break
+            for it in met:
+                self.lines.setdefault(it)
+                if fields[0] == b"STORE":
+                    self.unwritten[it] = None
+                else:
+                    self.unwritten.pop(it, None)
+
+
+class Life:
+    """What becomes of one line by epochs: where it is stored to, written back, and not durable."""
+
+    def __init__(self, section, line):
+        self.stores, self.write_backs, self.needless, self.open = set(), set(), [], []
+        since, is_dirty, due = None, False, None
+        for place in section.of[line]:
+            epoch = section.epoch(place)
+            if due is not None and epoch > due:
+                self.open.append((since, due))
+                since, due = None, None
+            if section.events[place - 1][0] == b"STORE":
+                self.stores.add(epoch)
+                since, is_dirty, due = since or epoch, True, None
+            elif is_dirty:
+                self.write_backs.add(epoch)
+                is_dirty, due = False, epoch
+            else:
+                self.needless.append(epoch)
+        end = section.epoch(len(section.events) + 1)
+        is_durable = due is not None and due < end
+        if since:
+            self.open.append((since, due if is_durable else None))
+        self.end = "" if is_durable or not since else "never written back" if is_dirty else "not fenced"
+
+
+def chosen_lines(rows, touched):
+    """The lines of a section that its overview has: those of rows, those that are never written back, then the first ones."""
+    found = {"fail": [], "warn": []}
+    for row in rows:
+        if row.kind in found and len(found[row.kind]) < OVERVIEW_LINES:
+            found[row.kind] += [int(row.values[it], 16) // LINE for it in ("byte", "after", "line") if it in row.values]
+    third = OVERVIEW_LINES // 3
+    groups = [list(dict.fromkeys(it)) for it in (found["fail"], touched.unwritten, found["warn"])]
+    return list(dict.fromkeys(line for group in [*(it[:third] for it in groups), *groups, touched.lines] for line in list(group)[:OVERVIEW_LINES]))
+
+
+# The sizes of an overview: what is left of the first epoch, above the first line, right of the last epoch, an epoch, a line.
+BEFORE, ABOVE, BEHIND, EPOCH, ROW = 124, 34, 190, 20, 20
+
+
+class Overview:
+    """A time line of a section by its cache lines and epochs."""
+
+    def __init__(self, events, rows):
+        self.touched = Touched(events)
+        self.section = Section(events, dict.fromkeys(chosen_lines(rows, self.touched)[: 2 * OVERVIEW_LINES]))
+        self.lines = sorted(list(self.section.of)[:OVERVIEW_LINES])
+        self.lives = {it: Life(self.section, it) for it in self.lines}
+        self.fails = [(self.section.epoch(it.place), it) for it in rows if it.kind == "fail"]
+        # (an epoch without an event is none)
+        self.count = max(self.section.epoch(len(events)), 1)
+        first = self.fails[0][0] if self.fails else 1
+        self.first = min(max(first - OVERVIEW_EPOCHS * 3 // 4, 1), max(self.count - OVERVIEW_EPOCHS + 1, 1))
+        self.last = min(self.first + OVERVIEW_EPOCHS - 1, self.count)
+
+    def left_out(self):
+        """What the picture leaves out, in words."""
+        told = []
+        if self.last - self.first + 1 < self.count:
+            told.append(f"epochs {self.first} to {self.last} of {self.count}")
+        more = len(self.touched.lines) - len(self.lines)
+        if more > 0:
+            told.append(f"{len(self.lines)} of {len(self.touched.lines)} lines")
+        never = sum(it not in self.lives for it in self.touched.unwritten)
+        if never:
+            told.append(f"{never} more {'is' if never == 1 else 'are'} never written back")
+        if not self.touched.is_whole:
+            told.append("the first lines alone, since the section names too many")
+        return told
+
+    def x(self, epoch):
+        return BEFORE + EPOCH * (min(max(epoch, self.first), self.last + 1) - self.first)
+
+    def is_shown(self, epoch):
+        return self.first <= epoch <= self.last
+
+    def svg(self, name):
+        ink, told = Ink("e", "d", "l", "s", "W", "Y", "x"), []
+        right, bottom = self.x(self.last + 1), ABOVE + ROW * len(self.lines)
+        ink.path("e", *(f"M{self.x(it)} {ABOVE - 4}V{bottom}" for it in range(self.first, self.last + 2)))
+        for epoch in range(self.first, self.last + 1):
+            if epoch == self.first or epoch % 5 == 0 or self.count < 15:
+                ink.text(self.x(epoch) + EPOCH / 2, ABOVE - 22, str(epoch), "h")
+        for epoch in sorted({it for it, _ in self.fails if self.is_shown(it)}):
+            ink.path("x", f"M{self.x(epoch) + EPOCH / 2 - 4} {ABOVE - 16}l8 8m0-8l-8 8")
+        ink.text(BEFORE - 8, ABOVE - 22, "epoch", "o")
+        for it, (line, life) in enumerate(self.lives.items()):
+            told.append(self.draw(ink, line, life, ABOVE + ROW * it))
+        return ink.svg(right + BEHIND, bottom + 6, f"Lines and epochs of section {name}", "; ".join(told))
+
+    def draw(self, ink, line, life, y):
+        """Draws what becomes of a line, and tells it."""
+        address = f"{line * LINE:#x}"
+        ink.text(BEFORE - 8, y + 14, address, "m")
+        for since, due in life.open:
+            begin, end = self.x(since), self.x((due or self.last) + 1)
+            if begin < end:
+                ink.box("d" if due else "l", begin + 2, y + 5, end - begin - 4, ROW - 10)
+        ink.path("s", *(f"M{self.x(it) + 3} {y + 6}h8v8h-8z" for it in sorted(life.stores) if self.is_shown(it)))
+        ink.path("W", *(f"M{self.x(it) + 11} {y + 6}h8l-4 8z" for it in sorted(life.write_backs) if self.is_shown(it)))
+        ink.path("Y", *(f"M{self.x(it) + 11} {y + 6}h8l-4 8z" for it in sorted(set(life.needless) - life.write_backs) if self.is_shown(it)))
+        notes = [life.end] if life.end else []
+        if life.needless:
+            notes.append(f"{len(life.needless)} for nothing")
+        ink.text(self.x(self.last + 1) + 6, y + 14, ", ".join(notes), "R" if life.end else "N")
+        return f"line {address}: " + (", ".join(notes) or "durable at the end")
