@@ -388,7 +388,7 @@ def told_of(shows, last, kept):
     if shows == last:
         return "k", f"event {last}"
     torn = ", torn" if last in kept else ""
-    return ("o", f"event {shows}, not {last}{torn}") if shows else ("l", f"nothing, not event {last}{torn}")
+    return ("o", f"event {shows}, not {last}{torn}") if shows else ("l", f"event {last} is lost{torn}")
 
 
 def lines_of_failure(row, events, lost):
