@@ -9,6 +9,12 @@ import bisect
 import collections
 import html
 import itertools
+import os
+import runpy
+import types
+
+# (the name of that script is none of a module)
+rows = types.SimpleNamespace(**runpy.run_path(os.path.join(os.path.dirname(os.path.realpath(__file__)), "rows"), run_name="rows"))
 
 LINE = 64
 # (of one picture; events that have to be shown may be more)
@@ -23,11 +29,6 @@ SCOPES = (b"PMT.TXBEGIN", b"PMT.TXADD", b"PMT.TXEND", b"PMT.CHECKSTART", b"PMT.C
 WORDS |= {b"PMT.CHECKSTART": "check start", b"PMT.CHECKEND": "check end"}
 
 
-def number(text):
-    """A number of a log."""
-    return int(text, 16 if text.startswith(b"0x") else 10)
-
-
 def spans(fields):
     """The bytes that an event names, each as its first byte and the one behind the last."""
     if fields[0] == b"PMT.ORDERED":
@@ -35,8 +36,8 @@ def spans(fields):
     else:
         pairs = (NUMBERS[fields[0]],) if fields[0] in NUMBERS else ()
     for address, size in pairs:
-        first = number(fields[address])
-        yield first, first + number(fields[size])
+        first = rows.number(fields[address])
+        yield first, first + rows.number(fields[size])
 
 
 def word(fields):
@@ -453,6 +454,7 @@ class Life:
         if since:
             self.open.append((since, due if is_durable else None))
         self.end = "" if is_durable or not since else "never written back" if is_dirty else "not fenced"
+        self.note = ", ".join(filter(None, [self.end, f"{len(self.needless)} for nothing" if self.needless else ""]))
 
 
 def chosen_lines(rows, touched):
@@ -466,8 +468,8 @@ def chosen_lines(rows, touched):
     return list(dict.fromkeys(line for group in [*(it[:third] for it in groups), *groups, touched.lines] for line in list(group)[:OVERVIEW_LINES]))
 
 
-# The sizes of an overview: what is left of the first epoch, above the first line, right of the last epoch, an epoch, a line.
-BEFORE, ABOVE, BEHIND, EPOCH, ROW = 124, 34, 190, 20, 20
+# The sizes of an overview: what is left of the first epoch, above the first line, a character of a note, an epoch, a line.
+BEFORE, ABOVE, CHARACTER, EPOCH, ROW = 124, 34, 6.5, 20, 20
 
 
 class Overview:
@@ -518,7 +520,8 @@ class Overview:
         ink.text(BEFORE - 8, ABOVE - 22, "epoch", "o")
         for it, (line, life) in enumerate(self.lives.items()):
             told.append(self.draw(ink, line, life, ABOVE + ROW * it))
-        return ink.svg(right + BEHIND, bottom + 6, f"Lines and epochs of section {name}", "; ".join(told))
+        notes = CHARACTER * max((len(it.note) for it in self.lives.values()), default=0)
+        return ink.svg(right + 10 + notes, bottom + 6, f"Lines and epochs of section {name}", "; ".join(told))
 
     def draw(self, ink, line, life, y):
         """Draws what becomes of a line, and tells it."""
@@ -531,8 +534,6 @@ class Overview:
         ink.path("s", *(f"M{self.x(it) + 3} {y + 6}h8v8h-8z" for it in sorted(life.stores) if self.is_shown(it)))
         ink.path("W", *(f"M{self.x(it) + 11} {y + 6}h8l-4 8z" for it in sorted(life.write_backs) if self.is_shown(it)))
         ink.path("Y", *(f"M{self.x(it) + 11} {y + 6}h8l-4 8z" for it in sorted(set(life.needless) - life.write_backs) if self.is_shown(it)))
-        notes = [life.end] if life.end else []
-        if life.needless:
-            notes.append(f"{len(life.needless)} for nothing")
-        ink.text(self.x(self.last + 1) + 6, y + 14, ", ".join(notes), "R" if life.end else "N")
-        return f"line {address}: " + (", ".join(notes) or "durable at the end")
+        if life.note:
+            ink.text(self.x(self.last + 1) + 6, y + 14, life.note, "R" if life.end else "N")
+        return f"line {address}: {life.note or 'durable at the end'}"
