@@ -63,38 +63,68 @@ def behind(places, place):
     return places[at] if at < len(places) else None
 
 
-class Section:
-    """The fences of a section, and the stores and write-backs of some of its cache lines."""
+def lines_between(lines, of, first, last):
+    """Those of some lines, which are given in order and by name, that are within two."""
+    if first == last:
+        return (first,) if first in of else ()
+    at = bisect.bisect_left(lines, first)
+    return lines[at : bisect.bisect_right(lines, last, at)]
 
-    def __init__(self, events, asked):
-        """Takes lines, and for each the places at which its state is asked for, in the order in which they are wanted, as far as the work allows."""
-        self.events, self.fences, lines = events, array.array("Q"), sorted(asked)
-        meets, begins = [], [0] * (len(lines) + 1)
+
+def counts_of(events, asked):
+    """How many stores and write-backs meet each of these lines."""
+    lines, of, single = sorted(asked), set(asked), collections.Counter()
+    changes = [0] * (len(lines) + 1)
+    for _, first, last, _ in events.met():
+        if first == last:
+            if first in of:
+                single[first] += 1
+        else:
+            at = bisect.bisect_left(lines, first)
+            changes[at] += 1
+            changes[bisect.bisect_right(lines, last, at)] -= 1
+    return {line: single[line] + wide for line, wide in zip(lines, itertools.accumulate(changes))}
+
+
+class Events:
+    """The events of a section, its fences, and which cache lines its stores and write-backs meet."""
+
+    def __init__(self, events):
+        self.all, self.fences = events, array.array("Q")
+        self.places, self.first, self.last, self.is_store = array.array("Q"), array.array("Q"), array.array("Q"), bytearray()
         for place, fields in enumerate(events, 1):
             if fields[0] == b"FENCE":
                 self.fences.append(place)
             elif fields[0] in (b"STORE", b"FLUSH"):
                 first, last = lines_of(fields)
-                at = bisect.bisect_left(lines, first)
-                end = bisect.bisect_right(lines, last, at)
-                if at < end:
-                    meets.append((place, at, end))
-                    begins[at] += 1
-                    begins[end] -= 1
-        counts, left = dict(zip(lines, itertools.accumulate(begins))), MEETS
-        self.of, self.write_backs, self.asked, self.found = {}, {}, asked, {}
+                self.places.append(place)
+                self.first.append(first)
+                self.last.append(last)
+                self.is_store.append(fields[0] == b"STORE")
+
+    def met(self):
+        """Of each store and write-back its place, its first and its last line, and whether it is a store."""
+        return zip(self.places, self.first, self.last, self.is_store)
+
+
+class Section:
+    """The fences of a section, and the stores and write-backs of some of its cache lines."""
+
+    def __init__(self, events, asked):
+        """Takes lines, and for each the places at which its state is asked for, in the order in which they are wanted, as far as the work allows."""
+        self.events, self.fences, self.asked, self.found = events.all, events.fences, asked, {}
+        meets, left = counts_of(events, asked), MEETS
+        self.of, self.write_backs = {}, {}
         for line in asked:
-            if counts[line] <= left:
-                left -= counts[line]
+            if meets[line] <= left:
+                left -= meets[line]
                 self.of[line], self.write_backs[line] = array.array("Q"), array.array("Q")
-        taken = [(self.of.get(it), self.write_backs.get(it)) for it in lines]
-        for place, at, end in meets:
-            is_write_back = events[place - 1][0] == b"FLUSH"
-            for places, write_backs in taken[at:end]:
-                if places is not None:
-                    places.append(place)
-                    if is_write_back:
-                        write_backs.append(place)
+        lines = sorted(self.of)
+        for place, first, last, is_store in events.met():
+            for line in lines_between(lines, self.of, first, last):
+                self.of[line].append(place)
+                if not is_store:
+                    self.write_backs[line].append(place)
 
     def epoch(self, place):
         """The epoch of a place, from 1: a fence ends the one that it stands in."""
@@ -409,11 +439,11 @@ class Touched:
 
     def __init__(self, events):
         self.lines, self.unwritten, self.is_whole, work = {}, {}, True, 0
-        for fields in events:
-            if fields[0] not in (b"STORE", b"FLUSH"):
+        for _, first, last, is_store in events.met():
+            if first == last:
+                self.take(first, is_store)
                 continue
-            first, last = lines_of(fields)
-            if fields[0] == b"FLUSH" and last - first > max(len(self.unwritten), 16):
+            if not is_store and last - first > max(len(self.unwritten), 16):
                 met = [it for it in self.unwritten if first <= it <= last]
                 work += len(self.unwritten)
             else:
@@ -423,11 +453,14 @@ class Touched:
                 self.is_whole = False
                 break
             for it in met:
-                self.lines.setdefault(it)
-                if fields[0] == b"STORE":
-                    self.unwritten[it] = None
-                else:
-                    self.unwritten.pop(it, None)
+                self.take(it, is_store)
+
+    def take(self, line, is_store):
+        self.lines.setdefault(line)
+        if is_store:
+            self.unwritten[line] = None
+        else:
+            self.unwritten.pop(line, None)
 
 
 class Life:
@@ -482,7 +515,7 @@ class Overview:
         self.lives = {it: Life(self.section, it) for it in self.lines}
         self.fails = [(self.section.epoch(it.place), it) for it in rows if it.kind == "fail"]
         # (an epoch without an event is none)
-        self.count = max(self.section.epoch(len(events)), 1)
+        self.count = max(self.section.epoch(len(events.all)), 1)
         first = self.fails[0][0] if self.fails else 1
         self.first = min(max(first - OVERVIEW_EPOCHS * 3 // 4, 1), max(self.count - OVERVIEW_EPOCHS + 1, 1))
         self.last = min(self.first + OVERVIEW_EPOCHS - 1, self.count)
