@@ -193,7 +193,8 @@ class Ink:
 
     def svg(self, width, height, title, told, name=""):
         paths = "".join(f'<path class="{name}" d="{"".join(pieces)}"/>' for name, pieces in self.paths.items() if pieces)
-        size = f'width="{number_of(width)}" height="{number_of(height)}"' + (f' class="{name}"' if name else "")
+        width, height = number_of(width), number_of(height)
+        size = f'width="{width}" height="{height}" viewBox="0 0 {width} {height}"' + (f' class="{name}"' if name else "")
         head = f"<title>{html.escape(title)}</title>" + (f"<desc>{html.escape(told)}</desc>" if told else "")
         return f'<svg {size} role="img">{head}{paths}{"".join(self.uses)}{"".join(self.all_texts())}</svg>'
 
