@@ -1,7 +1,7 @@
 """Pictures of a section of a log, as SVG: what is around one failure, what a crash leaves of its cache lines, and a time line of all.
 
 `Section` has the stores and write-backs of the cache lines that are drawn, and is read once. `Failure` draws its time line and its crash
-image by it, and `overview` the lines of a section by epochs. The classes of the paths stand in the style of `tools/page`.
+image by it, and `Overview` the lines of a section by epochs. The classes of the paths stand in the style of `tools/page`.
 """
 
 import array
@@ -57,7 +57,7 @@ def within(span, line):
     return (first, behind) if first < behind else None
 
 
-def behind(places, place):
+def next_of(places, place):
     """The first of these places behind one, or None."""
     at = bisect.bisect_right(places, place)
     return places[at] if at < len(places) else None
@@ -111,7 +111,7 @@ class Section:
     """The fences of a section, and the stores and write-backs of some of its cache lines."""
 
     def __init__(self, events, asked):
-        """Takes lines, and for each the places at which its state is asked for, in the order in which they are wanted, as far as the work allows."""
+        """Takes lines, each with the places at which its state is asked for, in the order in which they are wanted, as far as MEETS allows."""
         self.events, self.fences, self.asked, self.found = events.all, events.fences, asked, {}
         meets, left = counts_of(events, asked), MEETS
         self.of, self.write_backs = {}, {}
@@ -131,10 +131,10 @@ class Section:
         return bisect.bisect_left(self.fences, place) + 1
 
     def fence_behind(self, place):
-        return behind(self.fences, place)
+        return next_of(self.fences, place)
 
     def write_back_behind(self, line, place):
-        return behind(self.write_backs[line], place)
+        return next_of(self.write_backs[line], place)
 
     def state(self, line, place):
         """The last store of each byte of a line by a place that is asked for, and the last durable one; 0 where there is none."""
@@ -158,13 +158,6 @@ class Section:
             if place in queries:
                 found[place] = last[:], durable
         return found
-
-
-class Image:
-    """What `explain` tells of a crash: its place, the line that holds all its stores, and of each byte what it shows."""
-
-    def __init__(self, crash, full):
-        self.crash, self.full, self.bytes = crash, full, []
 
 
 class Ink:
@@ -191,10 +184,10 @@ class Ink:
             else:
                 yield f'<text y="{y}"{kind}>' + "".join(f'<tspan x="{x}">{text}</tspan>' for x, text in each) + "</text>"
 
-    def svg(self, width, height, title, told, name=""):
+    def svg(self, width, height, title, told, kind=""):
         paths = "".join(f'<path class="{name}" d="{"".join(pieces)}"/>' for name, pieces in self.paths.items() if pieces)
         width, height = number_of(width), number_of(height)
-        size = f'width="{width}" height="{height}" viewBox="0 0 {width} {height}"' + (f' class="{name}"' if name else "")
+        size = f'width="{width}" height="{height}" viewBox="0 0 {width} {height}"' + (f' class="{kind}"' if kind else "")
         head = f"<title>{html.escape(title)}</title>" + (f"<desc>{html.escape(told)}</desc>" if told else "")
         return f'<svg {size} role="img">{head}{paths}{"".join(self.uses)}{"".join(self.all_texts())}</svg>'
 
@@ -218,7 +211,9 @@ class Failure:
         self.most, self.row, self.image, self.section = most, row, image, section
         self.lost, self.kept, self.cures = lost, kept, cures
         self.end = len(section.events)
-        self.lines = [it for it in lines_of_failure(row, section.events, lost) if it in section.of]
+        wanted = lines_of_failure(row, section.events, lost)
+        self.lines = [it for it in wanted if it in section.of]
+        self.is_whole = self.lines == wanted
         needed = [row.place, lost, kept, *others, *(place for place, _, _ in cures)]
         if image:
             needed += [image.crash, *(it["shows"] for it in image.bytes)]
@@ -232,7 +227,8 @@ class Failure:
             at = bisect.bisect_right(places, last)
             near |= set(places[max(at - self.most, 0) : at])
         if not self.image:
-            near |= {it for it in range(max(last - self.most, 1), min(last + 2, self.end) + 1) if not self.lines or self.section.events[it - 1][0] in SCOPES}
+            around, events = range(max(last - self.most, 1), min(last + 2, self.end) + 1), self.section.events
+            near |= {it for it in around if not self.lines or events[it - 1][0] in SCOPES}
         order = sorted(near - set(needed), key=lambda it: (abs(it - self.row.place), it))
         return sorted(needed + order[: max(self.most - len(needed), 0)])
 
@@ -491,15 +487,16 @@ class Life:
         self.note = ", ".join(filter(None, [self.end, f"{len(self.needless)} for nothing" if self.needless else ""]))
 
 
-def chosen_lines(rows, touched):
+def chosen_lines(each, touched):
     """The lines of a section that its overview has: those of rows, those that are never written back, then the first ones."""
     found = {"fail": [], "warn": []}
-    for row in rows:
+    for row in each:
         if row.kind in found and len(found[row.kind]) < OVERVIEW_LINES:
             found[row.kind] += [int(row.values[it], 16) // LINE for it in ("byte", "after", "line") if it in row.values]
     third = OVERVIEW_LINES // 3
     groups = [list(dict.fromkeys(it)) for it in (found["fail"], touched.unwritten, found["warn"])]
-    return list(dict.fromkeys(line for group in [*(it[:third] for it in groups), *groups, touched.lines] for line in list(group)[:OVERVIEW_LINES]))
+    groups = [*(it[:third] for it in groups), *groups, touched.lines]
+    return list(dict.fromkeys(line for it in groups for line in itertools.islice(it, OVERVIEW_LINES)))
 
 
 # The sizes of an overview: what is left of the first epoch, above the first line, a character of a note, an epoch, a line.
@@ -509,15 +506,16 @@ BEFORE, ABOVE, CHARACTER, EPOCH, ROW = 124, 34, 6.5, 20, 20
 class Overview:
     """A time line of a section by its cache lines and epochs."""
 
-    def __init__(self, events, rows):
+    def __init__(self, events, each):
+        """Takes the events of a section, and its rows."""
         self.touched = Touched(events)
-        self.section = Section(events, dict.fromkeys(chosen_lines(rows, self.touched)[: 2 * OVERVIEW_LINES]))
+        self.section = Section(events, dict.fromkeys(chosen_lines(each, self.touched)[: 2 * OVERVIEW_LINES]))
         self.lines = sorted(list(self.section.of)[:OVERVIEW_LINES])
         self.lives = {it: Life(self.section, it) for it in self.lines}
-        self.fails = [(self.section.epoch(it.place), it) for it in rows if it.kind == "fail"]
+        self.fails = [self.section.epoch(it.place) for it in each if it.kind == "fail"]
         # (an epoch without an event is none)
         self.count = max(self.section.epoch(len(events.all)), 1)
-        first = self.fails[0][0] if self.fails else 1
+        first = self.fails[0] if self.fails else 1
         self.first = min(max(first - OVERVIEW_EPOCHS * 3 // 4, 1), max(self.count - OVERVIEW_EPOCHS + 1, 1))
         self.last = min(self.first + OVERVIEW_EPOCHS - 1, self.count)
 
@@ -549,7 +547,7 @@ class Overview:
         for epoch in range(self.first, self.last + 1):
             if epoch == self.first or epoch % 5 == 0 or self.count < 15:
                 ink.text(self.x(epoch) + EPOCH / 2, ABOVE - 22, str(epoch), "h")
-        for epoch in sorted({it for it, _ in self.fails if self.is_shown(it)}):
+        for epoch in sorted(set(filter(self.is_shown, self.fails))):
             ink.path("x", f"M{self.x(epoch) + EPOCH / 2 - 4} {ABOVE - 16}l8 8m0-8l-8 8")
         ink.text(BEFORE - 8, ABOVE - 22, "epoch", "o")
         for it, (line, life) in enumerate(self.lives.items()):
@@ -565,9 +563,12 @@ class Overview:
             begin, end = self.x(since), self.x((due or self.last) + 1)
             if begin < end:
                 ink.box("d" if due else "l", begin + 2, y + 5, end - begin - 4, ROW - 10)
-        ink.path("s", *(f"M{self.x(it) + 3} {y + 6}h8v8h-8z" for it in sorted(life.stores) if self.is_shown(it)))
-        ink.path("W", *(f"M{self.x(it) + 11} {y + 6}h8l-4 8z" for it in sorted(life.write_backs) if self.is_shown(it)))
-        ink.path("Y", *(f"M{self.x(it) + 11} {y + 6}h8l-4 8z" for it in sorted(set(life.needless) - life.write_backs) if self.is_shown(it)))
+        for name, epochs, x, sign in (
+            ("s", life.stores, 3, "h8v8h-8z"),
+            ("W", life.write_backs, 11, "h8l-4 8z"),
+            ("Y", set(life.needless) - life.write_backs, 11, "h8l-4 8z"),
+        ):
+            ink.path(name, *(f"M{self.x(it) + x} {y + 6}{sign}" for it in sorted(filter(self.is_shown, epochs))))
         if life.note:
             ink.text(self.x(self.last + 1) + 6, y + 14, life.note, "R" if life.end else "N")
         return f"line {address}: {life.note or 'durable at the end'}"
