@@ -160,11 +160,25 @@ class Section:
         return found
 
 
+class Shared:
+    """The shapes of pictures, each of which is written once and then referred to."""
+
+    def __init__(self):
+        self.numbers = {}
+
+    def shape(self, text):
+        if text in self.numbers:
+            return f'<use href="#g{self.numbers[text]}"/>'
+        self.numbers[text] = len(self.numbers) + 1
+        return f'<g id="g{self.numbers[text]}">{text}</g>'
+
+
 class Ink:
-    """Paths by their classes, and texts, of one picture."""
+    """Paths by their classes, and texts, of one picture. Words that are alike in many pictures belong to its shape."""
 
     def __init__(self, *order):
-        self.paths, self.texts, self.uses = {it: [] for it in order}, collections.defaultdict(list), []
+        self.paths, self.uses = {it: [] for it in order}, []
+        self.texts, self.words = collections.defaultdict(list), collections.defaultdict(list)
 
     def path(self, name, *pieces):
         self.paths[name] += pieces
@@ -175,21 +189,25 @@ class Ink:
     def text(self, x, y, text, kind=""):
         self.texts[number_of(y), kind].append((number_of(x), html.escape(text)))
 
-    def all_texts(self):
-        """The texts, those of one height and class as one element."""
-        for (y, kind), each in self.texts.items():
+    def word(self, x, y, text, kind=""):
+        self.words[number_of(y), kind].append((number_of(x), text))
+
+    def written(self, texts):
+        """Texts, those of one height and class as one element."""
+        for (y, kind), each in texts.items():
             kind = f' class="{kind}"' if kind else ""
             if len(each) == 1:
                 yield f'<text x="{each[0][0]}" y="{y}"{kind}>{each[0][1]}</text>'
             else:
                 yield f'<text y="{y}"{kind}>' + "".join(f'<tspan x="{x}">{text}</tspan>' for x, text in each) + "</text>"
 
-    def svg(self, width, height, title, told, kind=""):
-        paths = "".join(f'<path class="{name}" d="{"".join(pieces)}"/>' for name, pieces in self.paths.items() if pieces)
+    def svg(self, width, height, title, told, shared=None):
+        paths = (f'<path class="{name}" d="{"".join(pieces)}"/>' for name, pieces in self.paths.items() if pieces)
+        shape = "".join([*paths, *self.uses, *self.written(self.words)])
+        shape = shared.shape(shape) if shared else shape
         width, height = number_of(width), number_of(height)
-        size = f'width="{width}" height="{height}" viewBox="0 0 {width} {height}"' + (f' class="{kind}"' if kind else "")
-        head = f"<title>{html.escape(title)}</title>" + (f"<desc>{html.escape(told)}</desc>" if told else "")
-        return f'<svg {size} role="img">{head}{paths}{"".join(self.uses)}{"".join(self.all_texts())}</svg>'
+        head = f'<svg width="{width}" height="{height}" viewBox="0 0 {width} {height}" role="img"><title>{html.escape(title)}</title>'
+        return f"{head}<desc>{html.escape(told)}</desc>{shape}{''.join(self.written(self.texts))}</svg>"
 
 
 def number_of(value):
@@ -205,10 +223,11 @@ LANE = BYTE * LINE
 class Failure:
     """The picture of one failure: its events on a time line for each cache line that it speaks of, and the crash image."""
 
-    def __init__(self, row, image, section, told, most=EVENTS):
+    def __init__(self, row, image, section, told, shared, most=EVENTS):
         """Draws by what is told of the row: the places of the lost store, of the kept one and of others, and the cures."""
         lost, kept, others, cures = told
-        self.most, self.row, self.image, self.section = most, row, image, section
+        self.shared, self.most = shared, most
+        self.row, self.image, self.section = row, image, section
         self.lost, self.kept, self.cures = lost, kept, cures
         self.end = len(section.events)
         wanted = lines_of_failure(row, section.events, lost)
@@ -291,19 +310,19 @@ class Failure:
                 told.append("crash")
                 self.draw_crash(ink, x + COLUMN)
         height = self.bottom + (18 if self.image else 4)
-        return ink.svg(self.width, height, "Time line", ", ".join(told))
+        return ink.svg(self.width, height, "Time line", ", ".join(told), self.shared)
 
     def draw_event(self, ink, place, x):
         """Draws an event, and tells it."""
         middle = x + COLUMN / 2
         if place > self.end:
-            ink.text(middle, 28, "end")
+            ink.word(middle, 28, "end")
             ink.box("a", x + 2, 2, COLUMN - 4, self.bottom - 2)
             return "the section's end"
         fields = self.section.events[place - 1]
         is_left_out = any(it[0] == place and it[1] == "out" for it in self.cures)
         ink.text(middle, 14, str(place))
-        ink.text(middle, 28, word(fields), "u" if is_left_out else "")
+        ink.word(middle, 28, word(fields), "u" if is_left_out else "")
         if place == self.row.place:
             ink.box("a", x + 2, 2, COLUMN - 4, self.bottom - 2)
         if is_left_out:
@@ -362,8 +381,8 @@ class Failure:
             self.draw_byte(ink, "byte", middle)
 
     def draw_cure(self, ink, fields, middle):
-        ink.text(middle, 14, "put in", "v")
-        ink.text(middle, 28, word(fields), "v")
+        ink.word(middle, 14, "put in", "v")
+        ink.word(middle, 28, word(fields), "v")
         if fields[0] == b"FENCE":
             ink.path("g", f"M{number_of(middle)} 34V{number_of(self.bottom)}")
         elif fields[0] == b"FLUSH":
@@ -374,7 +393,7 @@ class Failure:
     def draw_crash(self, ink, x):
         ink.path("c", f"M{number_of(x)} 34V{number_of(self.bottom + 4)}")
         ink.box("z", x, 36, self.width - 6 - x, self.bottom - 36)
-        ink.text(x, self.bottom + 15, "crash", "r")
+        ink.word(x, self.bottom + 15, "crash", "r")
 
     def runs(self):
         """Of each line its runs of bytes: offsets, what the image shows, and what was stored last."""
@@ -390,33 +409,35 @@ class Failure:
 
     def crash_image(self):
         """The lines behind the crash, as SVG."""
-        ink, told, x, width = Ink("i", "k", "o", "l", "x"), [], LEFT, IMAGE - LEFT - 6
+        ink, told, x, width = Ink("i", "K", "O", "L", "x"), [], LEFT, IMAGE - LEFT - 6
         each = list(self.runs())
         kept = {shows for runs in each for _, _, shows, last in runs if shows == last}
         self.lanes(ink, width)
-        ink.text(x + width / 2, 14, "crash image")
+        ink.word(x + width / 2, 14, "crash image")
         ink.text(x + width / 2, 28, f"behind event {self.image.crash}")
         for it, (line, runs) in enumerate(zip(self.lines, each)):
             told.append(f"line {line * LINE:#x}")
             for first, behind, shows, last in runs:
                 if not last:
                     continue
-                kind, text = told_of(shows, last, kept)
+                kind, text = told_of(shows, last, kept, self.image.crash)
                 told.append(f"{first} to {behind - 1}: {text}")
                 ink.box(kind, x, self.y(it, first), width, BYTE * (behind - first))
                 if behind - first > 6:
                     ink.text(x + width / 2, self.y(it, (first + behind) / 2) + 3.5, text)
         for name in ("byte", "after"):
             self.draw_byte(ink, name, x + 23)
-        return ink.svg(IMAGE, self.bottom + 18, "Crash image", "; ".join(told), "after")
+        return ink.svg(IMAGE, self.bottom + 18, "Crash image", "; ".join(told), self.shared)
 
 
-def told_of(shows, last, kept):
-    """The class and the words of bytes whose last store is one, and that show another one."""
+def told_of(shows, last, kept, crash):
+    """The class and the words of bytes whose last store is one, and that show another one behind a crash."""
     if shows == last:
-        return "k", f"event {last}"
+        return "K", f"event {last}"
+    if last > crash:
+        return ("O", f"event {shows}, {last} comes later") if shows else ("L", f"event {last} comes later")
     torn = ", torn" if last in kept else ""
-    return ("o", f"event {shows}, not {last}{torn}") if shows else ("l", f"event {last} is lost{torn}")
+    return ("O", f"event {shows}, not {last}{torn}") if shows else ("L", f"event {last} is lost{torn}")
 
 
 def lines_of_failure(row, events, lost):
@@ -499,8 +520,8 @@ def chosen_lines(each, touched):
     return list(dict.fromkeys(line for it in groups for line in itertools.islice(it, OVERVIEW_LINES)))
 
 
-# The sizes of an overview: what is left of the first epoch, above the first line, a character of a note, an epoch, a line.
-BEFORE, ABOVE, CHARACTER, EPOCH, ROW = 124, 34, 6.5, 20, 20
+# The sizes of an overview: what is above the first line, a character beside it, an epoch, a line.
+ABOVE, CHARACTER, EPOCH, ROW = 34, 6.7, 20, 20
 
 
 class Overview:
@@ -512,6 +533,7 @@ class Overview:
         self.section = Section(events, dict.fromkeys(chosen_lines(each, self.touched)[: 2 * OVERVIEW_LINES]))
         self.lines = sorted(list(self.section.of)[:OVERVIEW_LINES])
         self.lives = {it: Life(self.section, it) for it in self.lines}
+        self.left = 16 + int(CHARACTER * max((len(f"{it * LINE:#x}") for it in self.lines), default=6))
         self.fails = [self.section.epoch(it.place) for it in each if it.kind == "fail"]
         # (an epoch without an event is none)
         self.count = max(self.section.epoch(len(events.all)), 1)
@@ -535,7 +557,7 @@ class Overview:
         return told
 
     def x(self, epoch):
-        return BEFORE + EPOCH * (min(max(epoch, self.first), self.last + 1) - self.first)
+        return self.left + EPOCH * (min(max(epoch, self.first), self.last + 1) - self.first)
 
     def is_shown(self, epoch):
         return self.first <= epoch <= self.last
@@ -549,7 +571,7 @@ class Overview:
                 ink.text(self.x(epoch) + EPOCH / 2, ABOVE - 22, str(epoch), "h")
         for epoch in sorted(set(filter(self.is_shown, self.fails))):
             ink.path("x", f"M{self.x(epoch) + EPOCH / 2 - 4} {ABOVE - 16}l8 8m0-8l-8 8")
-        ink.text(BEFORE - 8, ABOVE - 22, "epoch", "o")
+        ink.text(self.left - 8, ABOVE - 22, "epoch", "o")
         for it, (line, life) in enumerate(self.lives.items()):
             told.append(self.draw(ink, line, life, ABOVE + ROW * it))
         notes = CHARACTER * max((len(it.note) for it in self.lives.values()), default=0)
@@ -558,7 +580,7 @@ class Overview:
     def draw(self, ink, line, life, y):
         """Draws what becomes of a line, and tells it."""
         address = f"{line * LINE:#x}"
-        ink.text(BEFORE - 8, y + 14, address, "m")
+        ink.text(self.left - 8, y + 14, address, "m")
         for since, due in life.open:
             begin, end = self.x(since), self.x((due or self.last) + 1)
             if begin < end:
