@@ -461,17 +461,16 @@ class Touched:
             if first == last:
                 self.take(first, is_store)
                 continue
-            if not is_store and last - first > max(len(self.unwritten), 16):
-                met = [it for it in self.unwritten if first <= it <= last]
-                work += len(self.unwritten)
-            else:
-                met = range(first, min(last, first + MEETS) + 1)
-                work += last - first
+            is_wide = not is_store and last - first > max(len(self.unwritten), 16)
+            work += len(self.unwritten) if is_wide else last - first
             if work > MEETS:
                 self.is_whole = False
                 break
-            for it in met:
-                self.take(it, is_store)
+            if is_wide:
+                self.unwritten = {it: None for it in self.unwritten if not first <= it <= last}
+            else:
+                for it in range(first, last + 1):
+                    self.take(it, is_store)
 
     def take(self, line, is_store):
         self.lines.setdefault(line)
