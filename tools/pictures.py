@@ -216,7 +216,7 @@ def number_of(value):
 
 
 # The sizes of a failure's picture: a byte, a lane, what is above the first lane and between lanes, and columns.
-BYTE, TOP, BETWEEN, LEFT, COLUMN, GAP, IMAGE = 1.75, 56, 28, 24, 58, 40, 190
+BYTE, TOP, BETWEEN, LEFT, COLUMN, GAP, IMAGE = 1.75, 56, 28, 24, 58, 48, 190
 LANE = BYTE * LINE
 
 
@@ -242,9 +242,13 @@ class Failure:
     def choose(self, needed):
         """The places that are shown: those that are needed, and the nearest others up to the last of these."""
         near, last = set(), needed[-1]
-        for places in [self.section.of[it] for it in self.lines] + [self.section.fences]:
+        for places in [self.section.of[it] for it in self.lines]:
             at = bisect.bisect_right(places, last)
             near |= set(places[max(at - self.most, 0) : at])
+        # (a fence before all of these says nothing of them)
+        fences, first = self.section.fences, min(near | set(needed))
+        at = bisect.bisect_right(fences, last)
+        near |= {it for it in fences[max(at - self.most, 0) : at] if it > first}
         if not self.image:
             around, events = range(max(last - self.most, 1), min(last + 2, self.end) + 1), self.section.events
             near |= {it for it in around if not self.lines or events[it - 1][0] in SCOPES}
@@ -544,13 +548,13 @@ class Overview:
         """What the picture leaves out, in words."""
         told = []
         if self.last - self.first + 1 < self.count:
-            told.append(f"epochs {self.first} to {self.last} of {self.count}")
+            told.append(f"epochs {self.first:,} to {self.last:,} of {self.count:,}")
         more = len(self.touched.lines) - len(self.lines)
         if more > 0:
-            told.append(f"{len(self.lines)} of {len(self.touched.lines)} lines")
+            told.append(f"{len(self.lines)} of {len(self.touched.lines):,} lines")
         never = sum(it not in self.lives for it in self.touched.unwritten)
         if never:
-            told.append(f"{never} more {'is' if never == 1 else 'are'} never written back")
+            told.append(f"{never:,} more {'is' if never == 1 else 'are'} never written back")
         if not self.touched.is_whole:
             told.append("the first lines alone, since the section names too many")
         return told
