@@ -407,6 +407,12 @@ try_tools() {
     check 'tools/rows writes any bytes of a log as each form has them' tests/try-rows "$program" escapes
     check 'tools/rows knows the failures of a baseline' tests/try-rows "$program" baselines
     check 'tools/rows refuses words, reports, logs and baselines that are wrong' tests/try-rows "$program" words
+    check 'tools/page writes what was worked out by hand' tests/try-page "$program" contents
+    check 'tools/page draws of each byte what explain tells of it' tests/try-page "$program" images
+    check 'tools/page writes any bytes of a log as text' tests/try-page "$program" hostile
+    check 'tools/page tells what it leaves out of long logs' tests/try-page "$program" sizes
+    check 'tools/page refuses words, reports and logs that are wrong' tests/try-page "$program" words
+    check_by chromium 'the page in Chromium, by mouse, by keys, to a screen reader, narrow, dark and printed' tests/try-page "$program" browser
     check 'the example in C writes its logs, with the fence and without' example_by 'cc -std=c11' 'cc -std=c99 -O2'
     check 'the markers in C tell the sections of threads' sections_of_threads
     check 'the markers in C refuse a section beside those of threads' sections_by cc -std=c99 -x c
