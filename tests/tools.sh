@@ -270,11 +270,11 @@ built_with_its_commit() {
 # The files and links that tools/install makes, below a prefix: of the program, of each tool, and of the tracer.
 installed() {
     local name
-    for name in pmfarm pmfarm-rows pmfarm-trace; do
+    for name in pmfarm pmfarm-rows pmfarm-trace pmfarm-page; do
         printf '%s\n' "bin/$name" "share/bash-completion/completions/$name" "share/fish/vendor_completions.d/$name.fish" \
             "share/man/man1/$name.1" "share/pmfarm/${name/pmfarm-/tools/}" "share/zsh/site-functions/_$name"
     done
-    find trace -type f | sed 's|^|share/pmfarm/|'
+    find tools/pictures.py trace -type f | sed 's|^|share/pmfarm/|'
 }
 
 # are_installed: standard input names these, in any order.
@@ -335,6 +335,13 @@ installed_rows() {
     ended 0 $? && tools/rows --fail examples/order_and_warnings.report | same - "$scratch/rows" && same /dev/null "$scratch/diagnostics"
 }
 
+# The page is the one that the tool writes from its own folder.
+installed_page() {
+    local log=$top/examples/order_and_warnings.log
+    helps page && alone page "$log" >"$scratch/report" 2>"$scratch/diagnostics"
+    ended 0 $? && same /dev/null "$scratch/diagnostics" && tools/page --program "$program" "$log" | same - "$scratch/report"
+}
+
 installed_trace() {
     helps trace && alone trace >"$scratch/report" 2>"$scratch/diagnostics" </dev/null
     ended 2 $? && said 'trace: no program: pmfarm-trace [..] PROGRAM [ARG..]; see pmfarm-trace --help' "$scratch/diagnostics"
@@ -365,6 +372,7 @@ completes_in_bash() (
         offers '' pmfarm check --run '' && offers '--events' pmfarm cut '<' log --e && offers '' pmfarm cut --files '' &&
         offers '' pmfarm-rows '' && offers '--log' pmfarm-rows --lo && offers '' pmfarm-rows --log '' && offers '' pmfarm-rows '<' - &&
         offers 'sarif' pmfarm-rows --format s && offers '--stacks' pmfarm-trace --st && offers 'threads none' pmfarm-trace --sections '' &&
+        offers '1 2' pmfarm-page --profile '' && offers '--report' pmfarm-page --rep && offers '' pmfarm-page '' &&
         offers '' pmfarm-trace ./program - && offers '' pmfarm-trace --stacks 3 ./program -- && offers '--pmem' pmfarm-trace --log log --pm
 )
 
@@ -425,6 +433,7 @@ try_tools() {
     check 'tools/install builds the program first' installs_what_it_builds
     check 'tools/install installs the tools, below a prefix that is then moved' installs_tools
     check 'the installed pmfarm-rows finds the installed program' installed_rows
+    check 'the installed pmfarm-page writes a page' installed_page
     check 'the installed pmfarm-trace tells its words' installed_trace
     check_by "$tracer" 'the installed pmfarm-trace traces a program' installed_trace_traces
     check 'the completions in bash offer words where one is wanted, and else the names of files' completes_in_bash
