@@ -1,5 +1,5 @@
 -- What later assertions cover, one event further to the front.
-use Rattle.std.proofs.{Common.{◌≡◌, ℕ, suc, ◌+◌, ◌-◌, ◌<◌, ◌≤◌, Bool, true, false, not, cond, ◌&&◌, ◌||◌, List, length, sym, ap, ◌∙◌, arith, Option, Some, None, is_some, lt-ltb, le-ltb}, lemmas.Bool.{false≢true}, lemmas.Grind.{common_steps}}
+use Rattle.std.proofs.{Common.{◌≡◌, ℕ, suc, ◌+◌, ◌-◌, ◌<◌, ◌≤◌, Bool, true, false, not, cond, ◌&&◌, ◌||◌, List, length, sym, ap, ◌∙◌, arith, Option, Some, None, is_some, ◌⊎◌, inl, inr, slice_index_or, slice_set, lt-ltb, le-ltb}, lemmas.Bool.{cases_lt, false≢true}, lemmas.List.{get_or-set_other}, lemmas.Grind.{common_steps, get_or-set_at}}
 use Rattle.pmf_event.{specs.declared.event.Event.{Event}, specs.Places.{count, some_between}, specs.Store.{at, event_at}, specs.Transactions.{closes_scope}, specs.Span.{Extent, covers_byte}, specs.Ranges.{first_from}, proofs.PlacesLemmas.{count-step, count-zero, greatest-bound, greatest-passes, some_between-here}, proofs.EventLemmas.{at-is}, proofs.RangeLemmas.{first_from-same}}
 use Rattle.pmf_runs.specs.{declared.members.Members.{Members}, declared.runs.RunMap.{RunMap}, contracts.members.BoolState.TheImpl.{ghosts}, Runs.{state_at, passing, is_between, ChangesBetween}}
 use Rattle.pmf_query.specs.{declared.covering.Later.{Later}, Covering.{names, is_named_after, is_closed_after, is_covered, is_in, is_inside, is_uncovered, lacks_cover, stored_by, uncovered_of, StandsAfter}}
@@ -74,3 +74,17 @@ counted_all es total is = let none = count-zero (is_uncovered es) in omega arith
 
 pub few_more : (so_far one left total : ℕ) (b : Bool) → one ≡ cond b 1 0 → so_far + left ≤ total → 0 < left → so_far + one + (left - 1) ≤ total
 few_more so_far one left total b is few some = grind (arith, common_steps)
+
+-- ---- marks from the last place on
+
+-- those before the place stay
+pub kept_before : (marks : List Bool) (place k : ℕ) (b d : Bool) → k < place → slice_index_or (slice_set marks place b) k d ≡ slice_index_or marks k d
+kept_before marks place k b d before = get_or-set_other marks place k b d (λ same. absurd (omega (arith, same, before)))
+
+-- the marks from the place on, with the place's own
+pub marked_from : (test : ℕ → Bool) (marks : List Bool) (place n : ℕ) (b : Bool) → length marks ≡ n → place < n → b ≡ test (suc place) →
+    ((k : ℕ) (d : Bool) → suc place ≤ k → k < n → slice_index_or marks k d ≡ test (suc k)) → (k : ℕ) (d : Bool) → place ≤ k → k < n → slice_index_or (slice_set marks place b) k d ≡ test (suc k)
+marked_from test marks place n b long within is marked k d from below = elim (cases_lt place k) [
+  | inl behind ↦ get_or-set_other marks place k b d (λ same. absurd (omega (arith, same, behind))) ∙ marked k d behind below
+  | inr before ↦ (let same : k ≡ place = omega (arith, from, before) in get_or-set_at marks place k b d same (omega (arith, long, within)) ∙ is ∙ ap (λ j. test (suc j)) (sym same))
+]

@@ -3,7 +3,7 @@
 ghost use Rattle.std.specs.Prelude.{◌≡◌, ◌<◌, ◌^◌, ◌||◌, ◌&&◌, if◌then◌else◌, ℕ, suc, List, Some, length, IfOk, OnOk};
 ghost use Rattle.pmf_event.specs.{declared.event.Event.{Event}, Store.{event_at}};
 ghost use Rattle.pmf_runs.specs.Runs.{state_at};
-ghost use Rattle.pmf_query.specs.Covering.{is_in, is_inside, is_uncovered, names, stored_by, uncovered_of, StandsAfter};
+ghost use Rattle.pmf_query.specs.{Covering.{is_in, is_inside, is_uncovered, names, stored_by, uncovered_of, StandsAfter}, Marks.{Marks}};
 
 use crate::inside::{closes, places_inside};
 use pmf_event::{Event, Span};
@@ -26,6 +26,23 @@ pub(crate) fn count_uncovered(alloc: Global, events: &[Event]) -> Result<u64, Al
         later.follow(&events[left])?;
     }
     Ok(count)
+}
+
+/// Of each event, by its index: whether it is a store that no later assertion covers.
+pub(crate) fn mark_uncovered(alloc: Global, events: &[Event]) -> Result<Vec<bool>, AllocError>
+    requires { length events.now < 2 ^ 63 }
+    ensures { IfOk result (λ marks. Marks (is_uncovered events.now) (length events.now) marks.items) }
+{
+    let mut marks = places_inside(alloc, events)?;
+    let mut later = Later::new(alloc);
+    let mut left = events.len();
+    while left > 0 {
+        left -= 1;
+        let missed = later.misses(&events[left], marks[left]);
+        marks[left] = missed;
+        later.follow(&events[left])?;
+    }
+    Ok(marks)
 }
 
 /// What is kept of the events after a place.
