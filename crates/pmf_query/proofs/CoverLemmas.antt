@@ -63,19 +63,7 @@ pub missed_none : (es : List Event) (p : ℕ) (e : Event) → event_at es (suc p
 unfolding is_uncovered
 missed_none es p e here is = sym (ap (lacks_cover es (suc p)) here ∙ other_lacks es (suc p) e is)
 
--- ---- the count from the last event on
-
-pub counted_more : (test : ℕ → Bool) (so_far n total : ℕ) (b : Bool) → so_far + count test (suc n) ≡ total → b ≡ test (suc n) → so_far + cond b 1 0 + count test n ≡ total
-counted_more test so_far n total b so is = grind (arith, common_steps, count-step)
-
-pub counted_all : (es : List Event) (total : ℕ) → total + count (is_uncovered es) 0 ≡ count (is_uncovered es) (length es) → total ≡ uncovered_of es
-unfolding uncovered_of
-counted_all es total is = let none = count-zero (is_uncovered es) in omega arith
-
-pub few_more : (so_far one left total : ℕ) (b : Bool) → one ≡ cond b 1 0 → so_far + left ≤ total → 0 < left → so_far + one + (left - 1) ≤ total
-few_more so_far one left total b is few some = grind (arith, common_steps)
-
--- ---- marks from the last place on
+-- ---- marks
 
 -- those before the place stay
 pub kept_before : (marks : List Bool) (place k : ℕ) (b d : Bool) → k < place → slice_index_or (slice_set marks place b) k d ≡ slice_index_or marks k d
