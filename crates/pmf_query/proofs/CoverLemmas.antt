@@ -1,8 +1,8 @@
 -- What later assertions cover, one event further to the front.
-use Rattle.std.proofs.{Common.{◌≡◌, ℕ, suc, ◌+◌, ◌-◌, ◌<◌, ◌≤◌, Bool, true, false, not, cond, ◌&&◌, ◌||◌, List, length, sym, ap, ◌∙◌, arith, Option, Some, None, is_some, ◌⊎◌, inl, inr, slice_index_or, slice_set, lt-ltb, le-ltb}, lemmas.Bool.{cases_lt, false≢true}, lemmas.List.{get_or-set_other}, lemmas.Grind.{common_steps, get_or-set_at}}
-use Rattle.pmf_event.{specs.declared.event.Event.{Event}, specs.Places.{count, some_between}, specs.Store.{at, event_at}, specs.Transactions.{closes_scope}, specs.Span.{Extent, covers_byte}, specs.Ranges.{first_from}, proofs.PlacesLemmas.{count-step, count-zero, greatest-bound, greatest-passes, some_between-here}, proofs.EventLemmas.{at-is}, proofs.RangeLemmas.{first_from-same}}
+use Rattle.std.proofs.{Common.{◌≡◌, ℕ, suc, ◌+◌, ◌-◌, ◌<◌, ◌≤◌, Bool, true, false, not, ◌&&◌, ◌||◌, List, length, sym, ap, ◌∙◌, arith, Option, Some, None, is_some, inl, inr, slice_index_or, slice_set, lt-ltb, le-ltb}, lemmas.Bool.{cases_lt, false≢true}, lemmas.List.{get_or-set_other}, lemmas.Grind.{common_steps, get_or-set_at}}
+use Rattle.pmf_event.{specs.declared.event.Event.{Event}, specs.Places.{some_between}, specs.Store.{at, event_at}, specs.Transactions.{closes_scope}, specs.Span.{Extent, covers_byte}, specs.Ranges.{first_from}, proofs.PlacesLemmas.{greatest-bound, greatest-passes, some_between-here}, proofs.EventLemmas.{at-is}, proofs.RangeLemmas.{first_from-same}}
 use Rattle.pmf_runs.specs.{declared.members.Members.{Members}, declared.runs.RunMap.{RunMap}, contracts.members.BoolState.TheImpl.{ghosts}, Runs.{state_at, passing, is_between, ChangesBetween}}
-use Rattle.pmf_query.specs.{declared.covering.Later.{Later}, Covering.{names, is_named_after, is_closed_after, is_covered, is_in, is_inside, is_uncovered, lacks_cover, stored_by, uncovered_of, StandsAfter}}
+use Rattle.pmf_query.specs.{declared.covering.Later.{Later}, Covering.{names, is_named_after, is_closed_after, is_covered, is_in, is_inside, is_uncovered, lacks_cover, stored_by, StandsAfter}}
 
 none_last : (test : ℕ → Bool) (n : ℕ) → some_between test n (suc n) ≡ false
 unfolding some_between

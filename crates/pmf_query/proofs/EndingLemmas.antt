@@ -1,5 +1,5 @@
 -- What stands behind the last separator of a log.
-use Rattle.std.proofs.{Common.{◌≡◌, ℕ, zero, suc, ◌+◌, ◌-◌, ◌<◌, ◌≤◌, Bool, true, false, List, [], ◌∷◌, ◌++◌, length, take, drop, get_or, refl, sym, ap, subst, ◌∙◌, arith, slice_index_or, length-append, take-append-drop}, lemmas.List.{take_rest, take_more}, Math.Seq.{drop-length}, lemmas.Grind.{common_steps}}
+use Rattle.std.proofs.{Common.{◌≡◌, ℕ, zero, suc, ◌+◌, ◌-◌, ◌<◌, ◌≤◌, true, false, List, [], ◌∷◌, ◌++◌, length, take, drop, get_or, refl, sym, ap, subst, ◌∙◌, arith, slice_index_or, length-append, take-append-drop}, lemmas.List.{take_more}, Math.Seq.{drop-length}, lemmas.Grind.{common_steps}}
 use Rattle.pmf_storelog.{specs.Separators.{ended_parts, is_separator, parts_of, trimmed}, proofs.PartLemmas.{parts_of-ended, parts_of-nil, parts_of-open, unfinished}}
 use Rattle.pmf_query.specs.Ending.{last_part}
 

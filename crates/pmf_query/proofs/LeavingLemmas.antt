@@ -1,7 +1,7 @@
 -- What is left of a section below one limit, and below a further one.
-use Rattle.std.proofs.{Common.{◌≡◌, ℕ, suc, ◌+◌, ◌-◌, ◌<◌, ◌≤◌, Bool, true, false, not, ◌&&◌, ◌||◌, ◌==◌, ◌⊎◌, inl, inr, List, length, Option, Some, None, is_some, refl, sym, ap, subst, ◌∙◌, arith, slice_index_or, if◌then◌else◌}, lemmas.Bool.{cases_lt, false≢true}, lemmas.Grind.{common_steps}}
-use Rattle.pmf_event.{specs.declared.event.Event.{Event}, specs.Ranges.{first_from}, specs.Store.{last_store}, specs.Interval.{interval_at, is_open}, specs.Exclusion.{is_excluded}, specs.Persist.{is_checked, is_exposed}, specs.LineBytes.{is_undurable, is_unwritten}, proofs.RangeLemmas.{IsFirst, NonePass, first_from-none, first_from-some, first-passes, none-passes, some-or-none}}
-use Rattle.pmf_shadow.specs.{declared.standing.Standing.{Standing}, Standing.{AllLeaveOpen, LeavesOpen, place_as_told}}
+use Rattle.std.proofs.{Common.{◌≡◌, ℕ, suc, ◌<◌, ◌≤◌, Bool, true, false, not, ◌&&◌, ◌||◌, ◌==◌, inl, inr, List, length, Option, Some, None, is_some, refl, sym, ap, ◌∙◌, arith, slice_index_or}, lemmas.Bool.{cases_lt}}
+use Rattle.pmf_event.{specs.declared.event.Event.{Event}, specs.Ranges.{first_from}, specs.Store.{last_store}, specs.Exclusion.{is_excluded}, specs.Persist.{is_checked, is_exposed}, specs.LineBytes.{is_undurable, is_unwritten}, proofs.RangeLemmas.{NonePass, first_from-none, first_from-some, first-passes, none-passes}}
+use Rattle.pmf_shadow.specs.{declared.standing.Standing.{Standing}, Standing.{AllLeaveOpen, place_as_told}}
 use Rattle.pmf_query.specs.{declared.leaving.Left.{Left}, Leaving.{AreLeft, AreLeftBelow, AreMarked, is_left, is_left_unwritten, leaves_unfenced, leaves_unwritten, some_below}, Marks.{Marks}}
 
 -- ---- whether a byte below a limit passes

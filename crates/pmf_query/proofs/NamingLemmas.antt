@@ -1,5 +1,5 @@
 -- Counts of names, with one more name.
-use Rattle.std.{proofs.Common.{◌≡◌, ℕ, zero, suc, ◌+◌, ◌-◌, ◌^◌, ◌<◌, ◌≤◌, Bool, true, false, cond, List, [], ◌∷◌, ◌++◌, Some, None, length, take, get_or, map, All, refl, sym, ap, subst, ◌∙◌, arith, length-append, not, ◌||◌, filter, is_some, bytes_eq, append-nil}, proofs.lemmas.Slice.Eq.{bytes_eq-Decides}, specs.List.{list_any}, proofs.lemmas.Bool.{false≢true}, proofs.lemmas.List.{map-append, length-map, take_more}, proofs.lemmas.List.Elements.{All-append, All-cons, filter-append}, proofs.lemmas.List.Folds.{list_any-append}, proofs.lemmas.List.Sums.{sum_by-append, count_by-le-length, length-filter}, proofs.lemmas.Grind.{common_steps}}
+use Rattle.std.{proofs.Common.{◌≡◌, ℕ, zero, suc, ◌+◌, ◌-◌, ◌^◌, ◌<◌, ◌≤◌, Bool, true, false, cond, List, [], ◌∷◌, ◌++◌, Some, None, length, take, get_or, map, All, refl, sym, ap, subst, ◌∙◌, arith, length-append, not, ◌||◌, filter, bytes_eq, append-nil}, proofs.lemmas.Slice.Eq.{bytes_eq-Decides}, specs.List.{list_any}, proofs.lemmas.Bool.{false≢true}, proofs.lemmas.List.{map-append, length-map, take_more}, proofs.lemmas.List.Elements.{All-append, All-cons, filter-append}, proofs.lemmas.List.Sums.{sum_by-append, count_by-le-length, length-filter}, proofs.lemmas.Grind.{common_steps}}
 use Rattle.memchr.specs.Find.{IsFirstByte, is_byte}
 use Rattle.pmf_storelog.{specs.LogText.{is_skipped}, specs.Records.{fields_of, is_field_end}, proofs.SplitLemmas.{split_none, split_some}}
 use Rattle.pmf_query.{specs.declared.naming.Named.{Named}, specs.declared.naming.TheConstants.{LISTED}, specs.declared.listing.Listing.{Listing}, specs.declared.counting.NameCounts.{NameCounts}, proofs.FirstNamesLemmas.{all_first, among_others, first_again, first_full, first_new, is_other}, specs.Counting.{AreNotes, Lists, Tallies}, specs.Naming.{Count, first_names, known_names, count_named, count_others, counting, first_field, is_among, name_of, names_in, names_of, skipped_names}}

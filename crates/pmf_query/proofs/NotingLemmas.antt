@@ -1,5 +1,5 @@
 -- What records tell of a log, with one record more.
-use Rattle.std.{proofs.Common.{◌≡◌, ℕ, Bool, false, not, ◌&&◌, ◌||◌, List, [], ◌∷◌, ◌++◌, codes, map, sym, ap, ◌∙◌, refl, arith, filter, is_some, bytes_eq}, specs.List.{list_any}, proofs.lemmas.List.{map-append}, proofs.lemmas.List.Elements.{filter-append}, proofs.lemmas.List.Folds.{list_any-append}, proofs.lemmas.Grind.{common_steps}}
+use Rattle.std.{proofs.Common.{◌≡◌, ℕ, Bool, false, not, ◌&&◌, ◌||◌, List, [], ◌∷◌, ◌++◌, codes, sym, ap, ◌∙◌, refl, arith, is_some, bytes_eq}, specs.List.{list_any}, proofs.lemmas.List.{map-append}, proofs.lemmas.List.Elements.{filter-append}, proofs.lemmas.List.Folds.{list_any-append}, proofs.lemmas.Grind.{common_steps}}
 use Rattle.pmf_storelog.specs.LogText.{is_skipped}
 use Rattle.pmf_query.specs.{declared.noting.Notes.{Notes}, Counting.{AreNotes}, Ending.{asserts_decimal, has_decimal, has_record}, Naming.{name_of, skipped_names}, Nearness.{has_near, has_strange, is_text, near_of}}
 

@@ -1,5 +1,5 @@
 -- Counts over lists, and the sums of sections, with one more.
-use Rattle.std.proofs.{Common.{◌≡◌, ℕ, ◌+◌, ◌*◌, ◌^◌, ◌<◌, ◌≤◌, List, [], ◌∷◌, ◌++◌, length, take, get_or, map, sym, ap, subst, ◌∙◌, arith, count_by, sum_by}, lemmas.List.{take_more, map-append}, lemmas.List.Sums.{sum_by-append}, lemmas.Grind.{common_steps}}
+use Rattle.std.proofs.{Common.{◌≡◌, ℕ, ◌+◌, ◌*◌, ◌^◌, ◌<◌, List, [], ◌∷◌, ◌++◌, length, take, get_or, map, sym, ap, subst, ◌∙◌, arith, count_by}, lemmas.List.{take_more, map-append}, lemmas.List.Sums.{sum_by-append}, lemmas.Grind.{common_steps}}
 use Rattle.pmf_event.specs.Section.{Trace}
 use Rattle.pmf_query.specs.{declared.summing.Sums.{Sums}, declared.upkeep.Upkeep.{Upkeep}, Covering.{uncovered_of}, Summing.{IsWithin, asserts, both, empty_of, is_store, kept_both, sums_of, upkeeps_of}, Upkeep.{IsUpkeepWithin, misread_of, upkeep_of}}
 

@@ -1,7 +1,7 @@
 -- A walk over the events of a section, one event further.
-use Rattle.std.proofs.{Common.{◌≡◌, ℕ, suc, ◌+◌, ◌-◌, ◌<◌, ◌≤◌, Bool, true, false, not, cond, ◌&&◌, List, length, Option, Some, None, refl, sym, ap, subst, ◌∙◌, arith, nat_lt, lt-ltb, le-ltb}, lemmas.Bool.{false≢true}, lemmas.Grind.{common_steps}}
+use Rattle.std.proofs.{Common.{◌≡◌, ℕ, suc, ◌+◌, ◌-◌, ◌≤◌, Bool, true, false, not, cond, ◌&&◌, List, Some, refl, sym, ap, ◌∙◌, arith, nat_lt, lt-ltb, le-ltb}, lemmas.Grind.{common_steps}}
 use Rattle.pmf_event.{specs.declared.event.Event.{Event}, specs.Places.{count}, specs.Store.{at, event_at, is_fence, last}, proofs.PlacesLemmas.{count-le, count-step, count-zero, greatest-bound, greatest-step, greatest-zero}, proofs.EventLemmas.{at-is}}
-use Rattle.pmf_shadow.{specs.declared.shadow.Shadow.{Shadow}, specs.Shadow.{FollowsAt, StandsFor}, proofs.StandsLemmas.{follows-within}}
+use Rattle.pmf_shadow.{specs.Shadow.{FollowsAt, StandsFor}, proofs.StandsLemmas.{follows-within}}
 use Rattle.pmf_query.specs.{declared.upkeep.Walk.{Walk}, Misread.{is_misread, misreads}, Upkeep.{HasWalkedOver, flushed_after, is_flush, is_flushed, is_idle, is_overwriting, overwrites}}
 
 pub count_more : (test : ℕ → Bool) (n so_far : ℕ) (b : Bool) → so_far ≡ count test n → test (suc n) ≡ b → so_far + cond b 1 0 ≡ count test (suc n)

@@ -1,5 +1,5 @@
 -- Assertions that had nothing to check, and would have if their addresses were hexadecimal. Defined here.
-use Rattle.std.specs.Prelude.{ℕ, ◌-◌, Bool, false, not, ◌&&◌, ◌||◌, List, ◌++◌, codes, decimal, Option, None, Some, is_some, Result, Ok, Err}
+use Rattle.std.specs.Prelude.{ℕ, ◌-◌, Bool, false, not, ◌&&◌, ◌||◌, List, ◌++◌, codes, decimal, Option, Some, is_some, Result, Ok}
 use Rattle.pmf_event.specs.{declared.event.Event.{Event}, declared.event.Event.TheVariants.{Persist, Ordered}, Span.{Extent}, Ranges.{first_byte}, Store.{event_at}, Persist.{is_checked}}
 use Rattle.pmf_storelog.specs.{declared.record.Saying.{Saying}, declared.record.Saying.TheVariants.{Happens}, declared.fault.Cause.{Cause}, Records.{record_of}}
 

@@ -1,5 +1,5 @@
 -- The names of the stores that lack a write-back, a fence or an assertion. Defined here.
-use Rattle.std.specs.Prelude.{◌≡◌, ℕ, zero, suc, Bool, ◌&&◌, List, [], ◌∷◌, ◌++◌, length, Option, None, Some, slice_get, slice_index_or, flat_map, if◌then◌else◌}
+use Rattle.std.specs.Prelude.{ℕ, zero, suc, Bool, ◌&&◌, List, [], ◌∷◌, ◌++◌, length, Option, None, Some, slice_get, slice_index_or, flat_map, if◌then◌else◌}
 use Rattle.pmf_event.specs.{declared.event.Event.{Event}, Section.{Trace}}
 use Rattle.pmf_storelog.specs.{Records.{fields_of}, Separators.{records_of}, LogText.{sections_of}}
 use Rattle.pmf_query.specs.{declared.locate.Located.{Located}, declared.storing.StoreNames.{StoreNames}, Counting.{Lists}, Covering.{is_uncovered}, Leaving.{leaves_unfenced, leaves_unwritten}, Locating.{AreLocations}}

@@ -9,7 +9,8 @@
 //! [`lint_log`] counts the records of each name (`Naming`), looks whether one of a skipped record is near to
 //! a known one, or no text (`Nearness`), and counts over the sections the assertions, the rows of those that
 //! had nothing to check, the stores, and the stores that no later assertion covers (`Covering`, `Summing`);
-//! what it answers is `Linting.IsLint`. [`lint_text`] writes all of that, with its warnings (`LintText`).
+//! what it answers is `Linting.IsLint`. [`name_stores`] names the stores that lack a write-back, a fence or an
+//! assertion (`StoreNames`). [`lint_text`] writes all of that, with its warnings (`LintText`).
 //!
 //! Not promised here: that memory suffices, and that a log is what the program did.
 #![tactic(auto)]

@@ -1,4 +1,4 @@
-use Rattle.std.proofs.Common.{◌≡◌, ◌+◌, suc, sym, ap, arith, ◌∙◌, length}
+use Rattle.std.proofs.Common.{◌≡◌, ◌+◌, suc, sym, ap, arith, ◌∙◌}
 use Rattle.pmf_event.{specs.Places.{count}, proofs.PlacesLemmas.{count-zero}}
 use Rattle.pmf_query.proofs.UpkeepLemmas.{count_more, one_few}
 use Rattle.pmf_query.proofs.covering.count_marked.Goals as goal

@@ -1,4 +1,4 @@
-use Rattle.std.proofs.{Common.{◌≡◌, ◌-◌, ◌<◌, ◌≤◌, suc, ℕ, Bool, length, ◌∙◌, subst, arith, slice_index_or}, lemmas.List.{length-set}}
+use Rattle.std.proofs.{Common.{◌≡◌, ◌-◌, ◌<◌, suc, length, ◌∙◌, subst, arith}, lemmas.List.{length-set}}
 use Rattle.pmf_query.{specs.Covering.{is_inside, is_uncovered, StandsAfter}, proofs.CoverLemmas.{kept_before, marked_from}, proofs.InsideLemmas.{event_here}}
 use Rattle.pmf_query.proofs.covering.mark_uncovered.Goals as goal
 

@@ -1,4 +1,4 @@
-use Rattle.std.proofs.Common.{◌∙◌, ◌&&◌, Bool, Some, ap, sym, not}
+use Rattle.std.proofs.Common.{◌∙◌, ◌&&◌, Some, ap, sym, not}
 use Rattle.pmf_query.specs.Misread.{is_met, may_be_met, misreads}
 use Rattle.pmf_query.proofs.misread.misreads.Goals as goal
 

@@ -1,4 +1,4 @@
-use Rattle.std.proofs.Common.{◌≡◌, ◌≤◌, ◌*◌, length, map, sum_by, take}
+use Rattle.std.proofs.Common.{◌≤◌, ◌*◌, length, map, sum_by, take}
 use Rattle.pmf_event.specs.Section.{Trace}
 use Rattle.pmf_query.specs.{Standing.{located_in}, StoreNames.{AreNamed}}
 use Rattle.pmf_query.proofs.storing.name_stores.Given as goal

@@ -1,4 +1,4 @@
-use Rattle.std.proofs.Common.{◌≡◌, ℕ, suc, ◌+◌, ◌++◌, length, length-append, List, ap, subst, arith, ◌∙◌}
+use Rattle.std.proofs.Common.{◌≡◌, suc, ◌+◌, ◌++◌, length, length-append, ap, subst, arith, ◌∙◌}
 use Rattle.pmf_query.{specs.Counting.{Lists}, specs.StoreNames.{names_among}, proofs.StoreNameLemmas.{among_more, among_none, few_among, is_marked, marked_among, marked_here}}
 use Rattle.pmf_query.proofs.storing.take_marked.Goals as goal
 
@@ -7,10 +7,10 @@ loop-index-init c = λ names lists. subst (Lists c.args.listing.now) (among_none
 
 pub take_if-requires : goal.take_if-requires
 take_if-requires c = (
-      c.requires.0 ++ names_among (is_marked c.args.marks.now) c.args.located.now c.loop-index.index,
-      c.loop-index.invariant c.requires.0 c.requires.1,
-      omega (arith, length-append c.requires.0 (names_among (is_marked c.args.marks.now) c.args.located.now c.loop-index.index), few_among (is_marked c.args.marks.now) c.args.located.now c.loop-index.index, c.requires.2, c.loop-index-test.true),
-    )
+  c.requires.0 ++ names_among (is_marked c.args.marks.now) c.args.located.now c.loop-index.index,
+  c.loop-index.invariant c.requires.0 c.requires.1,
+  omega (arith, length-append c.requires.0 (names_among (is_marked c.args.marks.now) c.args.located.now c.loop-index.index), few_among (is_marked c.args.marks.now) c.args.located.now c.loop-index.index, c.requires.2, c.loop-index-test.true),
+)
 
 pub loop-index-preserved : goal.loop-index-preserved
 loop-index-preserved c = λ names lists.

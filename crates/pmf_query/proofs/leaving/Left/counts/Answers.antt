@@ -1,4 +1,4 @@
-use Rattle.std.proofs.Common.{◌≡◌, suc, ◌+◌, length, sym, ap, subst, arith, ◌∙◌}
+use Rattle.std.proofs.Common.{◌≡◌, suc, ◌+◌, sym, ap, arith, ◌∙◌}
 use Rattle.pmf_event.{specs.Places.{count}, proofs.PlacesLemmas.{count-zero}}
 use Rattle.pmf_query.{specs.Leaving.{leaves_unfenced, leaves_unwritten}, proofs.UpkeepLemmas.{count_more, one_few}}
 use Rattle.pmf_query.proofs.leaving.Left.counts.Goals as goal

@@ -1,4 +1,4 @@
-use Rattle.std.proofs.Common.{◌≡◌, ◌≤◌, ◌+◌, ℕ, List, length}
+use Rattle.std.proofs.Common.{◌≡◌, ◌≤◌, List}
 use Rattle.pmf_event.specs.{declared.event.Event.{Event}, Places.{count}}
 use Rattle.pmf_query.specs.Leaving.{AreLeft, leaves_unfenced, leaves_unwritten}
 use Rattle.pmf_query.proofs.leaving.Left.counts.Given as goal

@@ -1,4 +1,3 @@
-use Rattle.std.proofs.Common.{refl}
 use Rattle.pmf_query.proofs.LeavingLemmas.{marked_last, marked_no}
 use Rattle.pmf_query.proofs.leaving.Left.mark.Goals as goal
 

@@ -1,4 +1,4 @@
-use Rattle.std.proofs.Common.{◌≡◌, ◌≤◌, ◌-◌, ℕ, List, length}
+use Rattle.std.proofs.Common.{◌≡◌, ◌≤◌, ◌-◌, List, length}
 use Rattle.pmf_event.specs.declared.event.Event.{Event}
 use Rattle.pmf_shadow.specs.Shadow.{StandsFor}
 use Rattle.pmf_query.specs.Leaving.{AreLeftBelow}

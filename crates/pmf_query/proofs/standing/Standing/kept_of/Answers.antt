@@ -1,4 +1,4 @@
-use Rattle.std.{proofs.Common.{[], ap, sym, ◌∙◌}, specs.Option.{option_map, unwrap_or}}
+use Rattle.std.{proofs.Common.{[], ap, ◌∙◌}, specs.Option.{option_map, unwrap_or}}
 use Rattle.pmf_query.proofs.standing.Standing.kept_of.Goals as goal
 
 pub returns : goal.returns

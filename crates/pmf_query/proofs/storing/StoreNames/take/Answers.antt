@@ -1,5 +1,4 @@
-use Rattle.std.proofs.Common.{◌≡◌, ℕ, ◌+◌, ◌<◌, ◌≤◌, ◌^◌, List, length, refl, sym, ap, subst, arith, ◌∙◌}
-use Rattle.pmf_event.specs.{declared.event.Event.{Event}, Section.{Trace}}
+use Rattle.std.proofs.Common.{length, refl, sym, ap, subst, arith, ◌∙◌}
 use Rattle.pmf_query.{specs.Leaving.{leaves_unfenced, leaves_unwritten}, specs.Marks.{Marks}, specs.StoreNames.{is_asked, names_over}, proofs.LeavingLemmas.{unwritten_marks}, proofs.StoreNameLemmas.{few_over, named_more}}
 use Rattle.pmf_query.proofs.storing.StoreNames.take.Goals as goal
 
@@ -25,10 +24,10 @@ take_marked-requires-2 c =
 
 pub take_uncovered-requires-clause-room : goal.take_uncovered-requires-clause-room
 take_uncovered-requires-clause-room c = (
-      names_over c.requires.room.0 (is_asked c.args.unasserted) c.requires.room.1,
-      c.requires.room.2.unasserted,
-      omega (arith, c.requires.room.3, few_over c.requires.room.0 (is_asked c.args.unasserted) c.requires.room.1),
-    )
+  names_over c.requires.room.0 (is_asked c.args.unasserted) c.requires.room.1,
+  c.requires.room.2.unasserted,
+  omega (arith, c.requires.room.3, few_over c.requires.room.0 (is_asked c.args.unasserted) c.requires.room.1),
+)
 
 pub returns : goal.returns
 returns c = λ stands sections t are same there.

@@ -1,4 +1,4 @@
-use Rattle.std.proofs.Common.{◌∙◌, ◌+◌, ◌&&◌, suc, sym, ap, subst, arith}
+use Rattle.std.proofs.Common.{◌+◌, sym, ap, subst, arith}
 use Rattle.pmf_shadow.specs.Shadow.{FollowsAt}
 use Rattle.pmf_query.proofs.UpkeepLemmas.{one_few, walked_few, walked_more}
 use Rattle.pmf_query.proofs.upkeep.Walk.follow.Goals as goal

@@ -1,4 +1,4 @@
-use Rattle.std.proofs.Common.{refl, suc, ◌+◌, ◌≡◌, sym, ap, subst, arith}
+use Rattle.std.proofs.Common.{refl, suc, ◌+◌, ◌≡◌, ap, subst, arith}
 use Rattle.pmf_query.{specs.Upkeep.{HasWalkedOver}, proofs.InsideLemmas.{event_here}}
 use Rattle.pmf_query.proofs.upkeep.Walk.over.Goals as goal
 
