@@ -96,7 +96,7 @@ IsAnsweredFrom (Patch asked log) s status =
     EndsAs status_of_asked status_of_patch_refusal (IsAnswerOf (λ bytes _ text. IsPatch asked bytes text) s.left s.rest) (IsRefusalOf (IsPatchRefusal asked) s.left s.rest) s.held s.holds status
 IsAnsweredFrom (Locate sought log) s status =
     EndsAs status_of_asked status_of_event_refusal (IsAnswerOf (λ bytes _ text. IsLocationText sought.section sought.event bytes text) s.left s.rest) (IsRefusalOf (IsEventRefusal sought) s.left s.rest) s.held s.holds status
-IsAnsweredFrom (Lint log) s status = EndsAs status_of_linted status_of_log_refusal (IsAnswerOf Overviews s.left s.rest) (IsRefusalOf (IsLogRefusal 0) s.left s.rest) s.held s.holds status
+IsAnsweredFrom (Lint asked log) s status = EndsAs status_of_linted status_of_log_refusal (IsAnswerOf (Overviews asked.unasserted) s.left s.rest) (IsRefusalOf (IsLogRefusal 0) s.left s.rest) s.held s.holds status
 IsAnsweredFrom (Cut cuts) s status = IsCutAs cuts s status
 IsAnsweredFrom (Join files) s status = JoinsFiles files s.files s.held s.holds status
 IsAnsweredFrom (Sim simulation) s status = Simulates simulation s.files s.left s.rest s.held s.holds status
@@ -109,7 +109,7 @@ input_of (ExplainAll asked log) = log
 input_of (Why asked log) = log
 input_of (Patch asked log) = log
 input_of (Locate sought log) = log
-input_of (Lint log) = log
+input_of (Lint asked log) = log
 input_of _ = Standard
 
 -- this is said of what is left of the log's stream before and after: of the input, or of the file, which had what its name has

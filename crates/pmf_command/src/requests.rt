@@ -13,7 +13,7 @@ use crate::shelf::{Shelf, bytes_of};
 use pmf_device::{Device, Sink, Source};
 use pmf_event::EVENT_LIMIT;
 use pmf_ledger::LEDGER_LIMIT;
-use pmf_request::{Cuts, Files, Input, Overview, Request, Simulation};
+use pmf_request::{Cuts, Files, Input, Request, Simulation};
 use pmf_storelog::LOG_LIMIT;
 use pmf_stream::{Excerpt, Outlet, read_all};
 use pmf_why::{Patch, Why};
@@ -80,7 +80,7 @@ pub(crate) fn input_of<'a>(request: &Request<'a>) -> Input<'a>
         | Request::Why(_, input)
         | Request::Patch(_, input)
         | Request::Locate(_, input)
-        | Request::Lint(input) => *input,
+        | Request::Lint(_, input) => *input,
         Request::Cut(_) | Request::Join(_) | Request::Sim(_) => Input::Standard,
     }
 }
@@ -131,7 +131,7 @@ fn answer_from<
             answer_to(rt, alloc, source, sink, &patch)
         }
         Request::Locate(sought, _) => answer_to(rt, alloc, source, sink, sought),
-        Request::Lint(_) => answer_to(rt, alloc, source, sink, &Overview),
+        Request::Lint(overview, _) => answer_to(rt, alloc, source, sink, overview),
         Request::Cut(cuts) => {
             if let Some(why) = refusal_of(*cuts) {
                 return refused(rt, why);

@@ -1,8 +1,8 @@
 -- What later assertions cover, one event further to the front.
-use Rattle.std.proofs.{Common.{◌≡◌, ℕ, suc, ◌+◌, ◌-◌, ◌<◌, ◌≤◌, Bool, true, false, not, cond, ◌&&◌, ◌||◌, List, length, sym, ap, ◌∙◌, arith, Option, Some, None, is_some, lt-ltb, le-ltb}, lemmas.Bool.{false≢true}, lemmas.Grind.{common_steps}}
-use Rattle.pmf_event.{specs.declared.event.Event.{Event}, specs.Places.{count, some_between}, specs.Store.{at, event_at}, specs.Transactions.{closes_scope}, specs.Span.{Extent, covers_byte}, specs.Ranges.{first_from}, proofs.PlacesLemmas.{count-step, count-zero, greatest-bound, greatest-passes, some_between-here}, proofs.EventLemmas.{at-is}, proofs.RangeLemmas.{first_from-same}}
+use Rattle.std.proofs.{Common.{◌≡◌, ℕ, suc, ◌+◌, ◌-◌, ◌<◌, ◌≤◌, Bool, true, false, not, ◌&&◌, ◌||◌, List, length, sym, ap, ◌∙◌, arith, Option, Some, None, is_some, inl, inr, slice_index_or, slice_set, lt-ltb, le-ltb}, lemmas.Bool.{cases_lt, false≢true}, lemmas.List.{get_or-set_other}, lemmas.Grind.{common_steps, get_or-set_at}}
+use Rattle.pmf_event.{specs.declared.event.Event.{Event}, specs.Places.{some_between}, specs.Store.{at, event_at}, specs.Transactions.{closes_scope}, specs.Span.{Extent, covers_byte}, specs.Ranges.{first_from}, proofs.PlacesLemmas.{greatest-bound, greatest-passes, some_between-here}, proofs.EventLemmas.{at-is}, proofs.RangeLemmas.{first_from-same}}
 use Rattle.pmf_runs.specs.{declared.members.Members.{Members}, declared.runs.RunMap.{RunMap}, contracts.members.BoolState.TheImpl.{ghosts}, Runs.{state_at, passing, is_between, ChangesBetween}}
-use Rattle.pmf_query.specs.{declared.covering.Later.{Later}, Covering.{names, is_named_after, is_closed_after, is_covered, is_in, is_inside, is_uncovered, lacks_cover, stored_by, uncovered_of, StandsAfter}}
+use Rattle.pmf_query.specs.{declared.covering.Later.{Later}, Covering.{names, is_named_after, is_closed_after, is_covered, is_in, is_inside, is_uncovered, lacks_cover, stored_by, StandsAfter}}
 
 none_last : (test : ℕ → Bool) (n : ℕ) → some_between test n (suc n) ≡ false
 unfolding some_between
@@ -63,14 +63,16 @@ pub missed_none : (es : List Event) (p : ℕ) (e : Event) → event_at es (suc p
 unfolding is_uncovered
 missed_none es p e here is = sym (ap (lacks_cover es (suc p)) here ∙ other_lacks es (suc p) e is)
 
--- ---- the count from the last event on
+-- ---- marks
 
-pub counted_more : (test : ℕ → Bool) (so_far n total : ℕ) (b : Bool) → so_far + count test (suc n) ≡ total → b ≡ test (suc n) → so_far + cond b 1 0 + count test n ≡ total
-counted_more test so_far n total b so is = grind (arith, common_steps, count-step)
+-- those before the place stay
+pub kept_before : (marks : List Bool) (place k : ℕ) (b d : Bool) → k < place → slice_index_or (slice_set marks place b) k d ≡ slice_index_or marks k d
+kept_before marks place k b d before = get_or-set_other marks place k b d (λ same. absurd (omega (arith, same, before)))
 
-pub counted_all : (es : List Event) (total : ℕ) → total + count (is_uncovered es) 0 ≡ count (is_uncovered es) (length es) → total ≡ uncovered_of es
-unfolding uncovered_of
-counted_all es total is = let none = count-zero (is_uncovered es) in omega arith
-
-pub few_more : (so_far one left total : ℕ) (b : Bool) → one ≡ cond b 1 0 → so_far + left ≤ total → 0 < left → so_far + one + (left - 1) ≤ total
-few_more so_far one left total b is few some = grind (arith, common_steps)
+-- the marks from the place on, with the place's own
+pub marked_from : (test : ℕ → Bool) (marks : List Bool) (place n : ℕ) (b : Bool) → length marks ≡ n → place < n → b ≡ test (suc place) →
+    ((k : ℕ) (d : Bool) → suc place ≤ k → k < n → slice_index_or marks k d ≡ test (suc k)) → (k : ℕ) (d : Bool) → place ≤ k → k < n → slice_index_or (slice_set marks place b) k d ≡ test (suc k)
+marked_from test marks place n b long within is marked k d from below = elim (cases_lt place k) [
+  | inl behind ↦ get_or-set_other marks place k b d (λ same. absurd (omega (arith, same, behind))) ∙ marked k d behind below
+  | inr before ↦ (let same : k ≡ place = omega (arith, from, before) in get_or-set_at marks place k b d same (omega (arith, long, within)) ∙ is ∙ ap (λ j. test (suc j)) (sym same))
+]

@@ -2,7 +2,7 @@
 use Rattle.std.proofs.{Common.{◌≡◌, ℕ, suc, ◌<◌, ◌≤◌, Bool, true, false, not, ◌&&◌, ◌||◌, ◌==◌, inl, inr, List, length, Option, Some, None, is_some, refl, sym, ap, ◌∙◌, arith, slice_index_or}, lemmas.Bool.{cases_lt}}
 use Rattle.pmf_event.{specs.declared.event.Event.{Event}, specs.Ranges.{first_from}, specs.Store.{last_store}, specs.Exclusion.{is_excluded}, specs.Persist.{is_checked, is_exposed}, specs.LineBytes.{is_undurable, is_unwritten}, proofs.RangeLemmas.{NonePass, first_from-none, first_from-some, first-passes, none-passes}}
 use Rattle.pmf_shadow.specs.{declared.standing.Standing.{Standing}, Standing.{AllLeaveOpen, place_as_told}}
-use Rattle.pmf_query.specs.{declared.leaving.Left.{Left}, Leaving.{AreLeft, AreLeftBelow, AreMarked, is_left, is_left_unwritten, leaves_unfenced, leaves_unwritten, some_below}}
+use Rattle.pmf_query.specs.{declared.leaving.Left.{Left}, Leaving.{AreLeft, AreLeftBelow, AreMarked, is_left, is_left_unwritten, leaves_unfenced, leaves_unwritten, some_below}, Marks.{Marks}}
 
 -- ---- whether a byte below a limit passes
 
@@ -139,6 +139,9 @@ module _ (es : List Event) (first end : ℕ) (standing : Standing) (less : first
 pub unwritten_at : (es : List Event) (left : Left) (k : ℕ) (d : Bool) → AreLeft es left → k < length es → slice_index_or left.unwritten.items k d ≡ leaves_unwritten es (suc k)
 unfolding leaves_unwritten
 unwritten_at es left k d are within = are.unwritten.each k d within
+
+pub unwritten_marks : (es : List Event) (left : Left) → AreLeft es left → Marks (leaves_unwritten es) (length es) left.unwritten.items
+unwritten_marks es left are = record { long = are.unwritten.long; each = λ k d within. unwritten_at es left k d are within }
 
 pub unfenced_at : (es : List Event) (left : Left) (k : ℕ) (d : Bool) → AreLeft es left → k < length es → leaves_unwritten es (suc k) ≡ false → slice_index_or left.left.items k d ≡ leaves_unfenced es (suc k)
 unfolding leaves_unfenced

@@ -19,5 +19,6 @@ pub mod EndingLemmas
 pub mod LeavingLemmas
 pub mod UpkeepLemmas
 pub mod TallySumLemmas
+pub mod StoreNameLemmas
 pub mod LintLemmas
 pub mod FirstLemmas

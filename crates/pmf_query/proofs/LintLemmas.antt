@@ -1,6 +1,8 @@
 -- What is told of a log that was read.
-use Rattle.std.proofs.{Common.{◌≡◌, ◌∙◌, ℕ, List, [], ◌∷◌, ◌++◌, Ok, length, take, sym, ap, subst}, lemmas.List.{length-map}}
-use Rattle.pmf_storelog.specs.{Separators.{records_of}, LogValue.{LogValue}, LogText.{fault_of, log_of, numbers_of, sections_of, skipped_of, value_of}}
+use Rattle.std.proofs.{Common.{◌≡◌, ◌∙◌, ◌≤◌, ℕ, List, [], ◌∷◌, ◌++◌, Ok, length, take, sym, ap, subst, arith}, lemmas.List.{length-map}}
+use Rattle.pmf_event.specs.{declared.name.Name.{Name}, Section.{Trace}}
+use Rattle.pmf_storelog.proofs.RisingLemmas.{name_in, numbers_rise}
+use Rattle.pmf_storelog.specs.{declared.fault.TheConstants.{SECTION_LIMIT}, Separators.{records_of}, LogValue.{LogValue}, LogText.{fault_of, log_of, numbers_of, sections_of, skipped_of, value_of}}
 use Rattle.pmf_query.{specs.Linting.{IsLint}, specs.Locating.{IsFaultless}, specs.Summing.{sums_of}, specs.declared.summing.Sums.{Sums}, specs.Walking.{IsNext}, specs.declared.counting.NameCounts.{NameCounts}, specs.declared.warnings.Warnings.{Warnings}, specs.Counting.{Tallies}, specs.Warnings.{warnings_by}, proofs.NumberFoundLemmas.{by_fault}}
 
 pub skipped_so : (run : ℕ) (bytes : List ℕ) (log : LogValue) → log_of run bytes ≡ Ok log → log.skipped ≡ skipped_of (records_of bytes)
@@ -10,6 +12,12 @@ skipped_so run bytes log is = ap (λ (l : LogValue). l.skipped) (by_fault (fault
 pub sections_long : (run : ℕ) (records : List (List ℕ)) → length (sections_of run records) ≡ length (numbers_of records)
 unfolding sections_of
 sections_long run records = length-map (numbers_of records) _
+
+pub sections_few : (run : ℕ) (bytes : List ℕ) (log : LogValue) → log_of run bytes ≡ Ok log → length log.sections ≤ SECTION_LIMIT
+sections_few run bytes log is =
+    let named = numbers_rise run bytes log is in
+    let long = ap (λ (names : List Name). length names) named.3 ∙ length-map named.0 (name_in run) in
+    omega (arith, long, length-map log.sections (λ (t : Trace). t.name), named.2)
 
 pub tallied_next : (bytes : List ℕ) (start offset : ℕ) (text : List ℕ) (next : ℕ) (counts : NameCounts) → IsNext bytes start offset text next → Tallies counts (records_of (take start bytes) ++ text ∷ []) → Tallies counts (records_of (take next bytes))
 tallied_next bytes start offset text next counts found tallies = subst (Tallies counts) (sym found.adds) tallies

@@ -1,8 +1,8 @@
 -- Which stores of a section no later assertion covers. Defined here.
-use Rattle.std.specs.Prelude.{◌≡◌, ℕ, suc, Bool, false, not, ◌&&◌, ◌||◌, is_some, ◌<◌, List, Option, Some, None, length, slice_index_or}
+use Rattle.std.specs.Prelude.{◌≡◌, ℕ, suc, Bool, false, not, ◌&&◌, ◌||◌, is_some, List, Option, Some, None, length}
 use Rattle.pmf_event.specs.{declared.event.Event.{Event}, declared.event.Event.TheVariants.{Store, Persist, Ordered}, Span.{Extent, covers_byte}, Places.{count, some_between}, Ranges.{first_byte}, Store.{event_at, at}, Transactions.{closes_scope, in_scope, in_transaction}}
 use Rattle.pmf_runs.specs.Runs.{state_at}
-use Rattle.pmf_query.specs.declared.covering.Later.{Later}
+use Rattle.pmf_query.specs.{declared.covering.Later.{Later}, Marks.{Marks}}
 
 -- whether the event is an assertion of persistence or of an order that names the byte
 unfoldable pub names : ℕ → Event → Bool
@@ -56,6 +56,5 @@ pub record StandsAfter (later : Later) (es : List Event) (p : ℕ) : Type 0 wher
   pub closed : later.closed ≡ is_closed_after es p
 
 -- the list says of each place whether it stands in a transaction and a scope
-pub record AreInside (es : List Event) (inside : List Bool) : Type 0 where
-  pub long : length inside ≡ length es
-  pub each : (k : ℕ) (d : Bool) → k < length es → slice_index_or inside k d ≡ is_inside es (suc k)
+abbrev pub AreInside : List Event → List Bool → Type 0
+AreInside es inside = Marks (is_inside es) (length es) inside

@@ -1,7 +1,7 @@
 -- Which stores of a section are not durable at its end, and what they lack. Defined here.
-use Rattle.std.specs.Prelude.{◌≡◌, ℕ, suc, ◌<◌, Bool, not, ◌&&◌, ◌==◌, List, length, is_some, slice_index_or}
+use Rattle.std.specs.Prelude.{ℕ, Bool, not, ◌&&◌, ◌==◌, List, length, is_some}
 use Rattle.pmf_event.specs.{declared.event.Event.{Event}, declared.span.TheConstants.{ADDRESS_LIMIT}, Ranges.{first_from}, Store.{last_store}, Persist.{is_exposed}, LineBytes.{is_unwritten}}
-use Rattle.pmf_query.specs.declared.leaving.Left.{Left}
+use Rattle.pmf_query.specs.{declared.leaving.Left.{Left}, Marks.{Marks}}
 
 -- whether byte b is checked and not durable at the end of the section, and its last store is at place k
 unfoldable pub is_left : List Event → ℕ → ℕ → Bool
@@ -24,9 +24,8 @@ unfoldable pub leaves_unfenced : List Event → ℕ → Bool
 leaves_unfenced es k = some_below (is_left es k) ADDRESS_LIMIT && not (leaves_unwritten es k)
 
 -- the list says of each place whether a byte below the limit passes the test of that place
-pub record AreMarked (test : ℕ → ℕ → Bool) (limit : ℕ) (places : ℕ) (marks : List Bool) : Type 0 where
-  pub long : length marks ≡ places
-  pub each : (k : ℕ) (d : Bool) → k < places → slice_index_or marks k d ≡ some_below (test (suc k)) limit
+abbrev pub AreMarked : (ℕ → ℕ → Bool) → ℕ → ℕ → List Bool → Type 0
+AreMarked test limit places marks = Marks (λ k. some_below (test k) limit) places marks
 
 -- what the bytes below the limit leave of a section is this: of each place whether its store leaves one, and whether one that no
 -- write-back follows

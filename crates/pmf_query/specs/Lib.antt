@@ -22,6 +22,7 @@ pub mod Laws
 pub mod Naming
 pub mod Nearness
 pub mod Counting
+pub mod Marks
 pub mod Covering
 pub mod Ending
 pub mod Leaving
@@ -29,5 +30,6 @@ pub mod Misread
 pub mod Upkeep
 pub mod Summing
 pub mod Warnings
+pub mod StoreNames
 pub mod Linting
 pub mod LintText

@@ -1,6 +1,6 @@
 -- The text that tells what a log holds: ASCII, in text lines. Defined here.
 use Rattle.std.specs.{Prelude.{ℕ, ◌/◌, ◌%◌, Bool, false, ◌==◌, nat_le, List, [], ◌∷◌, ◌++◌, Option, None, Some, length, take, codes, if◌then◌else◌, flat_map}, Fmt.{decimal, digit_glyph}}
-use Rattle.pmf_query.specs.{declared.lint.Lint.{Lint}, declared.naming.Named.{Named}, declared.summing.Sums.{Sums}, declared.upkeep.Upkeep.{Upkeep}, declared.warnings.Warnings.{Warnings}, declared.telling.TheConstants.{SHOWN}, Nearness.{is_printed, near_of}}
+use Rattle.pmf_query.specs.{declared.lint.Lint.{Lint}, declared.listing.Listing.{Listing}, declared.naming.Named.{Named}, declared.storing.StoreNames.{StoreNames}, declared.summing.Sums.{Sums}, declared.upkeep.Upkeep.{Upkeep}, declared.warnings.Warnings.{Warnings}, declared.telling.TheConstants.{SHOWN}, Nearness.{is_printed, near_of}}
 
 -- ---- names
 
@@ -63,6 +63,24 @@ line_of_left u =
 unfoldable pub line_of_fences : Upkeep → List ℕ
 line_of_fences u = codes "fences=" ++ decimal u.fences ++ codes " idle=" ++ decimal u.idle ++ codes "\n"
 
+-- `KIND NAME stores=N`, of stores of this name
+unfoldable pub line_of_named : List ℕ → Named → List ℕ
+line_of_named kind c = kind ++ codes " " ++ shown_name c.name.now ++ codes " stores=" ++ decimal c.records ++ codes "\n"
+
+-- `KIND others stores=N`, where there are others
+unfoldable pub line_of_unnamed : List ℕ → ℕ → List ℕ
+line_of_unnamed kind others = if others == 0 then [] else kind ++ codes " others stores=" ++ decimal others ++ codes "\n"
+
+-- those of one kind
+abbrev pub lines_of_listing : List ℕ → Listing → List ℕ
+lines_of_listing kind listing = flat_map (λ c. line_of_named kind c) listing.listed.items ++ line_of_unnamed kind listing.others
+
+-- the names of the stores that lack something
+unfoldable pub lines_of_names : StoreNames → List ℕ
+lines_of_names names =
+    lines_of_listing (codes "unwritten") names.unwritten ++ lines_of_listing (codes "unfenced") names.unfenced
+    ++ lines_of_listing (codes "unasserted") names.unasserted
+
 -- ---- warnings
 
 -- a warning behind some words, where it is due
@@ -89,8 +107,8 @@ abbrev pub lines_of_warnings : List ℕ → Warnings → List ℕ
 lines_of_warnings words w = lines_of_asserted words w ++ lines_of_records words w
 
 -- the whole text
-unfoldable pub text_of_lint : Lint → List ℕ
-text_of_lint lint =
+unfoldable pub text_of_lint : Lint → StoreNames → List ℕ
+text_of_lint lint names =
     line_of_counts lint ++ flat_map (λ c. line_of_known c) lint.known.items ++ flat_map (λ c. line_of_skipped c) lint.listed.items
     ++ line_of_others lint.others ++ line_of_assertions lint.sums ++ line_of_stores lint.sums ++ line_of_left lint.sums.upkeep
-    ++ line_of_fences lint.sums.upkeep ++ lines_of_warnings [] lint.warnings
+    ++ line_of_fences lint.sums.upkeep ++ lines_of_names names ++ lines_of_warnings [] lint.warnings

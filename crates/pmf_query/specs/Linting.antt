@@ -1,7 +1,7 @@
 -- What is told of a whole log. Defined here.
-use Rattle.std.specs.Prelude.{◌≡◌, ℕ, List, length, take}
+use Rattle.std.specs.Prelude.{◌≡◌, ℕ, Bool, List, length, take}
 use Rattle.pmf_storelog.specs.{Separators.{records_of}, LogText.{numbers_of, sections_of, skipped_of}}
-use Rattle.pmf_query.specs.{Locating.{IsFaultless}, Naming.{Count, count_others, first_names, known_names, names_in, names_of, skipped_names}, Summing.{sums_of}, Warnings.{are_due, warnings_of}, declared.naming.TheConstants.{LISTED}, declared.lint.Lint.{Lint}, declared.lint.Linted.{Linted}, LintText.{text_of_lint}}
+use Rattle.pmf_query.specs.{Locating.{IsFaultless}, Naming.{Count, count_others, first_names, known_names, names_in, names_of, skipped_names}, Summing.{sums_of}, Warnings.{are_due, warnings_of}, declared.naming.TheConstants.{LISTED}, declared.lint.Lint.{Lint}, declared.lint.Linted.{Linted}, declared.storing.StoreNames.{StoreNames}, StoreNames.{AreStoreNames}, LintText.{text_of_lint}}
 
 -- the log is faultless, and this is told of it: its records; how many have each known name; how many are skipped; of their
 -- names the first different ones, how many have each of these, and how many have none; its sections, and what they hold; and which
@@ -19,6 +19,7 @@ pub record IsLint (bytes : List ℕ) (lint : Lint) : Type 0 where
   pub sums : lint.sums ≡ sums_of (sections_of 0 (records_of bytes))
   pub warnings : lint.warnings ≡ warnings_of bytes
 
--- of the log this is told, and this text written
-abbrev pub Overviews : List ℕ → Linted → List ℕ → Type 0
-Overviews bytes told text = (lint : Lint) × IsLint bytes lint × (told.is_suspicious ≡ are_due lint.warnings) × (text ≡ text_of_lint lint)
+-- of the log this is told, and this text written, with the names of the stores that no later assertion covers where these are asked for
+abbrev pub Overviews : Bool → List ℕ → Linted → List ℕ → Type 0
+Overviews asked bytes told text =
+    (lint : Lint) × (names : StoreNames) × IsLint bytes lint × AreStoreNames bytes asked names × (told.is_suspicious ≡ are_due lint.warnings) × (text ≡ text_of_lint lint names)

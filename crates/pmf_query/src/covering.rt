@@ -1,31 +1,52 @@
-//! How many stores of a section no later assertion covers.
+//! Which stores of a section no later assertion covers, and how many these are.
 
-ghost use Rattle.std.specs.Prelude.{◌≡◌, ◌<◌, ◌^◌, ◌||◌, ◌&&◌, if◌then◌else◌, ℕ, suc, List, Some, length, IfOk, OnOk};
-ghost use Rattle.pmf_event.specs.{declared.event.Event.{Event}, Store.{event_at}};
+ghost use Rattle.std.specs.Prelude.{◌≡◌, ◌<◌, ◌^◌, ◌||◌, ◌&&◌, if◌then◌else◌, ℕ, suc, Bool, List, Some, length, IfOk, OnOk};
+ghost use Rattle.pmf_event.specs.{declared.event.Event.{Event}, Places.{count}, Store.{event_at}};
 ghost use Rattle.pmf_runs.specs.Runs.{state_at};
-ghost use Rattle.pmf_query.specs.Covering.{is_in, is_inside, is_uncovered, names, stored_by, uncovered_of, StandsAfter};
+ghost use Rattle.pmf_query.specs.{Covering.{is_in, is_inside, is_uncovered, names, stored_by, uncovered_of, StandsAfter}, Marks.{Marks}};
 
 use crate::inside::{closes, places_inside};
 use pmf_event::{Event, Span};
 use pmf_runs::{IsIn, PutIn, RunMap};
 use std::alloc::{AllocError, Global};
 
-/// How many stores no later assertion covers. One walk from the last event to the first, with a set of the bytes that later
-/// assertions name: each step takes O(log n) for n runs of such bytes. Takes memory for them, and a byte for each event.
+/// How many stores no later assertion covers. Takes what `mark_uncovered` does.
 pub(crate) fn count_uncovered(alloc: Global, events: &[Event]) -> Result<u64, AllocError>
     requires { length events.now < 2 ^ 63 }
     ensures { IfOk result (λ count. count ≡ uncovered_of events.now) }
 {
-    let inside = places_inside(alloc, events)?;
+    let marks = mark_uncovered(alloc, events)?;
+    Ok(count_marked(&marks))
+}
+
+/// Of each event, by its index: whether it is a store that no later assertion covers. One walk from the last event to the first, with
+/// a set of the bytes that later assertions name: each step takes O(log n) for n runs of such bytes. Takes memory for them, and a byte
+/// for each event.
+pub(crate) fn mark_uncovered(alloc: Global, events: &[Event]) -> Result<Vec<bool>, AllocError>
+    requires { length events.now < 2 ^ 63 }
+    ensures { IfOk result (λ marks. Marks (is_uncovered events.now) (length events.now) marks.items) }
+{
+    let mut marks = places_inside(alloc, events)?;
     let mut later = Later::new(alloc);
-    let mut count: u64 = 0;
     let mut left = events.len();
     while left > 0 {
         left -= 1;
-        count += one_if(later.misses(&events[left], inside[left]));
+        let missed = later.misses(&events[left], marks[left]);
+        marks[left] = missed;
         later.follow(&events[left])?;
     }
-    Ok(count)
+    Ok(marks)
+}
+
+// How many of the places are marked.
+fn count_marked(marks: &[bool]) -> u64
+    ensures { (test : ℕ → Bool) (n : ℕ) → Marks test n marks.now → result ≡ count test n }
+{
+    let mut count: u64 = 0;
+    for marked in marks {
+        count += one_if(*marked);
+    }
+    count
 }
 
 /// What is kept of the events after a place.

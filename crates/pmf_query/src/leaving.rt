@@ -3,7 +3,7 @@
 ghost use Rattle.std.specs.Prelude.{◌≡◌, ◌==◌, ◌&&◌, ◌||◌, ◌<◌, ℕ, suc, Bool, false, List, length, slice_index_or, IfOk};
 ghost use Rattle.pmf_event.specs.{declared.event.Event.{Event}, Places.{count}};
 ghost use Rattle.pmf_shadow.specs.{Shadow.{StandsFor}, Standing.{AllLeaveOpen}};
-ghost use Rattle.pmf_query.specs.Leaving.{AreLeft, AreLeftBelow, leaves_unfenced, leaves_unwritten};
+ghost use Rattle.pmf_query.specs.{Leaving.{AreLeft, AreLeftBelow, leaves_unfenced, leaves_unwritten}, Marks.{Marks}};
 
 use crate::covering::{both, one_if};
 use pmf_event::ADDRESS_LIMIT;
@@ -73,6 +73,17 @@ impl Left {
             return self.left[index];
         }
         false
+    }
+
+    /// Of each event, by its index: whether it is such another one.
+    pub(crate) fn all_unfenced(&self, alloc: Global) -> Result<Vec<bool>, AllocError>
+        ensures { IfOk result (λ marks. (es : List Event) → AreLeft es self.now → Marks (leaves_unfenced es) (length es) marks.items) }
+    {
+        let mut marks = Vec::with_capacity(alloc, self.left.len())?;
+        for index in 0..self.left.len() {
+            marks.push(self.is_unfenced(index))?;
+        }
+        Ok(marks)
     }
 
     // Marks the store of some neighbouring bytes that stand so.

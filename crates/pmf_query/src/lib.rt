@@ -9,7 +9,8 @@
 //! [`lint_log`] counts the records of each name (`Naming`), looks whether one of a skipped record is near to
 //! a known one, or no text (`Nearness`), and counts over the sections the assertions, the rows of those that
 //! had nothing to check, the stores, and the stores that no later assertion covers (`Covering`, `Summing`);
-//! what it answers is `Linting.IsLint`. [`lint_text`] writes all of that, with its warnings (`LintText`).
+//! what it answers is `Linting.IsLint`. [`name_stores`] names the stores that lack a write-back, a fence or an
+//! assertion (`StoreNames`). [`lint_text`] writes all of that, with its warnings (`LintText`).
 //!
 //! Not promised here: that memory suffices, and that a log is what the program did.
 #![tactic(auto)]
@@ -35,6 +36,7 @@ mod query;
 mod refusal;
 mod section;
 mod standing;
+mod storing;
 mod streaming;
 mod summing;
 mod telling;
@@ -48,6 +50,7 @@ pub use explain::explain_text;
 pub use explaining::explain_all;
 pub use fields::field;
 pub use lint::{Lint, Linted, lint_log};
+pub use listing::Listing;
 pub use locate::{Located, locate_event, locate_text};
 pub use naming::{LISTED, Named};
 pub use nearness::{is_text, near};
@@ -55,6 +58,7 @@ pub use pmf_request::{Overview, Question, Sought, Whole};
 pub use query::{Answer, Query};
 pub use refusal::{EventFault, EventRefusal, LogRefusal};
 pub use standing::Standing;
+pub use storing::{StoreNames, name_stores};
 pub use streaming::{StreamedQuery, Unanswered};
 pub use summing::Sums;
 pub use telling::{lint_text, push_ascii, push_warnings};

@@ -1,7 +1,7 @@
 //! What a log holds, before its rows are believed.
 
-ghost use Rattle.std.specs.Prelude.{◌≡◌, MatchResult, IfOk};
-ghost use Rattle.pmf_storelog.specs.Separators.{records_of};
+ghost use Rattle.std.specs.Prelude.{◌≡◌, Ok, MatchResult, IfOk};
+ghost use Rattle.pmf_storelog.specs.{LogText.{log_of}, Separators.{records_of}};
 ghost use Rattle.pmf_query.specs.{Counting.{AreNotes, Tallies}, Linting.{IsLint, Overviews}, Refusals.{IsLogRefusal}, Warnings.{warnings_by}};
 
 use crate::counting::NameCounts;
@@ -12,12 +12,13 @@ use crate::naming::Named;
 use crate::noting::Notes;
 use crate::query::{Answer, Query};
 use crate::refusal::LogRefusal;
+use crate::storing::name_stores;
 use crate::summing::{Sums, sum};
 use crate::telling::lint_text;
 use crate::walking::next_record;
 use crate::warnings::Warnings;
 use pmf_request::Overview;
-use pmf_storelog::read_log;
+use pmf_storelog::{Log, read_log};
 use std::alloc::{AllocError, Global};
 
 /// What was found of a log that was looked through.
@@ -33,20 +34,34 @@ impl Query for Overview {
 
     type Refusal = LogRefusal;
 
-    ghost IsAnswer = { λ _. Overviews };
+    ghost IsAnswer = { λ overview. Overviews overview.unasserted };
 
     ghost IsRefusal = { λ _. IsLogRefusal 0 };
 
     fn answer(&self, alloc: Global, log: &[u8]) -> Result<Answer<Linted>, LogRefusal> {
-        let lint = lint_log(alloc, log)?;
-        let told = Linted {
-            is_suspicious: lint.warnings.are_due(),
-        };
-        match lint_text(alloc, &lint) {
-            Ok(text) => Ok(Answer { told, text }),
-            Err(_) => Err(LogRefusal::OutOfMemory),
-        }
+        let read = read_whole(alloc, log)?;
+        let answer = tell(alloc, log, &read, self.unasserted)?;
+        Ok(answer)
     }
+}
+
+// What is told of a log that reads so.
+fn tell(
+    alloc: Global,
+    log: &[u8],
+    read: &Log,
+    unasserted: bool,
+) -> Result<Answer<Linted>, AllocError>
+    requires { log_of 0 log.now ≡ Ok read.now }
+    ensures { IfOk result (λ answer. Overviews unasserted log.now answer.told answer.text.items) }
+{
+    let lint = lint_of(alloc, log, read)?;
+    let names = name_stores(alloc, log, read.sections(), unasserted)?;
+    let told = Linted {
+        is_suspicious: lint.warnings.are_due(),
+    };
+    let text = lint_text(alloc, &lint, &names)?;
+    Ok(Answer { told, text })
 }
 
 /// What a log holds. Names are slices of the log.
@@ -76,22 +91,33 @@ pub struct Lint<'a> {
 pub fn lint_log<'a>(alloc: Global, log: &'a [u8]) -> Result<Lint<'a>, LogRefusal>
     ensures { MatchResult result (λ lint. IsLint log.now lint) (IsLogRefusal 0 log.now) }
 {
-    let read = match read_log(alloc, log, 0) {
-        Ok(read) => read,
-        Err(fault) => return Err(LogRefusal::Log(fault)),
-    };
+    let read = read_whole(alloc, log)?;
+    let lint = lint_of(alloc, log, &read)?;
+    Ok(lint)
+}
+
+fn read_whole(alloc: Global, log: &[u8]) -> Result<Log, LogRefusal>
+    ensures { MatchResult result (λ read. log_of 0 log.now ≡ Ok read) (IsLogRefusal 0 log.now) }
+{
+    match read_log(alloc, log, 0) {
+        Ok(read) => Ok(read),
+        Err(fault) => Err(LogRefusal::Log(fault)),
+    }
+}
+
+// What a log holds that reads so.
+fn lint_of<'a>(alloc: Global, log: &'a [u8], read: &Log) -> Result<Lint<'a>, AllocError>
+    requires { log_of 0 log.now ≡ Ok read.now }
+    ensures { IfOk result (λ lint. IsLint log.now lint) }
+{
     let sums = match sum(alloc, read.sections()) {
         Ok(sums) => sums,
-        Err(_) => return Err(LogRefusal::OutOfMemory),
+        Err(_) => return Err(AllocError),
     };
-    match count_names(alloc, log) {
-        Ok(counts) => {
-            let sections = read.sections().len() as u64;
-            let warnings = warnings_by(log, counts.notes, sums);
-            Ok(told(counts, read.skipped(), sections, sums, warnings))
-        }
-        Err(_) => Err(LogRefusal::OutOfMemory),
-    }
+    let counts = count_names(alloc, log)?;
+    let sections = read.sections().len() as u64;
+    let warnings = warnings_by(log, counts.notes, sums);
+    Ok(told(counts, read.skipped(), sections, sums, warnings))
 }
 
 // Which warnings are due of the log whose records tell this, and whose sections hold this.

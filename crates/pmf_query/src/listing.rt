@@ -7,9 +7,11 @@ use std::alloc::{AllocError, Global};
 
 /// How many of some names are each of the first different ones, and how many are none of these.
 #[derive(Debug, Drop)]
-pub(crate) struct Listing<'a> {
-    pub(crate) listed: Vec<Named<'a>>,
-    pub(crate) others: u64,
+pub struct Listing<'a> {
+    /// How many are each of the first different ones, in the order of their first ones.
+    pub listed: Vec<Named<'a>>,
+    /// How many are none of these.
+    pub others: u64,
 }
 
 impl<'a> Listing<'a> {

@@ -8,18 +8,18 @@ use memchr::memchr;
 use pmf_storelog::{Saying, read_record};
 use std::alloc::{AllocError, Global};
 
-/// How many names of skipped records are listed at most: the first so many different ones.
+/// How many names are listed at most: the first so many different ones.
 pub const LISTED: usize = 32;
 
 /// How many names a log's records may have that aren't skipped.
 pub(crate) const KNOWN: usize = 13;
 
-/// How many records have a name.
+/// How many records, or stores, have a name.
 #[derive(Clone, Copy, Debug, Drop)]
 pub struct Named<'a> {
     /// The name, as it stands in the log or in the format's table.
     pub name: &'a [u8],
-    /// The number of records.
+    /// The number of records, or stores.
     pub records: u64,
 }
 

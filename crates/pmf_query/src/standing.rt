@@ -21,7 +21,7 @@ pub struct Standing<'a> {
 
 impl<'a> Standing<'a> {
     ghost use Rattle.pmf_storelog.specs.Separators.{records_of};
-    ghost use Rattle.pmf_query.specs.{Locating.{AreLocations}, Standing.{AddsLocation, HasWalked, Stands}, Walking.{BeginsAnew}};
+    ghost use Rattle.pmf_query.specs.{Locating.{AreLocations}, Standing.{AddsLocation, HasWalked, Stands, located_in}, Walking.{BeginsAnew}};
 
     /// Where each event of each section of the log stands, faults or not, by one walk over its records.
     ///
@@ -41,6 +41,13 @@ impl<'a> Standing<'a> {
     /// Where the events of the section of this number stand: that of its event number k, counted from 1, at index k - 1.
     pub fn in_section(&self, section: u64) -> &[Located<'a>]
         ensures { (bytes : List ℕ) → Stands bytes self.now → AreLocations bytes section result.now }
+    {
+        self.kept_of(section)
+    }
+
+    /// The same, as it is kept.
+    pub(crate) fn kept_of(&self, section: u64) -> &[Located<'a>]
+        ensures { result.now ≡ located_in self.now section }
     {
         let Some(found) = self.places.get(&section) else {
             return &self.none;

@@ -1,11 +1,13 @@
 //! The text that tells what a log holds, and its warnings.
 
 ghost use Rattle.std.specs.Prelude.{◌≡◌, [], ◌∷◌, ◌++◌, true, IfOk, OnOk, flat_map, string_bytes};
-ghost use Rattle.pmf_query.specs.{LintText.{escaped, hint_of, line_of_assertions, line_of_counts, line_of_fences, line_of_known, line_of_left, line_of_others, line_of_skipped, line_of_stores, lines_of_asserted, lines_of_records, lines_of_warnings, shown_byte, shown_name, shown_text, text_of_lint, warned}, Nearness.{is_printed, near_of}};
+ghost use Rattle.pmf_query.specs.{LintText.{escaped, hint_of, line_of_assertions, line_of_counts, line_of_fences, line_of_known, line_of_left, line_of_named, line_of_others, line_of_skipped, line_of_stores, line_of_unnamed, lines_of_asserted, lines_of_listing, lines_of_names, lines_of_records, lines_of_warnings, shown_byte, shown_name, shown_text, text_of_lint, warned}, Nearness.{is_printed, near_of}};
 
 use crate::lint::Lint;
+use crate::listing::Listing;
 use crate::naming::Named;
 use crate::nearness::{is_printed, near};
+use crate::storing::StoreNames;
 use crate::summing::Sums;
 use crate::upkeep::Upkeep;
 use crate::warnings::Warnings;
@@ -14,10 +16,15 @@ use std::alloc::{AllocError, Global};
 /// How many bytes of a name are written at most.
 pub const SHOWN: usize = 64;
 
-/// The text that tells what a log holds: ASCII, in text lines that LF ends. Takes memory for the text alone.
+/// The text that tells what a log holds, and which stores lack something: ASCII, in text lines that LF ends. Takes memory for the text
+/// alone.
 #[tactic(auto, unfolding(crate::specs::LintText::text_of_lint))]
-pub fn lint_text(alloc: Global, lint: &Lint<'_>) -> Result<Vec<u8>, AllocError>
-    ensures { IfOk result (λ text. text.items ≡ text_of_lint lint.now) }
+pub fn lint_text(
+    alloc: Global,
+    lint: &Lint<'_>,
+    names: &StoreNames<'_>,
+) -> Result<Vec<u8>, AllocError>
+    ensures { IfOk result (λ text. text.items ≡ text_of_lint lint.now names.now) }
 {
     let mut text = String::new(alloc);
     push_counts(&mut text, lint)?;
@@ -28,6 +35,7 @@ pub fn lint_text(alloc: Global, lint: &Lint<'_>) -> Result<Vec<u8>, AllocError>
     push_stores(&mut text, lint.sums)?;
     push_left(&mut text, lint.sums.upkeep)?;
     push_fences(&mut text, lint.sums.upkeep)?;
+    push_names(&mut text, names)?;
     push_warnings(&mut text, "", lint.warnings)?;
     Ok(text.into_bytes())
 }
@@ -162,6 +170,57 @@ fn push_fences(text: &mut String, upkeep: Upkeep) -> Result<(), AllocError>
     let Upkeep { fences, idle, .. } = upkeep;
     write!(text, "fences={fences}")?;
     write!(text, " idle={idle}\n")
+}
+
+#[tactic(auto, unfolding(crate::specs::LintText::lines_of_names))]
+fn push_names(text: &mut String, names: &StoreNames<'_>) -> Result<(), AllocError>
+    ensures { OnOk result (string_bytes text.new ≡ string_bytes text.old ++ lines_of_names names.now) }
+{
+    push_listing(text, "unwritten", &names.unwritten)?;
+    push_listing(text, "unfenced", &names.unfenced)?;
+    push_listing(text, "unasserted", &names.unasserted)
+}
+
+fn push_listing(text: &mut String, kind: &str, listing: &Listing<'_>) -> Result<(), AllocError>
+    ensures { OnOk result (string_bytes text.new
+        ≡ string_bytes text.old ++ lines_of_listing kind.now listing.now) }
+{
+    push_all_named(text, kind, &listing.listed)?;
+    push_unnamed(text, kind, listing.others)
+}
+
+fn push_all_named(text: &mut String, kind: &str, counts: &[Named<'_>]) -> Result<(), AllocError>
+    ensures { OnOk result (string_bytes text.new
+        ≡ string_bytes text.old ++ flat_map (λ c. line_of_named kind.now c) counts.now) }
+{
+    for named in counts {
+        push_named(text, kind, named)?;
+    }
+    Ok(())
+}
+
+#[tactic(auto, unfolding(crate::specs::LintText::line_of_named))]
+fn push_named(text: &mut String, kind: &str, named: &Named<'_>) -> Result<(), AllocError>
+    ensures { OnOk result (string_bytes text.new
+        ≡ string_bytes text.old ++ line_of_named kind.now named.now) }
+{
+    let stores = named.records;
+    text.push_str(kind)?;
+    text.push_str(" ")?;
+    push_name(text, named.name)?;
+    write!(text, " stores={stores}\n")
+}
+
+#[tactic(auto, unfolding(crate::specs::LintText::line_of_unnamed))]
+fn push_unnamed(text: &mut String, kind: &str, others: u64) -> Result<(), AllocError>
+    ensures { OnOk result (string_bytes text.new
+        ≡ string_bytes text.old ++ line_of_unnamed kind.now others) }
+{
+    if others == 0 {
+        return Ok(());
+    }
+    text.push_str(kind)?;
+    write!(text, " others stores={others}\n")
 }
 
 /// Writes the warnings that are due behind the text, each as a text line behind some words. After an `Err` some of them may stand there.

@@ -1,6 +1,6 @@
 //! What the words of a command line ask for.
 
-use crate::settings::{Lengths, Patches, Question, Reasons, Settings, Sought, Whole};
+use crate::settings::{Lengths, Overview, Patches, Question, Reasons, Settings, Sought, Whole};
 
 /// Where a log is read from.
 #[derive(Clone, Copy, Debug, PartialEq, Drop)]
@@ -58,7 +58,7 @@ pub enum Request<'a> {
     /// Read the log, and write it with the changes put in that are to cure its rows to standard output.
     Patch(Patches, Input<'a>),
     /// Read the log, and write what it holds to standard output.
-    Lint(Input<'a>),
+    Lint(Overview, Input<'a>),
     /// Read the log on standard input, and write it with its sections cut to standard output, or to files.
     Cut(Cuts<'a>),
     /// Join the ledgers of the files, and write the report of all, or their ledger text, to standard output.

@@ -80,9 +80,12 @@ pub struct Patches {
     pub section: Option<u64>,
 }
 
-/// What `lint` is told by its words: nothing.
+/// What `lint` is told by its words.
 #[derive(Clone, Copy, Debug, PartialEq, Eq)]
-pub struct Overview;
+pub struct Overview {
+    /// Whether the stores are named that no assertion covers.
+    pub unasserted: bool,
+}
 
 /// What `cut` is told by its words.
 #[derive(Clone, Copy, Debug, PartialEq, Eq)]

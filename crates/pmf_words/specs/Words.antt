@@ -3,7 +3,7 @@
 use Rattle.std.specs.{Prelude.{◌≡◌, ℕ, ◌<◌, ◌^◌, pos, Bool, true, false, List, [], ◌∷◌, ◌++◌, map, Option, option_map, None, Some, codes, bytes_eq, decimal, if◌then◌else◌}, List.{list_any}}
 use Rattle.clap.specs.{Words.{App, Row, Rule, Text, all_of, first_of, one_of, app_of, new_app, new_rule, subcommand_of, with_rule, with_subcommand}, Simple.{new_shape}, declared.builder.action.ArgAction.TheVariants.{Append, SetTrue}, declared.builder.command.Command.{Command, out-Command}, declared.builder.value_parser.ValueParser.{ValueParser}}
 use Rattle.pmf_event.specs.declared.profile.Profile.{Profile}
-use Rattle.pmf_request.specs.declared.{settings.Patches.{Patches}, settings.Question.{Question}, settings.Reasons.{Reasons}, settings.Settings.{Settings}, settings.Sought.{Sought}, settings.Whole.{Whole}, request.Cuts.{Cuts}, request.Files.{Files}, request.Input.{Input}, request.Simulation.{Simulation}, request.Request.{Request}}
+use Rattle.pmf_request.specs.declared.{settings.Overview.{Overview}, settings.Patches.{Patches}, settings.Question.{Question}, settings.Reasons.{Reasons}, settings.Settings.{Settings}, settings.Sought.{Sought}, settings.Whole.{Whole}, request.Cuts.{Cuts}, request.Files.{Files}, request.Input.{Input}, request.Simulation.{Simulation}, request.Request.{Request}}
 use Rattle.clap.specs.declared.builder.value_parser.ValueParser.TheVariants as vp
 use Rattle.pmf_event.specs.declared.profile.Profile.TheVariants as profile
 use Rattle.pmf_request.specs.declared.request.Input.TheVariants as input
@@ -97,7 +97,7 @@ file_words = record (new_rule (codes "file")) {
 }
 
 abbrev pub lint_words : App
-lint_words = with_rule (new_app (codes "lint")) log_word
+lint_words = with_rule (with_rule (new_app (codes "lint")) (flag (codes "unasserted"))) log_word
 
 abbrev pub cut_words : App
 cut_words =
@@ -213,6 +213,10 @@ pub record IsLocateOf (rows : List Row) (s : Sought) : Type 0 where
   pub section : IsSectionOf rows s.run s.section
   pub event : IsNumberOf rows (codes "event") 32 s.event
 
+-- what is told of the log is what the words of `lint` name
+pub record IsLintOf (rows : List Row) (o : Overview) : Type 0 where
+  pub unasserted : IsFlagOf rows (codes "unasserted") o.unasserted
+
 -- the lengths and the files are those that the words of `cut` name
 pub record IsCutOf (rows : List Row) (c : Cuts) : Type 0 where
   pub events : IsNumberOf rows (codes "events") 32 c.lengths.events
@@ -251,7 +255,7 @@ IsLocateBy rows (request.Locate sought log) = IsLocateOf rows sought × IsInputO
 IsLocateBy rows _ = ⊥
 
 abbrev pub IsLintBy : List Row → Request → Type 0
-IsLintBy rows (request.Lint log) = IsInputOf rows log
+IsLintBy rows (request.Lint overview log) = IsLintOf rows overview × IsInputOf rows log
 IsLintBy rows _ = ⊥
 
 abbrev pub IsCutBy : List Row → Request → Type 0

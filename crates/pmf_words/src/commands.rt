@@ -6,7 +6,8 @@ ghost use Rattle.pmf_words.specs.Words.{HasWords, check_words, cut_words, explai
 
 use crate::options::{
     all, all_rows, asked_number, bytes, event, events, file, files, first, first_rows, ledger, log,
-    log_file, only_event, only_section, patch, profile, run, section, step, strict, workers,
+    log_file, only_event, only_section, patch, profile, run, section, step, strict, unasserted,
+    workers,
 };
 use clap::{Arg, Command};
 use std::alloc::{AllocError, Global};
@@ -310,6 +311,7 @@ fn lint<'a>(alloc: Global) -> Result<Command<'a>, AllocError>
 {
     let about = "Writes what the log holds, and whether it may not be what it seems to be";
     let lint = Ok(head(alloc, "lint", about, AFTER_HELP));
+    let lint = with_option(lint, unasserted(alloc));
     with_option(lint, log_file(alloc))
 }
 

@@ -205,6 +205,15 @@ pub(crate) fn strict<'a>(alloc: Global) -> Arg<'a>
     flag(alloc, "strict", help)
 }
 
+// The flag of `lint`.
+pub(crate) fn unasserted<'a>(alloc: Global) -> Arg<'a>
+    ensures rule { rule_of result ≡ flag (codes "unasserted") }
+    ensures local { result.global ≡ false }
+{
+    let help = "Name the stores that no assertion covers";
+    flag(alloc, "unasserted", help)
+}
+
 // The flag of `explain`.
 pub(crate) fn all<'a>(alloc: Global) -> Arg<'a>
     ensures rule { rule_of result ≡ flag (codes "all") }

@@ -3,15 +3,15 @@
 ghost use Rattle.std.specs.{Prelude.{◌≡◌, List, false, true, Some, codes, map, option_map, IfOk, IfSome, bytes_eq, string_bytes, if◌then◌else◌}, List.{list_any}};
 ghost use Rattle.clap.specs.Words.{Row, Text, found_of, rows_of, subcommand_rows_of};
 ghost use Rattle.pmf_event.specs.declared.profile.Profile.{Profile};
-ghost use Rattle.pmf_words.specs.Words.{IsCheckOf, IsCutOf, IsExplainAllOf, IsExplainBy, IsExplainOf, IsFirstOf, IsInputOf, IsJoinOf, IsLocateOf, IsMaybeSectionOf, IsPatchOf, IsRequestBy, IsRequestOf, IsSectionOf, IsSimOf, IsWhyBy, IsWhyOf, NamesSection};
+ghost use Rattle.pmf_words.specs.Words.{IsCheckOf, IsCutOf, IsExplainAllOf, IsExplainBy, IsExplainOf, IsFirstOf, IsInputOf, IsJoinOf, IsLintOf, IsLocateOf, IsMaybeSectionOf, IsPatchOf, IsRequestBy, IsRequestOf, IsSectionOf, IsSimOf, IsWhyBy, IsWhyOf, NamesSection};
 
 use crate::commands::program;
 use clap::error::ErrorKind;
 use clap::{ArgMatches, Error};
 use pmf_event::Profile;
 use pmf_request::{
-    Cuts, Files, Input, Lengths, Patches, Question, Reasons, Request, Settings, Simulation, Sought,
-    Whole,
+    Cuts, Files, Input, Lengths, Overview, Patches, Question, Reasons, Request, Settings,
+    Simulation, Sought, Whole,
 };
 use std::alloc::{AllocError, Global};
 
@@ -61,7 +61,7 @@ fn request_by<'a>(
         return Ok(Request::Locate(sought, input_of(locate)));
     }
     if let Some(lint) = matches.subcommand_matches("lint") {
-        return Ok(Request::Lint(input_of(lint)));
+        return Ok(Request::Lint(overview_of(lint), input_of(lint)));
     }
     if let Some(cut) = matches.subcommand_matches("cut") {
         return Ok(Request::Cut(cuts_of(cut)));
@@ -264,6 +264,14 @@ fn error_of(alloc: Global, word: &str) -> Result<Error, AllocError> {
         "invalid value '{word}' for '--section <N>': a section is named N, or R.N as in a report"
     )?;
     program(alloc, false, false)?.error(ErrorKind::ValueValidation, message.as_str())
+}
+
+fn overview_of(lint: &ArgMatches<'_>) -> Overview
+    ensures { IsLintOf (rows_of (found_of lint.now)) result }
+{
+    Overview {
+        unasserted: lint.get_flag("unasserted"),
+    }
 }
 
 fn cuts_of<'a>(cut: &ArgMatches<'a>) -> Cuts<'a>

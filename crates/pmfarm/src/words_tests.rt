@@ -1,8 +1,8 @@
 //! What the words of the command line ask for, and the status where they are refused.
 
 use crate::{
-    Cuts, Files, Input, Lengths, Patches, Question, Reasons, Request, Settings, Simulation, Sought,
-    Status, Whole, request_of,
+    Cuts, Files, Input, Lengths, Overview, Patches, Question, Reasons, Request, Settings,
+    Simulation, Sought, Status, Whole, request_of,
 };
 use pmf_event::Profile;
 use std::alloc::{AllocError, Global};
@@ -119,12 +119,18 @@ fn a_log_is_read_from_a_file_where_one_is_named(rt: HostRuntime) -> Result<(), F
         all: false,
     };
     asks(&rt, rt.alloc(), "why a.log", Request::Why(reasons, input))?;
-    asks(&rt, rt.alloc(), "lint a.log", Request::Lint(input))?;
+    let overview = Overview { unasserted: false };
+    asks(
+        &rt,
+        rt.alloc(),
+        "lint a.log",
+        Request::Lint(overview, input),
+    )?;
     asks(
         &rt,
         rt.alloc(),
         "lint -- --all",
-        Request::Lint(Input::File("--all")),
+        Request::Lint(overview, Input::File("--all")),
     )
 }
 
@@ -278,7 +284,16 @@ fn locate_takes_a_section_and_an_event_and_lint_nothing(rt: HostRuntime) -> Resu
             Request::Locate(sought, Input::Standard),
         )?;
     }
-    asks(&rt, rt.alloc(), "lint", Request::Lint(Input::Standard))
+    for (line, unasserted) in [("lint", false), ("lint --unasserted", true)] {
+        let overview = Overview { unasserted };
+        asks(
+            &rt,
+            rt.alloc(),
+            line,
+            Request::Lint(overview, Input::Standard),
+        )?;
+    }
+    Ok(())
 }
 
 #[test]

@@ -1,6 +1,6 @@
 //! What is told of logs, and its text.
 
-use crate::{LogRefusal, is_text, lint_log, lint_text, near};
+use crate::{LogRefusal, Overview, Query, is_text, lint_log, near};
 use pmf_storelog::{Cause, LogFault};
 use std::alloc::Global;
 use std::test::Fail;
@@ -21,15 +21,21 @@ assertions=2 empty=1
 stores=2 unasserted=1
 unwritten=1 unfenced=0 overwriting=0
 fences=2 idle=1
+unwritten 0x10 stores=1
 warning: a skipped name is near a known one
 warning: no end stands behind the last record
 warning: START stands without STOP
 ";
 
 fn text_of(alloc: Global, log: &[u8]) -> Result<Vec<u8>, LogRefusal> {
-    let lint = lint_log(alloc, log)?;
-    let text = lint_text(alloc, &lint)?;
-    Ok(text)
+    let overview = Overview { unasserted: false };
+    Ok(overview.answer(alloc, log)?.text)
+}
+
+// The text, with the stores that no assertion covers where these are asked for.
+fn ends_with(alloc: Global, log: &[u8], unasserted: bool, end: &str) -> Result<bool, LogRefusal> {
+    let answer = Overview { unasserted }.answer(alloc, log)?;
+    Ok(answer.text.ends_with(end.as_bytes()))
 }
 
 // How many stores there are, and how many no later assertion covers.
@@ -51,10 +57,10 @@ fn warnings_of(alloc: Global, log: &[u8]) -> Result<(bool, bool, bool, bool), Lo
 
 #[test]
 fn the_text_tells_names_sums_and_warnings(rt: HostRuntime) -> Result<(), Fail> {
-    let lint = lint_log(rt.alloc(), MIXED)?;
-    assert!(rt; lint.warnings.are_due());
-    let text = lint_text(rt.alloc(), &lint)?;
-    assert!(rt; text.as_slice() == MIXED_TEXT.as_bytes());
+    let overview = Overview { unasserted: false };
+    let answer = overview.answer(rt.alloc(), MIXED)?;
+    assert!(rt; answer.told.is_suspicious);
+    assert!(rt; answer.text.as_slice() == MIXED_TEXT.as_bytes());
     let empty = text_of(rt.alloc(), b"")?;
     let want =
         "records=0 events=0 sections=0 skipped=0\nassertions=0 empty=0\nstores=0 unasserted=0\nunwritten=0 unfenced=0 overwriting=0\nfences=0 idle=0\nwarning: nothing is asserted\n";
@@ -241,6 +247,88 @@ fn stores_that_are_left_and_fences_are_counted(rt: HostRuntime) -> Result<(), Fa
         let found = (u.unwritten, u.unfenced, u.overwriting, u.fences, u.idle);
         assert_eq!(rt; found, want, "at {}", log.len());
     }
+    Ok(())
+}
+
+#[test]
+fn stores_are_named_by_where_they_were_made(rt: HostRuntime) -> Result<(), Fail> {
+    // Whether the stores are asked for that no assertion covers, and the text from the fences on.
+    let cases: [(&[u8], bool, &str); 8] = [
+        (
+            b"STORE;0;0;8;f|FLUSH;0;8|FENCE|PMT.CHECKEND|",
+            false,
+            "fences=1 idle=0\n",
+        ),
+        (
+            b"STORE;0x40;0;8;main (a.c:3);x|STORE;0x40;0;8;main (a.c:3)|STORE;0x80;0;8|PMT.CHECKEND|",
+            false,
+            "fences=0 idle=0\nunwritten main (a.c:3) stores=1\nunwritten 0x80 stores=1\n",
+        ),
+        (
+            b"STORE;0;0;8;a|STORE;64;0;8;b|STORE;128;0;8;a|FLUSH;64;8|FLUSH;128;8|PMT.SECTION;1|STORE;0;0;8;b|STORE;8;0;8;|PMT.CHECKEND|",
+            false,
+            "fences=0 idle=0\nunwritten a stores=1\nunwritten b stores=1\nunwritten 8 stores=1\nunfenced b stores=1\nunfenced a stores=1\n",
+        ),
+        (
+            b"PMT.SECTION;2|STORE;0;0;8;late|PMT.SECTION;1|STORE;0;0;8;early|PMT.SECTION;2|STORE;8;0;8;late|PMT.CHECKEND|",
+            false,
+            "fences=0 idle=0\nunwritten early stores=1\nunwritten late stores=2\n",
+        ),
+        (
+            b"STORE;0;0;8;a|PMT.PERSIST;0;8|STORE;8;0;8;a|STORE;64;0;8;b|FLUSH;0;128|FENCE|",
+            true,
+            "fences=1 idle=0\nunasserted a stores=1\nunasserted b stores=1\n",
+        ),
+        (
+            b"STORE;0;0;8;a|PMT.PERSIST;0;8|STORE;8;0;8;a|STORE;64;0;8;b|FLUSH;0;128|FENCE|",
+            false,
+            "fences=1 idle=0\n",
+        ),
+        (
+            b"STORE;0;0;8;a|FLUSH;0;8|STORE;0;0;4;b|PMT.PERSIST;0;4|",
+            true,
+            "fences=0 idle=0\nunwritten b stores=1\nunfenced a stores=1\n",
+        ),
+        (
+            b"STORE;0;0;8;a|PMT.EXCLUDE;0;8|PMT.CHECKEND|",
+            true,
+            "fences=0 idle=0\nunasserted a stores=1\n",
+        ),
+    ];
+    for (log, unasserted, want) in cases {
+        assert_eq!(rt;
+            ends_with(rt.alloc(), log, unasserted, want),
+            Ok(true),
+            "at {want}"
+        );
+    }
+    Ok(())
+}
+
+#[test]
+fn the_33rd_name_of_a_store_is_another(rt: HostRuntime) -> Result<(), Fail> {
+    let mut log = Vec::new(rt.alloc());
+    for k in 0..34 {
+        let address = [b'0' + k / 10, b'0' + k % 10];
+        log.extend_from_slice(b"STORE;")?;
+        log.extend_from_slice(&address)?;
+        log.extend_from_slice(b";0;1;")?;
+        log.extend_from_slice(&[b'A' + k, b'|'])?;
+    }
+    log.extend_from_slice(b"STORE;99;0;1;A|PMT.CHECKEND|")?;
+    let front = "fences=0 idle=0\nunwritten A stores=2\nunwritten B stores=1\n";
+    let answer = Overview { unasserted: false }.answer(rt.alloc(), &log)?;
+    assert!(rt;
+        answer
+            .text
+            .windows(front.len())
+            .any(|part| part == front.as_bytes())
+    );
+    assert!(rt;
+        answer
+            .text
+            .ends_with(b"\nunwritten ` stores=1\nunwritten others stores=2\n")
+    );
     Ok(())
 }
 

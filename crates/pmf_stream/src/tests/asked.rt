@@ -59,6 +59,7 @@ assertions=1 empty=0
 stores=1 unasserted=0
 unwritten=1 unfenced=0 overwriting=0
 fences=1 idle=1
+unwritten main.c:7 stores=1
 warning: START stands without STOP
 ";
 
@@ -114,7 +115,13 @@ fn what_is_told_of_a_log_and_the_text_that_is_written(rt: HostRuntime) {
     };
     tells(&rt, rt.alloc(), &question, (), EXPLAINED);
     tells(&rt, rt.alloc(), &SOUGHT, (), LOCATED);
-    tells(&rt, rt.alloc(), &Overview, linted, HELD);
+    tells(
+        &rt,
+        rt.alloc(),
+        &Overview { unasserted: false },
+        linted,
+        HELD,
+    );
 }
 
 const WHOLE: Whole = Whole {

@@ -36,7 +36,14 @@ fn keeps(
     let mut sink = ByteSink::new(alloc);
     let mut refused = Excerpt::none();
     let is_refused = if asks {
-        answer_stream(alloc, &mut source, &mut sink, &Overview, &mut refused).is_err()
+        answer_stream(
+            alloc,
+            &mut source,
+            &mut sink,
+            &Overview { unasserted: false },
+            &mut refused,
+        )
+        .is_err()
     } else {
         check_stream(
             rt,

@@ -1,0 +1,14 @@
+use Rattle.std.proofs.{Common.{◌∙◌, length, sym, ap, subst, List}, lemmas.List.{length-map}}
+use Rattle.pmf_event.specs.Section.{Trace}
+use Rattle.pmf_storelog.specs.Separators.{records_of}
+use Rattle.pmf_query.{specs.Linting.{IsLint}, specs.Summing.{sums_of}, proofs.NumberFoundLemmas.{read_so}, proofs.LintLemmas.{sections_long, skipped_so, told_so}}
+use Rattle.pmf_query.proofs.lint.lint_of.Goals as goal
+
+pub returns : goal.returns
+returns c =
+    let so = read_so 0 c.args.log.now c.args.read.now c.requires in
+    subst (IsLint c.args.log.now) (sym c.told.ensures)
+    (told_so c.args.log.now c.in_ok-counts.counts _ _ _ so.0 c.in_ok-counts.ensures
+    (c.skipped.ensures ∙ skipped_so 0 c.args.log.now c.args.read.now c.requires)
+    (sym (length-map c.sections-2.result.now (λ a. a.value)) ∙ ap (λ (ts : List Trace). length ts) (c.sections-2.ensures ∙ so.1) ∙ sections_long 0 (records_of c.args.log.now))
+    (c.in-Ok.ensures ∙ ap sums_of (c.sections.ensures ∙ so.1)) c.warnings_by-warnings.result c.warnings_by-warnings.ensures)
