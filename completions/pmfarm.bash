@@ -7,7 +7,7 @@ _pmfarm() {
         explain) words='--section --event --all --first --run --profile --help -h' ;;
         why) words='--section --event --first --all-rows --patch --run --profile --help -h' ;;
         locate) words='--section --event --run --help -h' ;;
-        lint) words='--help -h' ;;
+        lint) words='--unasserted --help -h' ;;
         cut) words='--events --step --files --bytes --help -h' ;;
         join) words='--ledger --help -h' ;;
         sim) words='--log --workers --ledgers --help -h' ;;

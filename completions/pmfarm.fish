@@ -22,6 +22,7 @@ complete -c pmfarm -n '__fish_seen_subcommand_from check explain why locate' -l 
 complete -c pmfarm -n '__fish_seen_subcommand_from check explain why' -l profile -x -a '1 2' -d 'the rule for two bytes of one cache line'
 complete -c pmfarm -n '__fish_seen_subcommand_from check join' -l ledger -d 'write the ledger text instead of the report'
 complete -c pmfarm -n '__fish_seen_subcommand_from check' -l strict -d 'end with 1 also where lint warns'
+complete -c pmfarm -n '__fish_seen_subcommand_from lint' -l unasserted -d 'name the stores that no assertion covers'
 complete -c pmfarm -n '__fish_seen_subcommand_from cut' -l events -x -d 'the most events of a part'
 complete -c pmfarm -n '__fish_seen_subcommand_from cut' -l step -x -d 'what a part\'s number is above that of the one before it'
 complete -c pmfarm -n '__fish_seen_subcommand_from cut' -l files -x -a '(__fish_complete_path)' -d 'the front of the names of the files to write'

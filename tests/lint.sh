@@ -58,7 +58,7 @@ warnings() {
 # lint_warns STATUS LETTERS FILE: how lint of the file ends, and just these warnings, at the end of its text.
 lint_warns() {
     "$program" lint <"$3" >"$scratch/report" 2>"$scratch/diagnostics"
-    ended "$1" $? && same /dev/null "$scratch/diagnostics" && sed '1,/^fences=/d' "$scratch/report" >"$scratch/warned" &&
+    ended "$1" $? && same /dev/null "$scratch/diagnostics" && sed '1,/^fences=/d; / stores=[0-9]*$/d' "$scratch/report" >"$scratch/warned" &&
         said "$(warnings "$2")" "$scratch/warned"
 }
 
@@ -87,7 +87,7 @@ lint_lists_32_names() {
 lint_of_the_program() {
     { LC_ALL=C tr PTO QQQ <"$program" && echo; } >"$scratch/bytes"
     "$program" lint <"$scratch/bytes" >"$scratch/report" 2>"$scratch/diagnostics"
-    ended 1 $? && same /dev/null "$scratch/diagnostics" && sed '1,/^fences=/d' "$scratch/report" | grep -v ' near ' >"$scratch/warned" &&
+    ended 1 $? && same /dev/null "$scratch/diagnostics" && sed '1,/^fences=/d; / stores=[0-9]*$/d' "$scratch/report" | grep -v ' near ' >"$scratch/warned" &&
         said "$(warnings nt)" "$scratch/warned"
 }
 
@@ -104,7 +104,25 @@ PMT.SECTION records=4
 assertions=5 empty=1
 stores=6 unasserted=1
 unwritten=3 unfenced=1 overwriting=0
-fences=1 idle=0'
+fences=1 idle=0
+unwritten 0x1000 stores=2
+unwritten 0x1008 stores=1
+unfenced 0x1000 stores=1'
+
+# Stores of two sections that lack something, with the place in the source or without: of 34 names the first 32 are listed.
+lint_names_stores() {
+    { printf 'STORE;0x8;0;8;f (a.c:1);main (a.c:9)|FLUSH;8;1|STORE;0x40;0;8;f (a.c:1)|STORE;0x80;0;8|' &&
+        printf 'PMT.SECTION;3|STORE;0x8;0;8;|PMT.SECTION;1|' && printf 'STORE;%d;0;8|' {1000..33000..1000} && printf 'PMT.PERSIST;0x1;1|'; } >"$scratch/log"
+    printf 'unwritten %s stores=1\n' 'f (a.c:1)' 0x80 {1000..30000..1000} 'others' >"$scratch/wanted" || return
+    sed -i 's/unwritten others stores=1/unwritten others stores=4/' "$scratch/wanted"
+    printf 'unfenced f (a.c:1) stores=1\n' >>"$scratch/wanted"
+    "$program" lint "$scratch/log" 2>"$scratch/diagnostics" | sed -n '/^un[a-z]* /p' >"$scratch/report"
+    same "$scratch/wanted" "$scratch/report" || return
+    printf 'unasserted %s stores=%s\n' 'f (a.c:1)' 2 0x80 1 >>"$scratch/wanted" && printf 'unasserted %d stores=1\n' {1000..30000..1000} >>"$scratch/wanted" &&
+        printf 'unasserted others stores=4\n' >>"$scratch/wanted"
+    "$program" lint --unasserted "$scratch/log" 2>"$scratch/diagnostics" | sed -n '/^un[a-z]* /p' >"$scratch/report"
+    same "$scratch/wanted" "$scratch/report"
+}
 
 # What lint writes of a log with a name that is misspelt, one that is cut, and one with a byte that is no text and a backslash.
 strange_log=$'STOER;1;0;8|START|STORE;0x1000;0;8|\x7f\\x|'"$(printf 'x%.0s' {1..65})"'|STORE;0x1000;0;8|PMT.PERSIST;0x2000;8'$'\n'
@@ -119,6 +137,7 @@ assertions=1 empty=1
 stores=2 unasserted=2
 unwritten=1 unfenced=0 overwriting=1
 fences=0 idle=0
+unwritten 0x1000 stores=1
 warning: each assertion is empty
 warning: a skipped name is near a known one
 warning: a skipped name is not text
@@ -132,6 +151,8 @@ sweep_strange_names() {
 try_lint() {
     local log=examples/order_and_warnings.log
     check 'lint counts what the example holds' told 0 '' "$what_it_holds" '' lint "$log"
+    check 'lint names the stores that no assertion covers where it is asked' told 0 '' "$what_it_holds"$'\nunasserted 0x1000 stores=1' '' lint --unasserted "$log"
+    check 'lint names stores by the place in the source, or by their addresses' lint_names_stores
     check 'lint shows strange names' told 1 "$strange_log" "$strange_text" '' lint
     check 'lint lists 32 names, and counts the others' lint_lists_32_names
     check 'lint warns of what is no log, and of nothing else' lint_warns_of_each
@@ -140,7 +161,7 @@ try_lint() {
     check 'lint takes no run' refused lint --run 7
     check 'a full device as standard output of lint' full_output "$log" lint
     check 'a directory as standard input of lint' unreadable lint
-    check 'each request for memory of lint refused in turn' sweep "$log" lint
+    check 'each request for memory of lint --unasserted refused in turn' sweep "$log" lint --unasserted
     check 'each request for memory of lint on a transaction refused in turn' sweep examples/a_range_without_backup.log lint
     check 'each request for memory of lint with strange names refused in turn' sweep_strange_names
 }
