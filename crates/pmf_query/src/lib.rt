@@ -6,10 +6,11 @@
 //! [`locate_event`] names the record that gave an event of a section, and the offset at which it begins
 //! (`Locating`). Which record that is, and at which offset, is settled by the definition alone ([`laws`]).
 //!
-//! [`lint_log`] counts the records of each name (`Naming`), looks whether one of a skipped record is near to
-//! a known one, or no text (`Nearness`), and counts over the sections the assertions, the rows of those that
-//! had nothing to check, the stores, and the stores that no later assertion covers (`Covering`, `Summing`);
-//! what it answers is `Linting.IsLint`. [`name_stores`] names the stores that lack a write-back, a fence or an
+//! [`lint_log`] counts the records of each name (`Naming`), and over the sections the assertions, the rows of those that
+//! had nothing to check, the stores, those that no later assertion covers (`Covering`), those that are not durable at the end
+//! (`Leaving`), and what is done in vain (`Upkeep`, `Summing`). It tells which warnings are due (`Warnings`): of what is asserted, of
+//! names that are near to a known one or no text (`Nearness`), of a log that may be cut off (`Ending`) or misread (`Misread`).
+//! What it answers is `Linting.IsLint`. [`name_stores`] names the stores that lack a write-back, a fence or an
 //! assertion (`StoreNames`). [`lint_text`] writes all of that, with its warnings (`LintText`).
 //!
 //! Not promised here: that memory suffices, and that a log is what the program did.

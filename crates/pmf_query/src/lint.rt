@@ -87,7 +87,8 @@ pub struct Lint<'a> {
 
 /// What the log holds. A faulty log is refused with its first fault.
 ///
-/// Takes memory for the events of the log, the verdict of one section at a time, and at most 45 names; none for a record.
+/// Takes memory for the events of the log, the verdict, the shadow and a few bytes for each event of one section at a time, and at most 45
+/// names; none for a record.
 pub fn lint_log<'a>(alloc: Global, log: &'a [u8]) -> Result<Lint<'a>, LogRefusal>
     ensures { MatchResult result (λ lint. IsLint log.now lint) (IsLogRefusal 0 log.now) }
 {

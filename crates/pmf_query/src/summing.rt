@@ -84,7 +84,7 @@ impl Sums {
     }
 }
 
-/// What the sections hold. Takes memory for the verdict of one section at a time, and for what `count_uncovered` does.
+/// What the sections hold. Takes memory for the verdict and the shadow of one section at a time, and a few bytes for each of its events.
 #[tactic(auto, using(std::proofs::lemmas::Grind::common_steps, crate::proofs::TallySumLemmas::none_within))]
 pub(crate) fn sum(alloc: Global, sections: &[Arc<Section>]) -> Result<Sums, LogRefusal>
     ensures { IfOk result (λ sums. sums ≡ sums_of (map (λ s. s.value) sections.now)) }
