@@ -76,3 +76,7 @@ marked_from test marks place n b long within is marked k d from below = elim (ca
   | inl behind ↦ get_or-set_other marks place k b d (λ same. absurd (omega (arith, same, behind))) ∙ marked k d behind below
   | inr before ↦ (let same : k ≡ place = omega (arith, from, before) in get_or-set_at marks place k b d same (omega (arith, long, within)) ∙ is ∙ ap (λ j. test (suc j)) (sym same))
 ]
+
+-- both, where each is told by what its own call returned
+pub both_are : (both first second one other : Bool) → both ≡ (first && second) → first ≡ one → second ≡ other → both ≡ (one && other)
+both_are both first second one other is first_is second_is = is ∙ ap (λ b. b && second) first_is ∙ ap (λ b. one && b) second_is

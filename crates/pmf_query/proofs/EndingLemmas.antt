@@ -1,5 +1,5 @@
 -- What stands behind the last separator of a log.
-use Rattle.std.proofs.{Common.{◌≡◌, ℕ, zero, suc, ◌+◌, ◌-◌, ◌<◌, ◌≤◌, true, false, List, [], ◌∷◌, ◌++◌, length, take, drop, get_or, refl, sym, ap, subst, ◌∙◌, arith, slice_index_or, length-append, take-append-drop}, lemmas.List.{take_more}, Math.Seq.{drop-length}, lemmas.Grind.{common_steps}}
+use Rattle.std.proofs.{Common.{◌≡◌, ℕ, ◌+◌, ◌-◌, ◌<◌, ◌≤◌, true, false, List, [], ◌∷◌, ◌++◌, length, take, drop, get_or, refl, sym, ap, subst, ◌∙◌, arith, slice_index_or, length-append, take-append-drop}, lemmas.List.{drop_more, take_more}, Math.Seq.{drop-length}, lemmas.Grind.{common_steps}}
 use Rattle.pmf_storelog.{specs.Separators.{ended_parts, is_separator, parts_of, trimmed}, proofs.PartLemmas.{parts_of-ended, parts_of-nil, parts_of-open, unfinished}}
 use Rattle.pmf_query.specs.Ending.{last_part}
 
@@ -11,16 +11,8 @@ longer_by : (c : ℕ) (rest : List ℕ) → is_separator c ≡ false → parts_o
 unfolding parts_of
 longer_by c rest other one = grind (arith, common_steps)
 
-from_place : (bytes : List ℕ) (k d : ℕ) → k < length bytes → drop k bytes ≡ get_or bytes k d ∷ drop (suc k) bytes
-from_place [] k d within = absurd (omega arith)
-from_place (x ∷ xs) zero d within = refl
-from_place (x ∷ xs) (suc k) d within = from_place xs k d (omega arith)
-
-from_there : (bytes : List ℕ) (k d : ℕ) → k < length bytes → drop k bytes ≡ get_or bytes k d ∷ drop (k + 1) bytes
-from_there bytes k d within = let next : suc k ≡ k + 1 = omega arith in from_place bytes k d within ∙ ap (λ n. get_or bytes k d ∷ drop n bytes) next
-
 longer_at : (bytes : List ℕ) (k : ℕ) → k < length bytes → is_separator (get_or bytes k 0) ≡ false → parts_of (drop (k + 1) bytes) ≡ drop (k + 1) bytes ∷ [] → parts_of (drop k bytes) ≡ drop k bytes ∷ []
-longer_at bytes k within other one = subst (λ xs. parts_of xs ≡ xs ∷ []) (sym (from_there bytes k 0 within)) (longer_by (get_or bytes k 0) (drop (k + 1) bytes) other one)
+longer_at bytes k within other one = subst (λ xs. parts_of xs ≡ xs ∷ []) (sym (drop_more bytes k 0 within)) (longer_by (get_or bytes k 0) (drop (k + 1) bytes) other one)
 
 pub longer_behind : (bytes : List ℕ) (start : ℕ) → 0 < start → start ≤ length bytes → is_separator (get_or bytes (start - 1) 0) ≡ false → parts_of (drop start bytes) ≡ drop start bytes ∷ [] →
     parts_of (drop (start - 1) bytes) ≡ drop (start - 1) bytes ∷ []
@@ -51,13 +43,11 @@ alone c ends = grind (arith, common_steps)
 behind_at : (bytes : List ℕ) (k : ℕ) → k < length bytes → is_separator (get_or bytes k 0) ≡ true → parts_of (drop (k + 1) bytes) ≡ drop (k + 1) bytes ∷ [] → trimmed (drop (k + 1) bytes) ≡ last_part bytes
 unfolding last_part
 behind_at bytes k within ends one =
-    let c = get_or bytes k 0 in
     let before = unfinished (take k bytes) in
     let front : take (k + 1) bytes ≡ take k bytes ++ get_or bytes k 0 ∷ [] = take_more bytes k 0 within in
     let ended = parts_of-ended (take k bytes) (get_or bytes k 0 ∷ []) before.0 [] before.1 (alone (get_or bytes k 0) ends) in
     let whole = parts_of-open (take k bytes ++ get_or bytes k 0 ∷ []) (drop (k + 1) bytes) [] ended one in
     let all : (take k bytes ++ get_or bytes k 0 ∷ []) ++ drop (k + 1) bytes ≡ bytes = ap (λ xs. xs ++ drop (k + 1) bytes) (sym front) ∙ take-append-drop (k + 1) bytes in
-    let front_parts = ended_parts ((take k bytes ++ get_or bytes k 0 ∷ []) ++ drop (k + 1) bytes) in
     let parts : parts_of bytes ≡ ended_parts ((take k bytes ++ get_or bytes k 0 ∷ []) ++ drop (k + 1) bytes) ++ drop (k + 1) bytes ∷ [] = ap parts_of (sym all) ∙ whole in
     sym (ap (λ ps. trimmed (slice_index_or ps (length ps - 1) [])) parts ∙ ap (λ p. trimmed p) (last_at (ended_parts ((take k bytes ++ get_or bytes k 0 ∷ []) ++ drop (k + 1) bytes)) (drop (k + 1) bytes)))
 

@@ -18,18 +18,18 @@ pub notes_none : (notes : Notes) → notes.has_near ≡ false → notes.has_stra
 unfolding has_near has_strange has_record has_decimal skipped_names
 notes_none notes near strange starts stops decimal = record { near = near; strange = strange; started = starts; stopped = stops; decimal = decimal }
 
-module _ (old new : Notes) (records : List (List ℕ)) (text name : List ℕ) (skipped near written decimal : Bool) (notes : AreNotes old records) (named : name ≡ name_of text) (skipped_is : skipped ≡ is_skipped text) where
-  near_more : near ≡ is_some (near_of name) → new.has_near ≡ (old.has_near || (skipped && near)) → new.has_near ≡ has_near (skipped_names (records ++ text ∷ []))
-  unfolding has_near
-  near_more near_is more =
-      more ∙ ap (λ b. b || (skipped && near)) notes.near ∙ ap (λ b. has_near (skipped_names records) || (b && near)) skipped_is ∙ ap (λ b. has_near (skipped_names records) || (is_skipped text && b)) (near_is ∙ ap (λ n. is_some (near_of n)) named)
-      ∙ sym (skipped_more (λ n. is_some (near_of n)) records text)
+module _ (old new : Notes) (records : List (List ℕ)) (text name : List ℕ) (skipped near strange decimal : Bool) (notes : AreNotes old records) (named : name ≡ name_of text) (skipped_is : skipped ≡ is_skipped text) where
+  tested_more : (test : List ℕ → Bool) (before here after : Bool) → before ≡ list_any test (skipped_names records) → here ≡ (skipped && test name) → after ≡ (before || here) → after ≡ list_any test (skipped_names (records ++ text ∷ []))
+  tested_more test before here after so is more =
+      more ∙ ap (λ b. b || here) so ∙ ap (λ b. list_any test (skipped_names records) || b) (is ∙ ap (λ b. b && test name) skipped_is ∙ ap (λ n. is_skipped text && test n) named) ∙ sym (skipped_more test records text)
 
-  strange_more : written ≡ is_text name → new.has_strange ≡ (old.has_strange || (skipped && not written)) → new.has_strange ≡ has_strange (skipped_names (records ++ text ∷ []))
+  near_more : near ≡ (skipped && is_some (near_of name)) → new.has_near ≡ (old.has_near || near) → new.has_near ≡ has_near (skipped_names (records ++ text ∷ []))
+  unfolding has_near
+  near_more is more = tested_more (λ n. is_some (near_of n)) old.has_near near new.has_near notes.near is more
+
+  strange_more : strange ≡ (skipped && not (is_text name)) → new.has_strange ≡ (old.has_strange || strange) → new.has_strange ≡ has_strange (skipped_names (records ++ text ∷ []))
   unfolding has_strange
-  strange_more written_is more =
-      more ∙ ap (λ b. b || (skipped && not written)) notes.strange ∙ ap (λ b. has_strange (skipped_names records) || (b && not written)) skipped_is
-      ∙ ap (λ b. has_strange (skipped_names records) || (is_skipped text && not b)) (written_is ∙ ap is_text named) ∙ sym (skipped_more (λ n. not (is_text n)) records text)
+  strange_more is more = tested_more (λ n. not (is_text n)) old.has_strange strange new.has_strange notes.strange is more
 
   record_more : (word : List ℕ) (before after here : Bool) → before ≡ has_record word records → here ≡ bytes_eq name word → after ≡ (before || here) → after ≡ has_record word (records ++ text ∷ [])
   unfolding has_record
@@ -40,11 +40,11 @@ module _ (old new : Notes) (records : List (List ℕ)) (text name : List ℕ) (s
   unfolding has_decimal
   decimal_more is more = more ∙ ap (λ b. b || decimal) notes.decimal ∙ ap (λ b. has_decimal records || b) is ∙ sym (any_more asserts_decimal records text)
 
-  pub notes_more : near ≡ is_some (near_of name) → new.has_near ≡ (old.has_near || (skipped && near)) → written ≡ is_text name → new.has_strange ≡ (old.has_strange || (skipped && not written)) →
+  pub notes_more : near ≡ (skipped && is_some (near_of name)) → new.has_near ≡ (old.has_near || near) → strange ≡ (skipped && not (is_text name)) → new.has_strange ≡ (old.has_strange || strange) →
       new.starts ≡ (old.starts || bytes_eq name (codes "START")) → new.stops ≡ (old.stops || bytes_eq name (codes "STOP")) → decimal ≡ asserts_decimal text → new.has_decimal ≡ (old.has_decimal || decimal) → AreNotes new (records ++ text ∷ [])
-  notes_more near_is nearer written_is stranger starts stops decimal_is more = record {
+  notes_more near_is nearer strange_is stranger starts stops decimal_is more = record {
     near = near_more near_is nearer;
-    strange = strange_more written_is stranger;
+    strange = strange_more strange_is stranger;
     started = record_more (codes "START") old.starts new.starts (bytes_eq name (codes "START")) notes.started refl starts;
     stopped = record_more (codes "STOP") old.stops new.stops (bytes_eq name (codes "STOP")) notes.stopped refl stops;
     decimal = decimal_more decimal_is more;

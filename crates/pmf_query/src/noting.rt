@@ -1,10 +1,10 @@
 //! What the records of a log tell of whether it is whole, and read as it was meant.
 
-ghost use Rattle.std.specs.Prelude.{◌≡◌, ◌∷◌, ◌++◌, [], List, ℕ, bytes_eq};
+ghost use Rattle.std.specs.Prelude.{◌≡◌, ◌&&◌, ◌∷◌, ◌++◌, [], List, ℕ, bytes_eq, is_some, not};
 ghost use Rattle.pmf_storelog.specs.LogText.{is_skipped};
-ghost use Rattle.pmf_query.specs.{Counting.{AreNotes}, Ending.{asserts_decimal, is_decimal}, Naming.{name_of}};
+ghost use Rattle.pmf_query.specs.{Counting.{AreNotes}, Ending.{asserts_decimal, is_decimal}, Naming.{name_of}, Nearness.{is_text, near_of}};
 
-use crate::covering::{both, either};
+use crate::covering::either;
 use crate::fields::field;
 use crate::nearness::{is_misspelt, is_text};
 
@@ -44,13 +44,29 @@ impl Notes {
         ensures { (records : List (List ℕ)) → AreNotes self records → AreNotes result (records ++ text.now ∷ []) }
     {
         Notes {
-            has_near: either(self.has_near, both(skipped, is_misspelt(name))),
-            has_strange: either(self.has_strange, both(skipped, !is_text(name))),
+            has_near: either(self.has_near, is_near_skipped(name, skipped)),
+            has_strange: either(self.has_strange, is_strange_skipped(name, skipped)),
             starts: either(self.starts, is_named(name, b"START")),
             stops: either(self.stops, is_named(name, b"STOP")),
             has_decimal: either(self.has_decimal, asserts_decimal(text, name)),
         }
     }
+}
+
+// Whether the record of this name is skipped and its name near to a known one. No other name is looked at.
+#[tactic(auto)]
+fn is_near_skipped(name: &[u8], skipped: bool) -> bool
+    ensures { result ≡ (skipped && is_some (near_of name.now)) }
+{
+    skipped && is_misspelt(name)
+}
+
+// Whether the record of this name is skipped and its name no text. No other name is looked at.
+#[tactic(auto)]
+fn is_strange_skipped(name: &[u8], skipped: bool) -> bool
+    ensures { result ≡ (skipped && not (is_text name.now)) }
+{
+    skipped && !is_text(name)
 }
 
 // Whether the record of this name asserts bytes of which it writes an address in decimal.

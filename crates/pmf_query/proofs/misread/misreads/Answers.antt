@@ -1,5 +1,6 @@
 use Rattle.std.proofs.Common.{◌∙◌, ◌&&◌, Some, ap, sym, not}
 use Rattle.pmf_query.specs.Misread.{is_met, may_be_met, misreads}
+use Rattle.pmf_query.proofs.CoverLemmas.{both_are}
 use Rattle.pmf_query.proofs.misread.misreads.Goals as goal
 
 pub returns-then-written_included : goal.returns-then-written_included
@@ -11,21 +12,16 @@ pub returns-then-both : goal.returns-then-both
 returns-then-both c = λ told es p stands.
     let s = c.in-Ordered.before in
     let t = c.in-Ordered.after in
-    ap (λ met. not met && (may_be_met es p s && may_be_met es p t))
-    (sym c.if-both.true ∙ c.both.ensures ∙ ap (λ met. met && c.written_included-in-Ordered-2.result) (c.written_included-in-Ordered.ensures told es p stands)
-    ∙ ap (λ met. is_met es p s && met) (c.written_included-in-Ordered-2.ensures told es p stands))
-    ∙ ap (λ e. misreads es p (Some e)) (sym c.in-Ordered.is)
+    let met = both_are _ _ _ (is_met es p s) (is_met es p t) c.both.ensures (c.written_included-in-Ordered.ensures told es p stands) (c.written_included-in-Ordered-2.ensures told es p stands) in
+    ap (λ met. not met && (may_be_met es p s && may_be_met es p t)) (sym c.if-both.true ∙ met) ∙ ap (λ e. misreads es p (Some e)) (sym c.in-Ordered.is)
 
 pub returns-in_ok-second-in-Ordered : goal.returns-in_ok-second-in-Ordered
 returns-in_ok-second-in-Ordered c = λ told es p stands.
     let s = c.in-Ordered.before in
     let t = c.in-Ordered.after in
-    c.both-in-Ordered.ensures ∙ ap (λ met. met && c.in_ok-second-in-Ordered.second) (c.in_ok-first-in-Ordered.ensures told es p stands)
-    ∙ ap (λ met. may_be_met es p s && met) (c.in_ok-second-in-Ordered.ensures told es p stands)
-    ∙ ap (λ met. not met && (may_be_met es p s && may_be_met es p t))
-    (sym c.if-both.false ∙ c.both.ensures ∙ ap (λ met. met && c.written_included-in-Ordered-2.result) (c.written_included-in-Ordered.ensures told es p stands)
-    ∙ ap (λ met. is_met es p s && met) (c.written_included-in-Ordered-2.ensures told es p stands))
-    ∙ ap (λ e. misreads es p (Some e)) (sym c.in-Ordered.is)
+    let met = both_are _ _ _ (is_met es p s) (is_met es p t) c.both.ensures (c.written_included-in-Ordered.ensures told es p stands) (c.written_included-in-Ordered-2.ensures told es p stands) in
+    both_are _ _ _ (may_be_met es p s) (may_be_met es p t) c.both-in-Ordered.ensures (c.in_ok-first-in-Ordered.ensures told es p stands) (c.in_ok-second-in-Ordered.ensures told es p stands)
+    ∙ ap (λ met. not met && (may_be_met es p s && may_be_met es p t)) (sym c.if-both.false ∙ met) ∙ ap (λ e. misreads es p (Some e)) (sym c.in-Ordered.is)
 
 pub returns-in_ok-met-in-Persist : goal.returns-in_ok-met-in-Persist
 returns-in_ok-met-in-Persist c = λ told es p stands.
