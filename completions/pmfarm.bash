@@ -9,7 +9,7 @@ _pmfarm() {
         locate) words='--section --event --run --help -h' ;;
         lint) words='--unasserted --help -h' ;;
         cut) words='--events --step --files --bytes --help -h' ;;
-        join) words='--ledger --help -h' ;;
+        join) words='--ledger --summary --files-from --stream --help -h' ;;
         sim) words='--log --workers --ledgers --help -h' ;;
         help) words='check explain why locate lint cut join sim' ;;
     esac
@@ -19,7 +19,7 @@ _pmfarm() {
         words='1 2'
     elif [[ "$before" = --@(workers|run|section|event|first|events|step|bytes|ledgers) ]]; then
         words='' && compopt +o default 2>/dev/null
-    elif [[ "$before" = *[\<\>]* || "$before" = --@(files|log) || ("$command" = @(check|explain|why|locate|lint|join) && "$word" != -*) ]]; then
+    elif [[ "$before" = *[\<\>]* || "$before" = --@(files|files-from|log) || ("$command" = @(check|explain|why|locate|lint|join) && "$word" != -*) ]]; then
         words='' # (bash offers the names of files)
     fi
     mapfile -t COMPREPLY < <(compgen -W "$words" -- "$word")

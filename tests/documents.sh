@@ -1,8 +1,9 @@
 # What documents say: their sessions and recipes, what they list, and what they claim.
 
-# farm NAME WHAT [ENGINE]: a check of docs/FARM.md.
+# farm NAME WHAT [ENGINE]: a check of docs/FARM.md; WHAT may have two words.
 farm() {
-    check_by "${3-bash}" "$1" tests/try-farm "$program" "$2"
+    # shellcheck disable=SC2086
+    check_by "${3-bash}" "$1" tests/try-farm "$program" $2
 }
 
 # The version at the head of the changelog: of its first title, `## VERSION` or `## VERSION, ..`.
@@ -73,27 +74,59 @@ a_stale_file_is_told() {
     ended 1 $? && said 'promises: docs/PERSIST_PASS.md is stale; run tools/promises' "$scratch/diagnostics"
 }
 
+# needs ENGINE: what has to be installed for it. Slurm and Grid Engine are played.
+needs() {
+    case $1 in
+        parallel) echo 'GNU parallel' ;;
+        slurm | grid-engine) echo xargs ;;
+        *) echo "$1" ;;
+    esac
+}
+
 # The recipes of docs/FARM.md, and what it says of failures.
 try_farms() {
+    local engine
     farm 'two hundred logs by xargs: the report of their sections in one log' by_xargs xargs
     farm 'two hundred logs of one run: the bytes of their sections in one log' of_one_run xargs
-    farm 'a tree of joins by make: the bytes of one join' by_make make
+    farm 'a tree of joins by make: the bytes of one join' 'by_tree make' make
+    farm 'a tree of joins by ninja: the bytes of one join' 'by_tree ninja' ninja
     farm 'logs by GNU parallel' by_parallel 'GNU parallel'
-    farm 'the hosts of GNU parallel, played' by_hosts
-    farm 'the array job of Slurm, played' by_slurm
-    farm 'the pods of Kubernetes, played' by_kubernetes
-    farm 'the manifest of Kubernetes is an indexed job' manifest 'a YAML parser for Python'
+    farm 'the hosts of GNU parallel, played' by_hosts xargs
+    farm 'a dead host of GNU parallel swallows no jobs' a_dead_host 'GNU parallel'
+    farm 'the array job of Slurm, played' 'by_array slurm' xargs
+    farm 'the array job of Slurm itself, on this machine alone' by_slurm 'Slurm with munge'
+    farm 'a job of Slurm that fails to start is no verdict' srun_fails xargs
+    farm 'the array job of Grid Engine, played' 'by_array grid-engine' xargs
+    farm 'the pods of Kubernetes, played' by_kubernetes xargs
+    farm 'an image of the jobs of Kubernetes, built and run by buildah' by_containers 'buildah with a static busybox and C library'
+    farm 'the manifests of Kubernetes say what their pods have and which failures are tried again' manifests 'a YAML parser for Python'
+    farm 'the recipes by the shell and the tools of busybox' by_busybox busybox
     farm 'the scripts of the farm are well-formed' parse
     farm 'docs/FARM.md quotes the files of the farm' quoted
+    farm 'jobs of several logs check what is missing' chunks xargs
+    for engine in xargs make ninja parallel slurm grid-engine; do
+        farm "a log that was changed, by $engine" "a_changed_log $engine" "$(needs "$engine")"
+        farm "a log that was taken off the list, by $engine" "a_log_taken_off $engine" "$(needs "$engine")"
+        farm "an empty list, by $engine" "an_empty_list $engine" "$(needs "$engine")"
+        farm "a log that is refused holds up no other, by $engine" "other_logs_go_on $engine" "$(needs "$engine")"
+        farm "a job that is killed, by $engine" "goes_wrong killed_at_once $engine" "$(needs "$engine")"
+        farm "a forged ledger, by $engine" "goes_wrong forged $engine" "$(needs "$engine")"
+        farm "a full disk, by $engine" "on_a_full_disk $engine" "$(has 'mounts of its own' && needs "$engine" || echo 'mounts of its own')"
+    done
+    farm 'two maps of one run at once' two_maps
+    farm 'two trees of joins by make in one folder' 'two_at_once make' make
+    farm 'two trees of joins by ninja in one folder' 'two_at_once ninja' ninja
     farm 'a lost job of the farm is told' a_lost_job xargs
     farm 'a killed job of the farm leaves no ledger' a_killed_job
     farm 'a refused log of the farm leaves no ledger' a_refused_log
     farm 'a job of the farm that lacks memory, room or its log leaves no ledger' a_job_that_lacked_something
+    farm 'a log that changes while it is checked leaves no ledger' a_log_that_changes
     farm 'a job of the farm that ran twice changes nothing' a_job_that_ran_twice
     farm 'another log under a run, in one folder' other_logs_in_one_folder
     farm 'another log under a run, in two folders' other_logs_in_two_folders
     farm 'jobs of two profiles' two_profiles
     farm 'a forged ledger of the farm' a_forged_ledger
+    farm 'a ledger of the farm that lacks a section' a_ledger_that_lacks_a_section
     farm 'a ledger of the farm that was cut anywhere' a_cut_ledger
 }
 

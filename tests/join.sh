@@ -46,7 +46,8 @@ rubbish_is_no_ledger() {
         said "pmfarm: $program: line 1: not a ledger" "$scratch/diagnostics"
 }
 
-# A thousand files of one section each, of which every tenth is the same as the one before.
+# A thousand files of one section each, of which every tenth is the same as the one before. A list names each a hundred times, and they
+# join to the same.
 many_ledgers() {
     local i
     mkdir -p "$scratch/many"
@@ -54,7 +55,104 @@ many_ledgers() {
         printf 'PMFARM-LEDGER 1\nsection 0.%d events=1 rows=0\nFENCE\nend verdicts=1\n' $((i - (i % 10 == 9))) >"$scratch/many/$i"
     done
     "$program" join "$scratch"/many/* >"$scratch/report" 2>"$scratch/diagnostics"
-    ended 0 $? && [ "$(tail -n 1 "$scratch/report")" = 'total sections=900 pass=0 fail=0 warn=0 empty=0' ]
+    ended 0 $? && [ "$(tail -n 1 "$scratch/report")" = 'total sections=900 pass=0 fail=0 warn=0 empty=0' ] || return
+    for ((i = 0; i < 100; i++)); do
+        printf '%s\n' "$scratch"/many/*
+    done >"$scratch/names"
+    cp "$scratch/report" "$scratch/wanted"
+    ended 100000 "$(wc -l <"$scratch/names")" && "$program" join --files-from "$scratch/names" >"$scratch/report" 2>"$scratch/diagnostics"
+    ended 0 $? && same "$scratch/wanted" "$scratch/report"
+}
+
+# joins_list STATUS LIST TEXT DIAGNOSTICS WORD..: the same as `joins`, of a list with these bytes, by `printf`.
+joins_list() {
+    local status=$1 list=$2 text=$3 diagnostics=$4
+    shift 4
+    printf '%b' "$list" >"$scratch/list"
+    joins "$status" "$text" "$diagnostics" --files-from "$scratch/list" "$@"
+}
+
+# A list on standard input.
+a_list_in_a_pipe() {
+    printf '%s\n' examples/shared_{a,b}.ledger | "$program" join --files-from /dev/stdin >"$scratch/report"
+    ended 0 $? && same examples/shared.report "$scratch/report"
+}
+
+# merge_refused DIAGNOSTICS FILE..: the files are not merged; what was written before is no ledger.
+merge_refused() {
+    local diagnostics=$1
+    shift
+    "$program" join --stream --ledger "$@" >"$scratch/front" 2>"$scratch/diagnostics"
+    ended 2 $? && said "$diagnostics" "$scratch/diagnostics" && ! grep -q '^end ' "$scratch/front" &&
+        "$program" join "$scratch/front" >"$scratch/report" 2>"$scratch/diagnostics"
+    ended 2 $? && same /dev/null "$scratch/report"
+}
+
+# merges_two TEXT TEXT DIAGNOSTICS: files with these texts, by `printf`, are not merged.
+merges_two() {
+    printf '%b' "$1" >"$scratch/x.ledger"
+    printf '%b' "$2" >"$scratch/y.ledger"
+    merge_refused "${3/y.ledger/$scratch/y.ledger}" "$scratch/x.ledger" "$scratch/y.ledger"
+}
+
+# joins_cut DIAGNOSTICS FILE..: these files are not joined. `cut` and `shorter` lack their last lines, the rows of `false` are false,
+# and `other` doesn't join `good`.
+joins_cut() {
+    local diagnostics=$1
+    shift
+    mkdir -p "$scratch/cut_off"
+    printf 'PMFARM-LEDGER 1\nsection 7.1 events=1 rows=0\nFENCE\nend verdicts=1\n' >"$scratch/cut_off/good"
+    printf 'PMFARM-LEDGER 1\nsection 7.1 events=0 rows=0\nend verdicts=1\n' >"$scratch/cut_off/other"
+    printf 'PMFARM-LEDGER 1\nsection 7.2 events=1 rows=1\nFENCE\nend verdicts=1\n' >"$scratch/cut_off/false"
+    printf 'PMFARM-LEDGER 1\nsection 7.3 events=1 rows=0\nFENCE\nend verdicts=1' >"$scratch/cut_off/cut"
+    printf 'PMFARM-LEDGER 1\nsection 7.3 events=1 rows=0\n' >"$scratch/cut_off/shorter"
+    (cd "$scratch/cut_off" && "$OLDPWD/$program" join "$@") >"$scratch/report" 2>"$scratch/diagnostics"
+    ended 2 $? && same /dev/null "$scratch/report" && said "$diagnostics" "$scratch/diagnostics"
+}
+
+# Of three ledgers the last is cut off behind its sections.
+a_front_of_a_ledger() {
+    head -n -1 examples/shared.ledger >"$scratch/cut.ledger"
+    merge_refused "pmfarm: $scratch/cut.ledger: line $(($(wc -l <"$scratch/cut.ledger") + 1)): not a ledger" examples/shared_a.ledger "$scratch/cut.ledger"
+}
+
+# The ledgers of `many_ledgers`, which come in the order 0, 1, 10, 100.
+merges_many() {
+    "$program" join --stream "$scratch"/many/* >"$scratch/report" 2>"$scratch/diagnostics"
+    ended 0 $? && same "$scratch/wanted" "$scratch/report"
+}
+
+# The ledgers of two runs, of which the second has a section that passes and one that fails and warns.
+runs_to_summarize() {
+    printf 'STORE;0x1000;0;8|FLUSH;0x1000;8|FENCE|PMT.PERSIST;0x1000;8' | "$program" check --ledger --run 1 >"$scratch/1.ledger" || return
+    printf '%s|' 'FENCE' 'PMT.SECTION;1' 'STORE;0x1000;0;8' 'FLUSH;0x1000;8' 'FLUSH;0x1000;8' 'PMT.PERSIST;0x1000;8' 'PMT.PERSIST;0x2000;8' |
+        "$program" check --ledger --run 2 >"$scratch/2.ledger"
+    ended 1 $?
+}
+
+summary='section 1.0 events=4 pass=1 fail=0 warn=0 empty=0
+run 1 sections=1 pass=1 fail=0 warn=0 empty=0
+section 2.0 events=1 pass=0 fail=0 warn=0 empty=0
+section 2.1 events=5 pass=0 fail=1 warn=1 empty=1
+3 FLUSH DOUBLED line=0x1000 lines=1
+4 PERSIST FAIL byte=0x1000 crash=4
+run 2 sections=2 pass=0 fail=1 warn=1 empty=1
+total sections=3 pass=1 fail=1 warn=1 empty=1'
+
+# summarizes WORD..: the summary of both ledgers, the last words of the command, which no join takes.
+summarizes() {
+    runs_to_summarize || return
+    "$program" join "$@" "$scratch/2.ledger" "$scratch/1.ledger" >"$scratch/summary" 2>"$scratch/diagnostics"
+    ended 1 $? && said "$summary" "$scratch/summary" && same /dev/null "$scratch/diagnostics" || return
+    "$program" join "$scratch/summary" >"$scratch/report" 2>"$scratch/diagnostics"
+    ended 2 $? && same /dev/null "$scratch/report" && said "pmfarm: $scratch/summary: line 1: not a ledger" "$scratch/diagnostics"
+}
+
+# No file is read where the words contradict each other.
+two_texts_are_wanted() {
+    "$program" join --ledger --summary no.ledger >"$scratch/report" 2>"$scratch/diagnostics"
+    ended 2 $? && same /dev/null "$scratch/report" &&
+        [ "$(head -n 1 "$scratch/diagnostics")" = "pmfarm: error: the argument '--ledger' cannot be used with '--summary'" ]
 }
 
 no_ledger='pmfarm: no.ledger: read failed
@@ -91,11 +189,61 @@ try_join() {
         'pmfarm: section 7.1: held with other events'
     check 'files of both profiles are refused' joins_two 'PMFARM-LEDGER 1\nend verdicts=0\n' \
         'PMFARM-LEDGER 2\nend verdicts=0\n' 'pmfarm: profiles differ'
+    check 'rows that are false are told of the first file' joins_cut 'pmfarm: false: section 7.2: rows are false' false good other
+    check 'a last file that was cut off is told before false rows' joins_cut 'pmfarm: cut: line 4: not a ledger' false good cut
+    check 'a last file that was cut off is told before a conflict' joins_cut 'pmfarm: cut: line 4: not a ledger' good other cut
+    check 'a first file that was cut off is told' joins_cut 'pmfarm: shorter: line 3: not a ledger' shorter false good
+    check 'of two files that were cut off the first is told' joins_cut 'pmfarm: cut: line 4: not a ledger' false cut good shorter
+    check 'the other way round the other is told' joins_cut 'pmfarm: shorter: line 3: not a ledger' false shorter good cut
     check 'a ledger of profile 2 joins as one' ledger_of_profile_2
-    check 'a thousand ledgers join' many_ledgers
+    check 'a thousand ledgers join, and a list of a hundred thousand' many_ledgers
+    check 'a list names ledgers' joins_list 0 'shared_b.ledger\nshared_a.ledger\n' examples/shared.report ''
+    check 'a list may lack its last line end, and have empty lines' joins_list 0 '\n\nshared_b.ledger\n\nshared_a.ledger' examples/shared.report ''
+    check 'a list stands behind the words' joins_list 4 'other.ledger' /dev/null "$no_ledger" no.ledger
+    check 'the words stand before a list' joins_list 0 'shared_b.ledger\n' examples/shared.ledger '' --ledger shared_a.ledger
+    check 'a list in a pipe' a_list_in_a_pipe
+    check 'a list with CR LF names other files' joins_list 4 'shared_a.ledger\r\n' /dev/null "${no_ledger/no.ledger/$'shared_a.ledger\r'}"
+    check 'a ledger that a list names is told by its name' joins_list 2 'shared_a.ledger\nforged.ledger\n' /dev/null "$(cat examples/forged.fault)"
+    check 'a name that is not UTF-8 is refused' joins_list 2 'shared_a.ledger\n\xff\n' /dev/null 'pmfarm: error: a name in the list of ledgers is not UTF-8'
+    check 'an empty list is refused' joins_list 2 '\n\n' /dev/null 'pmfarm: error: no ledger is named'
+    check 'an empty list beside a ledger is none' joins_list 0 '' examples/shared_a.ledger '' --ledger shared_a.ledger
+    check 'a list that is missing is named' joins 4 /dev/null "$no_ledger" --files-from no.ledger shared_a.ledger
+    check 'a list is read before the files' joins 4 /dev/null "${no_ledger/no.ledger/no.list}" --files-from no.list no.ledger
+    check 'the summary of a join' summarizes --summary
+    check 'the summary of a merge' summarizes --stream --summary
+    check 'a ledger text and a summary are not wanted together' two_texts_are_wanted
+    check 'two ledgers that share a section merge' joins 0 examples/shared.report '' --stream shared_a.ledger shared_b.ledger
+    check 'the text of two merged ledgers' joins 0 examples/shared.ledger '' --stream --ledger shared_b.ledger shared_a.ledger
+    check 'a list names ledgers that are merged' joins_list 0 'shared_b.ledger\nshared_a.ledger\n' examples/shared.report '' --stream
+    check 'a file that is missing is named before any is merged' joins 4 /dev/null "$no_ledger" --stream shared_a.ledger no.ledger
+    check 'a directory is named that is merged' joins 4 /dev/null "${is_a_directory/: read/: .: read}" --stream .
+    check 'a log is no ledger to merge' joins 2 /dev/null 'pmfarm: first.log: line 1: not a ledger' --stream first.log
+    check 'a forged ledger is not merged' merge_refused "$(sed 's,pmfarm: ,&examples/,' examples/forged.fault)" examples/shared_a.ledger examples/forged.ledger
+    check 'other events in two files are not merged' merges_two \
+        'PMFARM-LEDGER 1\nsection 7.1 events=1 rows=0\nFENCE\nend verdicts=1\n' \
+        'PMFARM-LEDGER 1\nsection 7.1 events=0 rows=0\nend verdicts=1\n' \
+        'pmfarm: section 7.1: held with other events'
+    check 'of two sections with other events the first is told' merges_two \
+        'PMFARM-LEDGER 1\nsection 7.1 events=1 rows=0\nFENCE\nsection 7.2 events=1 rows=0\nFENCE\nend verdicts=2\n' \
+        'PMFARM-LEDGER 1\nsection 7.1 events=0 rows=0\nsection 7.2 events=0 rows=0\nend verdicts=2\n' \
+        'pmfarm: section 7.1: held with other events'
+    check 'files of both profiles are not merged' merges_two 'PMFARM-LEDGER 1\nend verdicts=0\n' \
+        'PMFARM-LEDGER 2\nend verdicts=0\n' 'pmfarm: y.ledger: profiles differ'
+    check 'sections that are not in order are not merged' merges_two 'PMFARM-LEDGER 1\nend verdicts=0\n' \
+        'PMFARM-LEDGER 1\nsection 7.1 events=0 rows=0\nsection 7.0 events=0 rows=0\nend verdicts=2\n' \
+        'pmfarm: y.ledger: section 7.0: out of order'
+    check 'a merge that was refused is no ledger' a_front_of_a_ledger
+    check 'a thousand ledgers merge' merges_many
+    check 'a merge without a file is refused' joins 2 /dev/null 'pmfarm: error: no ledger is named' --stream
     check 'join without a file is refused' refused join
     check 'a full device as standard output of join' full_output /dev/null join examples/shared_a.ledger
+    check 'a full device as standard output of a merge' full_output /dev/null join --stream examples/shared_a.ledger
+    check 'each request for memory of join --stream refused in turn' sweep examples/first.log join --stream examples/shared_{a,b}.ledger
+    check 'each request for memory of join --stream --summary refused in turn' sweep examples/first.log join --stream --summary examples/shared_{a,b}.ledger
+    check 'each request for memory of join --summary refused in turn' sweep examples/first.log join --summary examples/shared_{a,b}.ledger
     check 'each request for memory of join refused in turn' sweep examples/first.log join examples/shared_{a,b}.ledger
     check 'each request for memory of join --ledger refused in turn' \
         sweep examples/first.log join --ledger examples/shared.ledger examples/shared_a.ledger
+    printf '%s\n' examples/shared_{a,b}.ledger >"$scratch/list"
+    check 'each request for memory of join --files-from refused in turn' sweep examples/first.log join --files-from "$scratch/list"
 }

@@ -32,6 +32,13 @@ check() {
 has() {
     case $1 in
         'GNU parallel') parallel --version 2>/dev/null </dev/null | grep -q '^GNU parallel' ;;
+        'Slurm with munge') has slurmctld && has slurmd && has munged && has sbatch ;;
+        'a static C library') has cc && [[ $(cc -print-file-name=libc.a) = */* ]] ;;
+        'a static C library and a root by unshare') has 'a static C library' && unshare -r chroot / true 2>/dev/null ;;
+        'buildah with a static busybox and C library')
+            has buildah && has 'a static C library' && ! ldd "$(type -P busybox)" >/dev/null 2>&1 && has busybox
+            ;;
+        'mounts of its own') unshare -rm mount -t tmpfs none /mnt 2>/dev/null ;;
         'a YAML parser for Python') python3 -c 'import yaml' 2>/dev/null ;;
         'valgrind with its static libraries and gcc')
             has gcc && has valgrind && [ -e /usr/include/valgrind/pub_tool_basics.h ] &&

@@ -310,6 +310,38 @@ installs() {
     DESTDIR=$root tools/install --uninstall /usr >"$scratch/report" && same /dev/null "$scratch/report"
 }
 
+# answers PROGRAM: what it says of each example, on both streams, with its status.
+answers() {
+    local log
+    for log in examples/*.log; do
+        "$1" check --workers 4 "$log" 2>&1
+        echo $?
+        "$1" why "$log" 2>&1
+        echo $?
+    done
+}
+
+# The static program has no loader and no library, tells its commit, and answers as the built one does; where memory is wanted, too.
+installs_static() {
+    local root=$scratch/static
+    tools/install --no-build --static "$root" >"$scratch/report" 2>"$scratch/diagnostics"
+    ended 0 $? || { cat "$scratch/diagnostics" && return 1; }
+    files "$root" | are_installed && readelf -ld "$root/bin/pmfarm" >"$scratch/report" && ! grep -E 'INTERP|NEEDED' "$scratch/report" || return
+    ! is_built_from_sources || tells_version "$root/bin/pmfarm" "$(version_as_stamped out/pmfarm.built)" || return
+    answers "$program" >"$scratch/wanted" && answers "$root/bin/pmfarm" | same "$scratch/wanted" - || return
+    awk 'BEGIN { for (i = 0; i < 100000; i++) print "STORE;" 64 * i ";1;8" }' >"$scratch/log"
+    (ulimit -v 16384 && exec "$root/bin/pmfarm" check) <"$scratch/log" >"$scratch/report" 2>"$scratch/diagnostics"
+    ended 3 $? && same /dev/null "$scratch/report" && said 'pmfarm: out of memory' "$scratch/diagnostics"
+}
+
+# In a root that has no other file.
+static_alone() {
+    local root=$scratch/alone
+    tools/install --no-build --static "$scratch/static" >"$scratch/report" 2>&1 && mkdir "$root" && cp "$scratch/static/bin/pmfarm" "$root" || return
+    unshare -r chroot "$root" /pmfarm check --workers 4 <examples/two_sections.log >"$scratch/report" 2>"$scratch/diagnostics"
+    ended 1 $? && same examples/two_sections.report "$scratch/report" && same /dev/null "$scratch/diagnostics"
+}
+
 # The tools are installed below a prefix, which is then moved. `alone` calls one from an empty folder, with next to no environment.
 installs_tools() {
     mkdir "$scratch/empty" && tools/install --no-build "$scratch/first prefix" >"$scratch/report" 2>"$scratch/diagnostics" &&
@@ -431,6 +463,8 @@ try_tools() {
     check 'a stamped program tells its commit and its kit, and is the same but for that' stamped
     check 'tools/install installs what is there, and removes it' installs
     check 'tools/install builds the program first' installs_what_it_builds
+    check_by 'a static C library' 'tools/install --static installs a program that needs no C library, and answers the same' installs_static
+    check_by 'a static C library and a root by unshare' 'the static program alone in an empty root' static_alone
     check 'tools/install installs the tools, below a prefix that is then moved' installs_tools
     check 'the installed pmfarm-rows finds the installed program' installed_rows
     check 'the installed pmfarm-page writes a page' installed_page

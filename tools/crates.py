@@ -399,6 +399,9 @@ class Proof(Task):
     def end(self, status, said, seconds):
         made = self.crates.made(self.name)
         if status == 0:
+            if self.crates.is_program(self.name):
+                # (`tools/install --static` links it in another way)
+                put(self.room.folder / "out" / f"{made.name}.o", made.with_name(f"{made.name}.o"))
             put(self.room.folder / "out" / made.name, made)
         return status == 0, []
 

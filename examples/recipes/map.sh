@@ -1,28 +1,45 @@
 #!/bin/sh
-# One map job: checks the log that line RUN of LIST names, as run RUN, and leaves its ledger as OUT/RUN.ledger.
+# One map job: checks the logs that these lines of LIST name, each as the run of its line, and leaves their ledgers in OUT.
 #
-#     map.sh LIST OUT RUN
+#     map.sh LIST OUT RUN..
 #
-# Ends with 0 exactly where the ledger is there: rows that fail are for the report to tell.
+# What is there already is passed over. Ends with 0 exactly where all these ledgers are there (rows that fail are for the
+# report to tell), else with the greatest status of a run, at most 4.
 set -u
-list=$1 out=$2 run=$3
-log=$(sed -n "${run}p" "$list") || exit 4
-if ! [ -r "$log" ]; then
-    printf 'map.sh: run %s: cannot read %s\n' "$run" "$log" >&2
-    exit 4
-fi
-exec <"$log" || exit 4
-mkdir -p "$out" && new=$(mktemp "$out/$run.new.XXXXXX") || exit 4
-pmfarm check --ledger --run "$run" >"$new"
-status=$?
-if [ "$status" -gt 1 ]; then
-    rm -f "$new"
-    printf 'map.sh: run %s: no ledger of %s: status %s\n' "$run" "$log" "$status" >&2
-    exit "$status"
-fi
-if [ -e "$out/$run.ledger" ] && ! cmp -s "$new" "$out/$run.ledger"; then
-    rm -f "$new"
-    printf 'map.sh: run %s: another ledger is there\n' "$run" >&2
-    exit 2
-fi
-chmod +r "$new" && mv "$new" "$out/$run.ledger" || exit 4
+list=$1 out=$2 worst=0 sum=cksum
+shift 2
+# (Debian's busybox has no cksum)
+command -v cksum >/dev/null || sum=sha256sum
+
+# refuse STATUS TEXT: tells why there is no ledger of the run.
+refuse() {
+    printf 'map.sh: run %s: %s\n' "$run" "$2" >&2
+    exit "$1"
+}
+
+# map: checks the log of the run. The sums of the log and of its ledger are written last: without them it is missing.
+map() (
+    log=$(sed -n "${run}{p;q;}" "$list") new=$room/$run ledger=$out/$run.ledger
+    before=$({ "$sum" - <"$log"; } 2>/dev/null) || refuse 4 "cannot read $log"
+    told=$(pmfarm check --ledger --run "$run" <"$log" 2>&1 >"$new")
+    status=$?
+    [ -z "$told" ] || printf '%s\n' "$told" | sed "s/^/map.sh: run $run: /" >&2
+    [ "$status" -le 1 ] || refuse "$status" "no ledger of $log: status $status"
+    [ "$("$sum" - <"$log")" = "$before" ] || refuse 4 "$log changed"
+    if ! ln "$new" "$ledger" 2>/dev/null && ! cmp -s "$new" "$ledger"; then
+        [ ! -e "$ledger" ] || refuse 2 'another ledger is there'
+        refuse 4 'write failed'
+    fi
+    printf '%s\n' "$before" "$("$sum" - <"$new")" >"$new.sum" && mv "$new.sum" "$out/$run.sum" || exit 4
+)
+
+runs=$("$(dirname "$0")/missing.sh" "$list" "$out" "$@") && exit
+[ -n "$runs" ] && mkdir -p "$out" && room=$(mktemp -d "$out/new.XXXXXX") || exit 4
+for run in $runs; do
+    map
+    status=$?
+    [ "$status" -le 4 ] || status=4
+    [ "$status" -le "$worst" ] || worst=$status
+done
+rm -rf "$room"
+exit "$worst"

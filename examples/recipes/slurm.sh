@@ -1,12 +1,19 @@
-#!/bin/bash
-#SBATCH --job-name=pmfarm
-#SBATCH --cpus-per-task=1
-#SBATCH --mem=4G
-#SBATCH --output=pmfarm-%A_%a.txt
-# One task of an array for each log: its run is the task's number, and FIRST more where that is given.
+#!/bin/sh
+# The same by Slurm: an array of tasks, each of CHUNK logs (1); the report follows once all have ended, whatever their status is.
 #
-#     sbatch --array=1-200 FARM/slurm.sh FARM LIST OUT [FIRST]
-#
-# Slurm runs a copy of this file from a folder of its own, so the folder of map.sh is the word FARM.
+#     slurm.sh LIST OUT [CHUNK]
 set -u
-exec "$1/map.sh" "$2" "$3" "$((SLURM_ARRAY_TASK_ID + ${4:-0}))"
+farm=$(cd "$(dirname "$0")" && pwd) && mkdir -p "$2" && tasks=$(mktemp "$2/tasks.XXXXXX") && chmod +r "$tasks" || exit 4
+"$farm/missing.sh" "$1" "$2" 2>/dev/null | xargs -r -n "${3:-1}" >"$tasks"
+if [ -s "$tasks" ]; then
+    job=$(sbatch --parsable --array="1-$(sed -n '$=' "$tasks")" "$farm/task.sh" "$farm" "$1" "$2" "$tasks") || exit 4
+    # (a status of srun itself is no verdict)
+    # shellcheck disable=SC2016
+    srun --ntasks=1 --dependency="afterany:${job%%;*}" sh -c '"$@"; echo $? >"$0"' "$tasks.ended" "$farm/report.sh" "$1" "$2"
+    status=$(cat "$tasks.ended") || status=4
+else
+    "$farm/report.sh" "$1" "$2"
+    status=$?
+fi
+rm -f "$tasks" "$tasks.ended"
+exit "$status"

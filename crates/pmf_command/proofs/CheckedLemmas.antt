@@ -24,6 +24,7 @@ no_fault : (fault : StreamFault CheckLogFault) → status_of_fault status_of_che
 no_fault stream.ReadFault is = cc
 no_fault (stream.Refused (checking.Log found)) is = no_cause found.cause is
 no_fault (stream.Refused (checking.Farm found)) is = no_farm found is
+no_fault (stream.Refused checking.TooLong) is = cc
 no_fault (stream.WriteFault written) is = cc
 no_fault stream.OutOfMemory is = cc
 

@@ -5,7 +5,7 @@ use Rattle.pmf_storelog.specs.declared.fault.Cause.TheVariants.{BadNumber, OutOf
 use Rattle.pmf_ledger.specs.declared.joining.JoinFault.TheVariants.{ProfileMismatch}
 use Rattle.pmf_farm.specs.declared.fault.FarmFault.TheVariants.{NoWorkers}
 use Rattle.pmf_query.specs.declared.refusal.LogRefusal.TheVariants as whole
-use Rattle.pmf_stream.specs.declared.{checking.CheckLogFault.TheVariants.{Log, Farm}, fault.StreamFault.TheVariants.{ReadFault, Refused, WriteFault}, joining.JoinTextFault.TheVariants.{Join}}
+use Rattle.pmf_stream.specs.declared.{checking.CheckLogFault.TheVariants.{Log, Farm}, fault.StreamFault.TheVariants.{ReadFault, Refused, WriteFault}, joining.JoinTextFault.TheVariants.{Join, TooLong}}
 use Rattle.pmf_world.specs.declared.simulating.SimFault.TheVariants.{BadStep}
 use Rattle.pmf_command.specs.{declared.status.Status.TheVariants.{NoFail, SomeFail, NoMemory}, Statuses.{exit_code_of, status_of, status_of_asked, status_of_check_fault, status_of_cut_fault, status_of_done, status_of_joined, status_of_linted, status_of_log_refusal, status_of_pieces, status_of_sim_fault, status_of_text_fault}}
 
@@ -37,5 +37,6 @@ others :
     × (status_of status_of_pieces status_of_cut_fault (Ok (record { cuts = 2; files = 1; told = 0 })) ≡ NoFail)  -- cut lost nothing
     × (status_of status_of_pieces status_of_cut_fault (Ok (record { cuts = 2; files = 1; told = 1 })) ≡ SomeFail)  -- it may have
     × (exit_code_of (status_of status_of_joined status_of_text_fault (Err (Refused (Join ProfileMismatch)))) ≡ 2)
+    × (exit_code_of (status_of status_of_joined status_of_text_fault (Err (Refused TooLong))) ≡ 2)  -- the ledger text can't be loaded
     × (exit_code_of (status_of status_of_asked status_of_sim_fault (Err (Refused (BadStep 3)))) ≡ 2)
-others = (refl, refl, refl, refl, refl, refl)
+others = (refl, refl, refl, refl, refl, refl, refl)

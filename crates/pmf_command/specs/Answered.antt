@@ -1,18 +1,22 @@
 -- How each request is answered, from the bytes that are read to the status with which the process ends. Defined here.
-use Rattle.std.specs.Prelude.{◌≡◌, ◌⊎◌, ◌+◌, ◌<◌, ℕ, Bool, true, false, ◌&&◌, nat_le, nat_lt, List, [], ◌∷◌, map, take, Option, None, Some, Result, OnOk}
+use Rattle.std.specs.Prelude.{◌≡◌, ◌⊎◌, ◌+◌, ◌<◌, ◌≤◌, ℕ, Bool, true, false, ◌&&◌, not, ◌==◌, nat_le, nat_lt, List, [], ◌∷◌, ◌++◌, length, map, filter, take, All, IsUtf8, Option, None, Some, Result, MatchResult, OnOk}
+use Rattle.std.specs.{Borrow.{Bor}, List.{slice_split}}
 use Rattle.pmf_event.specs.declared.section.TheConstants.{EVENT_LIMIT}
 use Rattle.pmf_storelog.specs.declared.fault.TheConstants.{LOG_LIMIT}
-use Rattle.pmf_ledger.specs.declared.loading.TheConstants.{LEDGER_LIMIT}
+use Rattle.pmf_ledger.specs.declared.{form.Form.{Form}, form.Form.TheVariants.{Report, Summary, Ledger}, loading.TheConstants.{LEDGER_LIMIT}}
 use Rattle.pmf_storelog.specs.LogValue.{LogValue}
 use Rattle.pmf_ledger.specs.{AllKept.{AllKept}, Gathered.{IsLedgerOf}, LedgerValue.{LedgerValue}, Report.{totals_of}}
 use Rattle.pmf_request.specs.declared.settings.Settings.{Settings}
-use Rattle.pmf_request.specs.declared.request.{Cuts.{Cuts}, Files.{Files}, Input.{Input}, Input.TheVariants.{Standard, File}, Simulation.{Simulation}, Request.{Request}, Request.TheVariants.{Check, Explain, ExplainAll, Why, Patch, Locate, Lint, Cut, Join, Sim}}
+use Rattle.pmf_request.specs.declared.request.{Cuts.{Cuts}, Files.{Files}, Input.{Input}, Input.TheVariants.{Standard, File}, Simulation.{Simulation}, Request.{Request}, Request.TheVariants.{Check, Explain, ExplainAll, Why, Patch, Locate, Lint, Cut, Join, Sim}, Wanted.{Wanted}}
+use Rattle.pmf_request.specs.declared.request.Wanted.TheVariants as wanted
 use Rattle.pmf_cut.specs.declared.fault.CutFault.{CutFault}
 use Rattle.pmf_query.specs.{Explanation.{IsExplanation}, AllExplained.{ExplainsAll}, Locating.{IsLocationText}, Linting.{Overviews}, Warnings.{are_due, warnings_of}, Refusals.{IsEventRefusal, IsLogRefusal}}
 use Rattle.pmf_why.specs.{Patching.{IsPatch, IsPatchRefusal}, Why.{IsWhy, IsWhyRefusal}}
 use Rattle.pmf_stream.specs.{Answering.{Answers}, Asked.{IsAnswerOf, IsRefusalOf}, Checking.{IsCheckFaultOf, IsLogOf, IsReportOf}, Files.{IsCutOf}, Joining.{IsJoinedText, IsRefusalOfTexts}, Reading.{HasReadAll}, Simulated.{IsSimRefusalOf, IsSimulationOf}, declared.cutting.Pieces.{Pieces}, declared.fault.StreamFault.{StreamFault}}
+use Rattle.pmf_ledger.specs.declared.totals.Totals.{Totals}
+use Rattle.pmf_merge.specs.{Merging.{IsMergeFaultOf, Merges}, declared.fault.MergeFault.{MergeFault}}
 use Rattle.pmf_world.specs.declared.simulating.{TheConstants.{SCHEDULE_LIMIT}}
-use Rattle.pmf_command.specs.{Statuses.{status_of, status_of_asked, status_of_check_fault, status_of_cut_fault, status_of_done, status_of_event_refusal, status_of_joined, status_of_linted, status_of_log_refusal, status_of_patch_refusal, status_of_pieces, status_of_sim_fault, status_of_text_fault}, declared.status.{Status.{Status}, Status.TheVariants.{NoFail, Refused, NoMemory, DeviceFault}}}
+use Rattle.pmf_command.specs.{Statuses.{status_of, status_of_asked, status_of_check_fault, status_of_cut_fault, status_of_done, status_of_event_refusal, status_of_joined, status_of_linted, status_of_log_refusal, status_of_merge, status_of_patch_refusal, status_of_pieces, status_of_sim_fault, status_of_text_fault}, declared.status.{Status.{Status}, Status.TheVariants.{NoFail, Refused, NoMemory, DeviceFault}}}
 
 -- a file that is opened has the bytes that its name has, where they are known
 abbrev pub IsFileOf : Option (List ℕ) → Option (List ℕ) → Type 0
@@ -24,12 +28,20 @@ abbrev pub IsReadOf : ℕ → Option (List ℕ) → List ℕ → Type 0
 IsReadOf limit None text = Unit {0}
 IsReadOf limit (Some bytes) text = text ≡ take (limit + 1) bytes
 
--- the texts are what was read of the files with these names, in their order
+-- so is one of the second list to each of the first, in their order
+abbrev pub AreEach : {X Y : Type 0} → (X → Y → Type 0) → List X → List Y → Type 0
+AreEach Is [] [] = Unit {0}
+AreEach Is (x ∷ xs) (y ∷ ys) = Is x y × AreEach Is xs ys
+AreEach Is [] (y ∷ ys) = ⊥
+AreEach Is (x ∷ xs) [] = ⊥
+
+-- the texts are what was read of the files with these names
 abbrev pub AreRead : ℕ → (List ℕ → Option (List ℕ)) → List (List ℕ) → List (List ℕ) → Type 0
-AreRead limit files [] [] = Unit {0}
-AreRead limit files (name ∷ names) (text ∷ texts) = IsReadOf limit (files name) text × AreRead limit files names texts
-AreRead limit files [] (text ∷ texts) = ⊥
-AreRead limit files (name ∷ names) [] = ⊥
+AreRead limit files names texts = AreEach (λ name text. IsReadOf limit (files name) text) names texts
+
+-- the files with these names were opened, and this is left of each
+abbrev pub AreOpened : (List ℕ → Option (List ℕ)) → List (List ℕ) → List (Option (List ℕ)) → Type 0
+AreOpened files names lefts = AreEach (λ name left. IsFileOf (files name) left) names lefts
 
 -- what the streams tell, where their bytes are known: what is left of the input before and after; what the output holds; what each of
 -- its files does, and of the files that a log is cut into; and what the files have that are read
@@ -53,12 +65,65 @@ abbrev pub EndsAs : {T E : Type 0} → (T → Status) → (E → Status) → (T 
 EndsAs {T} {E} ends_as ends_refused IsText IsRefusal held holds status =
     (answer : Result T (StreamFault E)) × (status ≡ status_of ends_as ends_refused answer) × Answers IsText IsRefusal held holds answer
 
--- the ledgers of the files are joined, or one of the files was not read
+-- whether the byte ends a text line; whether the text line has a byte
+abbrev pub is_line_end : ℕ → Bool
+is_line_end byte = byte == 10
+
+abbrev pub is_filled : List ℕ → Bool
+is_filled line = not (length line == 0)
+
+-- the files that a list names: each of its text lines that is not empty is a name
+unfoldable pub names_in : List ℕ → List (List ℕ)
+names_in list = filter is_filled (slice_split is_line_end list)
+
+-- the files that are to be joined: those of the words, and behind them those of the list
+abbrev pub names_of : Files → List ℕ → List (List ℕ)
+names_of files list = map (λ name. name.now) files.names.items ++ names_in list
+
+-- what was read of the list; where there is none, it names nothing
+abbrev pub IsListOf : Option (Bor (List ℕ)) → (List ℕ → Option (List ℕ)) → List ℕ → Type 0
+IsListOf None known list = list ≡ []
+IsListOf (Some name) known list = IsReadOf LEDGER_LIMIT (known name.now) list
+
+-- the list is no longer than a ledger, and each of its names is UTF-8
+pub record CanName (list : List ℕ) : Type 0 where
+  pub fits : length list ≤ LEDGER_LIMIT
+  pub texts : All IsUtf8 (names_in list)
+
+-- in which form the ledger of all is written
+abbrev pub form_of : Wanted → Form
+form_of wanted.Report = Report
+form_of wanted.Summary = Summary
+form_of wanted.Ledger = Ledger
+
+-- the files with these names were read, and their ledgers joined
+abbrev pub JoinsRead : Form → List (List ℕ) → (List ℕ → Option (List ℕ)) → Option (List ℕ) → Option (List ℕ) → Status → Type 0
+JoinsRead form names known held holds status =
+    (texts : List (List ℕ)) × AreRead LEDGER_LIMIT known names texts
+    × EndsAs status_of_joined status_of_text_fault (IsJoinedText form texts) (IsRefusalOfTexts form texts) held holds status
+
+-- they were opened, and their ledgers merged as they were read
+abbrev pub MergesOpened : Form → List (List ℕ) → (List ℕ → Option (List ℕ)) → Option (List ℕ) → Option (List ℕ) → Status → Type 0
+MergesOpened form names known held holds status =
+    (starts : List (Option (List ℕ))) × AreOpened known names starts
+    × ((answer : Result Totals MergeFault) × (status ≡ status_of_merge answer) × MatchResult answer (Merges form starts held holds) (IsMergeFaultOf starts))
+
+-- the one or the other, as it is asked for
+abbrev pub JoinsAs : Bool → Form → List (List ℕ) → (List ℕ → Option (List ℕ)) → Option (List ℕ) → Option (List ℕ) → Status → Type 0
+JoinsAs false form names known held holds status = JoinsRead form names known held holds status
+JoinsAs true form names known held holds status = MergesOpened form names known held holds status
+
+-- so do the files with these names, or one of them was not read; without a name it is refused
+abbrev pub JoinsNamed : Bool → Form → List (List ℕ) → (List ℕ → Option (List ℕ)) → Option (List ℕ) → Option (List ℕ) → Status → Type 0
+JoinsNamed stream form [] known held holds status = status ≡ Refused
+JoinsNamed stream form names known held holds status = IsUnread status ⊎ JoinsAs stream form names known held holds status
+
+-- the ledgers of the words and of the list are joined; or the list was not read, or is refused
 abbrev pub JoinsFiles : Files → (List ℕ → Option (List ℕ)) → Option (List ℕ) → Option (List ℕ) → Status → Type 0
 JoinsFiles files known held holds status =
     IsUnread status
-    ⊎ ((texts : List (List ℕ)) × AreRead LEDGER_LIMIT known (map (λ name. name.now) files.names.items) texts
-    × EndsAs status_of_joined status_of_text_fault (IsJoinedText files.ledger texts) (IsRefusalOfTexts texts) held holds status)
+    ⊎ ((list : List ℕ) × IsListOf files.list known list
+    × (((CanName list → ⊥) × (status ≡ Refused)) ⊎ (CanName list × JoinsNamed files.stream (form_of files.wanted) (names_of files list) known held holds status)))
 
 -- the schedule of the input is played with the log of the file, or one of the two was not read
 abbrev pub Simulates : Simulation → (List ℕ → Option (List ℕ)) → Option (List ℕ) → Option (List ℕ) → Option (List ℕ) → Option (List ℕ) → Status → Type 0

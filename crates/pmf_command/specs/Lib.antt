@@ -4,6 +4,8 @@ pub use Rattle.pmf_stream.specs.Answering
 pub use Rattle.pmf_stream.specs.Checking
 pub use Rattle.pmf_stream.specs.Asked
 pub use Rattle.pmf_stream.specs.Joining
+pub use Rattle.pmf_merge.specs.Merging
 pub mod Statuses
 pub mod Answered
 pub mod ExplanationTold
+pub mod MergesAreJoins

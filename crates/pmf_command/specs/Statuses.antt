@@ -3,7 +3,8 @@ use Rattle.std.specs.Prelude.{◌≡◌, ◌⊎◌, ℕ, ◌==◌, nat_lt, Bool,
 use Rattle.clap.specs.declared.error.kind.{ErrorKind.{ErrorKind}, ErrorKind.TheVariants.{DisplayHelp, DisplayVersion, OutOfMemory}}
 use Rattle.pmf_storelog.specs.declared.fault.{Cause.{Cause}, LogFault.{LogFault}}
 use Rattle.pmf_cut.specs.declared.fault.CutFault.{CutFault}
-use Rattle.pmf_ledger.specs.declared.{joining.JoinFault.{JoinFault}, loading.LedgerFault.{LedgerFault}}
+use Rattle.pmf_ledger.specs.declared.{block_lines.BlockFault.{BlockFault}, joining.JoinFault.{JoinFault}, loading.LedgerFault.{LedgerFault}, totals.Totals.{Totals}}
+use Rattle.pmf_merge.specs.declared.fault.MergeFault.{MergeFault}
 use Rattle.pmf_farm.specs.declared.fault.FarmFault.{FarmFault}
 use Rattle.pmf_stream.specs.declared.{checking.CheckLogFault.{CheckLogFault}, checking.Done.{Done}, cutting.Pieces.{Pieces}, joining.Joined.{Joined}, joining.JoinTextFault.{JoinTextFault}, fault.StreamFault.{StreamFault}}
 use Rattle.pmf_query.specs.{declared.{lint.Linted.{Linted}, refusal.EventFault.{EventFault}, refusal.EventRefusal.{EventRefusal}, refusal.LogRefusal.{LogRefusal}, warnings.Warnings.{Warnings}}, Warnings.{are_due}}
@@ -12,6 +13,7 @@ use Rattle.pmf_world.specs.declared.{fault.WorldNewFault.{WorldNewFault}, simula
 use Rattle.pmf_command.specs.declared.status.{Status.{Status}, Status.TheVariants.{NoFail, SomeFail, Refused, NoMemory, DeviceFault}}
 use Rattle.pmf_cut.specs.declared.fault.CutFault.TheVariants as cutting
 use Rattle.pmf_storelog.specs.declared.fault.Cause.TheVariants as log
+use Rattle.pmf_ledger.specs.declared.block_lines.BlockFault.TheVariants as block
 use Rattle.pmf_ledger.specs.declared.joining.JoinFault.TheVariants as joining
 use Rattle.pmf_ledger.specs.declared.loading.LedgerFault.TheVariants as loading
 use Rattle.pmf_farm.specs.declared.fault.FarmFault.TheVariants as farm
@@ -21,6 +23,7 @@ use Rattle.pmf_query.specs.declared.refusal.LogRefusal.TheVariants as whole
 use Rattle.pmf_why.specs.declared.refusal.PatchRefusal.TheVariants as patching
 use Rattle.pmf_stream.specs.declared.joining.JoinTextFault.TheVariants as texts
 use Rattle.pmf_stream.specs.declared.fault.StreamFault.TheVariants as stream
+use Rattle.pmf_merge.specs.declared.fault.MergeFault.TheVariants as merging
 use Rattle.pmf_world.specs.declared.fault.WorldNewFault.TheVariants as new
 use Rattle.pmf_world.specs.declared.simulating.SimFault.TheVariants as sim
 
@@ -75,6 +78,7 @@ status_of_farm_fault _ = Refused
 abbrev pub status_of_check_fault : CheckLogFault → Status
 status_of_check_fault (checking.Log fault) = status_of_log_fault fault
 status_of_check_fault (checking.Farm fault) = status_of_farm_fault fault
+status_of_check_fault checking.TooLong = Refused
 
 -- how the program ends where rows are explained, causes told, a log patched, an event located, or the schedule played
 abbrev pub status_of_asked : Unit {0} → Status
@@ -133,7 +137,26 @@ status_of_join_fault _ = Refused
 abbrev pub status_of_text_fault : JoinTextFault → Status
 status_of_text_fault (texts.Load index fault) = status_of_ledger_fault fault
 status_of_text_fault (texts.Join fault) = status_of_join_fault fault
+status_of_text_fault texts.TooLong = Refused
 status_of_text_fault texts.OutOfMemory = NoMemory
+
+-- how the program ends where a text is refused that is merged
+abbrev pub status_of_block_fault : BlockFault → Status
+status_of_block_fault (block.Text fault) = status_of_ledger_fault fault
+status_of_block_fault _ = Refused
+
+-- how the program ends where ledgers are not merged
+abbrev pub status_of_merge_fault : MergeFault → Status
+status_of_merge_fault (merging.Text index fault) = status_of_block_fault fault
+status_of_merge_fault (merging.Read index) = DeviceFault
+status_of_merge_fault (merging.Write written) = DeviceFault
+status_of_merge_fault merging.OutOfMemory = NoMemory
+status_of_merge_fault _ = Refused
+
+-- how the program ends where they are merged, or not
+abbrev pub status_of_merge : Result Totals MergeFault → Status
+status_of_merge (Ok totals) = status_of_fails totals.fail
+status_of_merge (Err fault) = status_of_merge_fault fault
 
 -- how the program ends where there is no such world
 abbrev pub status_of_new_fault : WorldNewFault → Status

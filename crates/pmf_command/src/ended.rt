@@ -1,12 +1,14 @@
 //! How the process ends: as what was asked for was answered.
 
-ghost use Rattle.std.specs.{Prelude.{◌≡◌, ◌⊎◌, ◌↔◌, ◌+◌, map, OnOk, Result}, Io.KnownBytes.{Appends}, Process.{exit_status}};
+ghost use Rattle.std.specs.{Prelude.{◌≡◌, ◌⊎◌, ◌↔◌, ◌+◌, map, All, MatchResult, OnOk, Result}, Io.KnownBytes.{Appends}, Process.{exit_status}};
 ghost use Rattle.clap.specs.Words.{kind_of};
 ghost use Rattle.pmf_device.specs.Failures.{CanCountOneMore};
 ghost use Rattle.pmf_stream.specs.{Simulated.{IsSimRefusalOf, IsSimulationOf}, Answering.{Answers, TellsFaults, TellsFaultsOfParts, failed_reads, failed_writes}, Asked.{IsAnswerOf, IsRefusalOf}, Checking.{IsCheckFaultOf, IsReportOf}, Files.{IsCutOf}, Joining.{IsJoinedText, IsRefusalOfTexts}, declared.checking.CheckLogFault.{CheckLogFault}, declared.checking.Done.{Done}, declared.cutting.Pieces.{Pieces}, declared.fault.StreamFault.{StreamFault}, declared.joining.Joined.{Joined}, declared.joining.JoinTextFault.{JoinTextFault}};
 ghost use Rattle.pmf_cut.specs.declared.fault.CutFault.{CutFault};
+ghost use Rattle.pmf_ledger.specs.declared.totals.Totals.{Totals};
+ghost use Rattle.pmf_merge.specs.{Merging.{IsMergeFaultOf, Merges}, declared.fault.MergeFault.{MergeFault}};
 ghost use Rattle.pmf_world.specs.declared.simulating.SimFault.{SimFault};
-ghost use Rattle.pmf_command.specs.{Statuses.{IsAnswerTo, exit_code_of, status_of, status_of_asked, status_of_check_fault, status_of_cut_fault, status_of_done, status_of_fault, status_of_joined, status_of_pieces, status_of_sim_fault, status_of_text_fault}, declared.status.Status.{Status}};
+ghost use Rattle.pmf_command.specs.{Statuses.{IsAnswerTo, exit_code_of, status_of, status_of_asked, status_of_check_fault, status_of_cut_fault, status_of_done, status_of_fault, status_of_joined, status_of_merge, status_of_pieces, status_of_sim_fault, status_of_text_fault}, declared.status.Status.{Status}};
 
 use crate::diagnostics::{
     Spoken, fail, fail_file, out_of_memory, print_cuts, print_skipped, print_warnings, refuse_words,
@@ -15,8 +17,10 @@ use crate::ending::Ending;
 use crate::hints::{print_hint, print_reason};
 use crate::shelf::Unread;
 use crate::status::Status;
-use pmf_device::{Device, Sink, Source, StdSink, write_text};
+use pmf_device::{Cut, Device, Sink, Source, StdSink, write_text};
 use pmf_farm::OpenGate;
+use pmf_ledger::{Form, JoinFault};
+use pmf_merge::{MergeFault, merge_to};
 use pmf_query::{Query, StreamedQuery};
 use pmf_request::{Lengths, Settings};
 use pmf_stream::{
@@ -226,26 +230,90 @@ pub(crate) fn cut_to<R: Eprint, S: Source, W: Outlet>(
     report_ending(rt, answer, &refused, source.reason())
 }
 
-/// Joins the texts of the files with these names and writes the report of all, or their ledger text, to the sink.
+/// Joins the texts of the files with these names and writes the ledger of all to the sink in this form.
 pub(crate) fn join_all<R: Eprint, W: Sink>(
     rt: &R,
     alloc: Global,
     names: &[&str],
     texts: &[Vec<u8>],
     sink: &mut W,
-    as_ledger: bool,
+    form: Form,
 ) -> Ended
     requires { CanCountOneMore (W.failed_calls sink.old) }
     ensures { (answer : Result Joined (StreamFault JoinTextFault))
         × (result ≡ status_of status_of_joined status_of_text_fault answer)
-        × Answers (IsJoinedText as_ledger (map (λ text. text.items) texts.now))
-        (IsRefusalOfTexts (map (λ text. text.items) texts.now))
+        × Answers (IsJoinedText form (map (λ text. text.items) texts.now))
+        (IsRefusalOfTexts form (map (λ text. text.items) texts.now))
         (W.held sink.old) (W.held sink.new) answer
         × TellsFaults 0 0 (W.failed_calls sink.old) (W.failed_calls sink.new)
         sink.old sink.new answer }
 {
-    let answer = join_to(alloc, texts, sink, as_ledger);
+    let answer = join_to(alloc, texts, sink, form);
     report_joined(rt, names, answer)
+}
+
+/// Merges the ledgers of the sources, which are the files with these names, and writes the ledger of all to the
+/// sink in this form.
+pub(crate) fn merge_all<R: Eprint, S: Source, W: Sink>(
+    rt: &R,
+    alloc: Global,
+    names: &[&str],
+    sources: &mut Vec<S>,
+    sink: &mut W,
+    form: Form,
+) -> Ended
+    requires reads { All (λ s. CanCountOneMore (S.failed_calls s)) sources.old.items }
+    requires writes { CanCountOneMore (W.failed_calls sink.old) }
+    ensures { (answer : Result Totals MergeFault) × (result ≡ status_of_merge answer)
+        × MatchResult answer (Merges form (map S.left sources.old.items) (W.held sink.old) (W.held sink.new))
+        (IsMergeFaultOf (map S.left sources.old.items)) }
+{
+    let answer = merge_to(alloc, sources, sink, form);
+    let status = match answer {
+        Ok(totals) => totals.status(),
+        Err(fault) => {
+            say_not_merged(rt, names, sources, fault);
+            fault.status()
+        }
+    };
+    Ended { status }
+}
+
+// Says on standard error why the files with these names are not merged.
+fn say_not_merged<R: Eprint, S: Source>(rt: &R, names: &[&str], sources: &[S], fault: MergeFault) {
+    let status: Status = fault.status();
+    if status == Status::NoMemory {
+        out_of_memory(rt);
+        return;
+    }
+    match fault {
+        MergeFault::Text { index, fault } => fail_file(rt, name_of(names, index), fault, status),
+        MergeFault::Read { index } => {
+            fail_file(rt, name_of(names, index), "read failed", status);
+            if let Some(source) = sources.get(index) {
+                print_reason(rt, source.reason());
+            }
+            status
+        }
+        MergeFault::ProfileMismatch { index } => {
+            fail_file(
+                rt,
+                name_of(names, index),
+                JoinFault::ProfileMismatch,
+                status,
+            )
+        }
+        MergeFault::Conflict { name } => fail(rt, JoinFault::Conflict { name }, status),
+        MergeFault::Write { written } => fail(rt, Cut { written }, status),
+        MergeFault::OutOfMemory => status,
+    };
+}
+
+fn name_of<'a>(names: &[&'a str], index: usize) -> &'a str {
+    match names.get(index) {
+        Some(name) => *name,
+        None => "",
+    }
 }
 
 /// Plays the schedule with the sections of the log, and writes what comes of it to the sink.

@@ -1,12 +1,13 @@
 //! The status of each answer of a command.
 
 ghost use Rattle.std.specs.Prelude.{◌≡◌};
-ghost use Rattle.pmf_command.specs.{Statuses.{is_trusted, status_of_asked, status_of_check_fault, status_of_cut_fault, status_of_done, status_of_event_refusal, status_of_farm_fault, status_of_fails, status_of_fault, status_of_join_fault, status_of_joined, status_of_ledger_fault, status_of_linted, status_of_log_fault, status_of_log_refusal, status_of_new_fault, status_of_patch_refusal, status_of_pieces, status_of_sim_fault, status_of_text_fault}, declared.status.Status.{Status}};
+ghost use Rattle.pmf_command.specs.{Statuses.{is_trusted, status_of_asked, status_of_block_fault, status_of_check_fault, status_of_cut_fault, status_of_done, status_of_event_refusal, status_of_farm_fault, status_of_fails, status_of_fault, status_of_join_fault, status_of_joined, status_of_ledger_fault, status_of_linted, status_of_log_fault, status_of_log_refusal, status_of_merge_fault, status_of_new_fault, status_of_patch_refusal, status_of_pieces, status_of_sim_fault, status_of_text_fault}, declared.status.Status.{Status}};
 
 use crate::status::Status;
 use pmf_cut::CutFault;
 use pmf_farm::FarmFault;
-use pmf_ledger::{JoinFault, LedgerFault};
+use pmf_ledger::{BlockFault, JoinFault, LedgerFault, Totals};
+use pmf_merge::MergeFault;
 use pmf_query::{EventFault, EventRefusal, Linted, LogRefusal, Warnings};
 use pmf_storelog::{Cause, LogFault};
 use pmf_stream::{CheckLogFault, Done, JoinTextFault, Joined, Pieces, StreamFault};
@@ -108,13 +109,14 @@ impl Ending for CheckLogFault {
         match self {
             CheckLogFault::Log(fault) => fault.status(),
             CheckLogFault::Farm(fault) => fault.status(),
+            CheckLogFault::TooLong => Status::Refused,
         }
     }
 
     fn cause(&self) -> Option<Cause> {
         match self {
             CheckLogFault::Log(fault) => fault.cause(),
-            CheckLogFault::Farm(_) => None,
+            CheckLogFault::Farm(_) | CheckLogFault::TooLong => None,
         }
     }
 }
@@ -247,6 +249,41 @@ impl Ending for LedgerFault {
     }
 }
 
+/// A block of the text is refused.
+impl Ending for BlockFault {
+    ghost ends_as = { status_of_block_fault };
+
+    fn status(&self) -> Status {
+        match self {
+            BlockFault::Text(fault) => fault.status(),
+            BlockFault::OutOfOrder { .. } => Status::Refused,
+        }
+    }
+}
+
+/// The ledgers were merged.
+impl Ending for Totals {
+    ghost ends_as = { λ totals. status_of_fails totals.fail };
+
+    fn status(&self) -> Status {
+        status_of_fails(self.fail)
+    }
+}
+
+/// The ledgers are not merged.
+impl Ending for MergeFault {
+    ghost ends_as = { status_of_merge_fault };
+
+    fn status(&self) -> Status {
+        match self {
+            MergeFault::Text { fault, .. } => fault.status(),
+            MergeFault::Read { .. } | MergeFault::Write { .. } => Status::DeviceFault,
+            MergeFault::OutOfMemory => Status::NoMemory,
+            MergeFault::ProfileMismatch { .. } | MergeFault::Conflict { .. } => Status::Refused,
+        }
+    }
+}
+
 /// The ledgers don't join.
 impl Ending for JoinFault {
     ghost ends_as = { status_of_join_fault };
@@ -267,6 +304,7 @@ impl Ending for JoinTextFault {
         match self {
             JoinTextFault::Load { fault, .. } => fault.status(),
             JoinTextFault::Join(fault) => fault.status(),
+            JoinTextFault::TooLong => Status::Refused,
             JoinTextFault::OutOfMemory => Status::NoMemory,
         }
     }

@@ -1,19 +1,20 @@
 //! What is answered for each request, over the streams and the files that it is handed.
 
-ghost use Rattle.std.specs.Prelude.{◌≡◌, is_none, map, IfErr, IfOk};
+ghost use Rattle.std.specs.Prelude.{◌≡◌, ◌⊎◌, is_none, map, All, IfErr, IfOk};
 ghost use Rattle.pmf_ledger.specs.declared.loading.TheConstants.{LEDGER_LIMIT};
 ghost use Rattle.pmf_device.specs.Failures.{CanCountOneMore};
-ghost use Rattle.pmf_command.specs.{Answered.{AreRead, IsAnswered, IsAnsweredFrom, IsUnread, JoinsFiles, Simulates, can_cut, input_of}, declared.status.Status.{Status}};
+ghost use Rattle.pmf_command.specs.{Answered.{AreOpened, AreRead, IsAnswered, IsAnsweredFrom, IsListOf, IsUnread, JoinsFiles, JoinsNamed, MergesOpened, Simulates, can_cut, form_of, input_of}, declared.status.Status.{Status}};
 
 use crate::ended::{
-    Ended, answer_to, check_to, cut_to, exhausted, join_all, play_to, recite_to, refused,
-    unanswered, unread,
+    Ended, answer_to, check_to, cut_to, exhausted, join_all, merge_all, play_to, recite_to,
+    refused, unanswered, unread,
 };
+use crate::list::all_names;
 use crate::shelf::{Shelf, bytes_of};
 use pmf_device::{Device, Sink, Source};
 use pmf_event::EVENT_LIMIT;
-use pmf_ledger::LEDGER_LIMIT;
-use pmf_request::{Cuts, Files, Input, Request, Simulation};
+use pmf_ledger::{Form, LEDGER_LIMIT};
+use pmf_request::{Cuts, Files, Input, Request, Simulation, Wanted};
 use pmf_storelog::LOG_LIMIT;
 use pmf_stream::{Excerpt, Outlet, read_all};
 use pmf_why::{Patch, Why};
@@ -160,7 +161,7 @@ fn refusal_of(cuts: Cuts) -> Option<&'static str>
     None
 }
 
-// Joins the ledgers of the files, which are read whole before any is loaded.
+// Joins the ledgers of the files, those that a list names among them.
 fn join_files<R: Eprint, W: Sink, F: Shelf>(
     rt: &R,
     alloc: Global,
@@ -171,11 +172,129 @@ fn join_files<R: Eprint, W: Sink, F: Shelf>(
     requires { CanCountOneMore (W.failed_calls sink.old) }
     ensures { JoinsFiles files.now (F.bytes shelf.now) (W.held sink.old) (W.held sink.new) result }
 {
-    let texts = match texts_of(rt, alloc, &files.names, shelf) {
+    let list = match list_of(rt, alloc, files.list, shelf) {
+        Ok(list) => list,
+        Err(ended) => return ended,
+    };
+    if list.len() > LEDGER_LIMIT {
+        return refused(
+            rt,
+            "error: the list of ledgers has more than 2147483648 bytes\n",
+        );
+    }
+    match all_names(alloc, &files.names, &list) {
+        Ok(Some(names)) => join_named(
+            rt,
+            alloc,
+            &names,
+            sink,
+            files.stream,
+            form_of(files.wanted),
+            shelf,
+        ),
+        Ok(None) => refused(rt, "error: a name in the list of ledgers is not UTF-8\n"),
+        Err(_) => exhausted(rt),
+    }
+}
+
+// In which form the ledger of all is written.
+fn form_of(wanted: Wanted) -> Form
+    ensures { result ≡ form_of wanted }
+{
+    match wanted {
+        Wanted::Report => Form::Report,
+        Wanted::Summary => Form::Summary,
+        Wanted::Ledger => Form::Ledger,
+    }
+}
+
+// What the list says that names ledgers, or how the program ends without it.
+fn list_of<R: Eprint, F: Shelf>(
+    rt: &R,
+    alloc: Global,
+    list: Option<&str>,
+    shelf: &F,
+) -> Result<Vec<u8>, Ended>
+    ensures read { IfOk result (λ bytes. IsListOf list.entry (F.bytes shelf.now) bytes.items) }
+    ensures unread { IfErr result IsUnread }
+{
+    let Some(name) = list else {
+        return Ok(Vec::new(alloc));
+    };
+    match bytes_of(shelf, alloc, name, LEDGER_LIMIT) {
+        Ok(bytes) => Ok(bytes),
+        Err(why) => Err(unread(rt, name, why)),
+    }
+}
+
+// Joins the ledgers of the files with these names, which are read whole before any is loaded, or merges them as they are read.
+fn join_named<R: Eprint, W: Sink, F: Shelf>(
+    rt: &R,
+    alloc: Global,
+    names: &[&str],
+    sink: &mut W,
+    stream: bool,
+    form: Form,
+    shelf: &F,
+) -> Ended
+    requires { CanCountOneMore (W.failed_calls sink.old) }
+    ensures { JoinsNamed stream form (map (λ name. name.now) names.now) (F.bytes shelf.now) (W.held sink.old) (W.held sink.new) result }
+{
+    if names.is_empty() {
+        return refused(rt, "error: no ledger is named\n");
+    }
+    if stream {
+        return merge_named(rt, alloc, names, sink, form, shelf);
+    }
+    let texts = match texts_of(rt, alloc, names, shelf) {
         Ok(texts) => texts,
         Err(ended) => return ended,
     };
-    join_all(rt, alloc, &files.names, &texts, sink, files.ledger)
+    join_all(rt, alloc, names, &texts, sink, form)
+}
+
+// Merges the ledgers of the files with these names, which are all open meanwhile.
+fn merge_named<R: Eprint, W: Sink, F: Shelf>(
+    rt: &R,
+    alloc: Global,
+    names: &[&str],
+    sink: &mut W,
+    form: Form,
+    shelf: &F,
+) -> Ended
+    requires { CanCountOneMore (W.failed_calls sink.old) }
+    ensures { IsUnread result ⊎ MergesOpened form (map (λ name. name.now) names.now) (F.bytes shelf.now) (W.held sink.old) (W.held sink.new) result }
+{
+    let mut sources = match opened(rt, alloc, names, shelf) {
+        Ok(sources) => sources,
+        Err(ended) => return ended,
+    };
+    merge_all(rt, alloc, names, &mut sources, sink, form)
+}
+
+// Opens the files with these names, or says how the program ends without them.
+fn opened<R: Eprint, F: Shelf>(
+    rt: &R,
+    alloc: Global,
+    names: &[&str],
+    shelf: &F,
+) -> Result<Vec<F::File>, Ended>
+    ensures opened { IfOk result (λ sources. AreOpened (F.bytes shelf.now) (map (λ name. name.now) names.now) (map F.File.left sources.items)) }
+    ensures fresh { IfOk result (λ sources. All (λ s. CanCountOneMore (F.File.failed_calls s)) sources.items) }
+    ensures unopened { IfErr result IsUnread }
+{
+    let mut sources = Vec::new(alloc);
+    for name in names {
+        let source = match shelf.open(*name) {
+            Ok(source) => source,
+            Err(why) => return Err(unread(rt, *name, why)),
+        };
+        match sources.push(source) {
+            Ok(()) => {}
+            Err(_) => return Err(exhausted(rt)),
+        }
+    }
+    Ok(sources)
 }
 
 // The texts of the files with these names, or how the program ends without them.

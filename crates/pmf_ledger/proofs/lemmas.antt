@@ -22,3 +22,9 @@ pub mod SpelledLemmas
 pub mod LedgerTextLemmas
 pub mod ReportToldLemmas
 pub mod LoadedLemmas
+pub mod BlockReadingLemmas
+pub mod TextFrontLemmas
+pub mod LedgerEndLemmas
+pub mod AmissLemmas
+pub mod TellingLemmas
+pub mod SummaryLemmas

@@ -3,6 +3,8 @@ use Rattle.std.specs.Prelude.{ℕ, List, ◌++◌, ◌==◌, if◌then◌else◌
 use Rattle.pmf_storelog.specs.{declared.fault.LogFault.{LogFault}, FaultText.{words_of_cause}}
 use Rattle.pmf_event.specs.declared.name.Name.{Name}
 use Rattle.pmf_ledger.specs.declared.joining.JoinFault.{JoinFault}
+use Rattle.pmf_ledger.specs.declared.block_lines.BlockFault.{BlockFault}
+use Rattle.pmf_ledger.specs.declared.block_lines.BlockFault.TheVariants as block
 use Rattle.pmf_ledger.specs.declared.joining.JoinFault.TheVariants as join
 use Rattle.pmf_ledger.specs.declared.loading.{LedgerFault.{LedgerFault}, LedgerFault.TheVariants.{NotALedger, FalseRows, Conflict, Log, OutOfMemory}}
 
@@ -23,6 +25,11 @@ text_of_fault (FalseRows name) = codes "section " ++ decimal name.run ++ codes "
 text_of_fault (Conflict name) = codes "section " ++ decimal name.run ++ codes "." ++ decimal name.number ++ codes ": " ++ words_of_conflict
 text_of_fault (Log fault) = text_of_log fault
 text_of_fault OutOfMemory = codes "out of memory"
+
+-- the text of a fault of a text that is read block by block
+abbrev pub text_of_block_fault : BlockFault → List ℕ
+text_of_block_fault (block.Text fault) = text_of_fault fault
+text_of_block_fault (block.OutOfOrder name) = codes "section " ++ decimal name.run ++ codes "." ++ decimal name.number ++ codes ": out of order"
 
 -- the text of a refused join
 abbrev pub text_of_join : JoinFault → List ℕ

@@ -1,7 +1,7 @@
 -- What is said of the ledgers of equal sets, and of one text.
-use Rattle.std.specs.Prelude.{◌≡◌, ℕ, List}
+use Rattle.std.specs.Prelude.{◌≡◌, ℕ, true, List}
 use Rattle.pmf_event.specs.{declared.profile.Profile.{Profile}, Section.{Trace}}
-use Rattle.pmf_ledger.specs.{Gathered.{IsLedgerOf}, Gathering.{HaveSameMembers}, LedgerText.{text_of_ledger}, LedgerValue.{LedgerValue}, declared.loading.LedgerFault.{LedgerFault}, Loading.{IsRefusedWith, LoadsAs}, Report.{report_of}}
+use Rattle.pmf_ledger.specs.{Ending.{has_end}, Gathered.{IsLedgerOf}, Gathering.{HaveSameMembers}, LedgerText.{text_of_ledger}, LedgerValue.{LedgerValue}, declared.loading.LedgerFault.{LedgerFault}, Loading.{IsRefusedWith, LoadsAs}, Report.{report_of}}
 
 -- sets with the same members have one ledger by a profile, one report and one ledger text
 abbrev pub EqualSetsHaveOneLedger : Type 0
@@ -15,3 +15,7 @@ TextsLoadAsOneLedger = (text : List ℕ) (a b : LedgerValue) → LoadsAs text a 
 -- a text that loads is not refused
 abbrev pub WhatLoadsIsNotRefused : Type 0
 WhatLoadsIsNotRefused = (text : List ℕ) (ledger : LedgerValue) (found : LedgerFault) → LoadsAs text ledger → IsRefusedWith text found → ⊥
+
+-- a text that loads has an end
+abbrev pub WhatLoadsHasAnEnd : Type 0
+WhatLoadsHasAnEnd = (text : List ℕ) (ledger : LedgerValue) → LoadsAs text ledger → has_end text ≡ true

@@ -22,7 +22,11 @@ pub mod Report
 pub mod AllKept
 pub mod LedgerText
 pub mod Loading
+pub mod Ending
 pub mod ReportTold
 pub mod FaultText
 pub mod Following
+pub mod BlockReading
+pub mod Summary
+pub mod Telling
 pub mod Laws

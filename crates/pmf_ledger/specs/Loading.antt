@@ -145,9 +145,13 @@ lines_of text = take (length (parts_of text) - 1) (parts_of text)
 abbrev pub left_of : List ℕ → List ℕ
 left_of text = slice_index_or (parts_of text) (length (parts_of text) - 1) []
 
--- the reading of a whole text, but for what is not ended
+-- the reading of a text of any length, but for what is not ended
+abbrev pub reading_through : List ℕ → Reading
+reading_through text = after_lines unread 1 (lines_of text)
+
+-- that of a text that is loaded whole, which is not too long
 unfoldable pub reading_of : List ℕ → Reading
-reading_of text = if nat_lt LEDGER_LIMIT (length text) then at unread (AtFault (NotALedger 0)) else after_lines unread 1 (lines_of text)
+reading_of text = if nat_lt LEDGER_LIMIT (length text) then at unread (AtFault (NotALedger 0)) else reading_through text
 
 -- what is wrong at the end of the text: a text line is missing, or is not ended, or follows the last
 abbrev pub fault_at_end : Stage → ℕ → ℕ → Option LedgerFault
@@ -158,6 +162,10 @@ fault_at_end _ n left = Some (NotALedger n)
 -- the first fault of the text, but for blocks of one name with different events
 unfoldable pub fault_of : List ℕ → Option LedgerFault
 fault_of text = fault_at_end (reading_of text).stage (length (parts_of text)) (length (left_of text))
+
+-- that of a text of any length
+unfoldable pub fault_through : List ℕ → Option LedgerFault
+fault_through text = fault_at_end (reading_through text).stage (length (parts_of text)) (length (left_of text))
 
 -- a block's section has the name of one before it, and other events
 abbrev pub IsOther : List Trace → Trace → Type 0

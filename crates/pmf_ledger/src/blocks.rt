@@ -1,9 +1,9 @@
 //! The blocks of a ledger text, as far as it was read.
 
-ghost use Rattle.std.specs.Prelude.{◌≡◌, ◌≢◌, ◌+◌, ◌<◌, ◌^◌, [], ◌++◌, drop, length, codes, None, IfErr, IfOk, IsOk, bytes_eq};
+ghost use Rattle.std.specs.Prelude.{◌≡◌, ◌≢◌, ◌+◌, ◌<◌, ◌^◌, ◌≤◌, [], ◌∷◌, ◌++◌, drop, length, codes, None, IfErr, IfOk, IsOk, MatchOption, bytes_eq};
 ghost use Rattle.pmf_event.specs.declared.section.TheConstants.{EVENT_LIMIT};
 ghost use Rattle.pmf_verdict.specs.{Checked.{rows_in}, Text.{text_of_row}};
-ghost use Rattle.pmf_ledger.specs.{Following.{HasRead, Reaches, StandsFor}, Gathered.{HoldsOther}, Loading.{IsWantOfMemory, Reading, LineTakesMemory, after_end, after_event, after_head, after_line, after_row, after_version, end_of, fault_at, head_of, profile_of, unread, with_events, with_rows, with_section}};
+ghost use Rattle.pmf_ledger.specs.{BlockReading.{without_blocks}, Following.{HasRead, Reaches, StandsFor}, Gathered.{HoldsOther}, Loading.{IsWantOfMemory, Reading, LineTakesMemory, after_end, after_event, after_head, after_line, after_row, after_version, end_of, fault_at, head_of, profile_of, unread, with_events, with_rows, with_section}};
 ghost use Rattle.pmf_storelog.specs.Lines.{event_of_line};
 
 use crate::head::{read_end, read_head, read_version};
@@ -292,6 +292,17 @@ impl Blocks {
             return Ok(Next::Rows { verdict, row });
         }
         self.take(verdict)
+    }
+
+    /// Hands out the block that was read last, where it is the only one.
+    pub(crate) fn hand_out(&mut self) -> Option<Verdict>
+        ensures { (r : Reading) → HasRead r self.old → length r.blocks ≤ 1
+            → HasRead (without_blocks r) self.new
+            × MatchOption result (r.blocks ≡ []) (λ given. (r.blocks ≡ given.section ∷ []) × (given.profile ≡ r.profile)) }
+    {
+        let last = self.ledger.pop()?;
+        self.count = 0;
+        Some(last)
     }
 
     // One block more.

@@ -1,6 +1,6 @@
 //! Laws of gatherings, of their ledgers and of ledger texts, each the clause of an empty function.
 
-ghost use Rattle.pmf_ledger.specs.{AllKept.{AllRowsAreTrue, NoEmptyIsFilled, NoFailIsKept}, Gathering.{GivesItsLedger, GivesOrIsRefused, GivesWhereItMay, JoiningAssociates, JoiningCommutes, JoiningRepeats, OnlyTheSetCounts, RefusesForCause}, Laws.{EqualSetsHaveOneLedger, TextsLoadAsOneLedger, WhatLoadsIsNotRefused}, ReportTold.{ReportsTellSections, ReportsTellTotals}};
+ghost use Rattle.pmf_ledger.specs.{AllKept.{AllRowsAreTrue, NoEmptyIsFilled, NoFailIsKept}, Gathering.{GivesItsLedger, GivesOrIsRefused, GivesWhereItMay, JoiningAssociates, JoiningCommutes, JoiningRepeats, OnlyTheSetCounts, RefusesForCause}, Laws.{EqualSetsHaveOneLedger, TextsLoadAsOneLedger, WhatLoadsHasAnEnd, WhatLoadsIsNotRefused}, ReportTold.{ReportsTellSections, ReportsTellTotals}};
 
 /// Whatever ledger a gathering gives, in whatever order it took and joined, it is the ledger of the set that
 /// was gathered: each of its sections once, in the order of their names. That set agrees, and all is by one
@@ -66,6 +66,11 @@ pub fn texts_load_as_one_ledger()
 /// A text that loads as a ledger is not refused, memory aside.
 pub fn what_loads_is_not_refused()
     ensures { WhatLoadsIsNotRefused }
+{}
+
+/// A text that loads as a ledger has an end.
+pub fn what_loads_has_an_end()
+    ensures { WhatLoadsHasAnEnd }
 {}
 
 /// The rows of every checked section are true: what passed holds in every crash image that the rules allow, and what failed

@@ -1,6 +1,6 @@
 //! A ledger, and what it tells.
 
-ghost use Rattle.std.specs.Prelude.{◌≡◌, ◌↔◌, [], length, Contains, IsTrue, IfSome, MatchOption, All};
+ghost use Rattle.std.specs.Prelude.{◌≡◌, ◌↔◌, [], ◌∷◌, ◌++◌, length, Contains, IsTrue, IfNone, IfSome, MatchOption, All};
 ghost use Rattle.pmf_verdict.specs.Checked.{Checked};
 ghost use Rattle.pmf_ledger.specs.{Gathered.{IsLedgerOf}, LedgerValue.{LedgerValue}, Names.{Rises}, Places.{HasName, LacksName}, TrueRows.{HasTrueRows}};
 
@@ -90,5 +90,15 @@ impl Ledger {
         ensures true_rows { All HasTrueRows result.now }
     {
         self.verdicts.as_slice()
+    }
+
+    // Gives away the last verdict, by the order of names.
+    pub(crate) fn pop(&mut self) -> Option<Verdict>
+        ensures profile { self.new.profile ≡ self.old.profile }
+        ensures last { MatchOption result (self.old.sections ≡ [])
+            (λ last. self.old.sections ≡ self.new.sections ++ last ∷ []) }
+        ensures none { IfNone result (self.new ≡ self.old) }
+    {
+        self.verdicts.pop()
     }
 }

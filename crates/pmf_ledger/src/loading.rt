@@ -114,7 +114,7 @@ pub fn load_ledger(alloc: Global, text: &[u8]) -> Result<Ledger, LedgerFault>
 }
 
 // Whether the text may end here: nothing more is awaited, and nothing is left.
-fn is_over(next: &Next, rest: &[u8]) -> bool
+pub(crate) fn is_over(next: &Next, rest: &[u8]) -> bool
     ensures { result ≡ is_over next.now rest.now }
 {
     match next {

@@ -66,7 +66,7 @@ impl Ledger {
 }
 
 #[tactic(auto, unfolding(crate::specs::Report::text_of_counts))]
-fn push_counts(text: &mut String, counts: Totals) -> Result<(), AllocError>
+pub(crate) fn push_counts(text: &mut String, counts: Totals) -> Result<(), AllocError>
     ensures { OnOk result
         (string_bytes text.new ≡ string_bytes text.old ++ text_of_counts counts) }
 {
@@ -81,7 +81,11 @@ fn push_counts(text: &mut String, counts: Totals) -> Result<(), AllocError>
 }
 
 #[tactic(auto, unfolding(crate::specs::Report::text_of_header))]
-fn push_header(text: &mut String, verdict: &Verdict, counts: Totals) -> Result<(), AllocError>
+pub(crate) fn push_header(
+    text: &mut String,
+    verdict: &Verdict,
+    counts: Totals,
+) -> Result<(), AllocError>
     requires { counts ≡ totals_of (verdict.now ∷ []) }
     ensures { OnOk result
         (string_bytes text.new ≡ string_bytes text.old ++ text_of_header verdict.now) }
@@ -95,7 +99,11 @@ fn push_header(text: &mut String, verdict: &Verdict, counts: Totals) -> Result<(
 }
 
 #[tactic(auto, unfolding(crate::specs::Report::text_of_section))]
-fn push_section(text: &mut String, verdict: &Verdict, counts: Totals) -> Result<(), AllocError>
+pub(crate) fn push_section(
+    text: &mut String,
+    verdict: &Verdict,
+    counts: Totals,
+) -> Result<(), AllocError>
     requires { counts ≡ totals_of (verdict.now ∷ []) }
     ensures { OnOk result
         (string_bytes text.new ≡ string_bytes text.old ++ text_of_section verdict.now) }
@@ -106,7 +114,7 @@ fn push_section(text: &mut String, verdict: &Verdict, counts: Totals) -> Result<
 }
 
 #[tactic(auto, unfolding(crate::specs::Report::text_of_totals))]
-fn push_totals(text: &mut String, totals: Totals) -> Result<(), AllocError>
+pub(crate) fn push_totals(text: &mut String, totals: Totals) -> Result<(), AllocError>
     ensures { OnOk result
         (string_bytes text.new ≡ string_bytes text.old ++ text_of_totals totals) }
 {

@@ -44,8 +44,9 @@ enum Standing {
     Absent(usize),
 }
 
+/// How the names of two sections stand: by run, then by number.
 #[tactic(auto, using(std::proofs::lemmas::Grind::common_steps, crate::proofs::lemmas::NameLemmas::compares_tells))]
-pub(crate) fn order(a: Name, b: Name) -> Ordering
+pub fn order(a: Name, b: Name) -> Ordering
     ensures less { (result ≡ Ordering.Less) → IsBefore a b }
     ensures equal { (result ≡ Ordering.Equal) → a ≡ b }
     ensures greater { (result ≡ Ordering.Greater) → IsBefore b a }

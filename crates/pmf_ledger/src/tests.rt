@@ -10,6 +10,7 @@ use std::process::Abort;
 use std::sync::Arc;
 use std::test::Fail;
 
+mod block_reading;
 mod joining;
 mod loading;
 mod texts;

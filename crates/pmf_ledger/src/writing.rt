@@ -35,7 +35,7 @@ impl Ledger {
         text.push_str(version_of(self.profile))?;
         text.push_str("\n")?;
         push_blocks(&mut text, &self.verdicts)?;
-        push_end(&mut text, self.verdicts.len())?;
+        push_end(&mut text, self.verdicts.len() as u64)?;
         Ok(text.into_bytes())
     }
 }
@@ -61,7 +61,7 @@ fn push_head(text: &mut String, name: Name, events: usize, rows: usize) -> Resul
 }
 
 #[tactic(auto, unfolding(crate::specs::LedgerText::text_of_block))]
-fn push_block(text: &mut String, verdict: &Verdict) -> Result<(), AllocError>
+pub(crate) fn push_block(text: &mut String, verdict: &Verdict) -> Result<(), AllocError>
     ensures text { OnOk result
         (string_bytes text.new ≡ string_bytes text.old ++ text_of_block verdict.now) }
     ensures spelled { OnOk result (IsSpelled verdict.now) }
@@ -107,7 +107,7 @@ pub(crate) fn push_rows(text: &mut String, verdict: &Verdict) -> Result<(), Allo
 }
 
 #[tactic(auto, unfolding(crate::specs::LedgerText::text_of_end))]
-fn push_end(text: &mut String, blocks: usize) -> Result<(), AllocError>
+pub(crate) fn push_end(text: &mut String, blocks: u64) -> Result<(), AllocError>
     ensures { OnOk result
         (string_bytes text.new ≡ string_bytes text.old ++ text_of_end blocks) }
 {

@@ -11,13 +11,28 @@ pub enum Input<'a> {
     File(&'a str),
 }
 
+/// What is to be written of joined ledgers.
+#[derive(Clone, Copy, Debug, PartialEq, Eq)]
+pub enum Wanted {
+    /// The report: all rows of each section, and the sums.
+    Report,
+    /// The summary: the rows that fail or warn, the sums of each run, and all sums.
+    Summary,
+    /// The ledger text.
+    Ledger,
+}
+
 /// Which ledgers are to be joined.
 #[derive(Debug, PartialEq, Drop)]
 pub struct Files<'a> {
     /// The files of the ledgers, in the order of the words.
     pub names: Vec<&'a str>,
-    /// Whether the ledger text is written in the place of the report.
-    pub ledger: bool,
+    /// The file that names further ones, one on each of its text lines, if there is one.
+    pub list: Option<&'a str>,
+    /// Whether they are merged as they are read, which takes texts of any length.
+    pub stream: bool,
+    /// What is written of them.
+    pub wanted: Wanted,
 }
 
 /// How a log is to be cut, and into what.
@@ -61,7 +76,7 @@ pub enum Request<'a> {
     Lint(Overview, Input<'a>),
     /// Read the log on standard input, and write it with its sections cut to standard output, or to files.
     Cut(Cuts<'a>),
-    /// Join the ledgers of the files, and write the report of all, or their ledger text, to standard output.
+    /// Join the ledgers of the files, and write the report of all, or what else is wanted of them, to standard output.
     Join(Files<'a>),
     /// Play the schedule on standard input, and write what each step comes to, and each ledger's report, to standard
     /// output.

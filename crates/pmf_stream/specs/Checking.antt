@@ -1,7 +1,7 @@
 -- What check_stream reads, and the report or ledger text that it writes. Defined here.
 use Rattle.std.specs.{Prelude.{◌≡◌, ◌≢◌, ◌<◌, ◌≤◌, ◌⊎◌, Bool, true, false, List, ◌++◌, length, map, ℕ, Option, None, Some, Ok, Err}, Io.KnownBytes.{IsAtEnd}}
 use Rattle.pmf_storelog.specs.{declared.fault.LogFault.{LogFault}, declared.fault.TheConstants.{LOG_LIMIT}, LogValue.{LogValue}, LogText.{log_of, shown_fault, IsFaultOfAll, out_of_memory}}
-use Rattle.pmf_ledger.specs.{Gathered.{IsLedgerOf}, AllKept.{AllKept, AllFilled}, LedgerText.{text_of_ledger}, LedgerValue.{LedgerValue}, Report.{report_of, totals_of}, ReportTold.{sections_told, shown}}
+use Rattle.pmf_ledger.specs.{declared.form.Form.{Form}, declared.form.Form.TheVariants.{Report, Ledger}, declared.loading.TheConstants.{LEDGER_LIMIT}, Gathered.{IsLedgerOf}, AllKept.{AllKept, AllFilled}, LedgerText.{text_of_ledger}, LedgerValue.{LedgerValue}, Loading.{LoadsAs}, Report.{totals_of}, ReportTold.{sections_told, shown}, Telling.{text_told}}
 use Rattle.pmf_query.specs.{declared.warnings.Warnings.{Warnings}, Warnings.{warnings_of}}
 use Rattle.pmf_farm.specs.{declared.fault.FarmFault.{FarmFault}, Running.{IsTaken}}
 use Rattle.pmf_board.specs.{declared.board.TheConstants.{MOST_WORKERS}, Workers.{AreWorkers}}
@@ -30,20 +30,30 @@ pub record IsFaultOf (run : ℕ) (old new : Option (List ℕ)) (found : LogFault
   pub for_all : IsAtEnd new ⊎ IsFaultOfAll found bytes
   pub stops : StopsAtFault bytes
 
--- what is written of a ledger: its report, or the ledger text that is asked for in its place
-abbrev pub text_asked : Bool → LedgerValue → List ℕ
-text_asked false ledger = report_of ledger.sections
-text_asked true ledger = text_of_ledger ledger
+-- in which form a checked log's ledger is written: as its report, or as the ledger text that is asked for in its place
+abbrev pub form_of : Bool → Form
+form_of false = Report
+form_of true = Ledger
+
+-- this text is written of a ledger in this form: a report tells just its sections, each with its own rows, and a ledger text loads as
+-- this ledger
+pub record IsWrittenOf (form : Form) (ledger : LedgerValue) (text : List ℕ) : Type 0 where
+  pub text_is : text ≡ text_told form ledger
+  pub told : form ≡ Report → sections_told text ≡ map shown ledger.sections
+  pub loads : form ≡ Ledger → LoadsAs text ledger
+
+-- the ledger text is asked for, and it has more bytes than one that is loaded
+abbrev pub IsTooLong : Form → LedgerValue → Type 0
+IsTooLong form ledger = (form ≡ Ledger) × (LEDGER_LIMIT < length (text_of_ledger ledger))
 
 -- the workers take the log's sections, this is the report, or the ledger text, of the ledger of those by the profile,
--- and what is told of it is so; a report tells just the sections of the ledger, each with its own rows; where no row fails, all that the sections assert holds, and where none is EMPTY, each
--- assertion had something to check
+-- and what is told of it is so; where no row fails, all that the sections assert holds, and where none is EMPTY, each assertion had
+-- something to check
 pub record Reports (settings : Settings) (log : LogValue) (done : Done) (text : List ℕ) : Type 0 where
   pub taken : IsTaken settings.workers log.sections
   pub ledger : LedgerValue
   pub gathered : IsLedgerOf settings.profile log.sections ledger
-  pub text_is : text ≡ text_asked settings.ledger ledger
-  pub told : settings.ledger ≡ false → sections_told text ≡ map shown ledger.sections
+  pub written : IsWrittenOf (form_of settings.ledger) ledger text
   pub skipped : done.skipped ≡ log.skipped
   pub passes : done.passes ≡ (totals_of ledger.sections).pass
   pub fails : done.fails ≡ (totals_of ledger.sections).fail
@@ -75,7 +85,11 @@ IsWorkersFault workers farm.TooManyWorkers = MOST_WORKERS < workers
 IsWorkersFault workers farm.OutOfMemory = AreWorkers workers
 IsWorkersFault workers _ = ⊥
 
--- the log is refused with this first fault, or it was read whole without a fault and the farm refuses its workers
+-- the log is refused with this first fault; or it was read whole without a fault, and the farm refuses its workers, or the ledger of
+-- its sections is too long to be written
 abbrev pub IsCheckFaultOf : Settings → Option (List ℕ) → Option (List ℕ) → CheckLogFault → Type 0
 IsCheckFaultOf settings left rest (checking.Log found) = IsLogFaultOf settings.run left rest found
 IsCheckFaultOf settings left rest (checking.Farm found) = (log : LogValue) × IsLogOf settings.run left rest log × IsWorkersFault settings.workers found
+IsCheckFaultOf settings left rest checking.TooLong =
+    (log : LogValue) × (ledger : LedgerValue) × IsLogOf settings.run left rest log × IsTaken settings.workers log.sections × IsLedgerOf settings.profile log.sections ledger
+    × IsTooLong (form_of settings.ledger) ledger

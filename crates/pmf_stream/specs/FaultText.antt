@@ -20,9 +20,11 @@ text_of_stream text stream.OutOfMemory = Some (codes "out of memory")
 abbrev pub text_of_check : CheckLogFault → List ℕ
 text_of_check (check.Log found) = text_of_fault found
 text_of_check (check.Farm found) = farm.text_of_fault found
+text_of_check check.TooLong = codes "ledger is too long"
 
 -- the text of why ledger texts were not joined
 abbrev pub text_of_join_text : JoinTextFault → List ℕ
 text_of_join_text (fault.Load index found) = ledger.text_of_fault found
 text_of_join_text (fault.Join found) = text_of_join found
+text_of_join_text fault.TooLong = codes "ledger is too long"
 text_of_join_text fault.OutOfMemory = codes "out of memory"

@@ -1,11 +1,11 @@
 //! From a stream of bytes to its report, or its ledger text.
 
-ghost use Rattle.std.specs.Prelude.{◌≡◌, ◌≢◌, ◌++◌, ◌+◌, ℕ, false, List, [], map, Option, None, IfOk, IfErr, MatchResult};
+ghost use Rattle.std.specs.Prelude.{◌≡◌, ◌≢◌, ◌<◌, ◌≤◌, ◌++◌, ◌+◌, ℕ, List, [], length, Option, None, IfOk, IfErr, IfSome, MatchOption, MatchResult};
 ghost use Rattle.pmf_storelog.specs.{declared.fault.TheConstants.{LOG_LIMIT}, LogText.{out_of_memory, shown_fault}, Reader.{HasRead}};
 ghost use Rattle.pmf_farm.specs.Running.{IsTaken};
-ghost use Rattle.pmf_ledger.specs.{Gathered.{IsLedgerOf}, Report.{totals_of}, ReportTold.{sections_told, shown}};
+ghost use Rattle.pmf_ledger.specs.{declared.loading.TheConstants.{LEDGER_LIMIT}, Gathered.{IsLedgerOf}, LedgerText.{text_of_ledger}, Loading.{LoadsAs}, Report.{totals_of}};
 ghost use Rattle.pmf_device.specs.Failures.{CanCountOneMore};
-ghost use Rattle.pmf_stream.specs.{Answering.{Answers, RefusesReading, TellsFaults, failed_reads}, Checking.{AreWarnings, HasKept, IsCheckFaultOf, IsLogOf, IsReportOf, Reports, text_asked}, Reading.{ReadsWithin}};
+ghost use Rattle.pmf_stream.specs.{Answering.{Answers, RefusesReading, TellsFaults, failed_reads}, Checking.{AreWarnings, HasKept, IsCheckFaultOf, IsLogOf, IsReportOf, IsTooLong, IsWrittenOf, Reports, form_of}, Reading.{ReadsWithin}};
 
 use crate::excerpt::Excerpt;
 use crate::fault::StreamFault;
@@ -13,7 +13,7 @@ use crate::reading::{Intake, read_into};
 use crate::writing::write_answer;
 use pmf_device::{Failed, Sink, Source};
 use pmf_farm::{FarmFault, Gate, run};
-use pmf_ledger::{Ledger, Totals};
+use pmf_ledger::{Form, LEDGER_LIMIT, Ledger, Totals};
 use pmf_query::{Warnings, lint_log};
 use pmf_request::Settings;
 use pmf_storelog::{LOG_LIMIT, Log, LogFault, LogReader};
@@ -36,13 +36,15 @@ pub struct Done {
     pub warnings: Option<Warnings>,
 }
 
-/// Why a log was not checked: it is faulty, or else its sections were not taken by the workers.
+/// Why a log was not checked: it is faulty, or else its sections were not taken by the workers, or else its ledger is too long.
 #[derive(Clone, Copy, Debug, PartialEq, Eq)]
 pub enum CheckLogFault {
     /// What was read is no log, by its first fault.
     Log(LogFault),
     /// The log was read without a fault, and there are no workers for it, too many, or no memory.
     Farm(FarmFault),
+    /// The log was checked, and its ledger text, which is asked for, has more than [`LEDGER_LIMIT`] bytes.
+    TooLong,
 }
 
 impl fmt::Display for CheckLogFault {
@@ -55,6 +57,7 @@ impl fmt::Display for CheckLogFault {
         match self {
             CheckLogFault::Log(fault) => write!(f, "{fault}"),
             CheckLogFault::Farm(fault) => write!(f, "{fault}"),
+            CheckLogFault::TooLong => f.write_str("ledger is too long"),
         }
     }
 }
@@ -152,21 +155,63 @@ fn read_log<R: Source>(
     }
 }
 
-/// The text of the ledger that is asked for, and how many of its rows count as what.
+/// The text of the ledger in the form that is asked for, and how many of its rows count as what; or none where it is a ledger text that is
+/// too long to be loaded.
 pub(crate) fn write_asked(
     alloc: Global,
     ledger: &Ledger,
-    as_ledger: bool,
-) -> Result<(Vec<u8>, Totals), AllocError>
-    ensures text { IfOk result (λ made. made.0.items ≡ text_asked as_ledger ledger.now) }
-    ensures totals { IfOk result (λ made. made.1 ≡ totals_of ledger.now.sections) }
-    ensures told { IfOk result (λ made. as_ledger ≡ false → sections_told made.0.items ≡ map shown ledger.now.sections) }
+    form: Form,
+) -> Result<Option<(Vec<u8>, Totals)>, AllocError>
+    ensures written { IfOk result (λ asked. MatchOption asked (IsTooLong form ledger.now)
+        (λ made. IsWrittenOf form ledger.now made.0.items)) }
+    ensures totals { IfOk result (λ asked. IfSome asked (λ made. made.1 ≡ totals_of ledger.now.sections)) }
+{
+    match form {
+        Form::Report => {
+            let made = ledger.report(alloc)?;
+            Ok(Some(made))
+        }
+        Form::Summary => {
+            let made = ledger.summary(alloc)?;
+            Ok(Some(made))
+        }
+        Form::Ledger => {
+            let Some(text) = text_within(alloc, ledger, LEDGER_LIMIT)? else {
+                return Ok(None);
+            };
+            Ok(Some((text, ledger.totals())))
+        }
+    }
+}
+
+/// In which form a checked log's ledger is written.
+fn form_of(as_ledger: bool) -> Form
+    ensures { result ≡ form_of as_ledger }
 {
     if as_ledger {
-        let text = ledger.write_ledger(alloc)?;
-        return Ok((text, ledger.totals()));
+        Form::Ledger
+    } else {
+        Form::Report
     }
-    ledger.report(alloc)
+}
+
+/// The text of the ledger, or none where it has more bytes than the limit.
+pub(crate) fn text_within(
+    alloc: Global,
+    ledger: &Ledger,
+    limit: usize,
+) -> Result<Option<Vec<u8>>, AllocError>
+    requires { limit ≤ LEDGER_LIMIT }
+    ensures text { IfOk result (λ asked. IfSome asked (λ text. text.items ≡ text_of_ledger ledger.now)) }
+    ensures within { IfOk result (λ asked. MatchOption asked (limit < length (text_of_ledger ledger.now))
+        (λ text. length text.items ≤ limit)) }
+    ensures loads { IfOk result (λ asked. IfSome asked (λ text. LoadsAs text.items ledger.now)) }
+{
+    let text = ledger.write_ledger(alloc)?;
+    if text.len() > limit {
+        return Ok(None);
+    }
+    Ok(Some(text))
 }
 
 /// Which warnings `lint` has of these bytes, where they are asked for. A log that was read without a fault is not refused again, but for want
@@ -183,37 +228,42 @@ fn look(alloc: Global, bytes: &[u8], strict: bool) -> Result<Option<Warnings>, A
     }
 }
 
-/// What is written of the log's ledger by the settings, and what is told of it.
+/// What is written of the log's ledger by the settings, and what is told of it; or none where it is too long to be loaded.
 fn report_log(
     alloc: Global,
     log: &Log,
     ledger: &Ledger,
     settings: Settings,
     warnings: Option<Warnings>,
-) -> Result<(Vec<u8>, Done), AllocError>
+) -> Result<Option<(Vec<u8>, Done)>, AllocError>
     requires ledger { IsLedgerOf settings.profile log.now.sections ledger.now }
     requires taken { IsTaken settings.workers log.now.sections }
-    ensures reports { IfOk result (λ made. Reports settings log.now made.1 made.0.items) }
-    ensures warnings { IfOk result (λ made. made.1.warnings ≡ warnings) }
+    ensures reports { IfOk result (λ asked. MatchOption asked (IsTooLong (form_of settings.ledger) ledger.now)
+        (λ made. Reports settings log.now made.1 made.0.items)) }
+    ensures warnings { IfOk result (λ asked. IfSome asked (λ made. made.1.warnings ≡ warnings)) }
 {
-    let (text, totals) = write_asked(alloc, ledger, settings.ledger)?;
+    let Some((text, totals)) = write_asked(alloc, ledger, form_of(settings.ledger))? else {
+        return Ok(None);
+    };
     let done = Done {
         skipped: log.skipped(),
         passes: totals.pass,
         fails: totals.fail,
         warnings,
     };
-    Ok((text, done))
+    Ok(Some((text, done)))
 }
 
 /// Reads a log, checks its sections by the profile, by so many workers on threads of their own, and writes their report,
 /// or their ledger text. Reads in pieces, at most one byte more than a log may have, and stops at the first fault of the
-/// log; writes nothing before the whole log was read and checked. Keeps the record for which it refuses the log.
+/// log; writes nothing before the whole log was read and checked, and no ledger text that is too long to be loaded. Keeps the record
+/// for which it refuses the log.
 ///
 /// What is written doesn't depend on the number of workers, on the gate, or on which workers were lost.
 ///
 /// Refusals: [`StreamFault::ReadFault`] and [`CheckLogFault::Log`] as the reading goes, then [`CheckLogFault::Farm`],
-/// then [`StreamFault::OutOfMemory`] (also as a cause of the two before), then [`StreamFault::WriteFault`]. Takes memory
+/// then [`StreamFault::OutOfMemory`] (also as a cause of the two before) and [`CheckLogFault::TooLong`], then
+/// [`StreamFault::WriteFault`]. Takes memory
 /// for the events, the verdicts and the report, and for no other byte of the log; where the settings are strict for each of its bytes, and
 /// for what `lint` takes.
 pub fn check_stream<H: Threads + Wait + Sync, R: Source, W: Sink, G: Gate + Sync>(
@@ -229,7 +279,7 @@ pub fn check_stream<H: Threads + Wait + Sync, R: Source, W: Sink, G: Gate + Sync
     requires write { CanCountOneMore (W.failed_calls writer.old) }
     // The whole stream was a log without a fault, and exactly the text of its sections was written; or it
     // was refused with the first fault of what was read, and of every log that begins so; or the farm refused the
-    // sections of the whole log.
+    // sections of the whole log; or its ledger text was asked for, and is too long.
     ensures answer { Answers (IsReportOf settings (R.left reader.old) (R.left reader.new))
         (IsCheckFaultOf settings (R.left reader.old) (R.left reader.new))
         (W.held writer.old) (W.held writer.new) result }
@@ -254,6 +304,8 @@ pub fn check_stream<H: Threads + Wait + Sync, R: Source, W: Sink, G: Gate + Sync
         Err(fault) => return Err(StreamFault::Refused(CheckLogFault::Farm(fault))),
     };
     let warnings = look(alloc, &kept, settings.strict)?;
-    let (text, done) = report_log(alloc, &log, &ledger, settings, warnings)?;
+    let Some((text, done)) = report_log(alloc, &log, &ledger, settings, warnings)? else {
+        return Err(StreamFault::Refused(CheckLogFault::TooLong));
+    };
     write_answer(writer, &text, done)
 }

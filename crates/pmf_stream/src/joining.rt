@@ -1,16 +1,16 @@
 //! From the texts of ledgers to the text of the ledger of them all.
 
-ghost use Rattle.std.specs.Prelude.{◌≡◌, ◌+◌, ◌⊎◌, ◌≤◌, ℕ, List, map, IfOk, IfErr, IsErrOf, MatchResult};
-ghost use Rattle.pmf_ledger.specs.{LedgerValue.{LedgerValue}, Loading.{IsOfText, IsRefusedWith, IsWantOfMemory, LoadsAs, MayWantMemory}};
+ghost use Rattle.std.specs.Prelude.{◌≡◌, ◌+◌, ◌++◌, ◌⊎◌, ◌<◌, ◌≤◌, ℕ, List, length, map, take, true, false, IfOk, IfErr, IfSome, IsErrOf, MatchResult};
+ghost use Rattle.pmf_ledger.specs.{Ending.{has_end}, LedgerValue.{LedgerValue}, Loading.{IsOfText, IsRefusedWith, IsWantOfMemory, LoadsAs, MayWantMemory}};
 ghost use Rattle.pmf_device.specs.Failures.{CanCountOneMore};
-ghost use Rattle.pmf_stream.specs.{Answering.{Answers, TellsFaults}, Joining.{IsFirstRefusal, IsJoinFaultOf, IsJoinOf, IsJoinOfTwo, IsJoinedAt, IsJoinedText, IsRefusalOfTexts, IsRefusedAt}};
+ghost use Rattle.pmf_stream.specs.{Answering.{Answers, TellsFaults}, Joining.{AllHaveEnds, IsFirstRefusal, IsJoinFaultOf, IsJoinOf, IsJoinOfTwo, IsJoinedAt, IsJoinedText, IsRefusalOfTexts, IsRefusedAlone, IsRefusedAt, IsRefusedForItsEnd, IsRefusedInTurn}};
 
 use crate::checking::write_asked;
 use crate::fault::StreamFault;
 use crate::writing::write_answer;
 use pmf_device::Sink;
 use pmf_event::Profile;
-use pmf_ledger::{JoinFault, Ledger, LedgerFault, load_ledger};
+use pmf_ledger::{Form, JoinFault, Ledger, LedgerFault, has_end, load_ledger};
 use pmf_storelog::{Cause, LogFault};
 use std::alloc::Global;
 use std::error::Error;
@@ -23,7 +23,8 @@ pub struct Joined {
     pub fails: u128,
 }
 
-/// Why ledger texts were not joined: the first that applies as they are loaded and joined, text after text.
+/// Why ledger texts were not joined: the first text that has no end is refused itself; or else it is the first that applies as they
+/// are loaded and joined, text after text.
 #[derive(Clone, Copy, Debug, PartialEq, Eq)]
 pub enum JoinTextFault {
     /// A text is refused.
@@ -35,6 +36,8 @@ pub enum JoinTextFault {
     },
     /// The ledger of a text doesn't join that of the texts before it.
     Join(JoinFault),
+    /// The texts are joined, and the text of their ledger, which is asked for, has more than [`pmf_ledger::LEDGER_LIMIT`] bytes.
+    TooLong,
     /// Room for a ledger was refused.
     OutOfMemory,
 }
@@ -49,6 +52,7 @@ impl fmt::Display for JoinTextFault {
         match self {
             JoinTextFault::Load { fault, .. } => write!(f, "{fault}"),
             JoinTextFault::Join(fault) => write!(f, "{fault}"),
+            JoinTextFault::TooLong => f.write_str("ledger is too long"),
             JoinTextFault::OutOfMemory => f.write_str("out of memory"),
         }
     }
@@ -58,9 +62,8 @@ impl Error for JoinTextFault {}
 
 // Why the text of this index was not loaded.
 fn fault_at(index: usize, fault: LedgerFault) -> JoinTextFault
-    ensures refused { (before : LedgerValue) (text : List ℕ)
-        → (IsOfText fault → IsRefusedWith text fault) → (IsWantOfMemory fault → MayWantMemory text)
-        → IsRefusedAt before index text result }
+    ensures refused { (text : List ℕ) → (IsOfText fault → IsRefusedWith text fault)
+        → (IsWantOfMemory fault → MayWantMemory text) → IsRefusedAlone index text result }
     ensures memory { result ≡ JoinTextFault.OutOfMemory → IsWantOfMemory fault }
 {
     match fault {
@@ -91,16 +94,125 @@ fn fault_of_join(fault: JoinFault) -> JoinTextFault
 /// decides: a text that is no ledger's, or one whose ledger doesn't join that of those before it. Of no text it is
 /// the empty ledger of profile One.
 ///
-/// Takes memory for the sections and their verdicts, and while two ledgers are joined for a list of both.
+/// Before any text is loaded, the end of each is looked at. Where one has none (see [`has_end`]), as a text that was cut off, the
+/// first such text is loaded alone, and refused with its own fault.
+///
+/// The texts are joined by halves of about as many bytes: beside their checks the time grows with their sections times the
+/// logarithm of their bytes. Takes memory for the sections and their verdicts, and while two ledgers are joined for a list of both.
 pub fn join_texts(alloc: Global, texts: &[Vec<u8>]) -> Result<Ledger, JoinTextFault>
     ensures { MatchResult result (IsJoinOf (map (λ text. text.items) texts.now))
         (IsFirstRefusal (map (λ text. text.items) texts.now)) }
 {
-    let mut joined = Ledger::new(alloc, Profile::One);
+    look_at_ends(alloc, texts)?;
+    let none = Ledger::new(alloc, Profile::One);
+    join_up_to(alloc, none, texts, 0, texts.len())
+}
+
+// Refuses the first text that has no end.
+fn look_at_ends(alloc: Global, texts: &[Vec<u8>]) -> Result<(), JoinTextFault>
+    ensures { MatchResult result (λ _. AllHaveEnds (map (λ text. text.items) texts.now))
+        (IsRefusedForItsEnd (map (λ text. text.items) texts.now)) }
+{
     for (index, text) in texts.iter().enumerate() {
-        joined = join_text(alloc, joined, index, text)?;
+        look_at_end(alloc, index, text)?;
     }
-    Ok(joined)
+    Ok(())
+}
+
+// Refuses the text with its own fault if it has no end: such a text isn't loaded.
+fn look_at_end(alloc: Global, index: usize, text: &[u8]) -> Result<(), JoinTextFault>
+    ensures { MatchResult result (λ _. has_end text.now ≡ true)
+        (λ found. (has_end text.now ≡ false) × IsRefusedAlone index text.now found) }
+{
+    if has_end(text) {
+        return Ok(());
+    }
+    let Err(fault) = load_ledger(alloc, text) else {
+        return Ok(());
+    };
+    Err(fault_at(index, fault))
+}
+
+// The ledger of the texts before the end, of which those before the first are joined. Where their second half isn't joined
+// as a whole, the first refusal in turn is looked for in it.
+fn join_up_to(
+    alloc: Global,
+    before: Ledger,
+    texts: &[Vec<u8>],
+    first: usize,
+    end: usize,
+) -> Result<Ledger, JoinTextFault>
+    requires rises { first ≤ end }
+    requires within { end ≤ length texts.now }
+    requires reached { IsJoinOf (take first (map (λ text. text.items) texts.now)) before }
+    ensures { MatchResult result (IsJoinOf (take end (map (λ text. text.items) texts.now)))
+        (IsRefusedInTurn (map (λ text. text.items) texts.now)) }
+{
+    if first == end {
+        return Ok(before);
+    }
+    if end - first == 1 {
+        return join_text(alloc, before, first, &texts[first]);
+    }
+    let middle = first + middle_of(&texts[first..end]);
+    let reached = join_up_to(alloc, before, texts, first, middle)?;
+    match join_half(alloc, reached, &texts[middle..end]) {
+        Ok(joined) => Ok(joined),
+        Err(reached) => join_up_to(alloc, reached, texts, middle, end),
+    }
+}
+
+// How many of the texts are their first half: both halves have a text, and about as many bytes.
+fn middle_of(texts: &[Vec<u8>]) -> usize
+    requires { 2 ≤ length texts.now }
+    ensures some { 0 < result }
+    ensures within { result < length texts.now }
+{
+    let mut front = 1;
+    let mut back = texts.len() - 1;
+    let mut before = texts[0].len();
+    let mut behind = texts[back].len();
+    while front < back {
+        if before <= behind {
+            before = before.saturating_add(texts[front].len());
+            front += 1;
+        } else {
+            back -= 1;
+            behind = behind.saturating_add(texts[back].len());
+        }
+    }
+    front
+}
+
+// The ledger of the texts that were joined and of these, or that of the former as it was.
+fn join_half(alloc: Global, before: Ledger, texts: &[Vec<u8>]) -> Result<Ledger, Ledger>
+    ensures joined { (others : List (List ℕ)) → 0 < length others → IsJoinOf others before
+        → IfOk result (IsJoinOf (others ++ map (λ text. text.items) texts.now)) }
+    ensures kept { IfErr result (λ kept. kept ≡ before) }
+{
+    let Some(half) = join_halves(alloc, texts) else {
+        return Err(before);
+    };
+    match before.join(half) {
+        Ok(joined) => Ok(joined),
+        Err((_, before, _)) => Err(before),
+    }
+}
+
+// The ledger of the texts, if they are joined.
+fn join_halves(alloc: Global, texts: &[Vec<u8>]) -> Option<Ledger>
+    ensures { IfSome result (IsJoinOf (map (λ text. text.items) texts.now)) }
+{
+    match texts {
+        [] => None,
+        [text] => load_ledger(alloc, text).ok(),
+        _ => {
+            let (front, back) = texts.split_at(middle_of(texts));
+            let front = join_halves(alloc, front)?;
+            let back = join_halves(alloc, back)?;
+            join_two(front, back).ok()
+        }
+    }
 }
 
 // The ledger of the texts before this one, joined with its own; the first begins.
@@ -137,21 +249,21 @@ fn join_two(before: Ledger, after: Ledger) -> Result<Ledger, JoinFault>
     }
 }
 
-/// Joins the texts of ledgers and writes the report of their ledger, or its text. Nothing is written before all texts
-/// are joined.
+/// Joins the texts of ledgers and writes their ledger in this form. Nothing is written before all texts
+/// are joined, and no ledger text that is too long to be loaded.
 ///
-/// Refusals: [`StreamFault::Refused`] and [`StreamFault::OutOfMemory`], then [`StreamFault::WriteFault`]. Takes memory
-/// as [`join_texts`] does, and for the text.
+/// Refusals: [`StreamFault::Refused`] and [`StreamFault::OutOfMemory`], of these [`JoinTextFault::TooLong`] last, then
+/// [`StreamFault::WriteFault`]. Takes memory as [`join_texts`] does, and for the text.
 pub fn join_to<W: Sink>(
     alloc: Global,
     texts: &[Vec<u8>],
     writer: &mut W,
-    as_ledger: bool,
+    form: Form,
 ) -> Result<Joined, StreamFault<JoinTextFault>>
     requires { CanCountOneMore (W.failed_calls writer.old) }
     // Exactly the text of the texts' ledger was written, or they were refused.
-    ensures answer { Answers (IsJoinedText as_ledger (map (λ text. text.items) texts.now))
-        (IsRefusalOfTexts (map (λ text. text.items) texts.now))
+    ensures answer { Answers (IsJoinedText form (map (λ text. text.items) texts.now))
+        (IsRefusalOfTexts form (map (λ text. text.items) texts.now))
         (W.held writer.old) (W.held writer.new) result }
     // Memory was wanted where a text is loaded or joined, or the texts are joined.
     ensures memory { IsErrOf result StreamFault.OutOfMemory
@@ -165,7 +277,9 @@ pub fn join_to<W: Sink>(
         Err(JoinTextFault::OutOfMemory) => return Err(StreamFault::OutOfMemory),
         Err(fault) => return Err(StreamFault::Refused(fault)),
     };
-    let (text, totals) = write_asked(alloc, &ledger, as_ledger)?;
+    let Some((text, totals)) = write_asked(alloc, &ledger, form)? else {
+        return Err(StreamFault::Refused(JoinTextFault::TooLong));
+    };
     let fails = totals.fail;
     write_answer(writer, &text, Joined { fails })
 }

@@ -1,5 +1,5 @@
 -- What the matches of a command say of its options, and what the parts of a command have to do with its words.
-use Rattle.std.{proofs.Common.{◌≡◌, ℕ, ◌<◌, ◌^◌, Bool, List, [], ◌∷◌, ◌||◌, refl, ◌∙◌, ap, subst, Option, Some, None, Result, Ok, Err, option_map, map, codes, true, false, Bor, unwrap_or, IfOk, decimal}, specs.List.{list_any}, specs.Str.Parse.{ParsesUnsigned, ExplainsUnsignedError, HasUnsignedDigitsIfOk}, proofs.lemmas.Fmt.{parse-decimal}, specs.declared.alloc.AllocError.{AllocError}, specs.declared.num.ParseIntError.{ParseIntError}}
+use Rattle.std.{proofs.Common.{◌≡◌, ℕ, ◌<◌, ◌^◌, Bool, List, [], ◌∷◌, ◌||◌, refl, sym, ◌∙◌, ap, subst, Option, Some, None, Result, Ok, Err, option_map, map, codes, true, false, Bor, unwrap_or, IfOk, decimal}, specs.List.{list_any}, specs.Str.Parse.{ParsesUnsigned, ExplainsUnsignedError, HasUnsignedDigitsIfOk}, proofs.lemmas.Bool.{true≢false}, proofs.lemmas.Fmt.{parse-decimal}, specs.declared.alloc.AllocError.{AllocError}, specs.declared.num.ParseIntError.{ParseIntError}}
 use Rattle.clap.{specs.Matches.{ReadsOne}, specs.declared.parser.matches.Found.{Found}, specs.Words.{Text, one_text, rows_of, rule_of, with_rule, with_subcommand, app_of, AddsArg, AddsSubcommand, App, Rule, is_simple}, specs.declared.builder.arg.Arg.{Arg}, specs.declared.builder.command.Command.{Command}, specs.declared.builder.value_parser.ValueParser.{ValueParser}, proofs.OnLiterals.{clap_on_literals}, proofs.WalkLemmas.{one_text-rows}}
 use Rattle.pmf_words.specs.Words.{HasWords, IsMaybeNumberOf, IsNumberOf, IsFlagOf, pmfarm_words}
 
@@ -35,6 +35,10 @@ maybe-number-named bits f name (Some v) small none reads = record {
   given = λ k below named. ap Some (number-of-ok ParseIntError bits v k (small k below) below (reads (decimal k) (one_text-rows f name ∙ named)).0);
   left_out = λ named. none (one_text-rows f name ∙ named);
 }
+
+-- no flag is both
+pub not-both : {P : Type 0} (b : Bool) → b ≡ true → b ≡ false → P
+not-both b is_set is_clear = absurd (true≢false (sym is_set ∙ is_clear))
 
 pub flag-named : (f : Found) (name : Text) (flag : Bool) → (one_text f name ≡ Some (codes "true") → flag ≡ true) →
     (one_text f name ≡ Some (codes "false") → flag ≡ false) → IsFlagOf (rows_of f) name flag
@@ -77,9 +81,9 @@ pub text-named : (o : Option (Bor Text)) (d : Bor Text) (t : Text) → option_ma
 text-named None d t is = let bad : None ≡ Some t = is in cc
 text-named (Some s) d t is = let same : Some s.now ≡ Some t = is in cc
 
-pub texts-named : (o : Option (Bor (List (Bor Text)))) (d : Bor (List (Bor Text))) (ts : List Text) → option_map (λ s. map (λ v. v.now) s.now) o ≡ Some ts → map (λ v. v.now) (unwrap_or o d).now ≡ ts
-texts-named None d ts is = let bad : None ≡ Some ts = is in cc
-texts-named (Some s) d ts is = let same : Some (map (λ v. v.now) s.now) ≡ Some ts = is in cc
+pub texts-named : (o : Option (Bor (List (Bor Text)))) (d : Bor (List (Bor Text))) (ts : Option (List Text)) → d.now ≡ [] → option_map (λ s. map (λ v. v.now) s.now) o ≡ ts → map (λ v. v.now) (unwrap_or o d).now ≡ unwrap_or ts []
+texts-named None d ts none is = subst (λ o. map (λ v. v.now) d.now ≡ unwrap_or o []) is (ap (map (λ v. v.now)) none)
+texts-named (Some s) d ts none is = ap (λ o. unwrap_or o []) is
 
 -- ---- the words of the program
 

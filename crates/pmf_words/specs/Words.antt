@@ -1,13 +1,14 @@
 -- The words of the command line: the commands and options of the program, and what they ask for. Defined here,
 -- in the words of `clap`.
-use Rattle.std.specs.{Prelude.{◌≡◌, ℕ, ◌<◌, ◌^◌, pos, Bool, true, false, List, [], ◌∷◌, ◌++◌, map, Option, option_map, None, Some, codes, bytes_eq, decimal, if◌then◌else◌}, List.{list_any}}
+use Rattle.std.specs.{Prelude.{◌≡◌, ℕ, ◌<◌, ◌^◌, pos, Bool, true, false, List, [], ◌∷◌, ◌++◌, map, Option, option_map, unwrap_or, None, Some, codes, bytes_eq, decimal, if◌then◌else◌}, List.{list_any}}
 use Rattle.clap.specs.{Words.{App, Row, Rule, Text, all_of, first_of, one_of, app_of, new_app, new_rule, subcommand_of, with_rule, with_subcommand}, Simple.{new_shape}, declared.builder.action.ArgAction.TheVariants.{Append, SetTrue}, declared.builder.command.Command.{Command, out-Command}, declared.builder.value_parser.ValueParser.{ValueParser}}
 use Rattle.pmf_event.specs.declared.profile.Profile.{Profile}
-use Rattle.pmf_request.specs.declared.{settings.Overview.{Overview}, settings.Patches.{Patches}, settings.Question.{Question}, settings.Reasons.{Reasons}, settings.Settings.{Settings}, settings.Sought.{Sought}, settings.Whole.{Whole}, request.Cuts.{Cuts}, request.Files.{Files}, request.Input.{Input}, request.Simulation.{Simulation}, request.Request.{Request}}
+use Rattle.pmf_request.specs.declared.{settings.Overview.{Overview}, settings.Patches.{Patches}, settings.Question.{Question}, settings.Reasons.{Reasons}, settings.Settings.{Settings}, settings.Sought.{Sought}, settings.Whole.{Whole}, request.Cuts.{Cuts}, request.Files.{Files}, request.Input.{Input}, request.Simulation.{Simulation}, request.Request.{Request}, request.Wanted.{Wanted}}
 use Rattle.clap.specs.declared.builder.value_parser.ValueParser.TheVariants as vp
 use Rattle.pmf_event.specs.declared.profile.Profile.TheVariants as profile
 use Rattle.pmf_request.specs.declared.request.Input.TheVariants as input
 use Rattle.pmf_request.specs.declared.request.Request.TheVariants as request
+use Rattle.pmf_request.specs.declared.request.Wanted.TheVariants as wanted
 
 -- ---- the options
 
@@ -87,13 +88,12 @@ locate_words =
     with_rule (with_rule (with_rule (with_rule (new_app (codes "locate"))
     (asked (codes "section"))) (asked_number (codes "event") small_number)) run_option) log_word
 
--- the ledgers that are to be joined, one or more
+-- the ledgers that are to be joined
 abbrev pub file_words : Rule
 file_words = record (new_rule (codes "file")) {
   value_names = 1;
   action = Some Append;
   range = Some (record { start_inclusive = 1; end_inclusive = 18446744073709551615 });
-  required = true;
 }
 
 abbrev pub lint_words : App
@@ -106,7 +106,9 @@ cut_words =
     (option (codes "files"))) (number (codes "bytes") large_number (codes "268435456"))
 
 abbrev pub join_words : App
-join_words = with_rule (with_rule (new_app (codes "join")) (flag (codes "ledger"))) file_words
+join_words =
+    with_rule (with_rule (with_rule (with_rule (with_rule (new_app (codes "join"))
+    (flag (codes "ledger"))) (flag (codes "summary"))) (option (codes "files-from"))) (flag (codes "stream"))) file_words
 
 abbrev pub sim_words : App
 sim_words =
@@ -224,10 +226,18 @@ pub record IsCutOf (rows : List Row) (c : Cuts) : Type 0 where
   pub files : option_map (λ s. s.now) c.files ≡ first_of (codes "files") rows
   pub bytes : IsNumberOf rows (codes "bytes") 64 c.bytes
 
--- the files are those that the words of `join` name, in their order
+-- what is wanted is what the flags name; both of them together are no request
+pub record IsWantedOf (rows : List Row) (w : Wanted) : Type 0 where
+  pub ledger : one_of (codes "ledger") rows ≡ Some (codes "true") → w ≡ wanted.Ledger
+  pub summary : one_of (codes "summary") rows ≡ Some (codes "true") → w ≡ wanted.Summary
+  pub report : one_of (codes "ledger") rows ≡ Some (codes "false") → one_of (codes "summary") rows ≡ Some (codes "false") → w ≡ wanted.Report
+
+-- the files are those that the words of `join` name, in their order, or none; the list is the one that they name, if any
 pub record IsJoinOf (rows : List Row) (f : Files) : Type 0 where
-  pub names : (names : List Text) → all_of (codes "file") rows ≡ Some names → map (λ s. s.now) f.names.items ≡ names
-  pub ledger : IsFlagOf rows (codes "ledger") f.ledger
+  pub names : map (λ s. s.now) f.names.items ≡ unwrap_or (all_of (codes "file") rows) []
+  pub list : option_map (λ s. s.now) f.list ≡ first_of (codes "files-from") rows
+  pub stream : IsFlagOf rows (codes "stream") f.stream
+  pub wanted : IsWantedOf rows f.wanted
 
 -- the world is the one that the words of `sim` name
 pub record IsSimOf (rows : List Row) (s : Simulation) : Type 0 where

@@ -5,9 +5,9 @@ ghost use Rattle.clap.specs.{Words.{App, Rule, new_app, rule_of, with_rule, with
 ghost use Rattle.pmf_words.specs.Words.{HasWords, check_words, cut_words, explain_words, join_words, lint_words, locate_words, pmfarm_words, profile_option, program_words, run_option, sim_words, why_words};
 
 use crate::options::{
-    all, all_rows, asked_number, bytes, event, events, file, files, first, first_rows, ledger, log,
-    log_file, only_event, only_section, patch, profile, run, section, step, strict, unasserted,
-    workers,
+    all, all_rows, asked_number, bytes, event, events, file, files, files_from, first, first_rows,
+    ledger, log, log_file, only_event, only_section, patch, profile, run, section, step, stream,
+    strict, summary, unasserted, workers,
 };
 use clap::{Arg, Command};
 use std::alloc::{AllocError, Global};
@@ -42,6 +42,9 @@ Examples:
   pmfarm check --ledger --run 7 store.log > 7.ledger
                                     the checked sections themselves, to be joined
   pmfarm join 7.ledger 8.ledger     the report of both, each section once
+  pmfarm join --files-from names    the same of the files that `names` lists
+  pmfarm join --summary 7.ledger 8.ledger
+                                    what fails and warns, and the sums of each run
   pmfarm sim --log store.log --workers 2 --ledgers 1 < steps.schedule
                                     what each step of the schedule comes to
 
@@ -332,6 +335,9 @@ fn join<'a>(alloc: Global) -> Result<Command<'a>, AllocError>
     let about = "Checks ledgers again, joins them, and writes the report of all their sections";
     let join = Ok(head(alloc, "join", about, AFTER_HELP));
     let join = with_option(join, ledger(alloc));
+    let join = with_option(join, summary(alloc));
+    let join = with_option(join, files_from(alloc));
+    let join = with_option(join, stream(alloc));
     with_option(join, file(alloc))
 }
 

@@ -196,6 +196,15 @@ pub(crate) fn ledger<'a>(alloc: Global) -> Arg<'a>
     )
 }
 
+// The flag of `join` alone.
+pub(crate) fn summary<'a>(alloc: Global) -> Arg<'a>
+    ensures rule { rule_of result ≡ flag (codes "summary") }
+    ensures local { result.global ≡ false }
+{
+    let help = "Write the rows that fail or warn alone, and the sums of each run";
+    flag(alloc, "summary", help)
+}
+
 // The flag of `check`.
 pub(crate) fn strict<'a>(alloc: Global) -> Arg<'a>
     ensures rule { rule_of result ≡ flag (codes "strict") }
@@ -250,6 +259,23 @@ pub(crate) fn log_file<'a>(alloc: Global) -> Arg<'a>
     )
 }
 
+// The ledgers that `join` reads: what names them, and they themselves.
+pub(crate) fn files_from<'a>(alloc: Global) -> Arg<'a>
+    ensures rule { rule_of result ≡ option (codes "files-from") }
+    ensures local { result.global ≡ false }
+{
+    let help = "Join the ledgers as well that this file names, one on a line";
+    option(alloc, "files-from", "LIST", help)
+}
+
+pub(crate) fn stream<'a>(alloc: Global) -> Arg<'a>
+    ensures rule { rule_of result ≡ flag (codes "stream") }
+    ensures local { result.global ≡ false }
+{
+    let help = "Merge the ledgers as they are read: of any length, with their sections in order";
+    flag(alloc, "stream", help)
+}
+
 pub(crate) fn file<'a>(alloc: Global) -> Arg<'a>
     ensures rule { rule_of result ≡ file_words }
     ensures local { result.global ≡ false }
@@ -258,6 +284,5 @@ pub(crate) fn file<'a>(alloc: Global) -> Arg<'a>
         .value_name("FILE")
         .action(ArgAction::Append)
         .num_args(1..)
-        .required(true)
         .help("A ledger, as `check --ledger` writes it")
 }

@@ -3,7 +3,7 @@
 ghost use Rattle.std.specs.{Prelude.{◌≡◌, List, false, true, Some, codes, map, option_map, IfOk, IfSome, bytes_eq, string_bytes, if◌then◌else◌}, List.{list_any}};
 ghost use Rattle.clap.specs.Words.{Row, Text, found_of, rows_of, subcommand_rows_of};
 ghost use Rattle.pmf_event.specs.declared.profile.Profile.{Profile};
-ghost use Rattle.pmf_words.specs.Words.{IsCheckOf, IsCutOf, IsExplainAllOf, IsExplainBy, IsExplainOf, IsFirstOf, IsInputOf, IsJoinOf, IsLintOf, IsLocateOf, IsMaybeSectionOf, IsPatchOf, IsRequestBy, IsRequestOf, IsSectionOf, IsSimOf, IsWhyBy, IsWhyOf, NamesSection};
+ghost use Rattle.pmf_words.specs.Words.{IsCheckOf, IsCutOf, IsExplainAllOf, IsExplainBy, IsExplainOf, IsFirstOf, IsInputOf, IsJoinOf, IsLintOf, IsLocateOf, IsMaybeSectionOf, IsPatchOf, IsRequestBy, IsRequestOf, IsSectionOf, IsSimOf, IsWantedOf, IsWhyBy, IsWhyOf, NamesSection};
 
 use crate::commands::program;
 use clap::error::ErrorKind;
@@ -11,7 +11,7 @@ use clap::{ArgMatches, Error};
 use pmf_event::Profile;
 use pmf_request::{
     Cuts, Files, Input, Lengths, Overview, Patches, Question, Reasons, Request, Settings,
-    Simulation, Sought, Whole,
+    Simulation, Sought, Wanted, Whole,
 };
 use std::alloc::{AllocError, Global};
 
@@ -287,15 +287,42 @@ fn cuts_of<'a>(cut: &ArgMatches<'a>) -> Cuts<'a>
     }
 }
 
-fn files_of<'a>(alloc: Global, join: &ArgMatches<'a>) -> Result<Files<'a>, AllocError>
+fn files_of<'a>(alloc: Global, join: &ArgMatches<'a>) -> Result<Files<'a>, Error>
     ensures { IfOk result (IsJoinOf (rows_of (found_of join.now))) }
 {
+    let wanted = wanted_of(alloc, join)?;
     let mut names = Vec::new(alloc);
     names.extend_from_slice(join.get_strs("file").unwrap_or(&[]))?;
     Ok(Files {
         names,
-        ledger: join.get_flag("ledger"),
+        list: join.get_str("files-from"),
+        stream: join.get_flag("stream"),
+        wanted,
     })
+}
+
+// What is to be written. Both flags together are refused.
+fn wanted_of(alloc: Global, join: &ArgMatches<'_>) -> Result<Wanted, Error>
+    ensures { IfOk result (IsWantedOf (rows_of (found_of join.now))) }
+{
+    let ledger = join.get_flag("ledger");
+    let summary = join.get_flag("summary");
+    if ledger {
+        if summary {
+            return Err(two_wanted(alloc)?);
+        }
+        return Ok(Wanted::Ledger);
+    }
+    if summary {
+        return Ok(Wanted::Summary);
+    }
+    Ok(Wanted::Report)
+}
+
+// The error of both flags, in the form of the parser's own.
+fn two_wanted(alloc: Global) -> Result<Error, AllocError> {
+    let message = "the argument '--ledger' cannot be used with '--summary'";
+    program(alloc, false, false)?.error(ErrorKind::ArgumentConflict, message)
 }
 
 fn simulation_of<'a>(sim: &ArgMatches<'a>) -> Simulation<'a>

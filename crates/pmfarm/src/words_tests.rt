@@ -2,7 +2,7 @@
 
 use crate::{
     Cuts, Files, Input, Lengths, Overview, Patches, Question, Reasons, Request, Settings,
-    Simulation, Sought, Status, Whole, request_of,
+    Simulation, Sought, Status, Wanted, Whole, request_of,
 };
 use pmf_event::Profile;
 use std::alloc::{AllocError, Global};
@@ -319,14 +319,32 @@ fn cut_takes_lengths_a_step_and_the_front_of_names(rt: HostRuntime) -> Result<()
 
 #[test]
 fn join_takes_files_in_their_order(rt: HostRuntime) -> Result<(), Fail> {
-    for (line, files, ledger) in [
-        ("join b a b", ["b", "a", "b"].as_slice(), false),
-        ("join a --ledger b", ["a", "b"].as_slice(), true),
-        ("join -- --ledger", ["--ledger"].as_slice(), false),
+    let (report, summary, ledger) = (Wanted::Report, Wanted::Summary, Wanted::Ledger);
+    for (line, files, list, stream, wanted) in [
+        ("join", [].as_slice(), None, false, report),
+        ("join b a b", &["b", "a", "b"], None, false, report),
+        ("join a --ledger b", &["a", "b"], None, false, ledger),
+        ("join a --summary b", &["a", "b"], None, false, summary),
+        ("join -- --ledger", &["--ledger"], None, false, report),
+        ("join --files-from l", &[], Some("l"), false, report),
+        (
+            "join a --files-from=l b",
+            &["a", "b"],
+            Some("l"),
+            false,
+            report,
+        ),
+        ("join --stream a", &["a"], None, true, report),
+        ("join --summary --stream a", &["a"], None, true, summary),
     ] {
         let mut names = Vec::new(rt.alloc());
         names.extend_from_slice(files)?;
-        let files = Files { names, ledger };
+        let files = Files {
+            names,
+            list,
+            stream,
+            wanted,
+        };
         asks(&rt, rt.alloc(), line, Request::Join(files))?;
     }
     Ok(())
@@ -384,8 +402,8 @@ const REFUSED: &[&str] = &[
     "cut --bytes -1",
     "cut --step 18446744073709551616",
     "cut --run 1",
-    "join",
-    "join --ledger",
+    "join --files-from",
+    "join --files-from l --files-from l",
     "join --run 1 a",
     "explain",
     "explain --ledger --section 0 --event 1",

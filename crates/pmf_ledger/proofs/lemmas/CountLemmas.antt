@@ -1,5 +1,5 @@
 -- How rows count, one after another, and the sums of sections.
-use Rattle.std.proofs.{Common.{◌≡◌, ℕ, ◌+◌, ◌*◌, ◌-◌, ◌^◌, ◌<◌, ◌≤◌, true, List, [], ◌∷◌, length, take, get_or, refl, arith, length-append}, lemmas.List.{take_more}, lemmas.List.Sums.{count_by_more_yes, sum_by-append}, lemmas.Grind.{common_steps}}
+use Rattle.std.proofs.{Common.{◌≡◌, ◌⊎◌, inl, inr, ℕ, ◌+◌, ◌*◌, ◌-◌, ◌^◌, ◌<◌, ◌≤◌, true, List, [], ◌∷◌, ◌++◌, length, take, get_or, refl, arith, length-append}, lemmas.List.{take_more}, lemmas.List.Sums.{count_by_more_yes, sum_by-append}, lemmas.Grind.{common_steps}}
 use Rattle.pmf_event.specs.declared.row.Row.{Row}
 use Rattle.pmf_verdict.specs.{declared.outcome.Outcome.{Outcome}, declared.outcome.Outcome.TheVariants.{Pass, Fail, Warn, Empty}, Checked.{Checked, rows_in}, Outcome.{outcome_of, is_same}}
 use Rattle.pmf_ledger.specs.{declared.totals.Totals.{Totals}, Report.{IsWithin, both, rows_with, rows_with_in, totals_of}}
@@ -60,3 +60,20 @@ IsWithin_all index totals few within = grind (arith, common_steps)
 pub totals_of_one : (s : Checked) → record { sections = 1; pass = rows_with Pass (rows_in s); fail = rows_with Fail (rows_in s); warn = rows_with Warn (rows_in s); empty = rows_with Empty (rows_in s) } ≡ totals_of (s ∷ [])
 unfolding totals_of rows_with_in
 totals_of_one s = grind (arith, common_steps)
+
+-- a section more
+pub totals_more : (sections : List Checked) (s : Checked) → both (totals_of sections) (totals_of (s ∷ [])) ≡ totals_of (sections ++ s ∷ [])
+unfolding totals_of rows_with_in
+totals_more sections s = grind (arith, common_steps, length-append, sum_by-append)
+
+pub one_within : (old new counts : Totals) (s : Checked) → counts ≡ totals_of (s ∷ []) → new ≡ both old counts → IsWithin old.sections (old.sections * 2 ^ 64) old →
+    IsWithin 1 (2 ^ 64) counts → IsWithin new.sections (new.sections * 2 ^ 64) new
+unfolding totals_of
+one_within old new counts s is sum within small = grind (arith, common_steps)
+
+-- so do the sums of the last run, which has a section more, or is a new one
+pub one_within_last : (old new run longer counts : Totals) (s : Checked) → counts ≡ totals_of (s ∷ []) → new ≡ both old counts → IsWithin old.sections (old.sections * 2 ^ 64) run →
+    IsWithin 1 (2 ^ 64) counts → (longer ≡ both run counts) ⊎ (longer ≡ counts) → IsWithin new.sections (new.sections * 2 ^ 64) longer
+unfolding totals_of
+one_within_last old new run longer counts s is sum within small (inl more) = grind (arith, common_steps)
+one_within_last old new run longer counts s is sum within small (inr alone) = grind (arith, common_steps)

@@ -6,10 +6,10 @@ use Rattle.pmf_storelog.proofs.SplitLemmas.{split_none, split_some, split_filled
 use Rattle.pmf_ledger.{specs.declared.blocks.Blocks.{Blocks}, specs.declared.blocks.Next.{Next}, specs.declared.loading.LedgerFault.{LedgerFault}, specs.declared.loading.LedgerFault.TheVariants.{NotALedger}, specs.declared.loading.TheConstants.{LEDGER_LIMIT}, specs.Following.{HasRead, IsNext, StandsFor, IsStoppedBy, is_over}, specs.Gathering.{Agrees}, specs.Loading.{Reading, AtFault, unread, after_row, after_line_at, with_rows, with_section, with_events, after_line, after_lines, is_line_end, parts_of, lines_of, left_of, reading_of, fault_at_end, fault_of, IsFirstOther, IsRefusedWith, LineTakesMemory, LoadsAs, MayWantMemory}, proofs.lemmas.ReadingLemmas.{line-at}, proofs.lemmas.UniqueLemmas.{Agrees-ledger}}
 
 -- the first of some parts, with more behind it
-take_before : {X : Type 0} (x : X) (xs : List X) → 0 < length xs → take (length (x ∷ xs) - 1) (x ∷ xs) ≡ x ∷ take (length xs - 1) xs
+pub take_before : {X : Type 0} (x : X) (xs : List X) → 0 < length xs → take (length (x ∷ xs) - 1) (x ∷ xs) ≡ x ∷ take (length xs - 1) xs
 take_before x xs some = grind (arith, common_steps)
 
-parts_filled : (text : List ℕ) → 0 < length (parts_of text)
+pub parts_filled : (text : List ℕ) → 0 < length (parts_of text)
 unfolding parts_of
 parts_filled text = split_filled is_line_end text
 
@@ -55,7 +55,7 @@ unfolding after_line after_line_at after_row with_section with_events with_rows
 blocks-more r n text = grind (arith, common_steps)
 
 -- the reading after more text lines has the blocks from before them, and more
-later : (r : Reading) (n : ℕ) (texts : List (List ℕ)) → (more : List Trace) × ((after_lines r n texts).blocks ≡ r.blocks ++ more)
+pub later : (r : Reading) (n : ℕ) (texts : List (List ℕ)) → (more : List Trace) × ((after_lines r n texts).blocks ≡ r.blocks ++ more)
 unfolding after_lines
 later r n [] = ([], sym (append-nil r.blocks))
 later r n (text ∷ texts) =
@@ -63,12 +63,12 @@ later r n (text ∷ texts) =
     (e.more ++ rest.0, rest.1 ∙ ap (λ blocks. blocks ++ rest.0) e.whole ∙ append_assoc r.blocks e.more rest.0)
 
 -- a fault stays
-stays : (r : Reading) (found : LedgerFault) (n : ℕ) (texts : List (List ℕ)) → r.stage ≡ AtFault found → after_lines r n texts ≡ r
+pub stays : (r : Reading) (found : LedgerFault) (n : ℕ) (texts : List (List ℕ)) → r.stage ≡ AtFault found → after_lines r n texts ≡ r
 unfolding after_lines after_line_at
 stays r found n [] is = refl
 stays r found n (text ∷ texts) is = let same = line-at r n text (AtFault found) is in ap (λ e. after_lines e (suc n) texts) same ∙ stays r found (suc n) texts is
 
-after-push : (r : Reading) (n : ℕ) (front : List (List ℕ)) (text : List ℕ) →
+pub after-push : (r : Reading) (n : ℕ) (front : List (List ℕ)) (text : List ℕ) →
     after_lines r n (front ++ text ∷ []) ≡ after_line (after_lines r n front) (n + length front) text
 unfolding after_lines
 after-push r n [] text = let none : n + length {A = List ℕ} [] ≡ n = omega arith in rw none refl
@@ -104,7 +104,7 @@ pub record IsAt (text rest : List ℕ) (line : ℕ) (r : Reading) : Type 0 where
   pub short : line + length rest ≤ length text + 1
   pub behind : IsBehind text rest line r
 
-lines-count : (text : List ℕ) → 1 + length (lines_of text) ≡ length (parts_of text)
+pub lines-count : (text : List ℕ) → 1 + length (lines_of text) ≡ length (parts_of text)
 lines-count text = grind (arith, common_steps, parts_filled, length-take-le)
 
 pub IsAt-start : (text : List ℕ) → length text ≤ LEDGER_LIMIT → IsAt text text 1 unread

@@ -4,11 +4,11 @@ use Rattle.pmf_verdict.specs.Checked.{Checked}
 use Rattle.pmf_ledger.{specs.Joining.{IsMerged, IsMerging}, specs.Names.{ComesBefore, Rises}, proofs.lemmas.NameLemmas.{before-trans}}
 
 -- where each pair of a list is related, so is each pair of its front
-AllPairs-front : {X : Type 0} (R : X → X → Type 0) (xs ys : List X) → AllPairs R (xs ++ ys) → AllPairs R xs
+pub AllPairs-front : {X : Type 0} (R : X → X → Type 0) (xs ys : List X) → AllPairs R (xs ++ ys) → AllPairs R xs
 AllPairs-front R xs ys pairs = search (rules, get_or_append_left, length-append)
 
 -- and each element of the front with the last
-AllPairs-last : {X : Type 0} (R : X → X → Type 0) (xs : List X) (x : X) → AllPairs R (xs ++ x ∷ []) → (c : X) → Contains xs c → R c x
+pub AllPairs-last : {X : Type 0} (R : X → X → Type 0) (xs : List X) (x : X) → AllPairs R (xs ++ x ∷ []) → (c : X) → Contains xs c → R c x
 AllPairs-last R xs x pairs c found = search (rules, length-append, get_or_append_left, get_or_push)
 
 -- each pair of the list turned round is a pair of the list

@@ -21,3 +21,6 @@ pub returns-in-Check : goal.returns-in-Check
 returns-in-Check g c =
     let made = c.check_to.ensures in
     found c.args.request.now _ _ c.check_to.result c.in-Check.is (made.0, made.1, made.2)
+
+pub returns-in-Join : goal.returns-in-Join
+returns-in-Join g c = found c.args.request.now _ _ c.join_files.result c.in-Join.is c.join_files.ensures

@@ -1,14 +1,7 @@
-use Rattle.std.proofs.{Common.{ℕ, List, [], ◌∷◌, ◌++◌, map, take, get_or, Bor, Option, sym, ap, ◌∙◌, subst, arith, take_all}, lemmas.List.{map-append, take_more}}
+use Rattle.std.proofs.{Common.{ℕ, List, [], ◌∷◌, ◌++◌, map, take, get_or, Bor, sym, ap, ◌∙◌, subst, arith, take_all}, lemmas.List.{map-append, take_more}}
 use Rattle.pmf_ledger.specs.declared.loading.TheConstants.{LEDGER_LIMIT}
-use Rattle.pmf_command.specs.Answered.{AreRead, IsReadOf}
+use Rattle.pmf_command.{specs.Answered.{AreRead, IsReadOf}, proofs.JoinedLemmas.{each-push}}
 use Rattle.pmf_command.proofs.requests.texts_of.Goals as goal
-
-are_read-push : (limit : ℕ) (files : List ℕ → Option (List ℕ)) (names texts : List (List ℕ)) (name text : List ℕ) → AreRead limit files names texts → IsReadOf limit (files name) text →
-    AreRead limit files (names ++ name ∷ []) (texts ++ text ∷ [])
-are_read-push limit files [] [] name text read next = (next, tt)
-are_read-push limit files (n ∷ names) (t ∷ texts) name text read next = (read.0, are_read-push limit files names texts name text read.1 next)
-are_read-push limit files [] (t ∷ texts) name text read next = absurd read
-are_read-push limit files (n ∷ names) [] name text read next = absurd read
 
 pub loop-name-preserved : goal.loop-name-preserved
 loop-name-preserved g c =
@@ -21,7 +14,7 @@ loop-name-preserved g c =
     let texts = ap (map (λ t. t.items)) c.in-Ok-push.ensures.items ∙ map-append (λ t. t.items) c.loop-name.texts.items (c.in-Ok.text ∷ []) in
     subst (λ ns. AreRead LEDGER_LIMIT files ns (map (λ t. t.items) c.push.new.self.items)) (sym named)
     (subst (λ ts. AreRead LEDGER_LIMIT files (map (λ n. n.now) before ++ name.now ∷ []) ts) (sym texts)
-    (are_read-push LEDGER_LIMIT files (map (λ n. n.now) before) (map (λ t. t.items) c.loop-name.texts.items) name.now c.in-Ok.text.items c.loop-name.invariant c.in-Ok.ensures))
+    (each-push (λ n t. IsReadOf LEDGER_LIMIT (files n) t) (map (λ n. n.now) before) (map (λ t. t.items) c.loop-name.texts.items) name.now c.in-Ok.text.items c.loop-name.invariant c.in-Ok.ensures))
 
 pub returns-clause-read : goal.returns-clause-read
 returns-clause-read g c =

@@ -9,10 +9,10 @@ returns-clause-answer g c =
     let left = g.R.Source.left c.args.reader.now in
     let rest = g.R.Source.left c.read_log.new.reader in
     let read = c.in-Ok.ensures.ok in
-    let warnings = warnings-kept c.args.settings.strict c.deref.result.now read.0.bytes c.in_ok-warnings.warnings c.in_ok-text.done.warnings c.in_ok-warnings.ensures
-    (λ strict. c.deref.ensures.value ∙ read.1 strict) c.in_ok-text.ensures.warnings in
-    Answers-written (IsReportOf settings left rest) (IsCheckFaultOf settings left rest) _ _ c.in_ok-text.done c.in_ok-text.text.items c.write_answer.result
-    (c.in-Ok.read.0, read.0, c.in_ok-text.ensures.reports, warnings)
+    let warnings = warnings-kept c.args.settings.strict c.deref.result.now read.0.bytes c.in_ok-warnings.warnings c.in-Some.done.warnings c.in_ok-warnings.ensures
+    (λ strict. c.deref.ensures.value ∙ read.1 strict) (rw c.in-Some.is at c.in_ok-text.ensures.warnings) in
+    Answers-written (IsReportOf settings left rest) (IsCheckFaultOf settings left rest) _ _ c.in-Some.done c.in-Some.text.items c.write_answer.result
+    (c.in-Ok.read.0, read.0, rw c.in-Some.is at c.in_ok-text.ensures.reports, warnings)
     (rw c.deref-2.ensures.value at c.write_answer.ensures.written)
 
 pub returns-in-Err-run-clause-answer : goal.returns-in-Err-run-clause-answer

@@ -1,0 +1,26 @@
+use Rattle.std.proofs.{Common.{◌≡◌, ◌++◌, List, length, Some, sym, ◌∙◌, ap, subst, arith}, lemmas.List.{length_push}}
+use Rattle.pmf_event.specs.{declared.name.Name.{Name}, Section.{Trace}}
+use Rattle.pmf_ledger.{specs.BlockReading.{NamesRise}, specs.Names.{IsBefore}, proofs.lemmas.BlockReadingLemmas.{next_without, rises_more}, proofs.block_lines.BlockLines.hand_out.Goals.{in-Some-last+in-Less, in_default-last}}
+use Rattle.pmf_ledger.proofs.block_lines.BlockLines.hand_out.Goals as goal
+
+pub returns : goal.returns
+returns c = λ r e line before.
+    let given = c.in-Some.ensures e before.stands.0 before.one in
+    let s = c.in-Some.verdict.section in
+    let whole = ap (λ ss. r.blocks ++ ss) given.1.0 in
+    let after : (name : Name) → c.args.self.now.last ≡ Some name → IsBefore name s.name = elim c.match-self.branch [
+      | in-Some-last+in-Less w ↦ λ name is.
+          let same : w.in-Some-last.last ≡ name = let both : Some w.in-Some-last.last ≡ Some name = sym w.in-Some-last.is ∙ is in cc in
+          subst (λ n. IsBefore n s.name) same (subst (IsBefore w.in-Some-last.last) c.name-name.ensures (w.order.ensures.less w.in-Less.is))
+      | in_default-last w ↦ λ name is. absurd (w.in_default-last.not-Some name is)
+    ] in (
+      record {
+        stands = (given.0, next_without e c.args.self.now.next before.stands.1);
+        line_is = before.line_is;
+        count = let long = length_push r.blocks s in let all = ap (λ (ss : List Trace). length ss) whole in let so = before.count in omega (arith, long, all, so);
+        few = before.few;
+        rises = subst NamesRise (sym whole) (rises_more r.blocks s before.rises c.args.self.now.last before.last after);
+        last = (r.blocks, s, whole, sym c.name-name.ensures);
+      },
+      (whole, given.1.1),
+    )

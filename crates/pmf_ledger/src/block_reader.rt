@@ -1,0 +1,127 @@
+//! A ledger text of any length that is read piece by piece, and each block handed out once it was checked.
+
+ghost use Rattle.std.specs.Prelude.{◌≡◌, ◌≤◌, ◌++◌, ◌∷◌, [], ℕ, List, None, Some, IfOk, MatchResult, length, take};
+ghost use Rattle.pmf_ledger.specs.{BlockReading.{GivesBlock, HasNoLineEnd, HasTaken, RefusesFront}, Loading.{Reading, fault_through, reading_through, unread}};
+
+use crate::block_lines::{BlockFault, BlockLines};
+use crate::loading::{LedgerFault, is_over};
+use memchr::memchr;
+use pmf_event::Profile;
+use pmf_verdict::Verdict;
+use std::alloc::{AllocFailed, Global};
+
+/// What a [`BlockReader`] took of a piece.
+#[derive(Drop)]
+pub struct Fed {
+    /// How many bytes from its front.
+    pub taken: usize,
+    /// The block that ends there. Without one the whole piece was taken.
+    pub block: Option<Verdict>,
+}
+
+/// A ledger text that is read piece by piece. It keeps one section and one text line at most, whatever the length of the text.
+/// The names of the blocks have to rise, as they do in every text that was written.
+#[derive(Drop)]
+pub struct BlockReader {
+    pub(crate) lines: BlockLines,
+    /// The front of a text line that is not ended.
+    pub(crate) front: Vec<u8>,
+}
+
+impl BlockReader {
+    /// Of no byte. Takes no memory.
+    pub fn new(alloc: Global) -> BlockReader
+        ensures { HasTaken [] unread result }
+    {
+        BlockReader {
+            lines: BlockLines::new(alloc),
+            front: Vec::new(alloc),
+        }
+    }
+
+    /// The profile that the first text line tells, or One before it.
+    pub fn profile(&self) -> Profile
+        ensures { (text : List ℕ) (r : Reading) → HasTaken text r self.now → result ≡ r.profile }
+    {
+        self.lines.profile()
+    }
+
+    /// Takes the bytes up to the end of the next block, or all. The block's section was checked again, as
+    /// [`load_ledger`](crate::load_ledger) does it. Takes memory for the section, and for a text line that goes on in the next piece.
+    pub fn feed(&mut self, alloc: Global, piece: &[u8]) -> Result<Fed, BlockFault>
+        requires { (text : List ℕ) × (r : Reading) × HasTaken text r self.old }
+        ensures takes { (text : List ℕ) (r : Reading) → HasTaken text r self.old → MatchResult result
+            (λ fed. (e : Reading) × HasTaken (text ++ take fed.taken piece.now) e self.new × GivesBlock r e fed.block)
+            (RefusesFront (text ++ piece.now)) }
+        ensures within { IfOk result (λ fed. fed.taken ≤ length piece.now) }
+        ensures all { IfOk result (λ fed. fed.block ≡ None → fed.taken ≡ length piece.now) }
+    {
+        let mut taken = 0;
+        while let Some(length) = memchr(b'\n', &piece[taken..]) {
+            let end = taken + length;
+            let block = match self.end_line(alloc, &piece[taken..end]) {
+                Ok(block) => block,
+                Err(fault) => return Err(fault),
+            };
+            taken = end + 1;
+            if block.is_some() {
+                return Ok(Fed { taken, block });
+            }
+        }
+        match self.keep(&piece[taken..]) {
+            Ok(()) => Ok(Fed {
+                taken: piece.len(),
+                block: None,
+            }),
+            Err(fault) => Err(fault),
+        }
+    }
+
+    /// The text ends here.
+    pub fn finish(&self) -> Result<(), LedgerFault>
+        ensures { (text : List ℕ) (r : Reading) → HasTaken text r self.now → MatchResult result
+            (λ _. (fault_through text ≡ None) × (reading_through text ≡ r))
+            (λ found. fault_through text ≡ Some found) }
+    {
+        if is_over(&self.lines.next, &self.front) {
+            Ok(())
+        } else {
+            Err(LedgerFault::NotALedger {
+                line: self.lines.line(),
+            })
+        }
+    }
+
+    // Takes the rest of a text line, and its end.
+    fn end_line(&mut self, alloc: Global, rest: &[u8]) -> Result<Option<Verdict>, BlockFault>
+        requires taken { (text : List ℕ) × (r : Reading) × HasTaken text r self.old }
+        requires unended { HasNoLineEnd rest.now }
+        ensures { (text : List ℕ) (r : Reading) → HasTaken text r self.old → MatchResult result
+            (λ given. (e : Reading) × HasTaken (text ++ rest.now ++ 10 ∷ []) e self.new × GivesBlock r e given)
+            (RefusesFront (text ++ rest.now ++ 10 ∷ [])) }
+    {
+        if self.front.is_empty() {
+            return self.lines.follow(alloc, rest);
+        }
+        match self.keep(rest) {
+            Ok(()) => {}
+            Err(fault) => return Err(fault),
+        }
+        let given = self.lines.follow(alloc, &self.front);
+        self.front.clear();
+        given
+    }
+
+    // Keeps more of a text line that is not ended.
+    fn keep(&mut self, more: &[u8]) -> Result<(), BlockFault>
+        requires { HasNoLineEnd more.now }
+        ensures { (text : List ℕ) (r : Reading) → HasTaken text r self.old → MatchResult result
+            (λ _. HasTaken (text ++ more.now) r self.new)
+            (RefusesFront (text ++ more.now)) }
+    {
+        match self.front.extend_from_slice(more) {
+            Ok(()) => Ok(()),
+            Err(_) => Err(BlockFault::Text(LedgerFault::OutOfMemory)),
+        }
+    }
+}

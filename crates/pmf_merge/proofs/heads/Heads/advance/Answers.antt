@@ -1,0 +1,44 @@
+use Rattle.std.proofs.{Common.{◌≡◌, true, false, ◌++◌, length, set, get_or, None, sym, ◌∙◌, subst, arith, rules}, lemmas.List.{get_or_default}, lemmas.Bool.{true≢false}}
+use Rattle.pmf_merge.{specs.Feeding.{IsFed}, proofs.lemmas.{HeadsLemmas.{advanced}, RefusalLemmas.{tells_profile, told_next}, WaitingLemmas.{set_head}}}
+use Rattle.pmf_merge.proofs.heads.Heads.advance.Goals as goal
+
+pub returns-clause-advanced : goal.returns-clause-advanced
+returns-clause-advanced g c = λ n starts lefts out new v m inside enough at_left least told.
+    let index = c.args.index in let feeds = c.args.self.now.feeds.items in let heads = c.args.self.now.heads.items in
+    let long = m.heads_are in
+    let start = get_or starts index None in
+    let fed = subst (λ left. IsFed start left c.index_mut-feed.result.now (m.texts index) (m.readings index)) at_left
+    (subst (λ feed. IsFed start (get_or lefts index None) feed (m.texts index) (m.readings index)) (sym c.index_mut-feed.ensures.value) (m.fed index c.index_mut-feed.result.now inside)) in
+    let next = c.in_ok-head.ensures.next start (m.texts index) (m.readings index) fed in
+    let yes : c.is_by.result ≡ true = search rules in
+    let by = sym (c.profile-profile.ensures start _ _ next.1 next.2) ∙ c.is_by.ensures.0 yes in (
+      c.replace-2.ensures.value ∙ c.index_mut.ensures.value ∙ get_or_default heads index _ None (omega (arith, inside, long)) ∙ least.0,
+      rw c.replace-2.ensures.after
+          (advanced n starts lefts feeds heads c.args.self.now.profile out new m index v inside least.0 least.1 told c.next.new.self (g.R.Source.left c.next.new.source) next.0 next.1 c.in_ok-head.head
+          next.2 next.3 next.4 by enough),
+    )
+
+pub returns-clause-waiting : goal.returns-clause-waiting
+returns-clause-waiting g c = λ is inside.
+    let index = c.args.index in let heads = c.args.self.now.heads.items in
+    rw c.replace-2.ensures.after
+    (c.in-Ok.ensures heads (set heads index c.in_ok-head.head) is (sym (get_or_default heads index c.index.result.now None inside) ∙ sym c.index.ensures) (set_head heads index c.in_ok-head.head inside))
+
+pub returns-then-not-is_by-clause-refused : goal.returns-then-not-is_by-clause-refused
+returns-then-not-is_by-clause-refused g c = λ starts lefts out m inside at_left.
+    let index = c.args.index in let profile = c.args.self.now.profile in
+    let start = get_or starts index None in
+    let fed = subst (λ left. IsFed start left c.index_mut-feed.result.now (m.texts index) (m.readings index)) at_left
+    (subst (λ feed. IsFed start (get_or lefts index None) feed (m.texts index) (m.readings index)) (sym c.index_mut-feed.ensures.value) (m.fed index c.index_mut-feed.result.now inside)) in
+    let next = c.in_ok-head.ensures.next start (m.texts index) (m.readings index) fed in
+    let told = told_next start (g.R.Source.left c.next.new.source) c.next.new.self (m.texts index ++ next.0) (m.readings index) next.1 c.in_ok-head.head next.2 next.3 next.4 in
+    let other : c.is_by.result ≡ false = search rules in (
+      inside,
+      (
+        profile,
+        next.1.profile,
+        tells_profile (length starts) starts lefts c.args.self.now.feeds.items c.args.self.now.heads.items profile out m 0 (omega (arith, inside)),
+        told,
+        λ same. true≢false (sym (c.is_by.ensures.1 (c.profile-profile.ensures start _ _ next.1 next.2 ∙ sym same)) ∙ other),
+      ),
+    )

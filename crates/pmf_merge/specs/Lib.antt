@@ -1,0 +1,9 @@
+pub use Rattle.pmf_ledger.specs.BlockReading
+pub use Rattle.pmf_ledger.specs.Loading
+pub use Rattle.pmf_ledger.specs.Telling
+pub mod Feeding
+pub mod Refusing
+pub mod Heads
+pub mod Waiting
+pub mod Written
+pub mod Merging
