@@ -17,7 +17,7 @@ complete -c pmfarm -n '__fish_seen_subcommand_from explain' -l all -d 'each row 
 complete -c pmfarm -n '__fish_seen_subcommand_from explain why' -l first -x -d 'the most rows that are explained or told'
 complete -c pmfarm -n '__fish_seen_subcommand_from why' -l all-rows -d 'tell each row, and not only the first of each kind'
 complete -c pmfarm -n '__fish_seen_subcommand_from why' -l patch -d 'write the log with all cures put in'
-complete -c pmfarm -n '__fish_seen_subcommand_from check' -l workers -x -d 'how many threads check the sections'
+complete -c pmfarm -n '__fish_seen_subcommand_from check join' -l workers -x -d 'how many threads check the sections'
 complete -c pmfarm -n '__fish_seen_subcommand_from check explain why locate' -l run -x -d 'the run in the name of each section'
 complete -c pmfarm -n '__fish_seen_subcommand_from check explain why' -l profile -x -a '1 2' -d 'the rule for two bytes of one cache line'
 complete -c pmfarm -n '__fish_seen_subcommand_from check join' -l ledger -d 'write the ledger text instead of the report'

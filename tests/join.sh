@@ -122,6 +122,28 @@ merges_many() {
     ended 0 $? && same "$scratch/wanted" "$scratch/report"
 }
 
+# Three ledgers of two thousand sections, which threads read ahead.
+merges_by_workers() {
+    local i workers
+    for i in 0 1 2; do
+        awk -v i="$i" 'BEGIN { for (; i < 6000; i += 3) printf "PMT.SECTION;%d|STORE;0x1000;0;8|PMT.PERSIST;0x1000;8|", i }' |
+            "$program" check --ledger >"$scratch/$i.ledger"
+        ended 1 $? || return
+    done
+    "$program" join "$scratch"/[0-2].ledger >"$scratch/wanted"
+    ended 1 $? || return
+    for workers in 1 2 3 64; do
+        "$program" join --stream --workers "$workers" "$scratch"/[0-2].ledger >"$scratch/report" 2>"$scratch/diagnostics"
+        ended 1 $? && same "$scratch/wanted" "$scratch/report" && same /dev/null "$scratch/diagnostics" || return
+    done
+}
+
+# Of a ledger whose second section is long enough to be read by a thread.
+sweep_merge_by_workers() {
+    awk 'BEGIN { printf "FENCE|PMT.SECTION;1|"; for (i = 0; i < 12000; i++) printf "FENCE|" }' | "$program" check --ledger >"$scratch/long.ledger"
+    ended 0 $? && sweep examples/first.log join --stream --workers 2 "$scratch/long.ledger"
+}
+
 # The ledgers of two runs, of which the second has a section that passes and one that fails and warns.
 runs_to_summarize() {
     printf 'STORE;0x1000;0;8|FLUSH;0x1000;8|FENCE|PMT.PERSIST;0x1000;8' | "$program" check --ledger --run 1 >"$scratch/1.ledger" || return
@@ -234,12 +256,16 @@ try_join() {
         'pmfarm: y.ledger: section 7.0: out of order'
     check 'a merge that was refused is no ledger' a_front_of_a_ledger
     check 'a thousand ledgers merge' merges_many
+    check 'ledgers merge by any number of workers' merges_by_workers
+    check 'a merge by no worker is refused' refused join --stream --workers 0 examples/shared_a.ledger
+    check 'a merge by 65 workers is refused' refused join --stream --workers 65 examples/shared_a.ledger
     check 'a merge without a file is refused' joins 2 /dev/null 'pmfarm: error: no ledger is named' --stream
     check 'join without a file is refused' refused join
     check 'a full device as standard output of join' full_output /dev/null join examples/shared_a.ledger
     check 'a full device as standard output of a merge' full_output /dev/null join --stream examples/shared_a.ledger
     check 'each request for memory of join --stream refused in turn' sweep examples/first.log join --stream examples/shared_{a,b}.ledger
     check 'each request for memory of join --stream --summary refused in turn' sweep examples/first.log join --stream --summary examples/shared_{a,b}.ledger
+    check 'each request for memory of join --stream --workers 2 refused in turn' sweep_merge_by_workers
     check 'each request for memory of join --summary refused in turn' sweep examples/first.log join --summary examples/shared_{a,b}.ledger
     check 'each request for memory of join refused in turn' sweep examples/first.log join examples/shared_{a,b}.ledger
     check 'each request for memory of join --ledger refused in turn' \

@@ -253,10 +253,12 @@ pub(crate) fn join_all<R: Eprint, W: Sink>(
 }
 
 /// Merges the ledgers of the sources, which are the files with these names, and writes the ledger of all to the
-/// sink in this form.
-pub(crate) fn merge_all<R: Eprint, S: Source, W: Sink>(
+/// sink in this form. So many threads check their sections.
+pub(crate) fn merge_all<R: Eprint, T: Threads + Sync, S: Source, W: Sink>(
     rt: &R,
+    threads: &T,
     alloc: Global,
+    workers: usize,
     names: &[&str],
     sources: &mut Vec<S>,
     sink: &mut W,
@@ -268,7 +270,7 @@ pub(crate) fn merge_all<R: Eprint, S: Source, W: Sink>(
         × MatchResult answer (Merges form (map S.left sources.old.items) (W.held sink.old) (W.held sink.new))
         (IsMergeFaultOf (map S.left sources.old.items)) }
 {
-    let answer = merge_to(alloc, sources, sink, form);
+    let answer = merge_to(threads, alloc, workers, sources, sink, form);
     let status = match answer {
         Ok(totals) => totals.status(),
         Err(fault) => {

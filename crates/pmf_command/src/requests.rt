@@ -142,7 +142,7 @@ fn answer_from<
                 None => cut_to(rt, alloc, source, sink, cuts.lengths, None),
             }
         }
-        Request::Join(files) => join_files(rt, alloc, files, sink, shelf),
+        Request::Join(files) => join_files(rt, threads, alloc, files, sink, shelf),
         Request::Sim(simulation) => simulate(rt, alloc, simulation, source, sink, shelf),
     }
 }
@@ -162,8 +162,9 @@ fn refusal_of(cuts: Cuts) -> Option<&'static str>
 }
 
 // Joins the ledgers of the files, those that a list names among them.
-fn join_files<R: Eprint, W: Sink, F: Shelf>(
+fn join_files<R: Eprint, T: Threads + Sync, W: Sink, F: Shelf>(
     rt: &R,
+    threads: &T,
     alloc: Global,
     files: &Files,
     sink: &mut W,
@@ -183,15 +184,10 @@ fn join_files<R: Eprint, W: Sink, F: Shelf>(
         );
     }
     match all_names(alloc, &files.names, &list) {
-        Ok(Some(names)) => join_named(
-            rt,
-            alloc,
-            &names,
-            sink,
-            files.stream,
-            form_of(files.wanted),
-            shelf,
-        ),
+        Ok(Some(names)) => {
+            let form = form_of(files.wanted);
+            join_named(rt, threads, alloc, &names, sink, files, form, shelf)
+        }
         Ok(None) => refused(rt, "error: a name in the list of ledgers is not UTF-8\n"),
         Err(_) => exhausted(rt),
     }
@@ -228,23 +224,25 @@ fn list_of<R: Eprint, F: Shelf>(
 }
 
 // Joins the ledgers of the files with these names, which are read whole before any is loaded, or merges them as they are read.
-fn join_named<R: Eprint, W: Sink, F: Shelf>(
+fn join_named<R: Eprint, T: Threads + Sync, W: Sink, F: Shelf>(
     rt: &R,
+    threads: &T,
     alloc: Global,
     names: &[&str],
     sink: &mut W,
-    stream: bool,
+    files: &Files,
     form: Form,
     shelf: &F,
 ) -> Ended
     requires { CanCountOneMore (W.failed_calls sink.old) }
-    ensures { JoinsNamed stream form (map (λ name. name.now) names.now) (F.bytes shelf.now) (W.held sink.old) (W.held sink.new) result }
+    ensures { JoinsNamed files.now.stream form (map (λ name. name.now) names.now) (F.bytes shelf.now) (W.held sink.old) (W.held sink.new) result }
 {
     if names.is_empty() {
         return refused(rt, "error: no ledger is named\n");
     }
-    if stream {
-        return merge_named(rt, alloc, names, sink, form, shelf);
+    if files.stream {
+        let workers = files.workers as usize;
+        return merge_named(rt, threads, alloc, workers, names, sink, form, shelf);
     }
     let texts = match texts_of(rt, alloc, names, shelf) {
         Ok(texts) => texts,
@@ -254,9 +252,11 @@ fn join_named<R: Eprint, W: Sink, F: Shelf>(
 }
 
 // Merges the ledgers of the files with these names, which are all open meanwhile.
-fn merge_named<R: Eprint, W: Sink, F: Shelf>(
+fn merge_named<R: Eprint, T: Threads + Sync, W: Sink, F: Shelf>(
     rt: &R,
+    threads: &T,
     alloc: Global,
+    workers: usize,
     names: &[&str],
     sink: &mut W,
     form: Form,
@@ -269,7 +269,7 @@ fn merge_named<R: Eprint, W: Sink, F: Shelf>(
         Ok(sources) => sources,
         Err(ended) => return ended,
     };
-    merge_all(rt, alloc, names, &mut sources, sink, form)
+    merge_all(rt, threads, alloc, workers, names, &mut sources, sink, form)
 }
 
 // Opens the files with these names, or says how the program ends without them.

@@ -25,6 +25,7 @@ pub mod LoadedLemmas
 pub mod BlockReadingLemmas
 pub mod TextFrontLemmas
 pub mod LedgerEndLemmas
+pub mod LoneBlockLemmas
 pub mod AmissLemmas
 pub mod TellingLemmas
 pub mod SummaryLemmas

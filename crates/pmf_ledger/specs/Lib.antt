@@ -27,6 +27,7 @@ pub mod ReportTold
 pub mod FaultText
 pub mod Following
 pub mod BlockReading
+pub mod LoneBlock
 pub mod Summary
 pub mod Telling
 pub mod Laws

@@ -1,11 +1,13 @@
 //! The text lines of a ledger text, and each block handed out once its last one was read.
 
-ghost use Rattle.std.specs.Prelude.{◌≡◌, ◌↔◌, ◌<◌, ◌^◌, ◌+◌, ◌-◌, ℕ, None, Some, IfOk, IfErr, IsTrue, MatchOption, MatchResult};
-ghost use Rattle.pmf_ledger.specs.{BlockReading.{GivesBlock, IsBeforeHandingOut, AreLinesOf, RefusesLine, behind, without_blocks}, Following.{Reaches, StandsFor}, Loading.{AtEnd, Reading, after_end, after_line, unread}};
+ghost use Rattle.std.specs.Prelude.{◌≡◌, ◌↔◌, ◌<◌, ◌^◌, ◌+◌, ◌-◌, ℕ, List, [], None, Some, IfOk, IfErr, IsTrue, MatchOption, MatchResult, false};
+ghost use Rattle.pmf_event.specs.declared.profile.Profile.{Profile};
+ghost use Rattle.pmf_ledger.specs.{BlockReading.{GivesBlock, IsBeforeHandingOut, AreLinesOf, RefusesLine, behind, without_blocks}, Following.{Reaches, StandsFor}, Loading.{AtBlock, AtEnd, Reading, after_end, after_line, after_version, unread, with_rows}, LoneBlock.{IsLone}, Names.{IsBefore}};
 
 use crate::blocks::{Blocks, Next};
 use crate::head::{read_end, read_head};
 use crate::loading::LedgerFault;
+use crate::lone_block::LoneBlock;
 use crate::taking::order;
 use pmf_event::{Name, Profile};
 use pmf_verdict::Verdict;
@@ -65,6 +67,67 @@ impl BlockLines {
             line: 1,
             count: 0,
             last: None,
+        }
+    }
+
+    /// Of the first text line alone, which tells this profile. Takes no memory.
+    pub(crate) fn behind_version(alloc: Global, profile: Profile) -> BlockLines
+        ensures { AreLinesOf (after_version unread 1 (Some profile)) 2 result }
+    {
+        BlockLines {
+            blocks: Blocks::by(alloc, profile),
+            next: Next::Block,
+            line: 2,
+            count: 0,
+            last: None,
+        }
+    }
+
+    /// Whether a block comes next, or the last text line.
+    pub(crate) fn is_between(&self) -> bool
+        ensures { (r : Reading) (line : ℕ) → AreLinesOf r line self.now → IsTrue result → r.stage ≡ AtBlock }
+    {
+        matches!(self.next, Next::Block)
+    }
+
+    /// Takes the text lines of a block that was read apart, if it is by the text's profile, one comes next, and its name comes after those
+    /// before it.
+    pub(crate) fn take(&mut self, lone: &LoneBlock) -> bool
+        ensures taken { (r : Reading) (line : ℕ) (profile : Profile) (bytes : List ℕ) → AreLinesOf r line self.old → IsLone profile bytes lone.now → IsTrue result
+            → AreLinesOf (with_rows r lone.now.verdict.section []) (line + lone.now.lines) self.new × (r.stage ≡ AtBlock) × (profile ≡ r.profile) }
+        ensures kept { result ≡ false → self.new ≡ self.old }
+    {
+        let name = lone.verdict.name();
+        let (Some(line), Some(count)) = (
+            self.line.checked_add(lone.lines),
+            self.count.checked_add(1),
+        ) else {
+            return false;
+        };
+        if !self.is_by(lone.verdict.profile()) || !self.is_between() || !self.comes_next(name) {
+            return false;
+        }
+        self.line = line;
+        self.count = count;
+        self.last = Some(name);
+        true
+    }
+
+    // Whether the text is by this profile.
+    fn is_by(&self, profile: Profile) -> bool
+        ensures { IsTrue result → (r : Reading) (line : ℕ) → AreLinesOf r line self.now → profile ≡ r.profile }
+    {
+        self.profile() == profile
+    }
+
+    // Whether the name comes after those of the blocks before it.
+    fn comes_next(&self, name: Name) -> bool
+        ensures next { IsTrue result → (last : Name) → self.now.last ≡ Some last → IsBefore last name }
+        ensures not { result ≡ false → (last : Name) × (self.now.last ≡ Some last) × (IsBefore last name → ⊥) }
+    {
+        match self.last {
+            Some(last) => matches!(order(last, name), Ordering::Less),
+            None => true,
         }
     }
 
@@ -170,11 +233,8 @@ impl BlockLines {
             return Ok(None);
         };
         let name = verdict.name();
-        if let Some(last) = self.last {
-            match order(last, name) {
-                Ordering::Less => {}
-                _ => return Err(BlockFault::OutOfOrder { name }),
-            }
+        if !self.comes_next(name) {
+            return Err(BlockFault::OutOfOrder { name });
         }
         self.last = Some(name);
         self.count += 1;

@@ -1,10 +1,12 @@
 //! A ledger text of any length that is read piece by piece, and each block handed out once it was checked.
 
-ghost use Rattle.std.specs.Prelude.{◌≡◌, ◌≤◌, ◌++◌, ◌∷◌, [], ℕ, List, None, Some, IfOk, MatchResult, length, take};
-ghost use Rattle.pmf_ledger.specs.{BlockReading.{GivesBlock, HasNoLineEnd, HasTaken, RefusesFront}, Loading.{Reading, fault_through, reading_through, unread}};
+ghost use Rattle.std.specs.Prelude.{◌≡◌, ◌≤◌, ◌++◌, ◌∷◌, [], ℕ, List, None, Some, IfOk, IsTrue, MatchResult, codes, false, length, take};
+ghost use Rattle.pmf_event.specs.declared.profile.Profile.{Profile};
+ghost use Rattle.pmf_ledger.specs.{BlockReading.{GivesBlock, HasNoLineEnd, HasTaken, RefusesFront}, LedgerText.{version_of}, Loading.{AtBlock, Reading, after_version, fault_through, reading_through, unread}, LoneBlock.{IsLone}};
 
 use crate::block_lines::{BlockFault, BlockLines};
 use crate::loading::{LedgerFault, is_over};
+use crate::lone_block::LoneBlock;
 use memchr::memchr;
 use pmf_event::Profile;
 use pmf_verdict::Verdict;
@@ -37,6 +39,33 @@ impl BlockReader {
             lines: BlockLines::new(alloc),
             front: Vec::new(alloc),
         }
+    }
+
+    /// Of the first text line alone, which tells this profile. Takes no memory.
+    pub(crate) fn behind_version(alloc: Global, profile: Profile) -> BlockReader
+        ensures { HasTaken (version_of profile ++ codes "\n") (after_version unread 1 (Some profile)) result }
+    {
+        BlockReader {
+            lines: BlockLines::behind_version(alloc, profile),
+            front: Vec::new(alloc),
+        }
+    }
+
+    /// Whether a block comes next, or the last text line, and no byte of it was taken.
+    pub fn is_between(&self) -> bool
+        ensures { (text : List ℕ) (r : Reading) → HasTaken text r self.now → IsTrue result → (r.stage ≡ AtBlock) × (self.now.front.items ≡ []) }
+    {
+        self.front.is_empty() && self.lines.is_between()
+    }
+
+    /// Takes the bytes of a block that was read apart, if it is by the text's profile, one comes next, and its name comes after those
+    /// before it; else nothing.
+    pub fn take(&mut self, lone: &LoneBlock) -> bool
+        ensures taken { (text bytes : List ℕ) (r : Reading) (profile : Profile) → HasTaken text r self.old → IsLone profile bytes lone.now → IsTrue result
+            → (e : Reading) × HasTaken (text ++ bytes) e self.new × GivesBlock r e (Some lone.now.verdict) }
+        ensures kept { result ≡ false → self.new ≡ self.old }
+    {
+        self.front.is_empty() && self.lines.take(lone)
     }
 
     /// The profile that the first text line tells, or One before it.

@@ -77,8 +77,15 @@ impl Blocks {
     pub(crate) fn new(alloc: Global) -> Blocks
         ensures { HasRead unread result }
     {
+        Blocks::by(alloc, Profile::One)
+    }
+
+    /// No blocks of a text by this profile. Takes no memory.
+    pub(crate) fn by(alloc: Global, profile: Profile) -> Blocks
+        ensures { (r : Reading) → r.profile ≡ profile → r.blocks ≡ [] → HasRead r result }
+    {
         Blocks {
-            ledger: Ledger::new(alloc, Profile::One),
+            ledger: Ledger::new(alloc, profile),
             count: 0,
             spelled: String::new(alloc),
         }

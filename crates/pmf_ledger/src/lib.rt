@@ -25,6 +25,7 @@ mod last_run;
 mod laws;
 mod ledger;
 mod loading;
+mod lone_block;
 mod repeats;
 mod reporting;
 mod summing;
@@ -50,6 +51,7 @@ pub use laws::{
 };
 pub use ledger::Ledger;
 pub use loading::{LEDGER_LIMIT, LedgerFault, load_ledger};
+pub use lone_block::{LoneBlock, first_block};
 pub use repeats::least_repeat;
 pub use taking::{TakeFault, Taken, order};
 pub use telling::Teller;

@@ -13,6 +13,7 @@ use std::test::Fail;
 mod block_reading;
 mod joining;
 mod loading;
+mod lone_blocks;
 mod texts;
 
 const ONE: &[Step] = &[FENCE];

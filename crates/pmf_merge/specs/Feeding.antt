@@ -1,8 +1,9 @@
 -- What is read of a ledger text from its source, as far as it was read. Defined here.
 use Rattle.std.specs.{Prelude.{◌≡◌, ℕ, ◌-◌, ◌≤◌, List, ◌++◌, length, take, drop, Option, None, Some}, Io.KnownBytes.{Consumes, IsAtEnd}}
-use Rattle.pmf_ledger.specs.{declared.block_lines.BlockFault.{BlockFault}, BlockReading.{HasTaken, IsOutOfOrder}, Loading.{Reading, IsOfText, fault_through, reading_through}}
+use Rattle.pmf_verdict.specs.Checked.{Checked}
+use Rattle.pmf_ledger.specs.{declared.block_lines.BlockFault.{BlockFault}, BlockReading.{GivesBlock, HasTaken, IsOutOfOrder}, Loading.{Reading, IsOfText, fault_through, reading_through}}
 use Rattle.pmf_ledger.specs.declared.block_lines.BlockFault.TheVariants as fault
-use Rattle.pmf_merge.specs.declared.feed.Feed.{Feed}
+use Rattle.pmf_merge.specs.{Ahead.{IsAhead}, declared.feed.Feed.{Feed}}
 
 -- of a source that had these bytes left, where they are known, these were taken, and those that are left come behind them and what
 -- was read and not taken
@@ -11,6 +12,12 @@ pub record IsFed (start left : Option (List ℕ)) (feed : Feed) (text : List ℕ
   pub rises : feed.at ≤ feed.end
   pub within : feed.end ≤ length feed.piece.items
   pub read : Consumes start left (text ++ take (feed.end - feed.at) (drop feed.at feed.piece.items))
+  pub ahead : IsAhead (take feed.end feed.piece.items) feed.ahead
+
+-- what stands before the end of the next block was taken, and this is the block; without one all that was read was taken
+abbrev pub TakesNext : Option (List ℕ) → Option (List ℕ) → List ℕ → Reading → Feed → Option Checked → Type 0
+TakesNext start left text r feed given =
+    (more : List ℕ) × (e : Reading) × IsFed start left feed (text ++ more) e × GivesBlock r e given × (given ≡ None → feed.at ≡ feed.end)
 
 -- it was taken to its end, and is a ledger's text of this reading
 pub record IsFedWhole (start left : Option (List ℕ)) (text : List ℕ) (r : Reading) : Type 0 where

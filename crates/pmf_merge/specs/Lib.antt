@@ -1,6 +1,7 @@
 pub use Rattle.pmf_ledger.specs.BlockReading
 pub use Rattle.pmf_ledger.specs.Loading
 pub use Rattle.pmf_ledger.specs.Telling
+pub mod Ahead
 pub mod Feeding
 pub mod Refusing
 pub mod Heads

@@ -15,6 +15,7 @@ use pmf_event::Profile;
 use pmf_verdict::Verdict;
 use std::alloc::Global;
 use std::mem;
+use std::thread::Threads;
 
 /// The texts that are read side by side, each up to its next section.
 #[derive(Drop)]
@@ -23,11 +24,20 @@ pub(crate) struct Heads {
     pub(crate) heads: Vec<Option<Verdict>>,
     waiting: Waiting,
     pub(crate) profile: Profile,
+    /// How many threads read blocks of a text.
+    workers: usize,
+    /// How many texts there are in all.
+    texts: usize,
 }
 
 impl Heads {
-    /// Reads each text up to its first section.
-    pub(crate) fn begin<R: Source>(alloc: Global, sources: &mut Vec<R>) -> Result<Heads, MergeFault>
+    /// Reads each text up to its first section, by so many threads.
+    pub(crate) fn begin<T: Threads + Sync, R: Source>(
+        rt: &T,
+        alloc: Global,
+        workers: usize,
+        sources: &mut Vec<R>,
+    ) -> Result<Heads, MergeFault>
         requires { All (λ s. CanCountOneMore (R.failed_calls s)) sources.old.items }
         ensures merging { IfOk result (λ heads. IsMerging (length sources.old.items) (map R.left sources.old.items) (map R.left sources.new.items)
             heads.feeds.items heads.heads.items heads.profile []) }
@@ -42,16 +52,19 @@ impl Heads {
             heads: Vec::new(alloc),
             waiting: Waiting::new(alloc),
             profile: Profile::One,
+            workers,
+            texts: sources.len(),
         };
         for index in 0..sources.len() {
-            heads.add(alloc, &mut sources[index], index)?;
+            heads.add(rt, alloc, &mut sources[index], index)?;
         }
         Ok(heads)
     }
 
     // Reads the text of this index up to its first section.
-    fn add<R: Source>(
+    fn add<T: Threads + Sync, R: Source>(
         &mut self,
+        rt: &T,
         alloc: Global,
         source: &mut R,
         index: usize,
@@ -67,10 +80,10 @@ impl Heads {
             → slice_index_or starts index None ≡ R.left source.old → index < length starts → IfErr result (IsMergeFaultOf starts) }
         ensures counted { OnOk result (R.failed_calls source.new ≡ R.failed_calls source.old) }
     {
-        let Ok(mut feed) = Feed::new(alloc) else {
+        let Ok(mut feed) = Feed::new(alloc, self.workers, self.texts) else {
             return Err(MergeFault::OutOfMemory);
         };
-        let head = feed.next(alloc, source, index)?;
+        let head = feed.next(rt, alloc, source, index)?;
         self.profile = self.one_with(feed.profile(), index)?;
         match self.feeds.push(feed) {
             Ok(()) => {}
@@ -107,8 +120,9 @@ impl Heads {
     }
 
     /// Reads the text of this index, whose section was told, up to its next one, and gives the section away.
-    pub(crate) fn advance<R: Source>(
+    pub(crate) fn advance<T: Threads + Sync, R: Source>(
         &mut self,
+        rt: &T,
         alloc: Global,
         source: &mut R,
         index: usize,
@@ -132,7 +146,7 @@ impl Heads {
         ensures counted { OnOk result (R.failed_calls source.new ≡ R.failed_calls source.old) }
     {
         let feed = &mut self.feeds[index];
-        let head = feed.next(alloc, source, index)?;
+        let head = feed.next(rt, alloc, source, index)?;
         let profile = feed.profile();
         if !self.is_by(profile) {
             return Err(MergeFault::ProfileMismatch { index });

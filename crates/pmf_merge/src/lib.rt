@@ -7,6 +7,7 @@
 //! Not promised here: what a device does with the bytes, or that memory suffices.
 #![tactic(auto)]
 
+mod ahead;
 mod fault;
 mod feed;
 mod heads;

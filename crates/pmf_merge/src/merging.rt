@@ -15,14 +15,20 @@ use pmf_ledger::{Form, Totals, order};
 use pmf_verdict::Verdict;
 use std::alloc::Global;
 use std::cmp::Ordering;
+use std::thread::Threads;
 
 /// Merges the ledger texts of the sources, and writes their ledger in this form. The texts may have any length; the names
 /// of their sections have to rise. What is told of a section is written once it is the least that waits.
 ///
 /// Takes memory for a section and 16 KiB of each text, and for 64 KiB of what is written. The time grows with the bytes, and
 /// with the sections times the logarithm of the number of texts.
-pub fn merge_to<R: Source, W: Sink>(
+///
+/// With more than one worker, each section that stands whole in what was read of its text is checked again by one of so many threads,
+/// before its turn. That takes memory for 64 MiB of all texts, and for what sections these hold.
+pub fn merge_to<T: Threads + Sync, R: Source, W: Sink>(
+    rt: &T,
     alloc: Global,
+    workers: usize,
     sources: &mut Vec<R>,
     writer: &mut W,
     form: Form,
@@ -32,7 +38,7 @@ pub fn merge_to<R: Source, W: Sink>(
     ensures merges { IfOk result (Merges form (map R.left sources.old.items) (W.held writer.old) (W.held writer.new)) }
     ensures refused { IfErr result (IsMergeFaultOf (map R.left sources.old.items)) }
 {
-    let mut heads = Heads::begin(alloc, sources)?;
+    let mut heads = Heads::begin(rt, alloc, workers, sources)?;
     let mut written = match Written::begin(alloc, form, heads.profile) {
         Ok(written) => written,
         Err(_) => return Err(MergeFault::OutOfMemory),
@@ -47,7 +53,7 @@ pub fn merge_to<R: Source, W: Sink>(
         if let Some(verdict) = &heads.heads[index] {
             tell(&mut written, writer, &last, verdict)?;
         }
-        last = heads.advance(alloc, &mut sources[index], index)?;
+        last = heads.advance(rt, alloc, &mut sources[index], index)?;
     }
     written.end(writer)
 }

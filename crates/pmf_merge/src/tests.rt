@@ -11,7 +11,9 @@ use pmf_ledger::{BlockFault, Form, LedgerFault, Totals};
 use std::alloc::{AllocError, Global};
 use std::process::Abort;
 use std::test::Fail;
+use std::thread::Threads;
 
+mod ahead;
 mod pieces;
 
 const EMPTY: &str = "PMFARM-LEDGER 1\nend verdicts=0\n";
@@ -83,11 +85,13 @@ end verdicts=3
 struct Giving {
     most: usize,
     fails: Option<usize>,
+    workers: usize,
 }
 
 const WHOLE: Giving = Giving {
     most: usize::MAX,
     fails: None,
+    workers: 1,
 };
 
 fn sources_of<'a>(
@@ -116,8 +120,8 @@ fn counts(sections: u64, pass: u128, fail: u128) -> Totals {
 }
 
 // The merge of the texts answers so, and the sink holds these bytes.
-fn writes(
-    rt: &impl Abort,
+fn writes<R: Abort + Threads + Sync>(
+    rt: &R,
     alloc: Global,
     texts: &[&str],
     giving: Giving,
@@ -129,7 +133,8 @@ fn writes(
     requires { sink.failures ≡ 0 }
 {
     let mut sources = sources_of(alloc, texts, giving)?;
-    assert_eq!(rt; merge_to(alloc, &mut sources, &mut sink, form), want);
+    let merged = merge_to(rt, alloc, giving.workers, &mut sources, &mut sink, form);
+    assert_eq!(rt; merged, want);
     assert!(rt; sink.bytes() == text, "{want:?}");
     Ok(())
 }
@@ -159,7 +164,7 @@ fn each_text_of_all_is_written(rt: HostRuntime) -> Result<(), Fail> {
         (&[FAILING, LEDGER], ledger, counts(3, 1, 1), BOTH),
     ] {
         for most in MOST {
-            let giving = Giving { most, fails: None };
+            let giving = Giving { most, ..WHOLE };
             let sink = ByteSink::new(alloc);
             let want = Ok(totals);
             writes(&rt, alloc, texts, giving, sink, form, want, text.as_bytes())?;
@@ -323,7 +328,7 @@ fn the_first_refusal_is_told(rt: HostRuntime) -> Result<(), Fail> {
         ),
     ] {
         for most in MOST {
-            let giving = Giving { most, fails: None };
+            let giving = Giving { most, ..WHOLE };
             let sink = ByteSink::new(alloc);
             writes(
                 &rt,
@@ -351,10 +356,8 @@ fn a_text_that_is_cut_anywhere_is_refused(rt: HostRuntime) -> Result<(), Fail> {
         sources.push(Pieces::new(&text[..cut], usize::MAX, false))?;
         let mut sink = ByteSink::new(alloc);
         let want = Err(not_a_ledger(1, line));
-        assert_eq!(rt;
-            merge_to(alloc, &mut sources, &mut sink, Form::Ledger),
-            want
-        );
+        let merged = merge_to(&rt, alloc, 1, &mut sources, &mut sink, Form::Ledger);
+        assert_eq!(rt; merged, want);
         assert!(rt; sink.bytes().is_empty());
         if text[cut] == b'\n' {
             line = u64::saturating_add(line, 1);
@@ -379,7 +382,11 @@ fn a_read_that_fails_is_told_with_its_text(rt: HostRuntime) -> Result<(), Fail> 
     ] {
         for most in MOST {
             let fails = Some(index);
-            let giving = Giving { most, fails };
+            let giving = Giving {
+                most,
+                fails,
+                ..WHOLE
+            };
             let sink = ByteSink::new(alloc);
             let fault = Err(MergeFault::Read { index });
             writes(&rt, alloc, texts, giving, sink, Form::Report, fault, b"")?;
@@ -419,7 +426,7 @@ fn long_fence(alloc: Global, more: usize) -> Result<String, AllocError> {
 }
 
 // A text with this fence has the same ledger as one with a short one.
-fn reads_long(rt: &impl Abort, alloc: Global, more: usize) -> Result<(), Fail> {
+fn reads_long<R: Abort + Threads + Sync>(rt: &R, alloc: Global, more: usize) -> Result<(), Fail> {
     let long = long_fence(alloc, more)?;
     let [fence, ..] = FENCES;
     let texts = [fence, long.as_str()];

@@ -31,6 +31,8 @@ pub struct Files<'a> {
     pub list: Option<&'a str>,
     /// Whether they are merged as they are read, which takes texts of any length.
     pub stream: bool,
+    /// How many threads check their sections then: 1 to 64.
+    pub workers: u32,
     /// What is written of them.
     pub wanted: Wanted,
 }

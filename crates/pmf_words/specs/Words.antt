@@ -12,7 +12,7 @@ use Rattle.pmf_request.specs.declared.request.Wanted.TheVariants as wanted
 
 -- ---- the options
 
--- numbers below 2^32, those from 1 on, numbers below 2^64, and from 1 to 1000
+-- numbers below 2^32, those from 1 on, numbers below 2^64, from 1 to 1000, and from 1 to 64
 abbrev pub small_number : ValueParser
 small_number = vp.Signed (pos 0) (pos 4294967295)
 
@@ -24,6 +24,9 @@ large_number = vp.Unsigned 0 18446744073709551615
 
 abbrev pub row_count : ValueParser
 row_count = vp.Signed (pos 1) (pos 1000)
+
+abbrev pub thread_count : ValueParser
+thread_count = vp.Signed (pos 1) (pos 64)
 
 -- an option with one value
 abbrev pub option : Text → Rule
@@ -107,8 +110,9 @@ cut_words =
 
 abbrev pub join_words : App
 join_words =
-    with_rule (with_rule (with_rule (with_rule (with_rule (new_app (codes "join"))
-    (flag (codes "ledger"))) (flag (codes "summary"))) (option (codes "files-from"))) (flag (codes "stream"))) file_words
+    with_rule (with_rule (with_rule (with_rule (with_rule (with_rule (new_app (codes "join"))
+    (flag (codes "ledger"))) (flag (codes "summary"))) (option (codes "files-from"))) (flag (codes "stream")))
+    (number (codes "workers") thread_count (codes "1"))) file_words
 
 abbrev pub sim_words : App
 sim_words =
@@ -237,6 +241,7 @@ pub record IsJoinOf (rows : List Row) (f : Files) : Type 0 where
   pub names : map (λ s. s.now) f.names.items ≡ unwrap_or (all_of (codes "file") rows) []
   pub list : option_map (λ s. s.now) f.list ≡ first_of (codes "files-from") rows
   pub stream : IsFlagOf rows (codes "stream") f.stream
+  pub workers : IsNumberOf rows (codes "workers") 32 f.workers
   pub wanted : IsWantedOf rows f.wanted
 
 -- the world is the one that the words of `sim` name

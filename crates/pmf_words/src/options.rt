@@ -2,7 +2,7 @@
 
 ghost use Rattle.std.specs.Prelude.{◌≡◌, false, Some, codes};
 ghost use Rattle.clap.specs.{Words.{rule_of}, declared.builder.value_parser.ValueParser.{ValueParser}};
-ghost use Rattle.pmf_words.specs.Words.{asked, asked_number, file_words, flag, large_number, log_word, maybe_number, number, option, profile_option, row_count, run_option, small_count, small_number};
+ghost use Rattle.pmf_words.specs.Words.{asked, asked_number, file_words, flag, large_number, log_word, maybe_number, number, option, profile_option, row_count, run_option, small_count, small_number, thread_count};
 
 use clap::builder::ValueParser;
 use clap::{Arg, ArgAction, value_parser};
@@ -274,6 +274,15 @@ pub(crate) fn stream<'a>(alloc: Global) -> Arg<'a>
 {
     let help = "Merge the ledgers as they are read: of any length, with their sections in order";
     flag(alloc, "stream", help)
+}
+
+pub(crate) fn merge_workers<'a>(alloc: Global) -> Arg<'a>
+    ensures rule { rule_of result ≡ number (codes "workers") thread_count (codes "1") }
+    ensures local { result.global ≡ false }
+{
+    let help = "With --stream: how many threads check the sections, 1 to 64";
+    let parser = value_parser!(u32).range(1..=64);
+    parsed(alloc, "workers", "N", help, parser).default_value("1")
 }
 
 pub(crate) fn file<'a>(alloc: Global) -> Arg<'a>

@@ -297,6 +297,7 @@ fn files_of<'a>(alloc: Global, join: &ArgMatches<'a>) -> Result<Files<'a>, Error
         names,
         list: join.get_str("files-from"),
         stream: join.get_flag("stream"),
+        workers: join.get_one::<u32>("workers").unwrap_or(1),
         wanted,
     })
 }

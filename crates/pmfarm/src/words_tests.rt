@@ -343,7 +343,26 @@ fn join_takes_files_in_their_order(rt: HostRuntime) -> Result<(), Fail> {
             names,
             list,
             stream,
+            workers: 1,
             wanted,
+        };
+        asks(&rt, rt.alloc(), line, Request::Join(files))?;
+    }
+    Ok(())
+}
+
+#[test]
+fn a_merge_takes_a_number_of_workers(rt: HostRuntime) -> Result<(), Fail> {
+    for (line, workers) in [
+        ("join --stream --workers 1 --files-from l", 1),
+        ("join --workers=64 --stream --files-from=l", 64),
+    ] {
+        let files = Files {
+            names: Vec::new(rt.alloc()),
+            list: Some("l"),
+            stream: true,
+            workers,
+            wanted: Wanted::Report,
         };
         asks(&rt, rt.alloc(), line, Request::Join(files))?;
     }

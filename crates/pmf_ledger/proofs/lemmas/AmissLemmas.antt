@@ -1,5 +1,5 @@
 -- The rows that fail or warn, with a row more.
-use Rattle.std.proofs.{Common.{◌≡◌, ℕ, ◌+◌, ◌<◌, Bool, true, false, List, [], ◌∷◌, ◌++◌, length, take, filter, get_or, refl, sym, ◌∙◌, ap, append-nil}, lemmas.List.{take_more}, lemmas.List.Elements.{filter-append}, lemmas.Grind.{flat_map-append}}
+use Rattle.std.proofs.{Common.{◌≡◌, ℕ, ◌+◌, ◌<◌, true, false, List, [], ◌∷◌, ◌++◌, length, take, filter, get_or, refl, sym, ◌∙◌, ap, append-nil}, lemmas.List.{take_more}, lemmas.List.Elements.{filter-append}, lemmas.Grind.{flat_map-append}}
 use Rattle.pmf_event.specs.declared.row.Row.{Row}
 use Rattle.pmf_verdict.specs.Text.{text_of_row, text_of_rows}
 use Rattle.pmf_ledger.specs.Summary.{is_amiss}

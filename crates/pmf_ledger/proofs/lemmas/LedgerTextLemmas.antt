@@ -228,7 +228,7 @@ no_fault : (text : List ℕ) → (reading_of text).stage ≡ AtEnd → left_of t
 unfolding fault_of
 no_fault text is none = rw (none, is) refl
 
-profile_of-version : (profile : Profile) → profile_of (version_of profile) ≡ Some profile
+pub profile_of-version : (profile : Profile) → profile_of (version_of profile) ≡ Some profile
 unfolding profile_of
 profile_of-version profile = grind (arith, common_steps)
 

@@ -1,7 +1,7 @@
 -- What is written of sections part by part is their summary, where their names rise; and so are their report and their ledger text.
-use Rattle.std.proofs.{Common.{◌≡◌, ◌≢◌, ◌⊎◌, ℕ, ◌<◌, ◌≤◌, ◌==◌, Bool, true, false, not, List, [], ◌∷◌, ◌++◌, filter, flat_map, Contains, Option, Some, refl, sym, ◌∙◌, ap, subst, arith, inl, inr, append_assoc, append-nil}, lemmas.Bool.{cases_order, ne_eqb}, lemmas.Bool.Decides.{Decides-eqb}, lemmas.List.Elements.{Contains-append_left, Contains-append_right, Contains-push, Contains-push_cases, filter-append}, lemmas.Grind.{flat_map-append}}
+use Rattle.std.proofs.{Common.{◌≡◌, ◌≢◌, ℕ, ◌<◌, ◌≤◌, ◌==◌, true, false, not, List, [], ◌∷◌, ◌++◌, filter, flat_map, Contains, Option, Some, refl, sym, ◌∙◌, ap, subst, arith, inl, inr, append_assoc, append-nil}, lemmas.Bool.{cases_order, ne_eqb}, lemmas.Bool.Decides.{Decides-eqb}, lemmas.List.Elements.{Contains-append_left, Contains-append_right, Contains-push, Contains-push_cases, filter-append}, lemmas.Grind.{flat_map-append}}
 use Rattle.pmf_verdict.specs.Checked.{Checked}
-use Rattle.pmf_ledger.{specs.declared.form.Form.{Form}, specs.declared.form.Form.TheVariants.{Report, Summary, Ledger}, specs.LedgerValue.{LedgerValue}, specs.Names.{ComesBefore, Rises}, specs.Report.{text_of_totals, totals_of}, specs.Summary.{in_run, is_of_run, line_of_run, runs_of, summary_of, text_of_run, text_of_summarized}, specs.Telling.{last_run, part_of, parts_after, run_named, text_before, text_behind, text_behind_run, text_between, text_told}, proofs.lemmas.MergingLemmas.{AllPairs-front, AllPairs-last, none_of_empty}, proofs.lemmas.TellingLemmas.{behind_some, between_other, between_same, is_of, is_other, last_run-other, last_run-same, named_push, parts_of_ledger, parts_of_report, parts_push, some-same}}
+use Rattle.pmf_ledger.{specs.declared.form.Form.{Form}, specs.declared.form.Form.TheVariants.{Report, Summary, Ledger}, specs.LedgerValue.{LedgerValue}, specs.Names.{ComesBefore, Rises}, specs.Report.{text_of_totals, totals_of}, specs.Summary.{in_run, is_of_run, line_of_run, runs_of, text_of_run, text_of_summarized}, specs.Telling.{last_run, parts_after, run_named, text_before, text_behind, text_behind_run, text_told}, proofs.lemmas.MergingLemmas.{AllPairs-front, AllPairs-last, none_of_empty}, proofs.lemmas.TellingLemmas.{behind_some, between_other, between_same, is_of, is_other, last_run-other, last_run-same, named_push, parts_of_ledger, parts_of_report, parts_push, some-same}}
 
 -- ---- the sections of a run
 

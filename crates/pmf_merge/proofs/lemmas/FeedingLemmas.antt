@@ -32,6 +32,19 @@ module _ (start left : Option (List ℕ)) (feed : Feed) (text : List ℕ) (r : R
             ∙ ap (λ xs. text ++ xs) (take-append-drop n (unread_of feed)))) fed.read,
       )
 
+  -- up to a place of the piece
+  pub taken_to : (to : ℕ) → feed.at ≤ to → to ≤ length (take feed.end feed.piece.items) →
+      (to ≤ feed.end) × Consumes start left ((text ++ take (to - feed.at) (drop feed.at (take feed.end feed.piece.items))) ++ take (feed.end - to) (drop to feed.piece.items))
+  taken_to to rise below =
+      let rises = fed.rises in let long = unread_length in let all = length-take-le feed.end feed.piece.items fed.within in
+      let place : feed.at + (to - feed.at) ≡ to = omega (arith, rise) in
+      let end : feed.end ≡ feed.at + (feed.end - feed.at) = omega (arith, rises) in
+      let same : unread_of feed ≡ drop feed.at (take feed.end feed.piece.items) =
+      sym (ap (λ n. drop feed.at (take n feed.piece.items)) end ∙ drop-take feed.at (feed.end - feed.at) feed.piece.items) in
+      let parts = more_taken (to - feed.at) (omega (arith, rise, below, all, long)) in
+      let bytes = subst (λ xs. Consumes start left ((text ++ take (to - feed.at) xs) ++ take (feed.end - (feed.at + (to - feed.at))) (drop (feed.at + (to - feed.at)) feed.piece.items))) same parts.1 in
+      (omega (arith, below, all), subst (λ n. Consumes start left ((text ++ take (to - feed.at) (drop feed.at (take feed.end feed.piece.items))) ++ take (feed.end - n) (drop n feed.piece.items))) place bytes)
+
   -- the end of the text
   pub fed_whole : IsAtEnd left → feed.at ≡ feed.end → fault_through text ≡ None → reading_through text ≡ r → IsFedWhole start left text r
   fed_whole ended all faultless is =

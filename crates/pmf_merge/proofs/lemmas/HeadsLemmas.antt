@@ -173,6 +173,12 @@ module _ (n : ℕ) (starts lefts : List (Option (List ℕ))) (feeds : List Feed)
     ]);
   }
 
+-- how far the text of this index was read
+pub fed_at : (n : ℕ) (starts lefts : List (Option (List ℕ))) (feeds : List Feed) (heads : List (Option Checked)) (profile : Profile) (out : List Checked)
+    (m : IsMerging n starts lefts feeds heads profile out) (i : ℕ) → i < n → (feed : Feed) (left : Option (List ℕ)) → feed ≡ get_or feeds i feed → get_or lefts i None ≡ left →
+    IsFed (get_or starts i None) left feed (m.texts i) (m.readings i)
+fed_at n starts lefts feeds heads profile out m i inside feed left is at = rw (sym at, is) (m.fed i feed inside)
+
 -- a text is added, read up to its head
 module _ (n : ℕ) (starts lefts : List (Option (List ℕ))) (feeds : List Feed) (heads : List (Option Checked)) (before profile : Profile)
     (m : IsMerging n starts lefts feeds heads before []) (same_by : 0 < n → before ≡ profile) (inside : n < length lefts)

@@ -5,4 +5,5 @@ returns c =
     let ledger = c.with_option-join.ensures _ _ c.head.ensures c.ledger.ensures.rule c.ledger.ensures.local in
     let summary = c.with_option-join-2.ensures _ _ ledger c.summary.ensures.rule c.summary.ensures.local in
     let listed = c.with_option-join-3.ensures _ _ summary c.files_from.ensures.rule c.files_from.ensures.local in
-    c.with_option.ensures _ _ (c.with_option-join-4.ensures _ _ listed c.stream.ensures.rule c.stream.ensures.local) c.file.ensures.rule c.file.ensures.local
+    let streamed = c.with_option-join-4.ensures _ _ listed c.stream.ensures.rule c.stream.ensures.local in
+    c.with_option.ensures _ _ (c.with_option-join-5.ensures _ _ streamed c.merge_workers.ensures.rule c.merge_workers.ensures.local) c.file.ensures.rule c.file.ensures.local

@@ -1,6 +1,6 @@
-use Rattle.std.proofs.{Common.{◌≡◌, ◌++◌, List, length, Some, sym, ◌∙◌, ap, subst, arith}, lemmas.List.{length_push}}
+use Rattle.std.proofs.{Common.{◌≡◌, ◌++◌, List, length, Some, sym, ap, subst, arith}, lemmas.List.{length_push}}
 use Rattle.pmf_event.specs.{declared.name.Name.{Name}, Section.{Trace}}
-use Rattle.pmf_ledger.{specs.BlockReading.{NamesRise}, specs.Names.{IsBefore}, proofs.lemmas.BlockReadingLemmas.{next_without, rises_more}, proofs.block_lines.BlockLines.hand_out.Goals.{in-Some-last+in-Less, in_default-last}}
+use Rattle.pmf_ledger.{specs.BlockReading.{NamesRise}, specs.Names.{IsBefore}, proofs.lemmas.BlockReadingLemmas.{next_without, rises_more}}
 use Rattle.pmf_ledger.proofs.block_lines.BlockLines.hand_out.Goals as goal
 
 pub returns : goal.returns
@@ -8,12 +8,7 @@ returns c = λ r e line before.
     let given = c.in-Some.ensures e before.stands.0 before.one in
     let s = c.in-Some.verdict.section in
     let whole = ap (λ ss. r.blocks ++ ss) given.1.0 in
-    let after : (name : Name) → c.args.self.now.last ≡ Some name → IsBefore name s.name = elim c.match-self.branch [
-      | in-Some-last+in-Less w ↦ λ name is.
-          let same : w.in-Some-last.last ≡ name = let both : Some w.in-Some-last.last ≡ Some name = sym w.in-Some-last.is ∙ is in cc in
-          subst (λ n. IsBefore n s.name) same (subst (IsBefore w.in-Some-last.last) c.name-name.ensures (w.order.ensures.less w.in-Less.is))
-      | in_default-last w ↦ λ name is. absurd (w.in_default-last.not-Some name is)
-    ] in (
+    let after : (name : Name) → c.args.self.now.last ≡ Some name → IsBefore name s.name = λ name is. subst (IsBefore name) c.name-name.ensures (c.comes_next.ensures.next c.if-not-comes_next.false name is) in (
       record {
         stands = (given.0, next_without e c.args.self.now.next before.stands.1);
         line_is = before.line_is;

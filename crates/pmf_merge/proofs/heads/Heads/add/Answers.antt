@@ -5,7 +5,7 @@ use Rattle.pmf_merge.{specs.Feeding.{IsFed}, specs.Waiting.{PutsAt}, proofs.lemm
 use Rattle.pmf_merge.proofs.heads.Heads.add.Goals as goal
 
 pub next-requires-clause-fed : goal.next-requires-clause-fed
-next-requires-clause-fed g c = (g.R.Source.left c.args.source.now, [], unread, c.in-Ok.ensures (g.R.Source.left c.args.source.now))
+next-requires-clause-fed g c = λ _ _. (g.R.Source.left c.args.source.now, [], unread, c.in-Ok.ensures (g.R.Source.left c.args.source.now))
 
 pub returns-clause-added : goal.returns-clause-added
 returns-clause-added g c = λ starts lefts m same inside. elim c.match-push-2.branch [

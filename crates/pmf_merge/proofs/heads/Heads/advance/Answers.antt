@@ -1,5 +1,6 @@
-use Rattle.std.proofs.{Common.{◌≡◌, true, false, ◌++◌, length, set, get_or, None, sym, ◌∙◌, subst, arith, rules}, lemmas.List.{get_or_default}, lemmas.Bool.{true≢false}}
-use Rattle.pmf_merge.{specs.Feeding.{IsFed}, proofs.lemmas.{HeadsLemmas.{advanced}, RefusalLemmas.{tells_profile, told_next}, WaitingLemmas.{set_head}}}
+use Rattle.std.proofs.{Common.{◌≡◌, true, false, ◌++◌, length, set, get_or, None, refl, sym, ◌∙◌, arith, rules}, lemmas.List.{get_or_default}, lemmas.Bool.{true≢false}}
+use Rattle.pmf_device.proofs.PageLemmas.{stops_so}
+use Rattle.pmf_merge.{specs.Merging.{IsMergeFaultOf}, proofs.lemmas.{HeadsLemmas.{advanced, fed_at}, RefusalLemmas.{of_feed, tells_profile, told_next}, WaitingLemmas.{set_head}}}
 use Rattle.pmf_merge.proofs.heads.Heads.advance.Goals as goal
 
 pub returns-clause-advanced : goal.returns-clause-advanced
@@ -7,8 +8,7 @@ returns-clause-advanced g c = λ n starts lefts out new v m inside enough at_lef
     let index = c.args.index in let feeds = c.args.self.now.feeds.items in let heads = c.args.self.now.heads.items in
     let long = m.heads_are in
     let start = get_or starts index None in
-    let fed = subst (λ left. IsFed start left c.index_mut-feed.result.now (m.texts index) (m.readings index)) at_left
-    (subst (λ feed. IsFed start (get_or lefts index None) feed (m.texts index) (m.readings index)) (sym c.index_mut-feed.ensures.value) (m.fed index c.index_mut-feed.result.now inside)) in
+    let fed = fed_at n starts lefts feeds heads c.args.self.now.profile out m index inside c.index_mut-feed.result.now (g.R.Source.left c.args.source.now) c.index_mut-feed.ensures.value at_left in
     let next = c.in_ok-head.ensures.next start (m.texts index) (m.readings index) fed in
     let yes : c.is_by.result ≡ true = search rules in
     let by = sym (c.profile-profile.ensures start _ _ next.1 next.2) ∙ c.is_by.ensures.0 yes in (
@@ -24,12 +24,20 @@ returns-clause-waiting g c = λ is inside.
     rw c.replace-2.ensures.after
     (c.in-Ok.ensures heads (set heads index c.in_ok-head.head) is (sym (get_or_default heads index c.index.result.now None inside) ∙ sym c.index.ensures) (set_head heads index c.in_ok-head.head inside))
 
+pub returns-in_err-head-clause-refused : goal.returns-in_err-head-clause-refused
+returns-in_err-head-clause-refused g c = λ starts lefts out m inside at_left.
+    let index = c.args.index in
+    let fed = fed_at (length starts) starts lefts c.args.self.now.feeds.items c.args.self.now.heads.items c.args.self.now.profile out m index inside c.index_mut-feed.result.now
+    (g.R.Source.left c.args.source.now) c.index_mut-feed.ensures.value at_left in
+    let refused = c.in_err-head.ensures.refused (get_or starts index None) (m.texts index) (m.readings index) fed in
+    stops_so _ (IsMergeFaultOf starts) c.from_residual.result c.in_err-head.field-0.0 c.from_residual.ensures (of_feed starts index (get_or starts index None) c.in_err-head.field-0.0 inside refl refused)
+
 pub returns-then-not-is_by-clause-refused : goal.returns-then-not-is_by-clause-refused
 returns-then-not-is_by-clause-refused g c = λ starts lefts out m inside at_left.
     let index = c.args.index in let profile = c.args.self.now.profile in
     let start = get_or starts index None in
-    let fed = subst (λ left. IsFed start left c.index_mut-feed.result.now (m.texts index) (m.readings index)) at_left
-    (subst (λ feed. IsFed start (get_or lefts index None) feed (m.texts index) (m.readings index)) (sym c.index_mut-feed.ensures.value) (m.fed index c.index_mut-feed.result.now inside)) in
+    let fed = fed_at (length starts) starts lefts c.args.self.now.feeds.items c.args.self.now.heads.items profile out m index inside c.index_mut-feed.result.now (g.R.Source.left c.args.source.now)
+    c.index_mut-feed.ensures.value at_left in
     let next = c.in_ok-head.ensures.next start (m.texts index) (m.readings index) fed in
     let told = told_next start (g.R.Source.left c.next.new.source) c.next.new.self (m.texts index ++ next.0) (m.readings index) next.1 c.in_ok-head.head next.2 next.3 next.4 in
     let other : c.is_by.result ≡ false = search rules in (
