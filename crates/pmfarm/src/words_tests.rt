@@ -320,49 +320,39 @@ fn cut_takes_lengths_a_step_and_the_front_of_names(rt: HostRuntime) -> Result<()
 #[test]
 fn join_takes_files_in_their_order(rt: HostRuntime) -> Result<(), Fail> {
     let (report, summary, ledger) = (Wanted::Report, Wanted::Summary, Wanted::Ledger);
-    for (line, files, list, stream, wanted) in [
-        ("join", [].as_slice(), None, false, report),
-        ("join b a b", &["b", "a", "b"], None, false, report),
-        ("join a --ledger b", &["a", "b"], None, false, ledger),
-        ("join a --summary b", &["a", "b"], None, false, summary),
-        ("join -- --ledger", &["--ledger"], None, false, report),
-        ("join --files-from l", &[], Some("l"), false, report),
+    for (line, files, list, merged_by, wanted) in [
+        ("join", [].as_slice(), None, None, report),
+        ("join b a b", &["b", "a", "b"], None, None, report),
+        ("join a --ledger b", &["a", "b"], None, None, ledger),
+        ("join a --summary b", &["a", "b"], None, None, summary),
+        ("join -- --ledger", &["--ledger"], None, None, report),
+        ("join --files-from l", &[], Some("l"), None, report),
         (
             "join a --files-from=l b",
             &["a", "b"],
             Some("l"),
-            false,
+            None,
             report,
         ),
-        ("join --stream a", &["a"], None, true, report),
-        ("join --summary --stream a", &["a"], None, true, summary),
+        ("join --stream a", &["a"], None, Some(1), report),
+        ("join --summary --stream a", &["a"], None, Some(1), summary),
+        ("join --stream --workers 1 a", &["a"], None, Some(1), report),
+        (
+            "join --workers=64 --stream a",
+            &["a"],
+            None,
+            Some(64),
+            report,
+        ),
     ] {
         let mut names = Vec::new(rt.alloc());
         names.extend_from_slice(files)?;
         let files = Files {
             names,
             list,
-            stream,
-            workers: 1,
+            stream: merged_by.is_some(),
+            workers: merged_by.unwrap_or(1),
             wanted,
-        };
-        asks(&rt, rt.alloc(), line, Request::Join(files))?;
-    }
-    Ok(())
-}
-
-#[test]
-fn a_merge_takes_a_number_of_workers(rt: HostRuntime) -> Result<(), Fail> {
-    for (line, workers) in [
-        ("join --stream --workers 1 --files-from l", 1),
-        ("join --workers=64 --stream --files-from=l", 64),
-    ] {
-        let files = Files {
-            names: Vec::new(rt.alloc()),
-            list: Some("l"),
-            stream: true,
-            workers,
-            wanted: Wanted::Report,
         };
         asks(&rt, rt.alloc(), line, Request::Join(files))?;
     }
