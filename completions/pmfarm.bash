@@ -9,7 +9,7 @@ _pmfarm() {
         locate) words='--section --event --run --help -h' ;;
         lint) words='--unasserted --help -h' ;;
         cut) words='--events --step --files --bytes --help -h' ;;
-        join) words='--ledger --summary --files-from --stream --workers --help -h' ;;
+        join) words='--ledger --summary --files-from --stream --trust --workers --help -h' ;;
         sim) words='--log --workers --ledgers --help -h' ;;
         help) words='check explain why locate lint cut join sim' ;;
     esac

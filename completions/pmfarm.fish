@@ -24,6 +24,7 @@ complete -c pmfarm -n '__fish_seen_subcommand_from check join' -l ledger -d 'wri
 complete -c pmfarm -n '__fish_seen_subcommand_from join' -l summary -d 'write what fails and warns, and the sums of each run'
 complete -c pmfarm -n '__fish_seen_subcommand_from join' -l files-from -r -F -d 'a file that names ledgers'
 complete -c pmfarm -n '__fish_seen_subcommand_from join' -l stream -d 'merge the ledgers as they are read'
+complete -c pmfarm -n '__fish_seen_subcommand_from join' -l trust -d 'check no section, and write a ledger that says so'
 complete -c pmfarm -n '__fish_seen_subcommand_from check' -l strict -d 'end with 1 also where lint warns'
 complete -c pmfarm -n '__fish_seen_subcommand_from lint' -l unasserted -d 'name the stores that no assertion covers'
 complete -c pmfarm -n '__fish_seen_subcommand_from cut' -l events -x -d 'the most events of a part'

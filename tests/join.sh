@@ -144,6 +144,41 @@ sweep_merge_by_workers() {
     ended 0 $? && sweep examples/first.log join --stream --workers 2 "$scratch/long.ledger"
 }
 
+# trusts STATUS LEDGER FILE..: what is merged on trust is this ledger but for its first line, and standard error says so.
+trusts() {
+    local status=$1
+    sed '1s/LEDGER/TRUSTED/' "$2" >"$scratch/wanted"
+    shift 2
+    "$program" join --stream --trust "$@" >"$scratch/report" 2>"$scratch/diagnostics"
+    ended "$status" $? && same "$scratch/wanted" "$scratch/report" && said 'pmfarm: merged on trust: no section was checked' "$scratch/diagnostics"
+}
+
+# What was merged on trust is refused as no ledger, and merged on trust again; with the first line of a ledger it is checked.
+trusts_no_more() {
+    local word
+    trusts 0 examples/forged.ledger examples/forged.ledger && cp "$scratch/report" "$scratch/x.ledger" || return
+    for word in --ledger --stream; do
+        "$program" join "$word" "$scratch/x.ledger" >"$scratch/report" 2>"$scratch/diagnostics"
+        ended 2 $? && same /dev/null "$scratch/report" && said "pmfarm: $scratch/x.ledger: line 1: not a ledger" "$scratch/diagnostics" || return
+    done
+    trusts 0 examples/forged.ledger "$scratch/x.ledger" examples/forged.ledger || return
+    sed '1s/TRUSTED/LEDGER/' "$scratch/x.ledger" | "$program" join --stream /dev/stdin >"$scratch/report" 2>"$scratch/diagnostics"
+    ended 2 $? && said 'pmfarm: /dev/stdin: section 0.1: rows are false' "$scratch/diagnostics"
+}
+
+# The ledgers of `merges_by_workers`, all of whose rows fail.
+trusts_fails() {
+    "$program" join --ledger "$scratch"/[0-2].ledger >"$scratch/y.ledger"
+    ended 1 $? && trusts 1 "$scratch/y.ledger" "$scratch"/[0-2].ledger
+}
+
+# trust_refused WORD..: trust is asked for where it is none.
+trust_refused() {
+    "$program" join --trust "$@" no.ledger >"$scratch/report" 2>"$scratch/diagnostics"
+    ended 2 $? && same /dev/null "$scratch/report" &&
+        [ "$(head -n 1 "$scratch/diagnostics")" = "pmfarm: error: the argument '--trust' needs '--stream', and cannot be used with '--summary'" ]
+}
+
 # The ledgers of two runs, of which the second has a section that passes and one that fails and warns.
 runs_to_summarize() {
     printf 'STORE;0x1000;0;8|FLUSH;0x1000;8|FENCE|PMT.PERSIST;0x1000;8' | "$program" check --ledger --run 1 >"$scratch/1.ledger" || return
@@ -257,15 +292,26 @@ try_join() {
     check 'a merge that was refused is no ledger' a_front_of_a_ledger
     check 'a thousand ledgers merge' merges_many
     check 'ledgers merge by any number of workers' merges_by_workers
+    check 'ledgers are merged on trust' trusts 0 examples/shared.ledger examples/shared_b.ledger examples/shared_a.ledger
+    check 'a merge on trust ends with 1 where a row tells a fail' trusts_fails
+    check 'what was merged on trust is no ledger' trusts_no_more
+    check 'a log is not merged on trust' joins 2 /dev/null 'pmfarm: first.log: line 1: not a ledger' --stream --trust first.log
+    check 'other events in two files are not merged on trust' joins 2 /dev/null 'pmfarm: section 7.1: held with other events' \
+        --stream --trust "$scratch/cut_off/good" "$scratch/cut_off/other"
+    check 'a front of a ledger is not merged on trust' joins 2 /dev/null "pmfarm: $scratch/cut_off/cut: line 4: not a ledger" --stream --trust "$scratch/cut_off/cut"
+    check 'trust is for a merge' trust_refused
+    check 'trust writes no summary' trust_refused --stream --summary
     check 'a merge by no worker is refused' refused join --stream --workers 0 examples/shared_a.ledger
     check 'a merge by 65 workers is refused' refused join --stream --workers 65 examples/shared_a.ledger
     check 'a merge without a file is refused' joins 2 /dev/null 'pmfarm: error: no ledger is named' --stream
     check 'join without a file is refused' refused join
     check 'a full device as standard output of join' full_output /dev/null join examples/shared_a.ledger
     check 'a full device as standard output of a merge' full_output /dev/null join --stream examples/shared_a.ledger
+    check 'a full device as standard output of a merge on trust' full_output /dev/null join --stream --trust examples/shared_a.ledger
     check 'each request for memory of join --stream refused in turn' sweep examples/first.log join --stream examples/shared_{a,b}.ledger
     check 'each request for memory of join --stream --summary refused in turn' sweep examples/first.log join --stream --summary examples/shared_{a,b}.ledger
     check 'each request for memory of join --stream --workers 2 refused in turn' sweep_merge_by_workers
+    check 'each request for memory of join --stream --trust refused in turn' sweep examples/first.log join --stream --trust examples/shared_{a,b}.ledger
     check 'each request for memory of join --summary refused in turn' sweep examples/first.log join --summary examples/shared_{a,b}.ledger
     check 'each request for memory of join refused in turn' sweep examples/first.log join examples/shared_{a,b}.ledger
     check 'each request for memory of join --ledger refused in turn' \

@@ -7,16 +7,17 @@ use Rattle.pmf_ledger.specs.declared.{form.Form.{Form}, form.Form.TheVariants.{R
 use Rattle.pmf_storelog.specs.LogValue.{LogValue}
 use Rattle.pmf_ledger.specs.{AllKept.{AllKept}, Gathered.{IsLedgerOf}, LedgerValue.{LedgerValue}, Report.{totals_of}}
 use Rattle.pmf_request.specs.declared.settings.Settings.{Settings}
-use Rattle.pmf_request.specs.declared.request.{Cuts.{Cuts}, Files.{Files}, Input.{Input}, Input.TheVariants.{Standard, File}, Simulation.{Simulation}, Request.{Request}, Request.TheVariants.{Check, Explain, ExplainAll, Why, Patch, Locate, Lint, Cut, Join, Sim}, Wanted.{Wanted}}
+use Rattle.pmf_request.specs.declared.request.{Cuts.{Cuts}, Files.{Files}, Input.{Input}, Input.TheVariants.{Standard, File}, Simulation.{Simulation}, Request.{Request}, Request.TheVariants.{Check, Explain, ExplainAll, Why, Patch, Locate, Lint, Cut, Join, Sim}, Wanted.{Wanted}, Joining.{Joining}}
 use Rattle.pmf_request.specs.declared.request.Wanted.TheVariants as wanted
+use Rattle.pmf_request.specs.declared.request.Joining.TheVariants as joining
 use Rattle.pmf_cut.specs.declared.fault.CutFault.{CutFault}
 use Rattle.pmf_query.specs.{Explanation.{IsExplanation}, AllExplained.{ExplainsAll}, Locating.{IsLocationText}, Linting.{Overviews}, Warnings.{are_due, warnings_of}, Refusals.{IsEventRefusal, IsLogRefusal}}
 use Rattle.pmf_why.specs.{Patching.{IsPatch, IsPatchRefusal}, Why.{IsWhy, IsWhyRefusal}}
 use Rattle.pmf_stream.specs.{Answering.{Answers}, Asked.{IsAnswerOf, IsRefusalOf}, Checking.{IsCheckFaultOf, IsLogOf, IsReportOf}, Files.{IsCutOf}, Joining.{IsJoinedText, IsRefusalOfTexts}, Reading.{HasReadAll}, Simulated.{IsSimRefusalOf, IsSimulationOf}, declared.cutting.Pieces.{Pieces}, declared.fault.StreamFault.{StreamFault}}
 use Rattle.pmf_ledger.specs.declared.totals.Totals.{Totals}
-use Rattle.pmf_merge.specs.{Merging.{IsMergeFaultOf, Merges}, declared.fault.MergeFault.{MergeFault}}
+use Rattle.pmf_merge.specs.{Merging.{IsMergeFaultOf, Merges}, Trusting.{IsTrustFaultOf, Trusts}, declared.fault.MergeFault.{MergeFault}}
 use Rattle.pmf_world.specs.declared.simulating.{TheConstants.{SCHEDULE_LIMIT}}
-use Rattle.pmf_command.specs.{Statuses.{status_of, status_of_asked, status_of_check_fault, status_of_cut_fault, status_of_done, status_of_event_refusal, status_of_joined, status_of_linted, status_of_log_refusal, status_of_merge, status_of_patch_refusal, status_of_pieces, status_of_sim_fault, status_of_text_fault}, declared.status.{Status.{Status}, Status.TheVariants.{NoFail, Refused, NoMemory, DeviceFault}}}
+use Rattle.pmf_command.specs.{Statuses.{status_of, status_of_asked, status_of_check_fault, status_of_cut_fault, status_of_done, status_of_event_refusal, status_of_joined, status_of_linted, status_of_log_refusal, status_of_merge, status_of_patch_refusal, status_of_pieces, status_of_sim_fault, status_of_text_fault, status_of_trust}, declared.status.{Status.{Status}, Status.TheVariants.{NoFail, Refused, NoMemory, DeviceFault}}}
 
 -- a file that is opened has the bytes that its name has, where they are known
 abbrev pub IsFileOf : Option (List ℕ) → Option (List ℕ) → Type 0
@@ -108,22 +109,29 @@ MergesOpened form names known held holds status =
     (starts : List (Option (List ℕ))) × AreOpened known names starts
     × ((answer : Result Totals MergeFault) × (status ≡ status_of_merge answer) × MatchResult answer (Merges form starts held holds) (IsMergeFaultOf starts))
 
--- the one or the other, as it is asked for
-abbrev pub JoinsAs : Bool → Form → List (List ℕ) → (List ℕ → Option (List ℕ)) → Option (List ℕ) → Option (List ℕ) → Status → Type 0
-JoinsAs false form names known held holds status = JoinsRead form names known held holds status
-JoinsAs true form names known held holds status = MergesOpened form names known held holds status
+-- they were opened, and merged as they stand
+abbrev pub TrustsOpened : List (List ℕ) → (List ℕ → Option (List ℕ)) → Option (List ℕ) → Option (List ℕ) → Status → Type 0
+TrustsOpened names known held holds status =
+    (starts : List (Option (List ℕ))) × AreOpened known names starts
+    × ((answer : Result Bool MergeFault) × (status ≡ status_of_trust answer) × MatchResult answer (λ fails. Trusts starts held holds) (IsTrustFaultOf starts))
+
+-- the files with these names were joined so, in the way that is asked for
+abbrev pub JoinsAs : Joining → Form → List (List ℕ) → (List ℕ → Option (List ℕ)) → Option (List ℕ) → Option (List ℕ) → Status → Type 0
+JoinsAs joining.Load form names known held holds status = JoinsRead form names known held holds status
+JoinsAs joining.Merge form names known held holds status = MergesOpened form names known held holds status
+JoinsAs joining.Trust form names known held holds status = TrustsOpened names known held holds status
 
 -- so do the files with these names, or one of them was not read; without a name it is refused
-abbrev pub JoinsNamed : Bool → Form → List (List ℕ) → (List ℕ → Option (List ℕ)) → Option (List ℕ) → Option (List ℕ) → Status → Type 0
-JoinsNamed stream form [] known held holds status = status ≡ Refused
-JoinsNamed stream form names known held holds status = IsUnread status ⊎ JoinsAs stream form names known held holds status
+abbrev pub JoinsNamed : Joining → Form → List (List ℕ) → (List ℕ → Option (List ℕ)) → Option (List ℕ) → Option (List ℕ) → Status → Type 0
+JoinsNamed by form [] known held holds status = status ≡ Refused
+JoinsNamed by form names known held holds status = IsUnread status ⊎ JoinsAs by form names known held holds status
 
 -- the ledgers of the words and of the list are joined; or the list was not read, or is refused
 abbrev pub JoinsFiles : Files → (List ℕ → Option (List ℕ)) → Option (List ℕ) → Option (List ℕ) → Status → Type 0
 JoinsFiles files known held holds status =
     IsUnread status
     ⊎ ((list : List ℕ) × IsListOf files.list known list
-    × (((CanName list → ⊥) × (status ≡ Refused)) ⊎ (CanName list × JoinsNamed files.stream (form_of files.wanted) (names_of files list) known held holds status)))
+    × (((CanName list → ⊥) × (status ≡ Refused)) ⊎ (CanName list × JoinsNamed files.joining (form_of files.wanted) (names_of files list) known held holds status)))
 
 -- the schedule of the input is played with the log of the file, or one of the two was not read
 abbrev pub Simulates : Simulation → (List ℕ → Option (List ℕ)) → Option (List ℕ) → Option (List ℕ) → Option (List ℕ) → Option (List ℕ) → Status → Type 0

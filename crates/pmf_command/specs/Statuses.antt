@@ -158,6 +158,11 @@ abbrev pub status_of_merge : Result Totals MergeFault → Status
 status_of_merge (Ok totals) = status_of_fails totals.fail
 status_of_merge (Err fault) = status_of_merge_fault fault
 
+-- how the program ends where they are merged as they stand: as it was answered whether a row counts as fail
+abbrev pub status_of_trust : Result Bool MergeFault → Status
+status_of_trust (Ok fails) = if fails then SomeFail else NoFail
+status_of_trust (Err fault) = status_of_merge_fault fault
+
 -- how the program ends where there is no such world
 abbrev pub status_of_new_fault : WorldNewFault → Status
 status_of_new_fault new.OutOfMemory = NoMemory

@@ -68,6 +68,11 @@ pub fn print_waiting<R: Eprint>(rt: &R) {
     let _ = eprintln!(rt; "pmfarm: reading the log from standard input");
 }
 
+/// Says that nothing that was merged was checked.
+pub fn print_trust<R: Eprint>(rt: &R) {
+    let _ = eprintln!(rt; "pmfarm: merged on trust: no section was checked");
+}
+
 /// Says how many cuts were made in a log, and how many files it became, where it is cut into files.
 pub fn print_cuts<R: Eprint>(rt: &R, cuts: u64, files: Option<usize>) {
     let _ = match files {

@@ -1,17 +1,18 @@
 //! How the process ends: as what was asked for was answered.
 
-ghost use Rattle.std.specs.{Prelude.{◌≡◌, ◌⊎◌, ◌↔◌, ◌+◌, map, All, MatchResult, OnOk, Result}, Io.KnownBytes.{Appends}, Process.{exit_status}};
+ghost use Rattle.std.specs.{Prelude.{◌≡◌, ◌⊎◌, ◌↔◌, ◌+◌, Bool, map, All, MatchResult, OnOk, Result}, Io.KnownBytes.{Appends}, Process.{exit_status}};
 ghost use Rattle.clap.specs.Words.{kind_of};
 ghost use Rattle.pmf_device.specs.Failures.{CanCountOneMore};
 ghost use Rattle.pmf_stream.specs.{Simulated.{IsSimRefusalOf, IsSimulationOf}, Answering.{Answers, TellsFaults, TellsFaultsOfParts, failed_reads, failed_writes}, Asked.{IsAnswerOf, IsRefusalOf}, Checking.{IsCheckFaultOf, IsReportOf}, Files.{IsCutOf}, Joining.{IsJoinedText, IsRefusalOfTexts}, declared.checking.CheckLogFault.{CheckLogFault}, declared.checking.Done.{Done}, declared.cutting.Pieces.{Pieces}, declared.fault.StreamFault.{StreamFault}, declared.joining.Joined.{Joined}, declared.joining.JoinTextFault.{JoinTextFault}};
 ghost use Rattle.pmf_cut.specs.declared.fault.CutFault.{CutFault};
 ghost use Rattle.pmf_ledger.specs.declared.totals.Totals.{Totals};
-ghost use Rattle.pmf_merge.specs.{Merging.{IsMergeFaultOf, Merges}, declared.fault.MergeFault.{MergeFault}};
+ghost use Rattle.pmf_merge.specs.{Merging.{IsMergeFaultOf, Merges}, Trusting.{IsTrustFaultOf, Trusts}, declared.fault.MergeFault.{MergeFault}};
 ghost use Rattle.pmf_world.specs.declared.simulating.SimFault.{SimFault};
-ghost use Rattle.pmf_command.specs.{Statuses.{IsAnswerTo, exit_code_of, status_of, status_of_asked, status_of_check_fault, status_of_cut_fault, status_of_done, status_of_fault, status_of_joined, status_of_merge, status_of_pieces, status_of_sim_fault, status_of_text_fault}, declared.status.Status.{Status}};
+ghost use Rattle.pmf_command.specs.{Statuses.{IsAnswerTo, exit_code_of, status_of, status_of_asked, status_of_check_fault, status_of_cut_fault, status_of_done, status_of_fault, status_of_joined, status_of_merge, status_of_pieces, status_of_sim_fault, status_of_text_fault, status_of_trust}, declared.status.Status.{Status}};
 
 use crate::diagnostics::{
-    Spoken, fail, fail_file, out_of_memory, print_cuts, print_skipped, print_warnings, refuse_words,
+    Spoken, fail, fail_file, out_of_memory, print_cuts, print_skipped, print_trust, print_warnings,
+    refuse_words,
 };
 use crate::ending::Ending;
 use crate::hints::{print_hint, print_reason};
@@ -20,7 +21,7 @@ use crate::status::Status;
 use pmf_device::{Cut, Device, Sink, Source, StdSink, write_text};
 use pmf_farm::OpenGate;
 use pmf_ledger::{Form, JoinFault};
-use pmf_merge::{MergeFault, merge_to};
+use pmf_merge::{MergeFault, merge_to, trust_to};
 use pmf_query::{Query, StreamedQuery};
 use pmf_request::{Lengths, Settings};
 use pmf_stream::{
@@ -273,6 +274,39 @@ pub(crate) fn merge_all<R: Eprint, T: Threads + Sync, S: Source, W: Sink>(
     let answer = merge_to(threads, alloc, workers, sources, sink, form);
     let status = match answer {
         Ok(totals) => totals.status(),
+        Err(fault) => {
+            say_not_merged(rt, names, sources, fault);
+            fault.status()
+        }
+    };
+    Ended { status }
+}
+
+/// Merges the ledgers of the sources, which are the files with these names, as they stand, writes the text of all to the sink, and says on
+/// standard error that no section was checked.
+pub(crate) fn trust_all<R: Eprint, S: Source, W: Sink>(
+    rt: &R,
+    alloc: Global,
+    names: &[&str],
+    sources: &mut Vec<S>,
+    sink: &mut W,
+) -> Ended
+    requires reads { All (λ s. CanCountOneMore (S.failed_calls s)) sources.old.items }
+    requires writes { CanCountOneMore (W.failed_calls sink.old) }
+    ensures { (answer : Result Bool MergeFault) × (result ≡ status_of_trust answer)
+        × MatchResult answer (λ _. Trusts (map S.left sources.old.items) (W.held sink.old) (W.held sink.new))
+        (IsTrustFaultOf (map S.left sources.old.items)) }
+{
+    let answer = trust_to(alloc, sources, sink);
+    let status = match answer {
+        Ok(fails) => {
+            print_trust(rt);
+            if fails {
+                Status::SomeFail
+            } else {
+                Status::NoFail
+            }
+        }
         Err(fault) => {
             say_not_merged(rt, names, sources, fault);
             fault.status()

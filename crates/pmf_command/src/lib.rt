@@ -22,6 +22,8 @@ mod status;
 pub use commands::execute;
 pub use ended::Ended;
 pub use ending::Ending;
-pub use pmf_request::{Cuts, Files, Input, Lengths, Patches, Reasons, Request, Simulation, Wanted};
+pub use pmf_request::{
+    Cuts, Files, Input, Joining, Lengths, Patches, Reasons, Request, Simulation, Wanted,
+};
 pub use pmf_words::request_of;
 pub use status::Status;

@@ -3,18 +3,18 @@
 ghost use Rattle.std.specs.Prelude.{◌≡◌, ◌⊎◌, is_none, map, All, IfErr, IfOk};
 ghost use Rattle.pmf_ledger.specs.declared.loading.TheConstants.{LEDGER_LIMIT};
 ghost use Rattle.pmf_device.specs.Failures.{CanCountOneMore};
-ghost use Rattle.pmf_command.specs.{Answered.{AreOpened, AreRead, IsAnswered, IsAnsweredFrom, IsListOf, IsUnread, JoinsFiles, JoinsNamed, MergesOpened, Simulates, can_cut, form_of, input_of}, declared.status.Status.{Status}};
+ghost use Rattle.pmf_command.specs.{Answered.{AreOpened, AreRead, IsAnswered, IsAnsweredFrom, IsListOf, IsUnread, JoinsFiles, JoinsNamed, JoinsRead, MergesOpened, Simulates, TrustsOpened, can_cut, form_of, input_of}, declared.status.Status.{Status}};
 
 use crate::ended::{
     Ended, answer_to, check_to, cut_to, exhausted, join_all, merge_all, play_to, recite_to,
-    refused, unanswered, unread,
+    refused, trust_all, unanswered, unread,
 };
 use crate::list::all_names;
 use crate::shelf::{Shelf, bytes_of};
 use pmf_device::{Device, Sink, Source};
 use pmf_event::EVENT_LIMIT;
 use pmf_ledger::{Form, LEDGER_LIMIT};
-use pmf_request::{Cuts, Files, Input, Request, Simulation, Wanted};
+use pmf_request::{Cuts, Files, Input, Joining, Request, Simulation, Wanted};
 use pmf_storelog::LOG_LIMIT;
 use pmf_stream::{Excerpt, Outlet, read_all};
 use pmf_why::{Patch, Why};
@@ -223,7 +223,7 @@ fn list_of<R: Eprint, F: Shelf>(
     }
 }
 
-// Joins the ledgers of the files with these names, which are read whole before any is loaded, or merges them as they are read.
+// Joins the ledgers of the files with these names in the way that is asked for.
 fn join_named<R: Eprint, T: Threads + Sync, W: Sink, F: Shelf>(
     rt: &R,
     threads: &T,
@@ -235,20 +235,56 @@ fn join_named<R: Eprint, T: Threads + Sync, W: Sink, F: Shelf>(
     shelf: &F,
 ) -> Ended
     requires { CanCountOneMore (W.failed_calls sink.old) }
-    ensures { JoinsNamed files.now.stream form (map (λ name. name.now) names.now) (F.bytes shelf.now) (W.held sink.old) (W.held sink.new) result }
+    ensures { JoinsNamed files.now.joining form (map (λ name. name.now) names.now) (F.bytes shelf.now) (W.held sink.old) (W.held sink.new) result }
 {
     if names.is_empty() {
         return refused(rt, "error: no ledger is named\n");
     }
-    if files.stream {
-        let workers = files.workers as usize;
-        return merge_named(rt, threads, alloc, workers, names, sink, form, shelf);
+    match files.joining {
+        Joining::Load => load_named(rt, alloc, names, sink, form, shelf),
+        Joining::Merge => {
+            let workers = files.workers as usize;
+            merge_named(rt, threads, alloc, workers, names, sink, form, shelf)
+        }
+        Joining::Trust => trust_named(rt, alloc, names, sink, shelf),
     }
+}
+
+// Reads the files with these names whole, and joins their ledgers.
+fn load_named<R: Eprint, W: Sink, F: Shelf>(
+    rt: &R,
+    alloc: Global,
+    names: &[&str],
+    sink: &mut W,
+    form: Form,
+    shelf: &F,
+) -> Ended
+    requires { CanCountOneMore (W.failed_calls sink.old) }
+    ensures { IsUnread result ⊎ JoinsRead form (map (λ name. name.now) names.now) (F.bytes shelf.now) (W.held sink.old) (W.held sink.new) result }
+{
     let texts = match texts_of(rt, alloc, names, shelf) {
         Ok(texts) => texts,
         Err(ended) => return ended,
     };
     join_all(rt, alloc, names, &texts, sink, form)
+}
+
+// Merges, as they stand, the ledgers of the files with these names. All of them are open meanwhile.
+fn trust_named<R: Eprint, W: Sink, F: Shelf>(
+    rt: &R,
+    alloc: Global,
+    names: &[&str],
+    sink: &mut W,
+    shelf: &F,
+) -> Ended
+    requires { CanCountOneMore (W.failed_calls sink.old) }
+    ensures { IsUnread result ⊎ TrustsOpened (map (λ name. name.now) names.now) (F.bytes shelf.now) (W.held sink.old) (W.held sink.new) result }
+{
+    let mut sources = match opened(rt, alloc, names, shelf) {
+        Ok(sources) => sources,
+        Err(ended) => return ended,
+    };
+    trust_all(rt, alloc, names, &mut sources, sink)
 }
 
 // Merges the ledgers of the files with these names, which are all open meanwhile.

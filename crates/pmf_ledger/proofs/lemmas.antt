@@ -26,6 +26,8 @@ pub mod BlockReadingLemmas
 pub mod TextFrontLemmas
 pub mod LedgerEndLemmas
 pub mod LoneBlockLemmas
+pub mod RawTextLemmas
+pub mod RawTextOnceLemmas
 pub mod AmissLemmas
 pub mod TellingLemmas
 pub mod SummaryLemmas

@@ -1,7 +1,8 @@
 -- What is said of the ledgers of equal sets, and of one text.
-use Rattle.std.specs.Prelude.{◌≡◌, ℕ, true, List}
+use Rattle.std.specs.Prelude.{◌≡◌, ◌^◌, ◌<◌, ℕ, true, List, length, map, All}
 use Rattle.pmf_event.specs.{declared.profile.Profile.{Profile}, Section.{Trace}}
-use Rattle.pmf_ledger.specs.{Ending.{has_end}, Gathered.{IsLedgerOf}, Gathering.{HaveSameMembers}, LedgerText.{text_of_ledger}, LedgerValue.{LedgerValue}, declared.loading.LedgerFault.{LedgerFault}, Loading.{IsRefusedWith, LoadsAs}, Report.{report_of}}
+use Rattle.pmf_verdict.specs.Checked.{Checked, rows_in}
+use Rattle.pmf_ledger.specs.{Ending.{has_end}, Gathered.{IsLedgerOf}, Gathering.{HaveSameMembers}, LedgerText.{IsSpelled, text_of_ledger}, LedgerValue.{LedgerValue}, declared.loading.LedgerFault.{LedgerFault}, Loading.{IsRefusedWith, LoadsAs}, Names.{Rises}, RawText.{IsRawText, RawBlock, raw_block}, Report.{report_of}}
 
 -- sets with the same members have one ledger by a profile, one report and one ledger text
 abbrev pub EqualSetsHaveOneLedger : Type 0
@@ -19,3 +20,15 @@ WhatLoadsIsNotRefused = (text : List ℕ) (ledger : LedgerValue) (found : Ledger
 -- a text that loads has an end
 abbrev pub WhatLoadsHasAnEnd : Type 0
 WhatLoadsHasAnEnd = (text : List ℕ) (ledger : LedgerValue) → LoadsAs text ledger → has_end text ≡ true
+
+-- a text has its blocks, as they stand, in one way
+abbrev pub TextsHaveTheirBlocksInOneWay : Type 0
+TextsHaveTheirBlocksInOneWay = (text : List ℕ) (p q : Profile) (xs ys : List RawBlock) → IsRawText p xs text → IsRawText q ys text → (p ≡ q) × (xs ≡ ys)
+
+-- a section can be spelled, and its rows counted
+abbrev pub CanBeSpelled : Checked → Type 0
+CanBeSpelled s = IsSpelled s × (length (rows_in s) < 2 ^ 64)
+
+-- the text of a ledger has the blocks of its sections
+abbrev pub LedgerTextsHaveTheirBlocks : Type 0
+LedgerTextsHaveTheirBlocks = (ledger : LedgerValue) → Rises ledger.sections → All CanBeSpelled ledger.sections → IsRawText ledger.profile (map raw_block ledger.sections) (text_of_ledger ledger)

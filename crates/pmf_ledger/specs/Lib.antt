@@ -28,6 +28,7 @@ pub mod FaultText
 pub mod Following
 pub mod BlockReading
 pub mod LoneBlock
+pub mod RawText
 pub mod Summary
 pub mod Telling
 pub mod Laws

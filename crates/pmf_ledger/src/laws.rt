@@ -1,6 +1,6 @@
 //! Laws of gatherings, of their ledgers and of ledger texts, each the clause of an empty function.
 
-ghost use Rattle.pmf_ledger.specs.{AllKept.{AllRowsAreTrue, NoEmptyIsFilled, NoFailIsKept}, Gathering.{GivesItsLedger, GivesOrIsRefused, GivesWhereItMay, JoiningAssociates, JoiningCommutes, JoiningRepeats, OnlyTheSetCounts, RefusesForCause}, Laws.{EqualSetsHaveOneLedger, TextsLoadAsOneLedger, WhatLoadsHasAnEnd, WhatLoadsIsNotRefused}, ReportTold.{ReportsTellSections, ReportsTellTotals}};
+ghost use Rattle.pmf_ledger.specs.{AllKept.{AllRowsAreTrue, NoEmptyIsFilled, NoFailIsKept}, Gathering.{GivesItsLedger, GivesOrIsRefused, GivesWhereItMay, JoiningAssociates, JoiningCommutes, JoiningRepeats, OnlyTheSetCounts, RefusesForCause}, Laws.{EqualSetsHaveOneLedger, LedgerTextsHaveTheirBlocks, TextsHaveTheirBlocksInOneWay, TextsLoadAsOneLedger, WhatLoadsHasAnEnd, WhatLoadsIsNotRefused}, ReportTold.{ReportsTellSections, ReportsTellTotals}};
 
 /// Whatever ledger a gathering gives, in whatever order it took and joined, it is the ledger of the set that
 /// was gathered: each of its sections once, in the order of their names. That set agrees, and all is by one
@@ -71,6 +71,16 @@ pub fn what_loads_is_not_refused()
 /// A text that loads as a ledger has an end.
 pub fn what_loads_has_an_end()
     ensures { WhatLoadsHasAnEnd }
+{}
+
+/// A text has its blocks, as they stand, in one way.
+pub fn texts_have_their_blocks_in_one_way()
+    ensures { TextsHaveTheirBlocksInOneWay }
+{}
+
+/// The text of a ledger has the blocks of its sections.
+pub fn ledger_texts_have_their_blocks()
+    ensures { LedgerTextsHaveTheirBlocks }
 {}
 
 /// The rows of every checked section are true: what passed holds in every crash image that the rules allow, and what failed

@@ -26,6 +26,7 @@ mod laws;
 mod ledger;
 mod loading;
 mod lone_block;
+mod raw_text;
 mod repeats;
 mod reporting;
 mod summing;
@@ -45,14 +46,17 @@ pub use laws::{
     all_rows_are_true, equal_sets_have_one_ledger, gatherings_are_refused_for_cause_alone,
     gatherings_give_or_are_refused, gatherings_give_the_ledger_of_their_set,
     gatherings_that_agree_give_a_ledger, joining_again_changes_nothing, joining_associates,
-    joining_commutes, no_empty_is_filled, no_fail_is_kept, only_the_set_counts,
-    reports_tell_their_sections, reports_tell_their_totals, texts_load_as_one_ledger,
-    what_loads_has_an_end, what_loads_is_not_refused,
+    joining_commutes, ledger_texts_have_their_blocks, no_empty_is_filled, no_fail_is_kept,
+    only_the_set_counts, reports_tell_their_sections, reports_tell_their_totals,
+    texts_have_their_blocks_in_one_way, texts_load_as_one_ledger, what_loads_has_an_end,
+    what_loads_is_not_refused,
 };
 pub use ledger::Ledger;
 pub use loading::{LEDGER_LIMIT, LedgerFault, load_ledger};
-pub use lone_block::{LoneBlock, first_block};
+pub use lone_block::LoneBlock;
+pub use raw_text::{FirstBlock, begins_no_block, first_block, first_version, trusted_version};
 pub use repeats::least_repeat;
 pub use taking::{TakeFault, Taken, order};
 pub use telling::Teller;
 pub use totals::Totals;
+pub use writing::push_end;

@@ -1,11 +1,9 @@
 //! A block of a ledger text that is read apart from the text, so that several are read side by side.
 
-ghost use Rattle.std.specs.Prelude.{◌≡◌, ◌<◌, ◌≤◌, ◌+◌, IfSome, length};
+ghost use Rattle.std.specs.Prelude.{IfSome};
 ghost use Rattle.pmf_ledger.specs.LoneBlock.{IsLone};
 
 use crate::block_reader::BlockReader;
-use crate::head::read_head;
-use memchr::memchr;
 use pmf_event::Profile;
 use pmf_verdict::Verdict;
 use std::alloc::Global;
@@ -36,17 +34,4 @@ impl LoneBlock {
         let verdict = fed.block?;
         Some(LoneBlock { verdict, lines })
     }
-}
-
-/// How many of the bytes the block takes that they begin with, if it is whole: as many text lines as its head tells. No other text line is
-/// looked at.
-pub fn first_block(bytes: &[u8]) -> Option<usize>
-    ensures { IfSome result (λ taken. (0 < taken) × (taken ≤ length bytes.now)) }
-{
-    let mut taken = memchr(b'\n', bytes)? + 1;
-    let head = read_head(&bytes[..taken - 1])?;
-    for _ in 0..head.events.checked_add(head.rows)? {
-        taken += memchr(b'\n', &bytes[taken..])? + 1;
-    }
-    Some(taken)
 }

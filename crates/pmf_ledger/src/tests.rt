@@ -14,6 +14,7 @@ mod block_reading;
 mod joining;
 mod loading;
 mod lone_blocks;
+mod raw_texts;
 mod texts;
 
 const ONE: &[Step] = &[FENCE];

@@ -106,8 +106,9 @@ pub(crate) fn push_rows(text: &mut String, verdict: &Verdict) -> Result<(), Allo
     Ok(())
 }
 
+/// Writes the last text line of a ledger of so many blocks, behind the text. Where room is refused the text may be longer.
 #[tactic(auto, unfolding(crate::specs::LedgerText::text_of_end))]
-pub(crate) fn push_end(text: &mut String, blocks: u64) -> Result<(), AllocError>
+pub fn push_end(text: &mut String, blocks: u64) -> Result<(), AllocError>
     ensures { OnOk result
         (string_bytes text.new ≡ string_bytes text.old ++ text_of_end blocks) }
 {

@@ -2,7 +2,12 @@ pub mod HeadsLemmas
 pub mod OverLemmas
 pub mod TellingLemmas
 pub mod WaitingLemmas
+pub mod NamesLemmas
 pub mod FeedingLemmas
 pub mod SourceLemmas
 pub mod RefusalLemmas
 pub mod ConflictLemmas
+pub mod RawFeedLemmas
+pub mod RawTellingLemmas
+pub mod RawHeadsLemmas
+pub mod TrustLemmas

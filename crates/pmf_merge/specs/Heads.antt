@@ -1,9 +1,13 @@
 -- The next section of each text that is read, and what was told before them. Defined here.
-use Rattle.std.specs.Prelude.{◌≡◌, ◌⊎◌, ◌↔◌, ℕ, ◌<◌, List, [], ◌∷◌, ◌++◌, length, slice_index_or, Contains, All, Option, None, Some}
+use Rattle.std.specs.Prelude.{◌≡◌, ◌⊎◌, ◌↔◌, ℕ, ◌<◌, List, [], ◌∷◌, ◌++◌, length, map, slice_index_or, Contains, All, Option, None, Some, option_map}
 use Rattle.pmf_event.specs.{declared.name.Name.{Name}, declared.profile.Profile.{Profile}, Section.{Trace}}
 use Rattle.pmf_verdict.specs.Checked.{Checked, checked_by}
 use Rattle.pmf_ledger.specs.{Loading.{Reading}, Names.{IsBefore, Rises}}
 use Rattle.pmf_merge.specs.{Feeding.{IsFed, IsFedWhole}, declared.feed.Feed.{Feed}}
+
+-- the names of the sections that wait
+abbrev pub names_of : List (Option Checked) → List (Option Name)
+names_of heads = map (option_map (λ (v : Checked). v.section.name)) heads
 
 -- one name is the other, or comes before it
 abbrev pub IsUpTo : Name → Name → Type 0

@@ -4,7 +4,11 @@ pub use Rattle.pmf_ledger.specs.Telling
 pub mod Ahead
 pub mod Feeding
 pub mod Refusing
+pub mod RawFeeding
 pub mod Heads
 pub mod Waiting
 pub mod Written
+pub mod RawWritten
 pub mod Merging
+pub mod Trusting
+pub mod Laws

@@ -80,17 +80,17 @@ impl Ahead {
         self.clear();
         self.profile = profile;
         let mut at = from;
-        while let Some(taken) = first_block(&piece[at..]) {
+        while let Some(block) = first_block(&piece[at..]) {
             let span = Span {
                 from: at,
-                to: at + taken,
+                to: at + block.taken,
                 block: None,
             };
             if self.spans.push(span).is_err() {
                 self.clear();
                 return;
             }
-            at += taken;
+            at += block.taken;
         }
         for_each_mut(
             rt,

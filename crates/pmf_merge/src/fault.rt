@@ -24,7 +24,7 @@ pub enum MergeFault {
         /// The index, counted from 0.
         index: usize,
     },
-    /// This section is held by two texts with other events.
+    /// This section is held by two texts with other events, or, where they are merged on trust, with other bytes.
     Conflict {
         /// The section.
         name: Name,

@@ -1,17 +1,17 @@
 //! The next section of each text that is read, and the least of them.
 
-ghost use Rattle.std.specs.Prelude.{◌≡◌, ◌≢◌, ◌↔◌, ◌≤◌, ◌<◌, ◌+◌, ℕ, List, [], Option, None, Some, IfOk, IfErr, MatchOption, MatchResult, OnOk, All, IsTrue, length, map, slice_index_or, slice_set};
+ghost use Rattle.std.specs.Prelude.{◌≡◌, ◌≢◌, ◌↔◌, ◌≤◌, ◌<◌, ◌+◌, ℕ, List, [], Option, None, Some, IfOk, IfErr, MatchOption, MatchResult, OnOk, All, IsTrue, length, map, option_map, slice_index_or, slice_set};
 ghost use Rattle.pmf_device.specs.Failures.{CanCountOneMore};
 ghost use Rattle.pmf_event.specs.declared.profile.Profile.{Profile};
 ghost use Rattle.pmf_verdict.specs.Checked.{Checked};
 ghost use Rattle.pmf_merge.specs.declared.fault.MergeFault.TheVariants.{ProfileMismatch};
-ghost use Rattle.pmf_merge.specs.{Heads.{HasTold, IsLeast, IsMerging}, Merging.{IsMergeFaultOf}, Waiting.{IsWaiting}};
+ghost use Rattle.pmf_merge.specs.{Heads.{HasTold, IsLeast, IsMerging, names_of}, Merging.{IsMergeFaultOf}, Waiting.{IsWaiting}};
 
 use crate::fault::MergeFault;
 use crate::feed::Feed;
 use crate::waiting::Waiting;
 use pmf_device::Source;
-use pmf_event::Profile;
+use pmf_event::{Name, Profile};
 use pmf_verdict::Verdict;
 use std::alloc::Global;
 use std::mem;
@@ -42,7 +42,7 @@ impl Heads {
         ensures merging { IfOk result (λ heads. IsMerging (length sources.old.items) (map R.left sources.old.items) (map R.left sources.new.items)
             heads.feeds.items heads.heads.items heads.profile []) }
         ensures refused { IfErr result (IsMergeFaultOf (map R.left sources.old.items)) }
-        ensures waiting { IfOk result (λ heads. IsWaiting heads.heads.items heads.waiting) }
+        ensures waiting { IfOk result (λ heads. IsWaiting (names_of heads.heads.items) heads.waiting) }
         ensures len { OnOk result (length sources.new.items ≡ length sources.old.items) }
         ensures of_none { IfOk result (λ heads. length sources.old.items ≡ 0 → heads.profile ≡ Profile.One) }
         ensures counted { OnOk result (All (λ s. CanCountOneMore (R.failed_calls s)) sources.new.items) }
@@ -74,7 +74,7 @@ impl Heads {
             → IsMerging index starts lefts self.old.feeds.items self.old.heads.items self.old.profile []
             → slice_index_or starts index None ≡ R.left source.old → index < length lefts
             → OnOk result (IsMerging (index + 1) starts (slice_set lefts index (R.left source.new)) self.new.feeds.items self.new.heads.items self.new.profile []) }
-        ensures waiting { length self.old.heads.items ≡ index → IsWaiting self.old.heads.items self.old.waiting → OnOk result (IsWaiting self.new.heads.items self.new.waiting) }
+        ensures waiting { length self.old.heads.items ≡ index → IsWaiting (names_of self.old.heads.items) self.old.waiting → OnOk result (IsWaiting (names_of self.new.heads.items) self.new.waiting) }
         ensures refused { (starts lefts : List (Option (List ℕ)))
             → IsMerging index starts lefts self.old.feeds.items self.old.heads.items self.old.profile []
             → slice_index_or starts index None ≡ R.left source.old → index < length starts → IfErr result (IsMergeFaultOf starts) }
@@ -89,7 +89,7 @@ impl Heads {
             Ok(()) => {}
             Err(_) => return Err(MergeFault::OutOfMemory),
         }
-        match self.waiting.put(&head, index) {
+        match self.waiting.put(name_in(&head), index) {
             Ok(()) => {}
             Err(_) => return Err(MergeFault::OutOfMemory),
         }
@@ -112,7 +112,7 @@ impl Heads {
 
     /// The index of the least section that waits, if any does.
     pub(crate) fn least(&self) -> Option<usize>
-        requires { IsWaiting self.now.heads.items self.now.waiting }
+        requires { IsWaiting (names_of self.now.heads.items) self.now.waiting }
         ensures { MatchOption result ((i : ℕ) → slice_index_or self.now.heads.items i None ≡ None)
             (λ least. (least < length self.now.heads.items) × (v : Checked) × IsLeast self.now.heads.items least v) }
     {
@@ -141,7 +141,7 @@ impl Heads {
             → IsMerging (length starts) starts lefts self.old.feeds.items self.old.heads.items self.old.profile out
             → index < length starts → slice_index_or lefts index None ≡ R.left source.old
             → IfErr result (IsMergeFaultOf starts) }
-        ensures waiting { IsWaiting self.old.heads.items self.old.waiting → index < length self.old.heads.items → OnOk result (IsWaiting self.new.heads.items self.new.waiting) }
+        ensures waiting { IsWaiting (names_of self.old.heads.items) self.old.waiting → index < length self.old.heads.items → OnOk result (IsWaiting (names_of self.new.heads.items) self.new.waiting) }
         ensures profile { OnOk result (self.new.profile ≡ self.old.profile) }
         ensures counted { OnOk result (R.failed_calls source.new ≡ R.failed_calls source.old) }
     {
@@ -151,7 +151,8 @@ impl Heads {
         if !self.is_by(profile) {
             return Err(MergeFault::ProfileMismatch { index });
         }
-        match self.waiting.replace(&self.heads[index], &head, index) {
+        let name = name_in(&self.heads[index]);
+        match self.waiting.replace(name, name_in(&head), index) {
             Ok(()) => {}
             Err(_) => return Err(MergeFault::OutOfMemory),
         }
@@ -163,5 +164,15 @@ impl Heads {
         ensures { IsTrue result ↔ (profile ≡ self.now.profile) }
     {
         profile == self.profile
+    }
+}
+
+// The name of the section that waits, if one does.
+fn name_in(head: &Option<Verdict>) -> Option<Name>
+    ensures { result ≡ option_map (λ (v : Checked). v.section.name) head.now }
+{
+    match head {
+        Some(verdict) => Some(verdict.name()),
+        None => None,
     }
 }

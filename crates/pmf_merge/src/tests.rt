@@ -16,6 +16,7 @@ use std::thread::Threads;
 mod ahead;
 mod many;
 mod pieces;
+mod trust;
 
 const EMPTY: &str = "PMFARM-LEDGER 1\nend verdicts=0\n";
 

@@ -1,11 +1,10 @@
-//! The sections that wait, in their order, each with the index of its text.
+//! The names of the sections that wait, in their order, each with the index of its text.
 
 ghost use Rattle.std.specs.Prelude.{◌≡◌, ◌<◌, [], ℕ, List, Option, None, MatchOption, OnOk, length, slice_index_or};
-ghost use Rattle.pmf_verdict.specs.Checked.{Checked};
-ghost use Rattle.pmf_merge.specs.{Heads.{IsLeast}, Waiting.{IsWaiting, PutsAt}};
+ghost use Rattle.pmf_event.specs.declared.name.Name.{Name};
+ghost use Rattle.pmf_merge.specs.Waiting.{IsLeastName, IsWaiting, PutsAt};
 
 use pmf_event::Name;
-use pmf_verdict::Verdict;
 use std::alloc::{AllocError, Global};
 use std::collections::BTreeSet;
 
@@ -34,8 +33,8 @@ impl Waiting {
 
     /// The index of the least section that waits, if any does.
     pub(crate) fn first(&self) -> Option<usize>
-        ensures { (heads : List (Option Checked)) → IsWaiting heads self.now
-            → MatchOption result ((i : ℕ) → slice_index_or heads i None ≡ None) (λ least. (least < length heads) × (v : Checked) × IsLeast heads least v) }
+        ensures { (names : List (Option Name)) → IsWaiting names self.now
+            → MatchOption result ((i : ℕ) → slice_index_or names i None ≡ None) (λ least. (least < length names) × (name : Name) × IsLeastName names least name) }
     {
         match self.places.first() {
             Some(place) => Some(place.index),
@@ -43,44 +42,37 @@ impl Waiting {
         }
     }
 
-    /// At this index another head waits now, or none.
+    /// At this index another name waits now, or none.
     pub(crate) fn replace(
         &mut self,
-        head: &Option<Verdict>,
-        new: &Option<Verdict>,
+        name: Option<Name>,
+        new: Option<Name>,
         index: usize,
     ) -> Result<(), AllocError>
-        ensures { (heads after : List (Option Checked)) → IsWaiting heads self.old → slice_index_or heads index None ≡ head.now → PutsAt heads index new.now after
+        ensures { (names after : List (Option Name)) → IsWaiting names self.old → slice_index_or names index None ≡ name → PutsAt names index new after
             → OnOk result (IsWaiting after self.new) }
     {
-        self.remove(head, index);
+        self.remove(name, index);
         self.put(new, index)
     }
 
-    // The head of this index waits no more.
-    fn remove(&mut self, head: &Option<Verdict>, index: usize)
-        ensures { (heads after : List (Option Checked)) → IsWaiting heads self.old → slice_index_or heads index None ≡ head.now → PutsAt heads index None after
+    // The name of this index waits no more.
+    fn remove(&mut self, name: Option<Name>, index: usize)
+        ensures { (names after : List (Option Name)) → IsWaiting names self.old → slice_index_or names index None ≡ name → PutsAt names index None after
             → IsWaiting after self.new }
     {
-        if let Some(verdict) = head {
-            self.places.remove(&Place {
-                name: verdict.name(),
-                index,
-            });
+        if let Some(name) = name {
+            self.places.remove(&Place { name, index });
         }
     }
 
-    /// At this index, where none waited, this head waits, if there is one.
-    pub(crate) fn put(&mut self, head: &Option<Verdict>, index: usize) -> Result<(), AllocError>
-        ensures { (heads after : List (Option Checked)) → IsWaiting heads self.old → slice_index_or heads index None ≡ None → PutsAt heads index head.now after
+    /// At this index, where none waited, this name waits, if there is one.
+    pub(crate) fn put(&mut self, name: Option<Name>, index: usize) -> Result<(), AllocError>
+        ensures { (names after : List (Option Name)) → IsWaiting names self.old → slice_index_or names index None ≡ None → PutsAt names index name after
             → OnOk result (IsWaiting after self.new) }
     {
-        if let Some(verdict) = head {
-            let place = Place {
-                name: verdict.name(),
-                index,
-            };
-            match self.places.insert(place) {
+        if let Some(name) = name {
+            match self.places.insert(Place { name, index }) {
                 Ok(_) => {}
                 Err(_) => return Err(AllocError),
             }

@@ -102,7 +102,7 @@ impl Written {
     }
 }
 
-fn fault_of(stop: Stop) -> MergeFault
+pub(crate) fn fault_of(stop: Stop) -> MergeFault
     ensures { IsOfNoText result }
 {
     match stop {

@@ -1,6 +1,6 @@
 //! What a command can be asked for.
 //!
-//! Types alone, with no function: [`Request`] is what the words of a command line come to, [`Input`] where a log is read from, [`Wanted`] what is written of joined ledgers, and
+//! Types alone, with no function: [`Request`] is what the words of a command line come to, [`Input`] where a log is read from, [`Joining`] how ledgers are joined and [`Wanted`] what is written of them, and
 //! [`Settings`], [`Question`], [`Whole`], [`Sought`], [`Reasons`], [`Patches`], [`Overview`] and [`Lengths`] are what the commands are told. Each field is public, and any value of its
 //! type is one.
 //!
@@ -10,5 +10,5 @@
 mod request;
 mod settings;
 
-pub use request::{Cuts, Files, Input, Request, Simulation, Wanted};
+pub use request::{Cuts, Files, Input, Joining, Request, Simulation, Wanted};
 pub use settings::{Lengths, Overview, Patches, Question, Reasons, Settings, Sought, Whole};

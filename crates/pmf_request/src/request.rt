@@ -22,6 +22,17 @@ pub enum Wanted {
     Ledger,
 }
 
+/// How ledgers are to be joined.
+#[derive(Clone, Copy, Debug, PartialEq, Eq)]
+pub enum Joining {
+    /// Each is read whole, and its sections checked again.
+    Load,
+    /// They are merged as they are read, of any length, and their sections checked again.
+    Merge,
+    /// They are merged as they stand, and no section is checked again.
+    Trust,
+}
+
 /// Which ledgers are to be joined.
 #[derive(Debug, PartialEq, Drop)]
 pub struct Files<'a> {
@@ -29,9 +40,9 @@ pub struct Files<'a> {
     pub names: Vec<&'a str>,
     /// The file that names further ones, one on each of its text lines, if there is one.
     pub list: Option<&'a str>,
-    /// Whether they are merged as they are read, which takes texts of any length.
-    pub stream: bool,
-    /// How many threads check their sections then: 1 to 64.
+    /// How they are joined.
+    pub joining: Joining,
+    /// How many threads check the sections of a merge: 1 to 64.
     pub workers: u32,
     /// What is written of them.
     pub wanted: Wanted,

@@ -3,12 +3,13 @@
 use Rattle.std.specs.{Prelude.{◌≡◌, ℕ, ◌<◌, ◌^◌, pos, Bool, true, false, List, [], ◌∷◌, ◌++◌, map, Option, option_map, unwrap_or, None, Some, codes, bytes_eq, decimal, if◌then◌else◌}, List.{list_any}}
 use Rattle.clap.specs.{Words.{App, Row, Rule, Text, all_of, first_of, one_of, app_of, new_app, new_rule, subcommand_of, with_rule, with_subcommand}, Simple.{new_shape}, declared.builder.action.ArgAction.TheVariants.{Append, SetTrue}, declared.builder.command.Command.{Command, out-Command}, declared.builder.value_parser.ValueParser.{ValueParser}}
 use Rattle.pmf_event.specs.declared.profile.Profile.{Profile}
-use Rattle.pmf_request.specs.declared.{settings.Overview.{Overview}, settings.Patches.{Patches}, settings.Question.{Question}, settings.Reasons.{Reasons}, settings.Settings.{Settings}, settings.Sought.{Sought}, settings.Whole.{Whole}, request.Cuts.{Cuts}, request.Files.{Files}, request.Input.{Input}, request.Simulation.{Simulation}, request.Request.{Request}, request.Wanted.{Wanted}}
+use Rattle.pmf_request.specs.declared.{settings.Overview.{Overview}, settings.Patches.{Patches}, settings.Question.{Question}, settings.Reasons.{Reasons}, settings.Settings.{Settings}, settings.Sought.{Sought}, settings.Whole.{Whole}, request.Cuts.{Cuts}, request.Files.{Files}, request.Input.{Input}, request.Simulation.{Simulation}, request.Request.{Request}, request.Wanted.{Wanted}, request.Joining.{Joining}}
 use Rattle.clap.specs.declared.builder.value_parser.ValueParser.TheVariants as vp
 use Rattle.pmf_event.specs.declared.profile.Profile.TheVariants as profile
 use Rattle.pmf_request.specs.declared.request.Input.TheVariants as input
 use Rattle.pmf_request.specs.declared.request.Request.TheVariants as request
 use Rattle.pmf_request.specs.declared.request.Wanted.TheVariants as wanted
+use Rattle.pmf_request.specs.declared.request.Joining.TheVariants as joining
 
 -- ---- the options
 
@@ -110,8 +111,8 @@ cut_words =
 
 abbrev pub join_words : App
 join_words =
-    with_rule (with_rule (with_rule (with_rule (with_rule (with_rule (new_app (codes "join"))
-    (flag (codes "ledger"))) (flag (codes "summary"))) (option (codes "files-from"))) (flag (codes "stream")))
+    with_rule (with_rule (with_rule (with_rule (with_rule (with_rule (with_rule (new_app (codes "join"))
+    (flag (codes "ledger"))) (flag (codes "summary"))) (option (codes "files-from"))) (flag (codes "stream"))) (flag (codes "trust")))
     (number (codes "workers") thread_count (codes "1"))) file_words
 
 abbrev pub sim_words : App
@@ -236,11 +237,17 @@ pub record IsWantedOf (rows : List Row) (w : Wanted) : Type 0 where
   pub summary : one_of (codes "summary") rows ≡ Some (codes "true") → w ≡ wanted.Summary
   pub report : one_of (codes "ledger") rows ≡ Some (codes "false") → one_of (codes "summary") rows ≡ Some (codes "false") → w ≡ wanted.Report
 
+-- the way is the one that the flags name; trust without a merge is no request
+pub record IsJoiningOf (rows : List Row) (w : Joining) : Type 0 where
+  pub trust : one_of (codes "trust") rows ≡ Some (codes "true") → (one_of (codes "stream") rows ≡ Some (codes "false") → ⊥) × (w ≡ joining.Trust)
+  pub merge : one_of (codes "trust") rows ≡ Some (codes "false") → one_of (codes "stream") rows ≡ Some (codes "true") → w ≡ joining.Merge
+  pub load : one_of (codes "trust") rows ≡ Some (codes "false") → one_of (codes "stream") rows ≡ Some (codes "false") → w ≡ joining.Load
+
 -- the files are those that the words of `join` name, in their order, or none; the list is the one that they name, if any
 pub record IsJoinOf (rows : List Row) (f : Files) : Type 0 where
   pub names : map (λ s. s.now) f.names.items ≡ unwrap_or (all_of (codes "file") rows) []
   pub list : option_map (λ s. s.now) f.list ≡ first_of (codes "files-from") rows
-  pub stream : IsFlagOf rows (codes "stream") f.stream
+  pub joining : IsJoiningOf rows f.joining
   pub workers : IsNumberOf rows (codes "workers") 32 f.workers
   pub wanted : IsWantedOf rows f.wanted
 

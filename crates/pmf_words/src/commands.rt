@@ -7,7 +7,7 @@ ghost use Rattle.pmf_words.specs.Words.{HasWords, check_words, cut_words, explai
 use crate::options::{
     all, all_rows, asked_number, bytes, event, events, file, files, files_from, first, first_rows,
     ledger, log, log_file, merge_workers, only_event, only_section, patch, profile, run, section,
-    step, stream, strict, summary, unasserted, workers,
+    step, stream, strict, summary, trust, unasserted, workers,
 };
 use clap::{Arg, Command};
 use std::alloc::{AllocError, Global};
@@ -338,6 +338,7 @@ fn join<'a>(alloc: Global) -> Result<Command<'a>, AllocError>
     let join = with_option(join, summary(alloc));
     let join = with_option(join, files_from(alloc));
     let join = with_option(join, stream(alloc));
+    let join = with_option(join, trust(alloc));
     let join = with_option(join, merge_workers(alloc));
     with_option(join, file(alloc))
 }

@@ -276,6 +276,14 @@ pub(crate) fn stream<'a>(alloc: Global) -> Arg<'a>
     flag(alloc, "stream", help)
 }
 
+pub(crate) fn trust<'a>(alloc: Global) -> Arg<'a>
+    ensures rule { rule_of result ≡ flag (codes "trust") }
+    ensures local { result.global ≡ false }
+{
+    let help = "With --stream: check no section, and write a ledger that says so";
+    flag(alloc, "trust", help)
+}
+
 pub(crate) fn merge_workers<'a>(alloc: Global) -> Arg<'a>
     ensures rule { rule_of result ≡ number (codes "workers") thread_count (codes "1") }
     ensures local { result.global ≡ false }

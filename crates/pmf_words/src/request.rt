@@ -3,14 +3,14 @@
 ghost use Rattle.std.specs.{Prelude.{◌≡◌, List, false, true, Some, codes, map, option_map, IfOk, IfSome, bytes_eq, string_bytes, if◌then◌else◌}, List.{list_any}};
 ghost use Rattle.clap.specs.Words.{Row, Text, found_of, rows_of, subcommand_rows_of};
 ghost use Rattle.pmf_event.specs.declared.profile.Profile.{Profile};
-ghost use Rattle.pmf_words.specs.Words.{IsCheckOf, IsCutOf, IsExplainAllOf, IsExplainBy, IsExplainOf, IsFirstOf, IsInputOf, IsJoinOf, IsLintOf, IsLocateOf, IsMaybeSectionOf, IsPatchOf, IsRequestBy, IsRequestOf, IsSectionOf, IsSimOf, IsWantedOf, IsWhyBy, IsWhyOf, NamesSection};
+ghost use Rattle.pmf_words.specs.Words.{IsCheckOf, IsCutOf, IsExplainAllOf, IsExplainBy, IsExplainOf, IsFirstOf, IsInputOf, IsJoinOf, IsLintOf, IsLocateOf, IsMaybeSectionOf, IsPatchOf, IsRequestBy, IsRequestOf, IsSectionOf, IsSimOf, IsWantedOf, IsJoiningOf, IsWhyBy, IsWhyOf, NamesSection};
 
 use crate::commands::program;
 use clap::error::ErrorKind;
 use clap::{ArgMatches, Error};
 use pmf_event::Profile;
 use pmf_request::{
-    Cuts, Files, Input, Lengths, Overview, Patches, Question, Reasons, Request, Settings,
+    Cuts, Files, Input, Joining, Lengths, Overview, Patches, Question, Reasons, Request, Settings,
     Simulation, Sought, Wanted, Whole,
 };
 use std::alloc::{AllocError, Global};
@@ -291,12 +291,13 @@ fn files_of<'a>(alloc: Global, join: &ArgMatches<'a>) -> Result<Files<'a>, Error
     ensures { IfOk result (IsJoinOf (rows_of (found_of join.now))) }
 {
     let wanted = wanted_of(alloc, join)?;
+    let joining = joining_of(alloc, join)?;
     let mut names = Vec::new(alloc);
     names.extend_from_slice(join.get_strs("file").unwrap_or(&[]))?;
     Ok(Files {
         names,
         list: join.get_str("files-from"),
-        stream: join.get_flag("stream"),
+        joining,
         workers: join.get_one::<u32>("workers").unwrap_or(1),
         wanted,
     })
@@ -323,6 +324,31 @@ fn wanted_of(alloc: Global, join: &ArgMatches<'_>) -> Result<Wanted, Error>
 // The error of both flags, in the form of the parser's own.
 fn two_wanted(alloc: Global) -> Result<Error, AllocError> {
     let message = "the argument '--ledger' cannot be used with '--summary'";
+    program(alloc, false, false)?.error(ErrorKind::ArgumentConflict, message)
+}
+
+// How they are joined. Trust is for a merge that writes a ledger.
+fn joining_of(alloc: Global, join: &ArgMatches<'_>) -> Result<Joining, Error>
+    ensures { IfOk result (IsJoiningOf (rows_of (found_of join.now))) }
+{
+    let stream = join.get_flag("stream");
+    let summary = join.get_flag("summary");
+    let trust = join.get_flag("trust");
+    if trust {
+        if !stream || summary {
+            return Err(no_trust(alloc)?);
+        }
+        return Ok(Joining::Trust);
+    }
+    if stream {
+        return Ok(Joining::Merge);
+    }
+    Ok(Joining::Load)
+}
+
+// The error of trust that is asked for elsewhere.
+fn no_trust(alloc: Global) -> Result<Error, AllocError> {
+    let message = "the argument '--trust' needs '--stream', and cannot be used with '--summary'";
     program(alloc, false, false)?.error(ErrorKind::ArgumentConflict, message)
 }
 

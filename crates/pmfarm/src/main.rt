@@ -10,8 +10,8 @@
 mod words_tests;
 
 pub use pmf_command::{
-    Cuts, Ended, Files, Input, Lengths, Patches, Reasons, Request, Simulation, Status, Wanted,
-    request_of,
+    Cuts, Ended, Files, Input, Joining, Lengths, Patches, Reasons, Request, Simulation, Status,
+    Wanted, request_of,
 };
 pub use pmf_device::{
     Counted, Cut, Device, Failed, Page, Sink, Source, StdSink, StdSource, Stop, write_text,

@@ -1,7 +1,7 @@
 //! What the words of the command line ask for, and the status where they are refused.
 
 use crate::{
-    Cuts, Files, Input, Lengths, Overview, Patches, Question, Reasons, Request, Settings,
+    Cuts, Files, Input, Joining, Lengths, Overview, Patches, Question, Reasons, Request, Settings,
     Simulation, Sought, Status, Wanted, Whole, request_of,
 };
 use pmf_event::Profile;
@@ -320,38 +320,30 @@ fn cut_takes_lengths_a_step_and_the_front_of_names(rt: HostRuntime) -> Result<()
 #[test]
 fn join_takes_files_in_their_order(rt: HostRuntime) -> Result<(), Fail> {
     let (report, summary, ledger) = (Wanted::Report, Wanted::Summary, Wanted::Ledger);
-    for (line, files, list, merged_by, wanted) in [
-        ("join", [].as_slice(), None, None, report),
-        ("join b a b", &["b", "a", "b"], None, None, report),
-        ("join a --ledger b", &["a", "b"], None, None, ledger),
-        ("join a --summary b", &["a", "b"], None, None, summary),
-        ("join -- --ledger", &["--ledger"], None, None, report),
-        ("join --files-from l", &[], Some("l"), None, report),
-        (
-            "join a --files-from=l b",
-            &["a", "b"],
-            Some("l"),
-            None,
-            report,
-        ),
-        ("join --stream a", &["a"], None, Some(1), report),
-        ("join --summary --stream a", &["a"], None, Some(1), summary),
-        ("join --stream --workers 1 a", &["a"], None, Some(1), report),
-        (
-            "join --workers=64 --stream a",
-            &["a"],
-            None,
-            Some(64),
-            report,
-        ),
+    let by_all = "join --workers=64 --stream a";
+    let trusted = "join --trust --ledger --stream";
+    let (load, merge, trust) = (Joining::Load, Joining::Merge, Joining::Trust);
+    for (line, files, list, joining, workers, wanted) in [
+        ("join", [].as_slice(), None, load, 1, report),
+        ("join b a b", &["b", "a", "b"], None, load, 1, report),
+        ("join a --ledger b", &["a", "b"], None, load, 1, ledger),
+        ("join a --summary b", &["a", "b"], None, load, 1, summary),
+        ("join -- --ledger", &["--ledger"], None, load, 1, report),
+        ("join --files-from l", &[], Some("l"), load, 1, report),
+        ("join a --files-from=l", &["a"], Some("l"), load, 1, report),
+        ("join --stream a", &["a"], None, merge, 1, report),
+        ("join --summary --stream a", &["a"], None, merge, 1, summary),
+        (by_all, &["a"], None, merge, 64, report),
+        ("join --stream --trust a", &["a"], None, trust, 1, report),
+        (trusted, &[], None, trust, 1, ledger),
     ] {
         let mut names = Vec::new(rt.alloc());
         names.extend_from_slice(files)?;
         let files = Files {
             names,
             list,
-            stream: merged_by.is_some(),
-            workers: merged_by.unwrap_or(1),
+            joining,
+            workers,
             wanted,
         };
         asks(&rt, rt.alloc(), line, Request::Join(files))?;

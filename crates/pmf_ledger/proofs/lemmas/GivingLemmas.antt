@@ -14,7 +14,7 @@ place_first : (x : Checked) (xs : List Checked) (name : Name) → Rises (x ∷ x
 place_first x xs name rises before =
     let after : (c : Checked) → Contains (x ∷ xs) c → IsBefore name c.section.name = λ c found. elim (Contains-cons_cases c x xs found) [
       | inl same ↦ subst (λ (d : Checked). IsBefore name d.section.name) (sym same) before
-      | inr later ↦ before-trans name x.section.name c.section.name before (Rises-first x xs rises c later)
+      | inr later ↦ before-trans name x.section.name c.section.name before (Rises-first (λ (c : Checked). c.section.name) x xs rises c later)
     ] in
     record {
       at = 0;
@@ -48,7 +48,7 @@ place_behind x xs name before rest = record {
 placed : (sections : List Checked) (name : Name) → Rises sections → HasName sections name ⊎ Place sections name
 placed [] name rises = grind (arith, common_steps, none_of_empty)
 placed (x ∷ xs) name rises = elim (before-total x.section.name name) [
-  | inl before ↦ elim (placed xs name (Rises-rest x xs rises)) [ inl has ↦ inl (has.0, Contains-cons has.0 x xs (inr has.1), has.2) | inr rest ↦ inr (place_behind x xs name before rest) ]
+  | inl before ↦ elim (placed xs name (Rises-rest (λ (c : Checked). c.section.name) x xs rises)) [ inl has ↦ inl (has.0, Contains-cons has.0 x xs (inr has.1), has.2) | inr rest ↦ inr (place_behind x xs name before rest) ]
   | inr other ↦ elim other [ inl same ↦ inl (x, Contains-cons x x xs (inl refl), same) | inr after ↦ inr (place_first x xs name rises after) ]
 ]
 

@@ -6,16 +6,16 @@ use Rattle.pmf_verdict.specs.{Checked.{Checked, checked_by, rows_in}, Rows.{rows
 use Rattle.pmf_ledger.{specs.declared.head.Head.{Head}, specs.declared.loading.LedgerFault.TheVariants.{FalseRows}, specs.declared.loading.TheConstants.{LEDGER_LIMIT}, specs.Gathered.{IsLedgerOf}, specs.LedgerText.{IsSpelled, version_of, text_of_head, text_of_block, text_of_end, text_of_ledger}, specs.LedgerValue.{LedgerValue}, specs.Loading.{Reading, Stage, AtVersion, AtBlock, AtEvents, AtRows, AtEnd, AtFault, at, unread, alone, number_behind, profile_of, head_of, head_of_run, head_of_number, head_of_events, head_of_rows, end_of, after_version, after_head, after_end, after_event, after_row, after_line, after_line_at, after_lines, with_events, with_section, with_rows, lines_of, left_of, reading_of, fault_of, LoadsAs}, specs.Names.{Rises}, proofs.lemmas.AddingLemmas.{from_map}, proofs.lemmas.ReadingLemmas.{event-added, rows_told, end-here, line-at}, proofs.lemmas.SpelledLemmas.{OneLine, one-append, decimal-one, text_without_end, row-one, event-one, lines_of-lines, left_of-lines, lines-append, each-append}}
 
 -- the text lines of a ledger
-unfoldable head_line : Name → ℕ → ℕ → List ℕ
+unfoldable pub head_line : Name → ℕ → ℕ → List ℕ
 head_line name events rows = codes "section " ++ decimal name.run ++ codes "." ++ decimal name.number ++ codes " events=" ++ decimal events ++ codes " rows=" ++ decimal rows
 
-unfoldable end_line : ℕ → List ℕ
+unfoldable pub end_line : ℕ → List ℕ
 end_line blocks = codes "end verdicts=" ++ decimal blocks
 
-body_lines : List Event → List Row → List (List ℕ)
+unfoldable pub body_lines : List Event → List Row → List (List ℕ)
 body_lines events rows = map text_of_event events ++ map text_without_end rows
 
-block_lines : Checked → List (List ℕ)
+unfoldable pub block_lines : Checked → List (List ℕ)
 unfolding body_lines
 block_lines s = head_line s.section.name (length s.section.events) (length (rows_in s)) ∷ body_lines s.section.events (rows_in s)
 
@@ -30,7 +30,7 @@ pub row_lines : (rows : List Row) → text_of_rows rows ≡ text_of_lines (map t
 row_lines [] = refl
 row_lines (row ∷ rows) = ap (λ rest. text_of_row row ++ rest) (row_lines rows)
 
-block-text : (s : Checked) → text_of_block s ≡ text_of_lines (block_lines s)
+pub block-text : (s : Checked) → text_of_block s ≡ text_of_lines (block_lines s)
 unfolding text_of_block text_of_head head_line block_lines body_lines
 block-text s = grind (arith, common_steps, append_assoc, event_lines, row_lines, lines-append)
 
@@ -50,7 +50,7 @@ pub rows-one : (rows : List Row) → AllByRecursion OneLine (map text_without_en
 rows-one [] = tt
 rows-one (row ∷ rows) = (row-one row, rows-one rows)
 
-block-one : (s : Checked) → IsSpelled s → AllByRecursion OneLine (block_lines s)
+pub block-one : (s : Checked) → IsSpelled s → AllByRecursion OneLine (block_lines s)
 unfolding block_lines body_lines head_line
 block-one s spelled = grind (arith, common_steps, each-append, events-one, recursion_from_All, rows-one, one-append, decimal-one)
 
@@ -70,10 +70,10 @@ number_behind-word word n rest small none = grind (arith, common_steps, take_at,
 regroup : (a b c d e f g h : List ℕ) → a ++ b ++ c ++ d ++ e ++ f ++ g ++ h ≡ a ++ (b ++ (c ++ (d ++ (e ++ (f ++ (g ++ (h ++ [])))))))
 regroup a b c d e f g h = simp (append_assoc, append-nil) refl
 
-head_told : Name → ℕ → ℕ → Head
+unfoldable pub head_told : Name → ℕ → ℕ → Head
 head_told name events rows = record { name = name; events = events; rows = rows }
 
-head_of-line : (name : Name) (events rows : ℕ) → name.run < 2 ^ 64 → name.number < 2 ^ 64 → events < 2 ^ 64 → rows < 2 ^ 64 →
+pub head_of-line : (name : Name) (events rows : ℕ) → name.run < 2 ^ 64 → name.number < 2 ^ 64 → events < 2 ^ 64 → rows < 2 ^ 64 →
     head_of (head_line name events rows) ≡ Some (head_told name events rows)
 unfolding head_of head_line head_told
 head_of-line name events rows run number few short =
@@ -84,7 +84,7 @@ head_of-line name events rows run number few short =
     ∙ ap (head_of_events name) (number_behind-word (codes " events=") events (codes " rows=" ++ last) few refl)
     ∙ ap (λ found. head_of_rows name events (alone found)) (number_behind-word (codes " rows=") rows [] short tt)
 
-head_of-end : (blocks : ℕ) → head_of (end_line blocks) ≡ None
+pub head_of-end : (blocks : ℕ) → head_of (end_line blocks) ≡ None
 unfolding head_of number_behind end_line
 head_of-end blocks = refl
 

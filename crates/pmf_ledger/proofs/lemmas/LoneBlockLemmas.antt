@@ -60,7 +60,7 @@ after-more r n (text ∷ front) rest = let one : n + length (text ∷ front) ≡
 
 -- bytes that end with a text line, and more behind them
 module _ (bytes more : List ℕ) (ended : left_of bytes ≡ []) where
-  parts_on : parts_of (bytes ++ more) ≡ lines_of bytes ++ parts_of more
+  pub parts_on : parts_of (bytes ++ more) ≡ lines_of bytes ++ parts_of more
   parts_on = by (parts_of more) refl
     where
       by : (parts : List (List ℕ)) → parts_of more ≡ parts → parts_of (bytes ++ more) ≡ lines_of bytes ++ parts_of more
@@ -70,10 +70,10 @@ module _ (bytes more : List ℕ) (ended : left_of bytes ≡ []) where
   parts_all : parts_of (bytes ++ more) ≡ (lines_of bytes ++ lines_of more) ++ left_of more ∷ []
   parts_all = parts_on ∙ ap (λ ps. lines_of bytes ++ ps) (parts_whole more) ∙ sym (append_assoc (lines_of bytes) (lines_of more) (left_of more ∷ []))
 
-  lines_on : lines_of (bytes ++ more) ≡ lines_of bytes ++ lines_of more
+  pub lines_on : lines_of (bytes ++ more) ≡ lines_of bytes ++ lines_of more
   lines_on = rw parts_all (without_last (lines_of bytes ++ lines_of more) (left_of more))
 
-  left_on : left_of (bytes ++ more) ≡ left_of more
+  pub left_on : left_of (bytes ++ more) ≡ left_of more
   left_on = rw parts_all (last_is (lines_of bytes ++ lines_of more) (left_of more))
 
 -- a text that goes on by bytes that end with a text line

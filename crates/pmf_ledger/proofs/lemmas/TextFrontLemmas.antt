@@ -125,7 +125,7 @@ refuses_piece text piece n found refuses =
 
 -- the rest of a piece, as it is looked through
 module _ (piece : List ℕ) (n : ℕ) (within : n ≤ length piece) where
-  rest_is : take (length piece - n) (drop n piece) ≡ drop n piece
+  pub rest_is : take (length piece - n) (drop n piece) ≡ drop n piece
   rest_is = let long = length-drop n piece in grind (arith, common_steps, take_all)
 
   -- with no line end it is the front of a text line

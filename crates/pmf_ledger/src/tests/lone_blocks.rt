@@ -1,7 +1,7 @@
 //! Blocks that are read apart from their text.
 
 use super::name;
-use crate::{BlockReader, LoneBlock, first_block};
+use crate::{BlockReader, FirstBlock, LoneBlock, first_block};
 use pmf_event::Profile;
 use std::process::Abort;
 use std::test::Fail;
@@ -35,7 +35,10 @@ fn the_first_block_is_as_long_as_its_head_tells(rt: HostRuntime) -> Result<(), F
         (b"end verdicts=0\n", None),
         (b"", None),
     ] {
-        assert_eq!(rt; first_block(bytes), taken);
+        assert_eq!(rt;
+            first_block(bytes).map(|found: FirstBlock| found.taken),
+            taken
+        );
     }
     Ok(())
 }

@@ -20,7 +20,7 @@ pub here_or : (j i : ℕ) → (j ≡ i) ⊎ (j ≡ i → ⊥)
 here_or j i = elim (cases_order j i) [ inl same ↦ inl same | inr aside ↦ inr (λ same. elim aside [ inl less ↦ let l = less in omega (arith, l, same) | inr more ↦ let m = more in omega (arith, m, same) ]) ]
 
 -- up to a name before another is before it
-before_upto : (a b d : Name) → IsUpTo a b → IsBefore b d → IsBefore a d
+pub before_upto : (a b d : Name) → IsUpTo a b → IsBefore b d → IsBefore a d
 before_upto a b d (inl same) before = subst (λ n. IsBefore n d) (sym same) before
 before_upto a b d (inr less) before = before-trans a b d less before
 

@@ -27,6 +27,13 @@ impl<'a> Pieces<'a> {
     }
 }
 
+impl Pieces<'_> {
+    // How many bytes it has left to give.
+    pub fn left(&self) -> usize {
+        self.rest.len()
+    }
+}
+
 impl<'a> Device for Pieces<'a> {
     ghost failed_calls = { λ s. s.failures };
 

@@ -13,7 +13,7 @@ pub returns-in-Ok-Some : goal.returns-in-Ok-Some
 returns-in-Ok-Some g c =
     let made = rw (c.in-Ok-Some.field-0-is, c.deref.ensures.value, c.deref-2.ensures.value) at c.in-Ok-Some.ensures in
     let joined = rw (c.deref-in-Ok-Some.ensures.value, c.form_of-form.ensures) at c.join_named.ensures in
-    let named = subst (λ names. JoinsNamed c.args.files.now.stream (form_of c.args.files.now.wanted) names (g.F.Shelf.bytes c.args.shelf.now) (g.W.Sink.held c.args.sink.now) (g.W.Sink.held c.join_named.new.sink) c.join_named.result) made.1 joined in
+    let named = subst (λ names. JoinsNamed c.args.files.now.joining (form_of c.args.files.now.wanted) names (g.F.Shelf.bytes c.args.shelf.now) (g.W.Sink.held c.args.sink.now) (g.W.Sink.held c.join_named.new.sink) c.join_named.result) made.1 joined in
     inr (c.in-Ok.list.items, c.in-Ok.ensures.read, inr (record { fits = omega (arith, c.if-len-gt-LEDGER_LIMIT.false); texts = made.0 }, named))
 
 pub returns-in-Ok-None : goal.returns-in-Ok-None

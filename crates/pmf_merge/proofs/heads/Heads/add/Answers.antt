@@ -1,7 +1,8 @@
-use Rattle.std.proofs.Common.{◌≡◌, ◌∷◌, ◌++◌, [], get_or, None, sym, ◌∙◌, subst}
+use Rattle.std.proofs.Common.{◌≡◌, ◌∷◌, ◌++◌, [], get_or, None, sym, ◌∙◌, ap, subst}
+use Rattle.pmf_verdict.specs.Checked.{Checked}
 use Rattle.pmf_ledger.specs.Loading.{unread}
 use Rattle.pmf_device.proofs.PageLemmas.{stops_so}
-use Rattle.pmf_merge.{specs.Feeding.{IsFed}, specs.Waiting.{PutsAt}, proofs.lemmas.WaitingLemmas.{none_behind, push_head}, specs.Merging.{HasToldProfile, IsMergeFaultOf}, proofs.lemmas.HeadsLemmas.{added}, proofs.lemmas.RefusalLemmas.{of_feed, tells_profile, told_next}, proofs.heads.Heads.add.Goals.{in-Ok-push-2, in-Err-push}}
+use Rattle.pmf_merge.{specs.Feeding.{IsFed}, specs.Waiting.{PutsAt}, specs.Heads.{names_of}, proofs.lemmas.NamesLemmas.{names_length, names_push}, proofs.lemmas.WaitingLemmas.{none_behind, push_head}, specs.Merging.{HasToldProfile, IsMergeFaultOf}, proofs.lemmas.HeadsLemmas.{added}, proofs.lemmas.RefusalLemmas.{of_feed, tells_profile, told_next}, proofs.heads.Heads.add.Goals.{in-Ok-push-2, in-Err-push}}
 use Rattle.pmf_merge.proofs.heads.Heads.add.Goals as goal
 
 pub next-requires-clause-fed : goal.next-requires-clause-fed
@@ -22,9 +23,11 @@ returns-clause-added g c = λ starts lefts m same inside. elim c.match-push-2.br
 pub returns-clause-waiting : goal.returns-clause-waiting
 returns-clause-waiting g c = λ long is. elim c.match-push-2.branch [
   | in-Ok-push-2 w ↦
-      let heads = c.args.self.now.heads.items in
-      rw (w.result-is, w.in-Ok-push-2.ensures.items)
-      (c.in-Ok-put.ensures heads (heads ++ c.in_ok-head.head ∷ []) is (subst (λ n. get_or heads n None ≡ None) long (none_behind heads)) (subst (λ n. PutsAt heads n c.in_ok-head.head (heads ++ c.in_ok-head.head ∷ [])) long (push_head heads c.in_ok-head.head)))
+      let heads = c.args.self.now.heads.items in let names = names_of heads in let name = c.name_in.result in
+      let count = names_length (λ (v : Checked). v.section.name) heads ∙ long in
+      let all : names_of (heads ++ c.in_ok-head.head ∷ []) ≡ names ++ name ∷ [] = names_push (λ (v : Checked). v.section.name) heads c.in_ok-head.head ∙ ap (λ n. names ++ n ∷ []) (sym c.name_in.ensures) in
+      rw (w.result-is, w.in-Ok-push-2.ensures.items, all)
+      (c.in-Ok-put.ensures names (names ++ name ∷ []) is (subst (λ n. get_or names n None ≡ None) count (none_behind names)) (subst (λ n. PutsAt names n name (names ++ name ∷ [])) count (push_head names name)))
   | in-Err-push w ↦ rw w.result-is tt
 ]
 

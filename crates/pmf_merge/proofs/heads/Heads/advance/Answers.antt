@@ -1,6 +1,7 @@
-use Rattle.std.proofs.{Common.{◌≡◌, true, false, ◌++◌, length, set, get_or, None, refl, sym, ◌∙◌, arith, rules}, lemmas.List.{get_or_default}, lemmas.Bool.{true≢false}}
+use Rattle.std.proofs.{Common.{◌≡◌, true, false, ◌++◌, length, set, get_or, None, refl, sym, ◌∙◌, ◌≡◌, ◌<◌, option_map, ap, subst, arith, rules}, lemmas.List.{get_or_default}, lemmas.Bool.{true≢false}}
+use Rattle.pmf_verdict.specs.Checked.{Checked}
 use Rattle.pmf_device.proofs.PageLemmas.{stops_so}
-use Rattle.pmf_merge.{specs.Merging.{IsMergeFaultOf}, proofs.lemmas.{HeadsLemmas.{advanced, fed_at}, RefusalLemmas.{of_feed, tells_profile, told_next}, WaitingLemmas.{set_head}}}
+use Rattle.pmf_merge.{specs.{Heads.{names_of}, Merging.{IsMergeFaultOf}}, proofs.lemmas.{NamesLemmas.{name_at, names_length, names_set}, HeadsLemmas.{advanced, fed_at}, RefusalLemmas.{of_feed, tells_profile, told_next}, WaitingLemmas.{set_head}}}
 use Rattle.pmf_merge.proofs.heads.Heads.advance.Goals as goal
 
 pub returns-clause-advanced : goal.returns-clause-advanced
@@ -20,9 +21,12 @@ returns-clause-advanced g c = λ n starts lefts out new v m inside enough at_lef
 
 pub returns-clause-waiting : goal.returns-clause-waiting
 returns-clause-waiting g c = λ is inside.
-    let index = c.args.index in let heads = c.args.self.now.heads.items in
-    rw c.replace-2.ensures.after
-    (c.in-Ok.ensures heads (set heads index c.in_ok-head.head) is (sym (get_or_default heads index c.index.result.now None inside) ∙ sym c.index.ensures) (set_head heads index c.in_ok-head.head inside))
+    let index = c.args.index in let heads = c.args.self.now.heads.items in let names = names_of heads in let new = c.name_in.result in
+    let name : get_or names index None ≡ c.name_in-name.result =
+    name_at (λ (v : Checked). v.section.name) heads index ∙ ap (option_map (λ (v : Checked). v.section.name)) (sym (get_or_default heads index c.index.result.now None inside) ∙ sym c.index.ensures) ∙ sym c.name_in-name.ensures in
+    let all : names_of (set heads index c.in_ok-head.head) ≡ set names index new = names_set (λ (v : Checked). v.section.name) heads index c.in_ok-head.head ∙ ap (set names index) (sym c.name_in.ensures) in
+    rw (c.replace-2.ensures.after, all)
+    (c.in-Ok.ensures names (set names index new) is name (set_head names index new (subst (λ n. index < n) (sym (names_length (λ (v : Checked). v.section.name) heads)) inside)))
 
 pub returns-in_err-head-clause-refused : goal.returns-in_err-head-clause-refused
 returns-in_err-head-clause-refused g c = λ starts lefts out m inside at_left.

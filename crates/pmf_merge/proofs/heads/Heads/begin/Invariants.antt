@@ -1,7 +1,7 @@
 use Rattle.std.proofs.Common.{◌≡◌, ◌≤◌, ℕ, [], All, length, map, None, get_or}
 use Rattle.pmf_device.specs.Failures.{CanCountOneMore}
 use Rattle.pmf_event.specs.declared.profile.Profile.TheVariants.{One}
-use Rattle.pmf_merge.specs.{Heads.{IsMerging}, Waiting.{IsWaiting}}
+use Rattle.pmf_merge.specs.{Heads.{IsMerging, names_of}, Waiting.{IsWaiting}}
 use Rattle.pmf_merge.proofs.heads.Heads.begin.Given as goal
 
 abbrev pub invariant-loop-index : goal.invariant-loop-index
@@ -9,7 +9,7 @@ invariant-loop-index g l =
     let starts = map g.R.Source.left l.initial.sources.items in
     record {
       merging : IsMerging l.index starts (map g.R.Source.left l.sources.items) l.heads.feeds.items l.heads.heads.items l.heads.profile [];
-      waiting : IsWaiting l.heads.heads.items l.heads.waiting;
+      waiting : IsWaiting (names_of l.heads.heads.items) l.heads.waiting;
       of_none : l.index ≡ 0 → l.heads.profile ≡ One;
       counted : All (λ s. CanCountOneMore (g.R.Device.failed_calls s)) l.sources.items;
       len : length l.sources.items ≡ length l.initial.sources.items;

@@ -3,5 +3,4 @@ use Rattle.pmf_merge.proofs.lemmas.WaitingLemmas.{waits_no_more}
 use Rattle.pmf_merge.proofs.waiting.Waiting.remove.Goals as goal
 
 pub returns-in-Some : goal.returns-in-Some
-returns-in-Some c = λ heads after is at puts.
-    waits_no_more heads after c.args.self.now c.args.index is (record { places = c.remove.new.self }) c.in-Some.verdict (at ∙ c.in-Some.is) puts (rw c.name.ensures at c.remove.ensures.updates)
+returns-in-Some c = λ names after is at puts. waits_no_more names after c.args.self.now c.args.index is (record { places = c.remove.new.self }) c.in-Some.name (at ∙ c.in-Some.is) puts c.remove.ensures.updates

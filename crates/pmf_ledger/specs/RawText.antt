@@ -1,0 +1,83 @@
+-- Ledger texts whose blocks are taken as they stand. Defined here.
+use Rattle.std.specs.Prelude.{◌≡◌, ◌⊎◌, ◌≤◌, ◌+◌, ℕ, List, [], ◌∷◌, ◌++◌, length, take, codes, flat_map, All, AllPairs, Some}
+use Rattle.pmf_event.specs.declared.{name.Name.{Name}, profile.Profile.{Profile}, profile.Profile.TheVariants.{One, Two}}
+use Rattle.pmf_verdict.specs.Checked.{Checked}
+use Rattle.pmf_ledger.specs.{declared.head.Head.{Head}, declared.raw_text.FirstBlock.{FirstBlock}, LedgerText.{text_of_block, text_of_end, version_of}, Loading.{head_of, left_of, lines_of}, Names.{IsBefore}}
+
+-- a block as it stands
+pub record RawBlock : Type 0 where
+  pub name : Name
+  pub bytes : List ℕ
+
+-- the block of a section in a ledger's text
+abbrev pub raw_block : Checked → RawBlock
+raw_block s = record { name = s.section.name; bytes = text_of_block s }
+
+-- its bytes are a head that tells its name, and as many text lines as this tells
+pub record IsWhole (block : RawBlock) : Type 0 where
+  pub line : List ℕ
+  pub more : List (List ℕ)
+  pub lines : lines_of block.bytes ≡ line ∷ more
+  pub ended : left_of block.bytes ≡ []
+  pub head : Head
+  pub told : head_of line ≡ Some head
+  pub named : head.name ≡ block.name
+  pub count : length more ≡ head.events + head.rows
+
+-- the first text line of a ledger that was merged on trust
+abbrev pub trusted_version_of : Profile → List ℕ
+trusted_version_of One = codes "PMFARM-TRUSTED 1"
+trusted_version_of Two = codes "PMFARM-TRUSTED 2"
+
+-- the first text line of a ledger whose sections were checked, or of one that was merged on trust
+abbrev pub IsVersion : Profile → List ℕ → Type 0
+IsVersion profile line = (line ≡ version_of profile) ⊎ (line ≡ trusted_version_of profile)
+
+-- the names of the blocks rise
+abbrev pub RawNamesRise : List RawBlock → Type 0
+RawNamesRise blocks = AllPairs (λ (a : RawBlock) (b : RawBlock). IsBefore a.name b.name) blocks
+
+-- their bytes
+abbrev pub bytes_of : List RawBlock → List ℕ
+bytes_of blocks = flat_map (λ (b : RawBlock). b.bytes) blocks
+
+-- the front of a text: its first text line, and these blocks
+pub record IsRawFront (profile : Profile) (blocks : List RawBlock) (front : List ℕ) : Type 0 where
+  pub version : List ℕ
+  pub versioned : IsVersion profile version
+  pub each : All IsWhole blocks
+  pub rises : RawNamesRise blocks
+  pub front_is : front ≡ (version ++ codes "\n") ++ bytes_of blocks
+
+-- a text of these blocks, which tells their number behind them
+abbrev pub IsRawText : Profile → List RawBlock → List ℕ → Type 0
+IsRawText profile blocks text = (front : List ℕ) × IsRawFront profile blocks front × (text ≡ front ++ text_of_end (length blocks))
+
+-- what is written of blocks on trust
+abbrev pub text_on_trust : Profile → List RawBlock → List ℕ
+text_on_trust profile blocks = ((trusted_version_of profile ++ codes "\n") ++ bytes_of blocks) ++ text_of_end (length blocks)
+
+-- so many text lines, of which these are the bytes
+pub record IsFirstLines (bytes : List ℕ) (count taken : ℕ) : Type 0 where
+  pub within : taken ≤ length bytes
+  pub ended : left_of (take taken bytes) ≡ []
+  pub lines : length (lines_of (take taken bytes)) ≡ count
+
+-- the bytes begin with this block
+abbrev pub raw_of : List ℕ → FirstBlock → RawBlock
+raw_of bytes found = record { name = found.name; bytes = take found.taken bytes }
+
+abbrev pub IsFirst : List ℕ → FirstBlock → Type 0
+IsFirst bytes found = (found.taken ≤ length bytes) × IsWhole (raw_of bytes found)
+
+-- they begin with none
+abbrev pub HasNoFirst : List ℕ → Type 0
+HasNoFirst bytes = (block : RawBlock) (rest : List ℕ) → IsWhole block → bytes ≡ block.bytes ++ rest → ⊥
+
+-- the bytes begin with a first text line by this profile, which takes so many
+abbrev pub IsFirstVersion : List ℕ → (Profile × ℕ) → Type 0
+IsFirstVersion bytes found = (found.1 ≤ length bytes) × ((line : List ℕ) × IsVersion found.0 line × (take found.1 bytes ≡ line ++ codes "\n"))
+
+-- they begin with none
+abbrev pub HasNoVersion : List ℕ → Type 0
+HasNoVersion bytes = (profile : Profile) (line rest : List ℕ) → IsVersion profile line → bytes ≡ (line ++ codes "\n") ++ rest → ⊥
