@@ -1,7 +1,7 @@
 -- What is read of a ledger text up to its next block, as it stands. Defined here.
-use Rattle.std.specs.{Prelude.{◌≡◌, ◌⊎◌, ⊤, ℕ, ◌<◌, ◌≤◌, ◌-◌, List, [], ◌∷◌, ◌++◌, length, drop, Bool, true, false, Option, None, Some, MatchOption, option_map}, Io.KnownBytes.{Consumes, IsAtEnd}}
+use Rattle.std.specs.{Prelude.{◌≡◌, ◌⊎◌, ⊤, ℕ, ◌<◌, ◌≤◌, List, [], ◌∷◌, ◌++◌, length, drop, Bool, true, false, Option, None, Some, option_map}, Io.KnownBytes.{Consumes, IsAtEnd}}
 use Rattle.pmf_event.specs.declared.{name.Name.{Name}, profile.Profile.{Profile}}
-use Rattle.pmf_ledger.specs.{declared.raw_text.FirstBlock.{FirstBlock}, LedgerText.{text_of_end}, RawText.{IsFirst, IsRawFront, IsRawText, IsWhole, RawBlock, RawNamesRise, raw_of}}
+use Rattle.pmf_ledger.specs.{declared.raw_text.FirstBlock.{FirstBlock}, LedgerText.{text_of_end}, RawText.{IsFirst, IsRawFront, IsRawText, RawBlock, RawNamesRise, raw_of}}
 use Rattle.pmf_merge.specs.declared.{fault.MergeFault.{MergeFault}, raw_feed.RawFeed.{RawFeed}, unread.Unread.{Unread}}
 use Rattle.pmf_merge.specs.declared.fault.MergeFault.TheVariants as fault
 

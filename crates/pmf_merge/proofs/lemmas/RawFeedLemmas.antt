@@ -1,10 +1,9 @@
 -- A text that is read up to its next block, as it stands.
-use Rattle.std.{proofs.{Common.{◌≡◌, ◌≢◌, ◌⊎◌, ℕ, zero, suc, ◌+◌, ◌-◌, ◌<◌, ◌≤◌, Bool, true, false, List, [], ◌∷◌, ◌++◌, length, take, drop, get_or, codes, Option, Some, None, All, Contains, Less, Equal, Greater, take_at, decimal, length-append, ◌^◌, refl, sym, ◌∙◌, ap, subst, arith, inl, inr, append_assoc, append-nil, flat_map}, KnownBytes.{Consumes-nil, Consumes-trans}, lemmas.List.{length_push, take-append-drop, take-append-le}, lemmas.List.Elements.{All-head, All-nil, All-push, All-tail, Contains-append_left, Contains-get_or, Contains-push, Contains-push_cases}, lemmas.List.Quantifiers.{all_pairs_push}, lemmas.Fmt.{length-decimal-le}, lemmas.Grind.{common_steps, flat_map-append}}, specs.Io.KnownBytes.{Consumes, IsAtEnd}}
+use Rattle.std.{proofs.{Common.{◌≡◌, ◌⊎◌, ℕ, zero, suc, ◌+◌, ◌<◌, ◌≤◌, Bool, List, [], ◌∷◌, ◌++◌, length, take, drop, get_or, codes, Option, Some, None, All, Contains, Less, Equal, Greater, take_at, decimal, length-append, ◌^◌, refl, sym, ◌∙◌, ap, subst, arith, inl, inr, append_assoc, append-nil}, lemmas.List.{length_push, take-append-drop, take-append-le}, lemmas.List.Elements.{All-head, All-nil, All-push, All-tail, Contains-get_or, Contains-push, Contains-push_cases}, lemmas.List.Quantifiers.{all_pairs_push}, lemmas.Fmt.{length-decimal-le}, lemmas.Grind.{flat_map-append}}, specs.Io.KnownBytes.{Consumes, IsAtEnd}}
 use Rattle.pmf_event.specs.declared.{name.Name.{Name}, profile.Profile.{Profile}, profile.Profile.TheVariants.{One, Two}}
 use Rattle.pmf_ledger.{specs.declared.raw_text.FirstBlock.{FirstBlock}, specs.LedgerText.{text_of_end}, specs.Loading.{lines_of, parts_of}, specs.Names.{IsBefore}, specs.RawText.{HasNoFirst, HasNoVersion, IsFirst, IsFirstVersion, IsRawFront, IsRawText, IsVersion, IsWhole, RawBlock, RawNamesRise, bytes_of, raw_of}, proofs.lemmas.MergingLemmas.{AllPairs-front, AllPairs-last, none_of_empty}, proofs.lemmas.NameLemmas.{before-itself, before-trans}, proofs.lemmas.RawTextOnceLemmas.{end_is_none, front_once, one_block}}
 use Rattle.std.specs.declared.cmp.Ordering.{Ordering}
-use Rattle.pmf_merge.specs.{Refusing.{IsReadFault}, RawFeeding.{ComesNext, IsLastRaw, IsNoRawText, IsRawFault, IsRawFed, IsRawHead, ReadsMore, head_in, rest_of}, declared.fault.MergeFault.{MergeFault}, declared.raw_feed.RawFeed.{RawFeed}, declared.unread.Unread.{Unread}}
-use Rattle.pmf_merge.specs.declared.fault.MergeFault.TheVariants as fault
+use Rattle.pmf_merge.specs.{RawFeeding.{ComesNext, IsLastRaw, IsNoRawText, IsRawFed, IsRawHead, ReadsMore, rest_of}, declared.raw_feed.RawFeed.{RawFeed}, declared.unread.Unread.{Unread}}
 
 -- a block has some bytes
 no_line : (found : FirstBlock) (bytes : List ℕ) → found.taken ≡ 0 → lines_of (take found.taken bytes) ≡ []
@@ -31,18 +30,6 @@ front_push profile told b front begins whole rises = record {
   each = All-push IsWhole told b begins.each whole;
   rises = rises;
   front_is = ap (λ xs. xs ++ b.bytes) begins.front_is ∙ append_assoc (begins.version ++ codes "\n") (bytes_of told) b.bytes ∙ ap (λ xs. (begins.version ++ codes "\n") ++ xs) (sym (bytes_push told b));
-}
-
--- more was read
-pub fed_more : (start left now : Option (List ℕ)) (told : List RawBlock) (feed next : RawFeed) (more : Bool) → IsRawFed start left told feed → ReadsMore left now (rest_of feed.unread) (rest_of next.unread) more →
-    next.profile ≡ feed.profile → next.told ≡ feed.told → next.last ≡ feed.last → IsRawFed start now told next
-fed_more start left now told feed next more fed reads profile count last = record {
-  front = fed.front;
-  begins = subst (λ p. IsRawFront p told fed.front) (sym profile) fed.begins;
-  read = subst (Consumes start now) (append_assoc fed.front (rest_of feed.unread) reads.read ∙ ap (λ xs. fed.front ++ xs) (sym reads.longer_is))
-      (Consumes-trans start left now (fed.front ++ rest_of feed.unread) reads.read fed.read reads.consumed);
-  count = count ∙ fed.count;
-  last = subst (IsLastRaw told) (sym last) fed.last;
 }
 
 -- what was read first
@@ -207,12 +194,3 @@ pub not_less : (o : Ordering) (a b : Name) → (o ≡ Less → ⊥) → (o ≡ E
 not_less Less a b less equal greater before = less refl
 not_less Equal a b less equal greater before = before-itself b (subst (λ n. IsBefore n b) (equal refl) before)
 not_less Greater a b less equal greater before = before-itself a (before-trans a b a before (greater refl))
-
--- what is not read is not read of this text
-pub raw_of_read : (start : Option (List ℕ)) (index : ℕ) (found : MergeFault) → IsReadFault index found → IsRawFault start index found
-raw_of_read start index (fault.Read of) is = is
-raw_of_read start index (fault.Text of found) is = absurd is
-raw_of_read start index (fault.ProfileMismatch of) is = absurd is
-raw_of_read start index (fault.Conflict name) is = absurd is
-raw_of_read start index (fault.Write written) is = absurd is
-raw_of_read start index fault.OutOfMemory is = tt

@@ -1,8 +1,8 @@
 -- Texts that are merged as they stand: one goes on, one is added, and all are over.
-use Rattle.std.{proofs.{Common.{◌≡◌, ◌≢◌, ◌⊎◌, ◌↔◌, ℕ, zero, suc, ◌+◌, ◌<◌, ◌≤◌, List, [], ◌∷◌, ◌++◌, length, map, set, get_or, codes, option_map, flat_map, drop, append-nil, MatchOption, Option, Some, None, Contains, All, refl, sym, ◌∙◌, ap, subst, arith, inl, inr, append_assoc}, lemmas.Bool.{cases_order}, lemmas.List.{get_or-map, get_or_append_left, get_or_push, get_or-set_same, get_or-set_other, length-map, length-set, length_push, map-set, take-append-drop}, lemmas.List.Elements.{All-nil, Contains-append_left, Contains-push, Contains-push_cases}}, specs.Io.KnownBytes.{Consumes, IsAtEnd}}
-use Rattle.pmf_event.specs.{declared.name.Name.{Name}, declared.profile.Profile.{Profile}}
-use Rattle.pmf_ledger.{specs.declared.raw_text.FirstBlock.{FirstBlock}, specs.LedgerText.{text_of_end}, specs.Names.{IsBefore}, specs.RawText.{IsFirst, IsRawFront, IsRawText, IsWhole, RawBlock, RawNamesRise, bytes_of, raw_of}, proofs.lemmas.MergingLemmas.{AllPairs-last, none_of_empty}}
-use Rattle.pmf_merge.{specs.{Heads.{IsUpTo}, Merging.{IsAllOf}, RawFeeding.{ComesNext, IsNoRawText, IsRawFault, IsRawFed, IsRawHead, head_in, rest_of}, RawWritten.{AddsRaw, IsRawTellFault}, Trusting.{AreBlocksOf, AreRawTexts, BeginsRaw, IsLeastRaw, IsTrustFaultOf, IsTrusting, heads_of, raw_names_of}, Waiting.{IsLeastName}, declared.fault.MergeFault.{MergeFault}, declared.raw_feed.RawFeed.{RawFeed}}, proofs.lemmas.HeadsLemmas.{before_upto, here_or, put, put_here, put_other}, proofs.lemmas.OverLemmas.{all_read, in_each, length-list_of, list_of, of_each}, proofs.lemmas.NamesLemmas.{name_at}, proofs.lemmas.RawFeedLemmas.{front_push}}
+use Rattle.std.{proofs.{Common.{◌≡◌, ℕ, suc, ◌+◌, ◌<◌, ◌≤◌, List, [], ◌∷◌, ◌++◌, length, map, set, get_or, codes, option_map, drop, append-nil, MatchOption, Option, Some, None, Contains, refl, sym, ◌∙◌, ap, subst, arith, inl, inr, append_assoc}, lemmas.Bool.{cases_order}, lemmas.List.{get_or-map, get_or_append_left, get_or_push, get_or-set_same, get_or-set_other, length-map, length-set, length_push, map-set, take-append-drop}, lemmas.List.Elements.{All-nil, Contains-append_left, Contains-push, Contains-push_cases}}, specs.Io.KnownBytes.{Consumes, IsAtEnd}}
+use Rattle.pmf_event.specs.{declared.profile.Profile.{Profile}}
+use Rattle.pmf_ledger.{specs.declared.raw_text.FirstBlock.{FirstBlock}, specs.LedgerText.{text_of_end}, specs.Names.{IsBefore}, specs.RawText.{IsRawFront, IsRawText, IsWhole, RawBlock, RawNamesRise, bytes_of, raw_of}, proofs.lemmas.MergingLemmas.{AllPairs-last, none_of_empty}}
+use Rattle.pmf_merge.{specs.{Heads.{IsUpTo}, Merging.{IsAllOf}, RawFeeding.{ComesNext, IsNoRawText, IsRawFault, IsRawHead, head_in, rest_of}, RawWritten.{AddsRaw, IsRawTellFault}, Trusting.{AreBlocksOf, AreRawTexts, BeginsRaw, IsLeastRaw, IsTrustFaultOf, IsTrusting, heads_of, raw_names_of}, declared.fault.MergeFault.{MergeFault}, declared.raw_feed.RawFeed.{RawFeed}}, proofs.lemmas.HeadsLemmas.{before_upto, here_or, put, put_here, put_other}, proofs.lemmas.OverLemmas.{all_read, in_each, list_of, of_each}, proofs.lemmas.NamesLemmas.{name_at}, proofs.lemmas.RawFeedLemmas.{front_push}}
 use Rattle.pmf_merge.specs.declared.fault.MergeFault.TheVariants as fault
 
 -- the block of this index that comes next

@@ -1,5 +1,5 @@
 -- One block more is told as it stands.
-use Rattle.std.proofs.{Common.{◌≡◌, ◌≢◌, ℕ, List, [], ◌∷◌, ◌++◌, get_or, Option, Some, None, Contains, refl, sym, ◌∙◌, ap, subst, inl, inr}, lemmas.List.Elements.{Contains-append_left, Contains-get_or, Contains-push, Contains-push_cases}, lemmas.List.Quantifiers.{all_pairs_push}}
+use Rattle.std.proofs.{Common.{◌≡◌, ℕ, List, [], ◌∷◌, ◌++◌, get_or, Option, Some, None, Contains, refl, sym, ◌∙◌, ap, subst, inl, inr}, lemmas.List.Elements.{Contains-append_left, Contains-get_or, Contains-push, Contains-push_cases}, lemmas.List.Quantifiers.{all_pairs_push}}
 use Rattle.pmf_event.specs.declared.name.Name.{Name}
 use Rattle.pmf_ledger.{specs.Names.{IsBefore}, specs.RawText.{RawBlock, RawNamesRise}, proofs.lemmas.MergingLemmas.{AllPairs-last, none_of_empty}, proofs.lemmas.NameLemmas.{before-itself, before-trans}}
 use Rattle.pmf_merge.specs.{Heads.{IsUpTo}, RawWritten.{AddsRaw, IsLastTold}}

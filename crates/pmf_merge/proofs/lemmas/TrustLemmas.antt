@@ -1,9 +1,9 @@
 -- Of the texts of ledgers the text of their union is written.
-use Rattle.std.{proofs.Common.{◌≡◌, ℕ, List, [], ◌∷◌, ◌++◌, map, flat_map, All, Contains, Some, refl, sym, ◌∙◌, ap, subst, get_or, inl, inr}, proofs.lemmas.List.{map-append}, proofs.lemmas.List.Elements.{All-contains, All-head, All-tail, Contains-append_cases, Contains-get_or}, specs.Io.KnownBytes.{Appends}}
+use Rattle.std.{proofs.Common.{◌≡◌, ℕ, List, [], ◌∷◌, ◌++◌, map, flat_map, All, Contains, refl, sym, ◌∙◌, ap, subst, get_or, inl, inr}, proofs.lemmas.List.{map-append}, proofs.lemmas.List.Elements.{All-contains, All-head, All-tail, Contains-append_cases, Contains-get_or}, specs.Io.KnownBytes.{Appends}}
 use Rattle.pmf_event.specs.declared.{profile.Profile.{Profile}, profile.Profile.TheVariants.{One}}
 use Rattle.pmf_verdict.specs.Checked.{Checked}
-use Rattle.pmf_ledger.{specs.{Laws.{CanBeSpelled}, LedgerText.{text_of_ledger}, LedgerValue.{LedgerValue}, Names.{Rises}, RawText.{IsRawText, RawBlock, raw_block, text_on_trust}}, proofs.lemmas.AddingLemmas.{from_map, to_map}, proofs.lemmas.MergingLemmas.{none_of_empty}, proofs.lemmas.RawTextOnceLemmas.{ledger_raw, raw_once}, proofs.lemmas.UniqueLemmas.{rising_once}}
-use Rattle.pmf_merge.specs.{Laws.{CanBeWritten, IsUnionOf, TrustKeepsLedgers, sections_in, sources_of}, Trusting.{AreBlocksOf, AreRawTexts, Trusts}}
+use Rattle.pmf_ledger.{specs.{Laws.{CanBeSpelled}, LedgerText.{text_of_ledger}, LedgerValue.{LedgerValue}, RawText.{IsRawText, RawBlock, raw_block, text_on_trust}}, proofs.lemmas.AddingLemmas.{from_map, to_map}, proofs.lemmas.MergingLemmas.{none_of_empty}, proofs.lemmas.RawTextOnceLemmas.{ledger_raw, raw_once}, proofs.lemmas.UniqueLemmas.{rising_once}}
+use Rattle.pmf_merge.specs.{Laws.{CanBeWritten, IsUnionOf, TrustKeepsLedgers, sections_in, sources_of}, Trusting.{AreRawTexts}}
 
 -- the blocks of a ledger's text
 abbrev blocks_in : LedgerValue → List RawBlock

@@ -1,15 +1,11 @@
 -- The places are those of the names that wait, after a place was put or removed, and the first is that of the least.
-use Rattle.std.{proofs.Common.{◌≡◌, ◌⊎◌, ◌↔◌, ℕ, zero, suc, true, false, List, [], ◌∷◌, ◌++◌, ◌<◌, length, Option, Some, None, IsTrue, Equal, get_or, set, refl, sym, ◌∙◌, ap, subst, arith, inl, inr}, specs.Ordering.{is_gt}, specs.BTreeMap.{is_at}, specs.BTreeSet.{contains, IsLowerBound, Updates}, proofs.lemmas.Bool.{true≢false}, proofs.lemmas.List.{get_or_push, get_or-set_other, get_or-set_same}, proofs.lemmas.Grind.{common_steps}}
+use Rattle.std.{proofs.Common.{◌≡◌, ◌⊎◌, ◌↔◌, ℕ, zero, suc, true, false, List, [], ◌∷◌, ◌++◌, ◌<◌, length, Option, Some, None, IsTrue, get_or, set, refl, sym, ◌∙◌, ap, subst, arith, inl, inr}, specs.Ordering.{is_gt}, specs.BTreeMap.{is_at}, specs.BTreeSet.{contains, IsLowerBound, Updates}, proofs.lemmas.Bool.{true≢false}, proofs.lemmas.List.{get_or_push, get_or-set_other, get_or-set_same}, proofs.lemmas.Grind.{common_steps}}
 use Rattle.pmf_event.specs.declared.name.Name.{Name}
 use Rattle.pmf_merge.{specs.{Heads.{IsUpTo}, Waiting.{IsLeastName, IsWaiting, PutsAt, WaitsAt, place_cmp}, declared.waiting.{Place.{Place}, Waiting.{Waiting}}}, proofs.lemmas.HeadsLemmas.{here_or}}
 
 -- the place of this name and this index
 abbrev pub place_of : Name → ℕ → Place
 place_of name index = record { name = name; index = index }
-
--- places that stand alike are one
-one_place : (a b : Place) → place_cmp a b ≡ Equal → a ≡ b
-one_place a b same = grind (arith, common_steps)
 
 at_itself : (a : Place) → is_at (place_cmp a) a ≡ true
 at_itself a = grind (arith, common_steps)
@@ -37,10 +33,6 @@ none_found keys place none has =
     let found : contains place_cmp (record { keys = [] }) place ≡ true = subst (λ ks. contains place_cmp (record { keys = ks }) place ≡ true) none has in
     true≢false (sym found)
 
--- nothing waits where there is no text
-pub none_waits : (waiting : Waiting) → waiting.places.keys ≡ [] → IsWaiting [] waiting
-none_waits waiting none = λ place. (λ has. absurd (none_found waiting.places.keys place none has), λ at. absurd (some_other (get_or [] place.index None) place.name refl at))
-
 -- one name was put at an index, where another was
 module _ (names after : List (Option Name)) (old : Waiting) (index : ℕ) (is : IsWaiting names old) where
   at_index : (ns : List (Option Name)) (place : Place) → place.index ≡ index → WaitsAt ns place → get_or ns index None ≡ Some place.name
@@ -49,19 +41,6 @@ module _ (names after : List (Option Name)) (old : Waiting) (index : ℕ) (is : 
   -- elsewhere the same waits
   elsewhere : (name : Option Name) → PutsAt names index name after → (place : Place) → (place.index ≡ index → ⊥) → WaitsAt names place ↔ WaitsAt after place
   elsewhere name puts place other = (λ at. puts.1 place.index other ∙ at, λ at. sym (puts.1 place.index other) ∙ at)
-
-  -- none waited there, and none does
-  pub stays : get_or names index None ≡ None → PutsAt names index None after → IsWaiting after old
-  stays none puts = λ place. elim (here_or place.index index) [
-    | inl here ↦ (
-      λ has. absurd (some_other (get_or names index None) place.name none (at_index names place here ((is place).0 has))),
-      λ at. absurd (some_other (get_or after index None) place.name puts.0 (at_index after place here at)),
-    )
-    | inr other ↦ (
-      λ has. (elsewhere None puts place other).0 ((is place).0 has),
-      λ waits. (is place).1 ((elsewhere None puts place other).1 waits),
-    )
-  ]
 
   module _ (new : Waiting) (name : Name) where
     abbrev this : Place

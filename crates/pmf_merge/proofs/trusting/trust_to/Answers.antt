@@ -1,4 +1,4 @@
-use Rattle.std.{proofs.{Common.{◌≡◌, ◌<◌, ◌≤◌, ℕ, length, map, get_or, option_map, List, Option, Some, None, refl, sym, ◌∙◌, ap, subst, arith, rules}, lemmas.List.{length-map, length-set, map-set}, lemmas.List.Elements.{All-set}}}
+use Rattle.std.{proofs.{Common.{◌≡◌, ◌<◌, ◌≤◌, ℕ, length, map, get_or, option_map, List, Option, Some, None, sym, ◌∙◌, ap, subst, arith, rules}, lemmas.List.{length-map, length-set, map-set}, lemmas.List.Elements.{All-set}}}
 use Rattle.pmf_device.{specs.Failures.{CanCountOneMore}, proofs.PageLemmas.{stops_so}}
 use Rattle.pmf_ledger.specs.RawText.{RawBlock}
 use Rattle.pmf_merge.{specs.{RawFeeding.{head_in}, Trusting.{IsTrustFaultOf, heads_of}}, proofs.lemmas.OverLemmas.{list_of}, proofs.lemmas.RawHeadsLemmas.{are_blocks, each_raw, head_of_feed, of_raw_tell, whole_at}, proofs.lemmas.SourceLemmas.{left_at}, proofs.trusting.trust_to.Goals.{in-Some-name+in_ok-tell, in_default-name}}

@@ -1,4 +1,4 @@
-use Rattle.std.proofs.{Common.{◌≤◌, ◌-◌, List, length, refl, ap, subst, arith}, lemmas.List.{length-drop}}
+use Rattle.std.proofs.{Common.{◌≤◌, List, length, refl, ap, subst, arith}, lemmas.List.{length-drop}}
 use Rattle.pmf_ledger.proofs.lemmas.TextFrontLemmas.{rest_is}
 use Rattle.pmf_merge.specs.declared.ahead.Span.{Span}
 use Rattle.pmf_merge.proofs.lemmas.RawFeedLemmas.{some_taken}

@@ -1,4 +1,4 @@
-use Rattle.std.proofs.Common.{◌++◌, ◌<◌, ◌≤◌, length, subst, arith}
+use Rattle.std.proofs.Common.{◌++◌, ◌<◌, length, subst, arith}
 use Rattle.pmf_ledger.specs.{LedgerText.{text_of_end}, RawText.{HasNoFirst}}
 use Rattle.pmf_merge.proofs.raw_feed.RawFeed.is_garbled.Goals as goal
 

@@ -1,4 +1,4 @@
-use Rattle.std.{proofs.{Common.{◌++◌, ◌∙◌, [], refl, sym, ap, subst}}, specs.Io.KnownBytes.{Consumes}}
+use Rattle.std.{proofs.{Common.{[], refl, subst}}}
 use Rattle.pmf_device.proofs.PageLemmas.{stops_so}
 use Rattle.pmf_ledger.specs.RawText.{HasNoVersion, IsFirstVersion}
 use Rattle.pmf_merge.{specs.RawFeeding.{IsRawFault, rest_of}, proofs.lemmas.RawFeedLemmas.{fed_first, no_text_begins, read_first}}

@@ -1,4 +1,4 @@
-use Rattle.std.proofs.Common.{◌≡◌, ◌<◌, ◌∷◌, ◌++◌, [], length, set, get_or, None, Some, refl, sym, ◌∙◌, ap, subst, arith}
+use Rattle.std.proofs.Common.{◌≡◌, ◌<◌, length, set, get_or, None, refl, sym, ◌∙◌, ap, subst, arith}
 use Rattle.pmf_device.proofs.PageLemmas.{stops_so}
 use Rattle.pmf_merge.{specs.{RawFeeding.{head_in}, Trusting.{IsTrustFaultOf, raw_names_of}, declared.raw_feed.RawFeed.{RawFeed}}, proofs.lemmas.RawHeadsLemmas.{head_at, of_raw_feed, raw_advanced, raw_fed_at, raw_name_at, raw_names_length, raw_names_set}, proofs.lemmas.WaitingLemmas.{set_head}}
 use Rattle.pmf_merge.proofs.raw_heads.RawHeads.advance.Goals as goal

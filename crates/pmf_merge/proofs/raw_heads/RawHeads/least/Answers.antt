@@ -1,6 +1,5 @@
-use Rattle.std.{proofs.Common.{subst, ◌<◌, length, None, Some, MatchOption, Option, ℕ, List, get_or}, proofs.lemmas.List.{length-map}}
 use Rattle.pmf_ledger.specs.RawText.{RawBlock}
-use Rattle.pmf_merge.{specs.RawFeeding.{head_in}, specs.Trusting.{IsLeastRaw, heads_of, raw_names_of}, proofs.lemmas.NamesLemmas.{least_of_names}, proofs.lemmas.RawHeadsLemmas.{least_raw}}
+use Rattle.pmf_merge.{specs.Trusting.{heads_of, raw_names_of}, proofs.lemmas.NamesLemmas.{least_of_names}, proofs.lemmas.RawHeadsLemmas.{least_raw}}
 use Rattle.pmf_merge.proofs.raw_heads.RawHeads.least.Goals as goal
 
 pub returns : goal.returns

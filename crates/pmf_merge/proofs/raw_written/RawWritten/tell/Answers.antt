@@ -1,6 +1,6 @@
-use Rattle.std.proofs.{Common.{Contains, ◌≡◌, ◌∷◌, ◌++◌, [], Some, refl, sym, ◌∙◌, ap, subst, OnOk}, lemmas.Bool.{true≢false}, lemmas.Slice.Eq.{bytes_eq-Decides}}
+use Rattle.std.proofs.{Common.{Contains, ◌≡◌, ◌∷◌, ◌++◌, [], Some, refl, sym, ◌∙◌, ap, subst}, lemmas.Bool.{true≢false}, lemmas.Slice.Eq.{bytes_eq-Decides}}
 use Rattle.pmf_ledger.specs.RawText.{RawBlock}
-use Rattle.pmf_merge.{specs.RawWritten.{AddsRaw, IsLastTold, IsRawWritten}, proofs.lemmas.RawTellingLemmas.{adds_new, adds_same, one_raw, told_last}, proofs.lemmas.TellingLemmas.{OnOk_map}}
+use Rattle.pmf_merge.{specs.RawWritten.{IsLastTold, IsRawWritten}, proofs.lemmas.RawTellingLemmas.{adds_new, adds_same, one_raw, told_last}, proofs.lemmas.TellingLemmas.{OnOk_map}}
 use Rattle.pmf_merge.proofs.raw_written.RawWritten.tell.Goals as goal
 
 pub returns-then-eq-clause-told : goal.returns-then-eq-clause-told
