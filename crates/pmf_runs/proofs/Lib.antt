@@ -10,6 +10,7 @@ pub mod RunAskingLemmas
 pub mod OnwardLemmas
 pub mod SkipLemmas
 pub mod JoinedLemmas
+pub mod CutLemmas
 pub mod JoinedLevelLemmas
 pub mod RunJoinedLemmas
 pub mod SpaceLemmas

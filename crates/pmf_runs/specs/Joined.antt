@@ -1,6 +1,6 @@
 -- Maps in which neighbouring runs differ.
 use Rattle.std.specs.Prelude.{◌≡◌, ◌⊎◌, ◌<◌, ◌≤◌, ◌+◌, ℕ, List, length, get_or, Option, None, Some, IfSome}
-use Rattle.pmf_runs.specs.{declared.leaf.Leaf.{Leaf}, declared.level.Level.{Level}, Ranks.{rank, HasKey, IsFresh, ChangesWithin, Splits, bound_at}}
+use Rattle.pmf_runs.specs.{declared.leaf.Leaf.{Leaf}, declared.level.Level.{Level}, Leaves.{leaf_begins}, Ranks.{rank, HasKey, IsFresh, ChangesWithin, Splits, bound_at, low_rank, high_rank}}
 
 -- no two neighbouring states of the leaf are equal
 pub record Joined {S : Type 0} (leaf : Leaf S) : Type 0 where
@@ -37,6 +37,14 @@ InOrder from end = IfSome from (λ a. IfSome end (λ b. a ≤ b))
 pub record JoinsParts {P : Type 0} (joined : P → Option ℕ → Option ℕ → Type 0) (low last : ℕ) (from end : Option ℕ) (i : ℕ) (old new : List P) : Type 0 where
   pub done : (k : ℕ) (part : P) → low ≤ k → k < i → k < length old → joined (get_or old k part) (bound_at low k from) (bound_at last k end) → joined (get_or new k part) None None
   pub rest : (k : ℕ) (part : P) → (k < low) ⊎ (i ≤ k) → get_or new k part ≡ get_or old k part
+
+-- runs of the leaf begin at two bounds, and these are the first from the one on and the first beyond the other
+pub record AreBounds {S : Type 0} (leaf : Leaf S) (from end : Option ℕ) (low high : ℕ) : Type 0 where
+  pub begins : IfSome from (leaf_begins leaf)
+  pub ends : IfSome end (leaf_begins leaf)
+  pub order : InOrder from end
+  pub first : low ≡ low_rank leaf.keys.items from
+  pub beyond : high ≡ high_rank leaf.keys.items end
 
 -- the states of the numbers from first up to the end are changed, and runs differ where they did
 abbrev pub ChangesRange : {P S : Type 0} → (P → S → ℕ → S) → (P → Option ℕ → Option ℕ → Type 0) → ℕ → ℕ → (S → S) → P → P → Type 0

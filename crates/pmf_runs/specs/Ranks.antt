@@ -91,10 +91,14 @@ abbrev pub Sees : {S : Type 0} → ℕ → ℕ → S → (S → S) → ℕ → �
 Sees start stop state change first end next last =
     ((change state ≡ state) × (next ≡ first) × (last ≡ end)) ⊎ ((next ≡ min first start) × (last ≡ stop))
 
+-- a range that ends there ends at the latest where the element of an index does
+abbrev pub LiesBefore : List ℕ → ℕ → ℕ → Type 0
+LiesBefore keys index end = index < length keys → end ≤ get_or keys index 0
+
 -- where the run of an index ends, or the end of the range, whichever comes first
 abbrev pub IsStop : List ℕ → ℕ → ℕ → ℕ → Type 0
 IsStop keys index end stop =
-    ((index < length keys) × (stop < end) × (stop ≡ get_or keys index 0)) ⊎ ((stop ≡ end) × (index < length keys → end ≤ get_or keys index 0))
+    ((index < length keys) × (stop < end) × (stop ≡ get_or keys index 0)) ⊎ ((stop ≡ end) × LiesBefore keys index end)
 
 -- the summary covers each state
 abbrev pub CoversAll : {S M : Type 0} → (M → S → Bool) → M → (S → ℕ → S) → Type 0

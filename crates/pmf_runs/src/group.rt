@@ -52,18 +52,24 @@ impl<S: State> Group<S> {
     }
 
     /// Changes the states between two bounds at which runs begin, and makes the summary anew. A change
-    /// that alters nothing passes over the whole.
-    fn change_whole<C: Change<S>>(&mut self, from: Option<u64>, end: Option<u64>, change: &C)
+    /// that alters nothing passes over the whole. Tells whether it may have altered a state.
+    fn change_whole<C: Change<S>>(
+        &mut self,
+        from: Option<u64>,
+        end: Option<u64>,
+        change: &C,
+    ) -> bool
         requires from { IfSome from (pages_begins self.old.level) }
         requires end { IfSome end (pages_begins self.old.level) }
         requires order { InOrder from end }
         ensures { ChangesCut pages_state pages_joined from end (C.changed change.now) self.old.level self.new.level }
     {
         if from.is_none() && end.is_none() && !change.may_alter(self.summary) {
-            return;
+            return false;
         }
         self.level.change_all(from, end, change);
         self.summary = self.level.summary();
+        true
     }
 
     /// Hands out what lies from that key on. After an `Err` nothing is changed.
@@ -167,8 +173,13 @@ impl<S: State> Part<S> for Group<S> {
         self.change_range(first, end, change)
     }
 
-    fn rewrite<C: Change<S>>(&mut self, from: Option<u64>, end: Option<u64>, change: &C) {
-        self.change_whole(from, end, change);
+    fn rewrite<C: Change<S>>(
+        &mut self,
+        from: Option<u64>,
+        end: Option<u64>,
+        change: &C,
+    ) -> bool {
+        self.change_whole(from, end, change)
     }
 
     #[tactic(auto, using(crate::proofs::RunRules::skipped))]

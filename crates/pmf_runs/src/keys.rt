@@ -1,7 +1,7 @@
 //! The rank of a number among rising keys.
 
-ghost use Rattle.std.specs.Prelude.{◌≡◌, ◌<◌, ◌≤◌, ◌-◌, true, false, IfSome, length, get_or};
-ghost use Rattle.pmf_runs.specs.Ranks.{HasKey, IsBeyond, IsFresh, IsInner, bound_at, Rises, rank, low_rank, high_rank, parting};
+ghost use Rattle.std.specs.Prelude.{◌≡◌, ◌<◌, ◌+◌, ◌≤◌, ◌-◌, true, false, IfSome, length, get_or};
+ghost use Rattle.pmf_runs.specs.Ranks.{HasKey, IsBeyond, IsFresh, IsInner, LiesBefore, bound_at, Rises, rank, low_rank, high_rank, parting};
 
 /// How many keys are looked at one after another before the search halves them.
 const FEW: usize = 4;
@@ -120,6 +120,21 @@ pub(crate) fn is_key(keys: &[u64], index: usize, place: u64) -> bool
     ensures fresh { result ≡ false → IsFresh keys.now place }
 {
     index > 0 && keys[index - 1] == place
+}
+
+/// Whether the key of this index is the place.
+pub(crate) fn is_key_at(keys: &[u64], index: usize, place: u64) -> bool
+    ensures key { result ≡ true → (index < length keys.now) × (get_or keys.now index 0 ≡ place) }
+    ensures other { result ≡ false → LiesBefore keys.now index place → LiesBefore keys.now index (place + 1) }
+{
+    index < keys.len() && keys[index] == place
+}
+
+/// Whether the numbers from one of this rank up to the end all have it.
+pub(crate) fn is_before(keys: &[u64], index: usize, end: u64) -> bool
+    ensures { result ≡ true → LiesBefore keys.now index end }
+{
+    index >= keys.len() || end <= keys[index]
 }
 
 /// Which key a list is parted at before more is put in at this place: the last one, where the place lies from

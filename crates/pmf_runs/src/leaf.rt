@@ -1,9 +1,9 @@
 //! The lowest part of a map: at most 64 runs.
 
-ghost use Rattle.std.specs.Prelude.{◌≡◌, false, Option, None, Some, ◌≤◌, ◌<◌, ◌+◌, ◌-◌, ℕ, true, OnOk, OnErr, IfOk, IfSome, get_or, length, vec_len};
-ghost use Rattle.pmf_runs.specs.Ranks.{Rises, rank, SameStates, ChangesItems, IsFresh, AltersWithin, IsStop, IsTail, CoversAll, AllSettled};
+ghost use Rattle.std.specs.Prelude.{◌≡◌, false, Option, None, Some, ◌≤◌, ◌<◌, ◌+◌, ◌-◌, ℕ, true, OnOk, OnErr, IfOk, IfSome, get_or, length, vec_len, insert};
+ghost use Rattle.pmf_runs.specs.Ranks.{Rises, rank, SameStates, ChangesItems, IsFresh, AltersWithin, IsStop, IsTail, LiesBefore, CoversAll, AllSettled};
 
-use crate::keys::{high_rank, is_key, is_rank, low_rank, parting, rank_near};
+use crate::keys::{high_rank, is_before, is_key, is_key_at, is_rank, low_rank, parting, rank_near};
 use crate::room::make_room;
 use crate::state::{Change, Effect, State};
 use std::alloc::{AllocError, Global};
@@ -27,7 +27,7 @@ pub(crate) struct Leaf<S> {
 }
 
 impl<S: State> Leaf<S> {
-    ghost use Rattle.pmf_runs.specs.{Leaves.{leaf_state, leaf_begins, leaf_full, leaf_size, leaf_middle}, Spaces.{IsHalved}, Joined.{JoinedBut, JoinedBeside, InOrder, ChangesRange, ChangesCut, Halves}};
+    ghost use Rattle.pmf_runs.specs.{Leaves.{leaf_state, leaf_begins, leaf_full, leaf_size, leaf_middle}, Spaces.{IsHalved}, Joined.{AreBounds, JoinedBut, JoinedBeside, InOrder, ChangesRange, ChangesCut, Halves}};
 
     /// The leaf in which each number has this state.
     #[tactic(auto, using(crate::proofs::RunRules::leaf_new))]
@@ -73,6 +73,7 @@ impl<S: State> Leaf<S> {
     fn put_key(&mut self, index: usize, place: u64) -> Result<(), AllocError>
         requires rank { index ≡ rank self.old.keys.items place }
         requires fresh { IsFresh self.old.keys.items place }
+        ensures keys { OnOk result (self.new.keys.items ≡ insert self.old.keys.items index place) }
         ensures begins { OnOk result (leaf_begins self.new place) }
         ensures kept { (b : ℕ) → leaf_begins self.old b → leaf_begins self.new b }
         ensures same { SameStates (leaf_state self.old) (leaf_state self.new) }
@@ -125,15 +126,74 @@ impl<S: State> Leaf<S> {
         near: usize,
         change: &C,
     ) -> Result<(), AllocError>
+        requires { first < end }
+        ensures ok { OnOk result (ChangesRange leaf_state JoinedBut first end (C.changed change.now) self.old self.new) }
+        ensures unchanged { OnErr result (SameStates (leaf_state self.old) (leaf_state self.new)) }
+    {
+        let index = rank_near(&self.keys, first, near);
+        self.hint = index;
+        if !is_before(&self.keys, index, end) {
+            return self.change_across(first, end, change);
+        }
+        let run = self.cut_run(index, first, end)?;
+        self.change_runs(run, run + 1, change);
+        Ok(())
+    }
+
+    /// The same where the range is not of one run.
+    #[inline(never)]
+    fn change_across<C: Change<S>>(
+        &mut self,
+        first: u64,
+        end: u64,
+        change: &C,
+    ) -> Result<(), AllocError>
         requires { first ≤ end }
         ensures ok { OnOk result (ChangesRange leaf_state JoinedBut first end (C.changed change.now) self.old self.new) }
         ensures unchanged { OnErr result (SameStates (leaf_state self.old) (leaf_state self.new)) }
     {
-        self.hint = rank_near(&self.keys, first, near);
         self.begin(first)?;
         self.begin(end)?;
         self.change_all(Some(first), Some(end), change);
         Ok(())
+    }
+
+    /// Makes a run of a range that lies in the run of this index, which changes no state, and answers the
+    /// index of its own.
+    #[tactic(auto, using(crate::proofs::RunRules::leaf_cut))]
+    fn cut_run(&mut self, index: usize, first: u64, end: u64) -> Result<usize, AllocError>
+        requires rank { index ≡ rank self.old.keys.items first }
+        requires order { first < end }
+        requires within { LiesBefore self.old.keys.items index end }
+        ensures run { IfOk result (λ run. run < vec_len self.new.states) }
+        ensures bounds { IfOk result (λ run. AreBounds self.new (Some first) (Some end) run (run + 1)) }
+        ensures same { SameStates (leaf_state self.old) (leaf_state self.new) }
+        ensures joined { OnOk result (JoinedBut self.old None None → JoinedBut self.new (Some first) (Some end)) }
+    {
+        if is_key(&self.keys, index, first) {
+            return self.cut_end(index, first, end);
+        }
+        self.put_key(index, first)?;
+        self.cut_end(index + 1, first, end)
+    }
+
+    /// The same where a run begins at the first number.
+    #[tactic(auto, using(crate::proofs::RunRules::leaf_cut))]
+    fn cut_end(&mut self, index: usize, first: u64, end: u64) -> Result<usize, AllocError>
+        requires rank { index ≡ rank self.old.keys.items first }
+        requires begins { leaf_begins self.old first }
+        requires order { first < end }
+        requires within { LiesBefore self.old.keys.items index end }
+        ensures run { IfOk result (λ run. run < vec_len self.new.states) }
+        ensures bounds { IfOk result (λ run. AreBounds self.new (Some first) (Some end) run (run + 1)) }
+        ensures same { SameStates (leaf_state self.old) (leaf_state self.new) }
+        ensures joined { OnOk result (JoinedBut self.old (Some first) None → JoinedBut self.new (Some first) (Some end)) }
+    {
+        if is_key_at(&self.keys, index, end) {
+            return Ok(index);
+        }
+        self.put_key(index, end)?;
+        Ok(index)
     }
 
     /// A summary of the states.
@@ -188,6 +248,14 @@ impl<S: State> Leaf<S> {
     {
         let low = low_rank(&self.keys, from, self.hint);
         let high = high_rank(&self.keys, end, self.hint);
+        self.change_runs(low, high, change);
+    }
+
+    /// The same for the runs from `low` up to `high`.
+    fn change_runs<C: Change<S>>(&mut self, low: usize, high: usize, change: &C)
+        requires { high ≤ vec_len self.old.states }
+        ensures { (from end : Option ℕ) → AreBounds self.old from end low high → ChangesCut leaf_state JoinedBut from end (C.changed change.now) self.old self.new }
+    {
         change_between(&mut self.states, low, high, change);
         self.join_between(low, high);
     }

@@ -4,7 +4,7 @@ ghost use Rattle.std.specs.Prelude.{◌≡◌, false, Option, None, Some, ◌≤
 ghost use Rattle.pmf_runs.specs.Ranks.{Rises, rank, SameStates, IsFresh, CoversAll, IsTail, AllSettled};
 
 use crate::keys::{
-    bound_at, high_rank, inner_bound, is_key, is_rank, low_rank, parting, rank_near, rank_of,
+    bound_at, high_rank, inner_bound, is_before, is_key, is_rank, low_rank, parting, rank_near, rank_of,
 };
 use crate::part::Part;
 use crate::room::make_room;
@@ -14,6 +14,33 @@ use std::alloc::{AllocError, Global};
 mod asking;
 #[cfg(test)]
 mod counting;
+
+/// The first and the last part in which a change may have altered a state. For speed alone: where nothing was altered,
+/// nothing is to be joined.
+#[derive(Clone, Copy, Debug, Drop)]
+struct Touched {
+    first: usize,
+    last: usize,
+}
+
+impl Touched {
+    const NONE: Touched = Touched {
+        first: usize::MAX,
+        last: 0,
+    };
+
+    /// The same with a later part, if the change may have altered a state in it.
+    fn and(self, part: usize, altered: bool) -> Touched {
+        if altered {
+            Touched {
+                first: self.first.min(part),
+                last: part,
+            }
+        } else {
+            self
+        }
+    }
+}
 
 /// Parts of a map, each with the numbers from its key up to the next one's.
 #[derive(Debug, Drop)]
@@ -213,10 +240,8 @@ impl<P> Level<P> {
         requires order { InOrder from end }
         ensures { ChangesCut (level_state P.state) (PartsJoined P.joined) from end (C.changed change.now) self.old self.new }
     {
-        self.rewrite_all(from, end, change);
-        let low = low_rank(&self.keys, from, self.hint);
-        let high = high_rank(&self.keys, end, self.hint);
-        self.join_between(low, high);
+        let touched = self.rewrite_all(from, end, change);
+        self.join_between(touched.first, touched.last.saturating_add(1));
     }
 
     /// Joins the parts from the one before `low` up to the one of `high` where they need not be two.
@@ -266,14 +291,14 @@ impl<P> Level<P> {
         self.parts.remove(key + 1);
     }
 
-    /// Changes the states between two bounds at which runs begin, part by part. It takes no memory.
+    /// Changes the states between two bounds at which runs begin, part by part, and tells in which. It takes no memory.
     #[tactic(auto, using(crate::proofs::RunRules::level_rewritten))]
     fn rewrite_all<S: State, C: Change<S>>(
         &mut self,
         from: Option<u64>,
         end: Option<u64>,
         change: &C,
-    )
+    ) -> Touched
     where
         P: Part<S>,
         requires from { IfSome from (level_begins P.begins self.old) }
@@ -286,9 +311,11 @@ impl<P> Level<P> {
         let high = high_rank(&self.keys, end, self.hint);
         let last = inner_bound(&self.keys, high, end);
         if last.is_some() {
-            self.change_parts(low, high, first, last, change);
+            self.change_parts(low, high, first, last, change)
         } else if high > 0 {
-            self.change_parts(low, high - 1, first, last, change);
+            self.change_parts(low, high - 1, first, last, change)
+        } else {
+            Touched::NONE
         }
     }
 
@@ -301,7 +328,7 @@ impl<P> Level<P> {
         from: Option<u64>,
         end: Option<u64>,
         change: &C,
-    )
+    ) -> Touched
     where
         P: Part<S>,
         requires high { high < vec_len self.old.parts }
@@ -312,10 +339,12 @@ impl<P> Level<P> {
         ensures parts { Rewrites P.state (C.changed change.now) low high from end (high + 1) self.old.parts.items self.new.parts.items }
         ensures joins { JoinsParts P.joined low high from end (high + 1) self.old.parts.items self.new.parts.items }
     {
+        let mut touched = Touched::NONE;
         for i in low..high + 1 {
             let (first, last) = (bound_at(low, i, from), bound_at(high, i, end));
-            self.parts[i].rewrite(first, last, change);
+            touched = touched.and(i, self.parts[i].rewrite(first, last, change));
         }
+        touched
     }
 
     /// Changes the states of the numbers from `first` up to `end`. After an `Err` no state is changed.
@@ -434,11 +463,4 @@ impl<P> Level<P> {
         }
         false
     }
-}
-
-/// Whether the numbers from one of this rank up to the end all have it.
-fn is_before(keys: &[u64], index: usize, end: u64) -> bool
-    ensures { result ≡ true → index < length keys.now → end ≤ get_or keys.now index 0 }
-{
-    index >= keys.len() || end <= keys[index]
 }

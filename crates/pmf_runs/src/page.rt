@@ -57,18 +57,24 @@ impl<S: State> Page<S> {
     }
 
     /// Changes the states between two bounds at which runs begin, and makes the summary anew. A change
-    /// that alters nothing passes over the whole.
-    fn change_whole<C: Change<S>>(&mut self, from: Option<u64>, end: Option<u64>, change: &C)
+    /// that alters nothing passes over the whole. Tells whether it may have altered a state.
+    fn change_whole<C: Change<S>>(
+        &mut self,
+        from: Option<u64>,
+        end: Option<u64>,
+        change: &C,
+    ) -> bool
         requires from { IfSome from (leaf_begins self.old.leaf) }
         requires end { IfSome end (leaf_begins self.old.leaf) }
         requires order { InOrder from end }
         ensures { ChangesCut leaf_state JoinedBut from end (C.changed change.now) self.old.leaf self.new.leaf }
     {
         if from.is_none() && end.is_none() && !change.may_alter(self.summary) {
-            return;
+            return false;
         }
         self.leaf.change_all(from, end, change);
         self.summary = self.leaf.summary();
+        true
     }
 
     /// Hands out what lies from that key on. After an `Err` nothing is changed.
@@ -167,8 +173,13 @@ impl<S: State> Part<S> for Page<S> {
         self.change_range(first, end, change)
     }
 
-    fn rewrite<C: Change<S>>(&mut self, from: Option<u64>, end: Option<u64>, change: &C) {
-        self.change_whole(from, end, change);
+    fn rewrite<C: Change<S>>(
+        &mut self,
+        from: Option<u64>,
+        end: Option<u64>,
+        change: &C,
+    ) -> bool {
+        self.change_whole(from, end, change)
     }
 
     #[tactic(auto, using(crate::proofs::RunRules::skipped))]

@@ -79,8 +79,9 @@ pub(crate) trait Part<S: State>: Drop {
         ensures ok { OnOk result (ChangesRange state joined first end (C.changed change.now) self.old self.new) }
         ensures unchanged { OnErr result (SameStates (state self.old) (state self.new)) };
 
-    /// Changes the states between two bounds at which runs begin. It takes no memory.
-    fn rewrite<C: Change<S>>(&mut self, from: Option<u64>, end: Option<u64>, change: &C)
+    /// Changes the states between two bounds at which runs begin, and tells whether it may have altered one, for
+    /// speed alone. It takes no memory.
+    fn rewrite<C: Change<S>>(&mut self, from: Option<u64>, end: Option<u64>, change: &C) -> bool
         requires from { IfSome from (begins self.old) }
         requires end { IfSome end (begins self.old) }
         requires order { InOrder from end }

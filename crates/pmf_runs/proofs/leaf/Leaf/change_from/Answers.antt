@@ -1,19 +1,23 @@
 use Rattle.std.proofs.Common.{refl, None, Some}
-use Rattle.pmf_runs.{specs.Leaves.{leaf_state}, proofs.LeafLemmas.{same-items, same-both}, proofs.ChangingLemmas.{changes-after}, proofs.RunLemmas.{on-err}, proofs.JoinedLemmas.{joined-same, joined-swap}}
+use Rattle.pmf_runs.{specs.Leaves.{leaf_state}, proofs.LeafLemmas.{same-items, same-both}, proofs.ChangingLemmas.{changes-after, on-ok, on-error}, proofs.RunLemmas.{on-err}, proofs.CutLemmas.{hinted}}
 use Rattle.pmf_runs.proofs.leaf.Leaf.change_from.Goals as goal
 
-pub returns-in_err-begin-clause-unchanged : goal.returns-in_err-begin-clause-unchanged
-returns-in_err-begin-clause-unchanged g c =
-    on-err c.from_residual.result (same-both (leaf_state c.args.self.now) _ _ (same-items c.args.self.now _ refl refl) c.in_err-begin.ensures.same)
+pub returns-then-not-is_before-clause-ok : goal.returns-then-not-is_before-clause-ok
+returns-then-not-is_before-clause-ok g c =
+    on-ok c.change_across.result (hinted c.args.self.now _ c.change_across.new.self c.args.first c.args.end (g.C.Change.changed c.args.change.now) refl refl) c.change_across.ensures.ok
 
-pub returns-in_err-begin-2-clause-unchanged : goal.returns-in_err-begin-2-clause-unchanged
-returns-in_err-begin-2-clause-unchanged g c =
-    on-err c.from_residual-in_err-begin-2.result (same-both (leaf_state c.args.self.now) _ _ (same-both (leaf_state c.args.self.now) _ _ (same-items c.args.self.now _ refl refl) c.in_ok-begin.ensures.same) c.in_err-begin-2.ensures.same)
+pub returns-then-not-is_before-clause-unchanged : goal.returns-then-not-is_before-clause-unchanged
+returns-then-not-is_before-clause-unchanged g c =
+    on-error c.change_across.result (same-both (leaf_state c.args.self.now) _ _ (same-items c.args.self.now _ refl refl)) c.change_across.ensures.unchanged
+
+pub returns-in_err-run-clause-unchanged : goal.returns-in_err-run-clause-unchanged
+returns-in_err-run-clause-unchanged g c =
+    on-err c.from_residual.result (same-both (leaf_state c.args.self.now) _ _ (same-items c.args.self.now _ refl refl) c.in_err-run.ensures.same)
 
 pub returns-clause-ok : goal.returns-clause-ok
-returns-clause-ok g c = (
-  changes-after (Some c.args.first) (Some c.args.end) (g.C.Change.changed c.args.change.now) (leaf_state c.args.self.now) _ _
-      (same-both (leaf_state c.args.self.now) _ _ (same-both (leaf_state c.args.self.now) _ _ (same-items c.args.self.now _ refl refl) c.in_ok-begin.ensures.same) c.in_ok-begin-2.ensures.same)
-      c.change_all.ensures.0,
-  λ joined. c.change_all.ensures.1 (c.in_ok-begin-2.ensures.joined (Some c.args.first) (joined-swap _ _ _ (c.in_ok-begin.ensures.joined None (joined-same c.args.self.now _ None None refl refl joined)))),
-)
+returns-clause-ok g c =
+    let changes = c.change_runs.ensures (Some c.args.first) (Some c.args.end) c.in_ok-run.ensures.bounds in
+    hinted c.args.self.now _ c.change_runs.new.self c.args.first c.args.end (g.C.Change.changed c.args.change.now) refl refl (
+      changes-after (Some c.args.first) (Some c.args.end) (g.C.Change.changed c.args.change.now) _ _ _ c.in_ok-run.ensures.same changes.0,
+      λ joined. changes.1 (c.in_ok-run.ensures.joined joined),
+    )
