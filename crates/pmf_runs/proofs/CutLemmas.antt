@@ -1,6 +1,6 @@
 -- A run of a range of its own, cut out of the run in which the range lies.
-use Rattle.std.proofs.{Common.{◌≡◌, ℕ, ◌+◌, ◌-◌, ◌<◌, ◌≤◌, List, length, get_or, sym, subst, arith, inl, inr, insert, Option, None, Some}, lemmas.Bool.{cases_lt}, lemmas.List.Edits.{length-insert, get_or-insert_below, get_or-insert_at, get_or-insert_above}}
-use Rattle.pmf_runs.{specs.declared.leaf.Leaf.{Leaf}, specs.Ranks.{rank, HasKey, IsFresh, LiesBefore, Rises}, specs.Leaves.{leaf_state, leaf_begins}, specs.Joined.{AreBounds, JoinedBut, ChangesRange}, proofs.RankLemmas.{rank-is, rank-here, rank-unique, rank-told, insert-has, insert-keeps}, proofs.LeafLemmas.{same-items}, proofs.ChangingLemmas.{changes-after}, proofs.JoinedLemmas.{joined-same}}
+use Rattle.std.proofs.{Common.{◌≡◌, ℕ, ◌+◌, ◌<◌, ◌≤◌, List, length, get_or, sym, ◌∙◌, subst, arith, inl, inr, insert, Option, None, Some}, lemmas.Bool.{cases_lt}, lemmas.List.Edits.{length-insert, get_or-insert_below, get_or-insert_at, get_or-insert_above}}
+use Rattle.pmf_runs.{specs.declared.leaf.Leaf.{Leaf}, specs.Ranks.{rank, HasKey, IsFresh, LiesBefore}, specs.Leaves.{leaf_state, leaf_begins}, specs.Joined.{AreBounds, JoinedBut, ChangesRange}, proofs.RankLemmas.{rank-here, rank-unique, rank-told, insert-has, insert-keeps}, proofs.LeafLemmas.{same-items}, proofs.ChangingLemmas.{changes-after}, proofs.JoinedLemmas.{joined-same}}
 
 -- where a number lies before the key behind another's rank, it has the same rank
 pub rank-beyond : (keys : List ℕ) (first end i : ℕ) → i ≡ rank keys first → first < end → LiesBefore keys i (end + 1) → i ≡ rank keys end
@@ -78,6 +78,19 @@ module _ {S : Type 0} where
         first = subst (λ ks. i ≡ rank ks first) (sym keys) low;
         beyond = subst (λ ks. i + 1 ≡ rank ks end) (sym keys) high;
       }
+
+  -- the first number is put in before the end's key
+  pub cut-first : (old new : Leaf S) (first end i : ℕ) → i ≡ rank old.keys.items first → first < end → (i < length old.keys.items) × (get_or old.keys.items i 0 ≡ end) →
+      new.keys.items ≡ insert old.keys.items i first → AreBounds new (Some first) (Some end) (i + 1) (i + 1 + 1)
+  unfolding leaf_begins
+  cut-first old new first end i at order is keys =
+      let within = is.0 in
+      let len = length-insert old.keys.items i first (omega arith) in
+      let next = get_or-insert_above old.keys.items i first 0 i (omega arith) (omega arith) in
+      cut-none new first end (i + 1)
+      (subst (λ ks. i + 1 ≡ rank ks first) (sym keys) (rank-put old.keys.items first i at)) order
+      (subst (λ ks. HasKey ks first) (sym keys) (insert-has old.keys.items first i (omega arith)))
+      (subst (λ ks. (i + 1 < length ks) × (get_or ks (i + 1) 0 ≡ end)) (sym keys) (let more : i + 1 < length (insert old.keys.items i first) = omega arith in more, next ∙ is.1))
 
   -- where no run was cut, one may have been
   pub joined-more : (leaf : Leaf S) (one : Option ℕ) → JoinedBut leaf None None → JoinedBut leaf one None

@@ -1,5 +1,5 @@
 -- Levels whose parts are joined, by what is done to them.
-use Rattle.std.proofs.{Common.{◌≡◌, ℕ, ◌+◌, ◌-◌, ◌<◌, ◌≤◌, List, length, get_or, set, take, drop, refl, sym, ◌∙◌, subst, arith, inl, inr, Option, None, Some, IfSome, get_or-set_same, get_or-set_other, length-set, length-take-le, get_or-take, length-drop, get_or-drop}, lemmas.Bool.{cases_eq}, lemmas.List.{get_or_read}}
+use Rattle.std.proofs.{Common.{◌≡◌, ℕ, ◌+◌, ◌<◌, ◌≤◌, List, length, get_or, set, take, drop, refl, sym, ◌∙◌, subst, arith, inl, inr, Option, None, Some, IfSome, get_or-set_same, get_or-set_other, length-set, length-take-le, get_or-take, length-drop, get_or-drop}, lemmas.Bool.{cases_eq}, lemmas.List.{get_or_read}}
 use Rattle.pmf_runs.{specs.declared.level.Level.{Level}, specs.Ranks.{rank, Rises, HasKey, IsFresh, IsInner, bound_at, low_rank, high_rank}, specs.Joined.{AllJoined, PartsJoined, IsHanded, JoinsParts, InOrder}, proofs.RankLemmas.{rank-is, rank-key, bound_at-same, bound_at-other, bound_at-none, at-low, at-high}, proofs.LevelLemmas.{level-counted}, proofs.JoinedLemmas.{rank-order}}
 
 -- a key is not fresh

@@ -1,6 +1,6 @@
 -- The states of a leaf, by its keys and states.
-use Rattle.std.proofs.{Common.{◌≡◌, ℕ, ◌+◌, ◌-◌, ◌/◌, ◌<◌, ◌≤◌, List, [], ◌∷◌, ◌++◌, length, get_or, set, take, drop, refl, sym, ◌∙◌, ap, subst, arith, true, ◌&&◌, nat_le, nat_lt, Option, IfSome, insert, remove}, lemmas.List.{get_or_read, set-get_or, take_rest}, lemmas.Bool.Decides.{nat_tests}}
-use Rattle.pmf_runs.{specs.declared.leaf.Leaf.{Leaf}, specs.Ranks.{rank, at_rank, HasKey, SameStates, ChangesWithin, ChangesItems, low_rank, high_rank, IsTail, parting, is_within}, specs.Leaves.{leaf_state, leaf_begins, leaf_middle}, proofs.RankLemmas.{IsRank, rank-is, at_rank-insert, at_rank-remove, at_rank-take, at_rank-drop, insert-has, insert-keeps, le-true, lt-true, last-rank, falls-rank, rank-above, rank-key}}
+use Rattle.std.proofs.{Common.{◌≡◌, ℕ, ◌+◌, ◌-◌, ◌/◌, ◌<◌, ◌≤◌, List, [], ◌∷◌, ◌++◌, length, get_or, take, drop, refl, sym, ◌∙◌, ap, subst, arith, true, ◌&&◌, nat_le, nat_lt, Option, IfSome, insert, remove}, lemmas.List.{get_or_read, take_rest}, lemmas.Bool.Decides.{nat_tests}}
+use Rattle.pmf_runs.{specs.declared.leaf.Leaf.{Leaf}, specs.Ranks.{rank, at_rank, HasKey, SameStates, ChangesWithin, ChangesItems, low_rank, high_rank, IsTail, parting, is_within}, specs.Leaves.{leaf_state, leaf_begins, leaf_middle}, proofs.RankLemmas.{rank-is, rank-here, at_rank-put, at_rank-remove, at_rank-take, at_rank-drop, insert-has, insert-keeps, le-true, lt-true, last-rank, falls-rank, rank-above, rank-key}}
 
 module _ {S : Type 0} where
   pub state-single : (leaf : Leaf S) (d s : S) (b : ℕ) → leaf.keys.items ≡ [] → leaf.states.items ≡ s ∷ [] → leaf_state leaf d b ≡ s
@@ -50,14 +50,12 @@ module _ {S : Type 0} where
   unfolding leaf_state
   same-put old new p i s at read keys states = record {
     states = λ d b.
-        let at_p : IsRank old.keys.items p i = subst (IsRank old.keys.items p) (sym at) (rank-is old.keys.items p) in
+        let at_p = rank-here old.keys.items p i at in
         let counted = leaf-counted old in
         let bound = at_p.bound in
-        let is = get_or_read old.states.items i s (omega arith) read d in
-        let put : set old.states.items i s ≡ old.states.items = ap (set old.states.items i) is ∙ set-get_or old.states.items i d in
         ap (λ ks. at_rank ks new.states.items d b) keys
-        ∙ ap (λ ss. at_rank (insert old.keys.items i p) ss d b) (states ∙ ap (λ ss. insert ss (i + 1) s) (sym put))
-        ∙ at_rank-insert old.keys.items old.states.items p i s s d b at_p counted (λ below. is) (λ above. is);
+        ∙ ap (λ ss. at_rank (insert old.keys.items i p) ss d b) states
+        ∙ at_rank-put old.keys.items old.states.items p i s d b at_p counted (get_or_read old.states.items i s (omega arith) read d);
   }
 
   pub same-joined : (old new : Leaf S) (i : ℕ) (x y : S) → i < length old.keys.items → x ≡ get_or old.states.items i x → y ≡ get_or old.states.items (i + 1) y → x ≡ y →

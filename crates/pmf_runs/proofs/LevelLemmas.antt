@@ -1,5 +1,5 @@
 -- The states of a level, by its keys and parts.
-use Rattle.std.proofs.{Common.{◌≡◌, ℕ, zero, suc, ◌+◌, ◌-◌, ◌<◌, ◌≤◌, Bool, true, List, [], ◌∷◌, length, get_or, set, take, drop, map, refl, sym, ◌∙◌, ap, arith, inl, nat_le, nat_lt, ◌&&◌, if◌then◌else◌, Option, IfSome, insert, remove, get_or-set_same, get_or-set_other, length-set}, lemmas.Bool.{cases_eq}, lemmas.List.{get_or-map, set-get_or, map-set, length-map, take-map, drop-map}}
+use Rattle.std.proofs.{Common.{◌≡◌, ℕ, zero, suc, ◌+◌, ◌<◌, ◌≤◌, Bool, true, List, [], ◌∷◌, length, get_or, set, take, drop, map, refl, sym, ◌∙◌, ap, arith, inl, nat_le, nat_lt, ◌&&◌, if◌then◌else◌, Option, IfSome, insert, remove, get_or-set_same, get_or-set_other, length-set}, lemmas.Bool.{cases_eq}, lemmas.List.{get_or-map, set-get_or, map-set, length-map, take-map, drop-map}}
 use Rattle.pmf_runs.{specs.declared.level.Level.{Level}, specs.Ranks.{rank, at_rank, HasKey, SameStates, ChangesWithin, Splits, IsInner, reaches, falls_short, is_within, bound_at, IsTail, parting}, specs.Levels.{part_states, level_state, level_begins, level_middle, Rewrites, BeginsAt, GoesOn}, proofs.LeafLemmas.{all-within}, proofs.RankLemmas.{rank-is, rank-key, bound_at-same, bound_at-other, at_rank-insert, at_rank-remove, at_rank-take, at_rank-drop, last-rank}}
 
 map-insert : {X Y : Type 0} (f : X → Y) (xs : List X) (i : ℕ) (x : X) → map f (insert xs i x) ≡ insert (map f xs) i (f x)

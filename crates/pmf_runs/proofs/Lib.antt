@@ -11,6 +11,7 @@ pub mod OnwardLemmas
 pub mod SkipLemmas
 pub mod JoinedLemmas
 pub mod CutLemmas
+pub mod TwoLemmas
 pub mod JoinedLevelLemmas
 pub mod RunJoinedLemmas
 pub mod SpaceLemmas

@@ -1,5 +1,5 @@
 -- Ranks by index, and what an edit of the keys and the elements does to them.
-use Rattle.std.proofs.{Common.{add-one, ◌≡◌, ℕ, zero, suc, ◌+◌, ◌-◌, ◌<◌, ◌≤◌, true, false, List, [], ◌∷◌, length, get_or, take, drop, set, refl, sym, ◌∙◌, ap, subst, arith, rules, inl, inr, nat_le, nat_lt, ◌&&◌, if◌then◌else◌, Option, None, IfSome, is_some, insert, remove}, lemmas.Bool.{cases_eq}, lemmas.Bool.Decides.{nat_tests}, lemmas.List.Edits.{length-insert, get_or-insert_below, get_or-insert_at, get_or-insert_above, length-remove, get_or-remove_below, get_or-remove_above}}
+use Rattle.std.proofs.{Common.{add-one, ◌≡◌, ℕ, zero, suc, ◌+◌, ◌-◌, ◌<◌, ◌≤◌, true, false, List, [], ◌∷◌, length, get_or, take, drop, set, refl, sym, ◌∙◌, ap, subst, arith, rules, inl, inr, nat_le, nat_lt, ◌&&◌, if◌then◌else◌, Option, None, IfSome, is_some, insert, remove}, lemmas.Bool.{cases_eq}, lemmas.Bool.Decides.{nat_tests}, lemmas.List.{set-get_or}, lemmas.List.Edits.{length-insert, get_or-insert_below, get_or-insert_at, get_or-insert_above, length-remove, get_or-remove_below, get_or-remove_above}}
 use Rattle.pmf_runs.specs.Ranks.{IsFresh, rank, at_rank, Rises, HasKey, reaches, falls_short, low_rank, high_rank, IsInner, bound_at}
 
 -- the first i keys are at most the number, and the next one is above it
@@ -133,6 +133,12 @@ at_rank-insert keys (x ∷ items) p zero low high d b at_p len same_low same_hig
 at_rank-insert [] (x ∷ items) p (suc i) low high d b at_p len same_low same_high = let bound = at_p.bound in absurd (omega arith)
 at_rank-insert (key ∷ keys) (x ∷ items) p (suc i) low high d b at_p len same_low same_high =
     rw add-one (at_rank-cons key _ keys x _ items d b (λ le. rw add-one at (at_rank-insert keys items p i low high d b (rank-less key keys p i at_p) (omega arith) same_low same_high)))
+
+-- the element at the rank stands on both sides of the key that is put in
+pub at_rank-put : {X : Type 0} (keys : List ℕ) (items : List X) (p i : ℕ) (x d : X) (b : ℕ) → IsRank keys p i → length items ≡ length keys + 1 → x ≡ get_or items i d → at_rank (insert keys i p) (insert items (i + 1) x) d b ≡ at_rank keys items d b
+at_rank-put keys items p i x d b at_p len is =
+    let put : set items i x ≡ items = ap (set items i) is ∙ set-get_or items i d in
+    ap (λ xs. at_rank (insert keys i p) (insert xs (i + 1) x) d b) (sym put) ∙ at_rank-insert keys items p i x x d b at_p len (λ below. is) (λ above. is)
 
 -- a key between two equal elements is taken out, and the second of them
 pub at_rank-remove : {X : Type 0} (keys : List ℕ) (items : List X) (i : ℕ) (d : X) (b : ℕ) → Rises keys → i < length keys → length items ≡ length keys + 1 →

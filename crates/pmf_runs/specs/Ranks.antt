@@ -1,5 +1,5 @@
 -- Which element of a list a number is handed to, by the keys between the elements.
-use Rattle.std.specs.Prelude.{◌≡◌, ◌⊎◌, false, min, ◌==◌, ℕ, suc, ◌+◌, ◌<◌, ◌≤◌, Bool, true, ◌&&◌, nat_le, nat_lt, ◌-◌, ◌/◌, List, [], ◌∷◌, length, get_or, Option, None, Some, if◌then◌else◌}
+use Rattle.std.specs.Prelude.{◌≡◌, ◌⊎◌, false, min, ◌==◌, ℕ, suc, ◌+◌, ◌<◌, ◌≤◌, Bool, true, ◌&&◌, nat_le, nat_lt, ◌-◌, ◌/◌, List, [], ◌∷◌, insert, length, get_or, Option, None, Some, if◌then◌else◌}
 
 -- how many keys from the front are at most the number
 unfoldable pub rank : List ℕ → ℕ → ℕ
@@ -99,6 +99,10 @@ LiesBefore keys index end = index < length keys → end ≤ get_or keys index 0
 abbrev pub IsStop : List ℕ → ℕ → ℕ → ℕ → Type 0
 IsStop keys index end stop =
     ((index < length keys) × (stop < end) × (stop ≡ get_or keys index 0)) ⊎ ((stop ≡ end) × LiesBefore keys index end)
+
+-- the list with two elements put in at an index
+abbrev pub with_two : {X : Type 0} → List X → ℕ → X → X → List X
+with_two xs i one two = insert (insert xs i one) (i + 1) two
 
 -- the summary covers each state
 abbrev pub CoversAll : {S M : Type 0} → (M → S → Bool) → M → (S → ℕ → S) → Type 0

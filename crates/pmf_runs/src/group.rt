@@ -64,12 +64,13 @@ impl<S: State> Group<S> {
         requires order { InOrder from end }
         ensures { ChangesCut pages_state pages_joined from end (C.changed change.now) self.old.level self.new.level }
     {
-        if from.is_none() && end.is_none() && !change.may_alter(self.summary) {
+        let altered = change.may_alter(self.summary);
+        if from.is_none() && end.is_none() && !altered {
             return false;
         }
         self.level.change_all(from, end, change);
         self.summary = self.level.summary();
-        true
+        altered
     }
 
     /// Hands out what lies from that key on. After an `Err` nothing is changed.
@@ -173,12 +174,7 @@ impl<S: State> Part<S> for Group<S> {
         self.change_range(first, end, change)
     }
 
-    fn rewrite<C: Change<S>>(
-        &mut self,
-        from: Option<u64>,
-        end: Option<u64>,
-        change: &C,
-    ) -> bool {
+    fn rewrite<C: Change<S>>(&mut self, from: Option<u64>, end: Option<u64>, change: &C) -> bool {
         self.change_whole(from, end, change)
     }
 

@@ -4,7 +4,7 @@ ghost use Rattle.std.specs.Prelude.{◌≡◌, false, Option, None, Some, ◌≤
 ghost use Rattle.pmf_runs.specs.Ranks.{Rises, rank, SameStates, ChangesItems, IsFresh, AltersWithin, IsStop, IsTail, LiesBefore, CoversAll, AllSettled};
 
 use crate::keys::{high_rank, is_before, is_key, is_key_at, is_rank, low_rank, parting, rank_near};
-use crate::room::make_room;
+use crate::room::{make_room, put_two};
 use crate::state::{Change, Effect, State};
 use std::alloc::{AllocError, Global};
 
@@ -80,8 +80,8 @@ impl<S: State> Leaf<S> {
         ensures joined { OnOk result ((other : Option ℕ) → JoinedBut self.old other None → JoinedBut self.new other (Some place)) }
     {
         let state = self.states[index];
-        make_room(&mut self.states)?;
-        make_room(&mut self.keys)?;
+        make_room(&mut self.states, 1)?;
+        make_room(&mut self.keys, 1)?;
         self.keys.insert(index, place)?;
         match self.states.insert(index + 1, state) {
             Ok(()) => Ok(()),
@@ -173,8 +173,33 @@ impl<S: State> Leaf<S> {
         if is_key(&self.keys, index, first) {
             return self.cut_end(index, first, end);
         }
-        self.put_key(index, first)?;
-        self.cut_end(index + 1, first, end)
+        if is_key_at(&self.keys, index, end) {
+            self.put_key(index, first)?;
+            return Ok(index + 1);
+        }
+        self.put_keys(index, first, end)?;
+        Ok(index + 1)
+    }
+
+    /// Puts in two keys at the rank of the first. The same state holds on all sides.
+    #[inline(never)]
+    #[tactic(auto, using(crate::proofs::RunRules::leaf_keys))]
+    fn put_keys(&mut self, index: usize, first: u64, end: u64) -> Result<(), AllocError>
+        requires rank { index ≡ rank self.old.keys.items first }
+        requires fresh { IsFresh self.old.keys.items first }
+        requires order { first < end }
+        requires within { LiesBefore self.old.keys.items index (end + 1) }
+        ensures run { OnOk result (index + 1 < vec_len self.new.states) }
+        ensures bounds { OnOk result (AreBounds self.new (Some first) (Some end) (index + 1) (index + 1 + 1)) }
+        ensures same { SameStates (leaf_state self.old) (leaf_state self.new) }
+        ensures joined { OnOk result (JoinedBut self.old None None → JoinedBut self.new (Some first) (Some end)) }
+    {
+        let state = self.states[index];
+        make_room(&mut self.states, 2)?;
+        make_room(&mut self.keys, 2)?;
+        put_two(&mut self.keys, index, first, end);
+        put_two(&mut self.states, index + 1, state, state);
+        Ok(())
     }
 
     /// The same where a run begins at the first number.

@@ -4,7 +4,8 @@ ghost use Rattle.std.specs.Prelude.{◌≡◌, false, Option, None, Some, ◌≤
 ghost use Rattle.pmf_runs.specs.Ranks.{Rises, rank, SameStates, IsFresh, CoversAll, IsTail, AllSettled};
 
 use crate::keys::{
-    bound_at, high_rank, inner_bound, is_before, is_key, is_rank, low_rank, parting, rank_near, rank_of,
+    bound_at, high_rank, inner_bound, is_before, is_key, is_rank, low_rank, parting, rank_near,
+    rank_of,
 };
 use crate::part::Part;
 use crate::room::make_room;
@@ -159,8 +160,8 @@ impl<P> Level<P> {
         ensures joined { OnOk result (PartsJoined P.joined self.old None None → PartsJoined P.joined self.new None None) }
         ensures halved { OnOk result (size_at P.size self.new place ≤ size_at P.size self.old place / 2) }
     {
-        make_room(&mut self.keys)?;
-        make_room(&mut self.parts)?;
+        make_room(&mut self.keys, 1)?;
+        make_room(&mut self.parts, 1)?;
         let part = self.parts[index].split(place)?;
         match self.keys.insert(index, middle) {
             Ok(()) => {}

@@ -69,12 +69,13 @@ impl<S: State> Page<S> {
         requires order { InOrder from end }
         ensures { ChangesCut leaf_state JoinedBut from end (C.changed change.now) self.old.leaf self.new.leaf }
     {
-        if from.is_none() && end.is_none() && !change.may_alter(self.summary) {
+        let altered = change.may_alter(self.summary);
+        if from.is_none() && end.is_none() && !altered {
             return false;
         }
         self.leaf.change_all(from, end, change);
         self.summary = self.leaf.summary();
-        true
+        altered
     }
 
     /// Hands out what lies from that key on. After an `Err` nothing is changed.
@@ -173,12 +174,7 @@ impl<S: State> Part<S> for Page<S> {
         self.change_range(first, end, change)
     }
 
-    fn rewrite<C: Change<S>>(
-        &mut self,
-        from: Option<u64>,
-        end: Option<u64>,
-        change: &C,
-    ) -> bool {
+    fn rewrite<C: Change<S>>(&mut self, from: Option<u64>, end: Option<u64>, change: &C) -> bool {
         self.change_whole(from, end, change)
     }
 

@@ -1,6 +1,7 @@
 //! Room in the lists of a leaf or a level, which grow to what a full one holds and no further.
 
-ghost use Rattle.std.specs.Prelude.{◌≡◌, ◌+◌, ◌≤◌, OnOk, vec_len, vec_capacity};
+ghost use Rattle.std.specs.Prelude.{◌≡◌, ◌+◌, ◌≤◌, [], ◌∷◌, ◌++◌, OnOk, vec_len, vec_capacity};
+ghost use Rattle.pmf_runs.specs.Ranks.{with_two};
 
 use std::alloc::AllocError;
 
@@ -10,17 +11,46 @@ const MOST: usize = 64;
 /// How many they have at least after a split at the middle.
 const HALF: usize = 30;
 
-/// Makes room for one more. A list that was split has just as much room as it has elements: its next room is
+/// Makes room for so many more. A list that was split has just as much room as it has elements: its next room is
 /// that of a full one, in place of twice its own, which one more would outgrow.
-pub(crate) fn make_room<T>(list: &mut Vec<T>) -> Result<(), AllocError>
+pub(crate) fn make_room<T>(list: &mut Vec<T>, more: usize) -> Result<(), AllocError>
     ensures items { list.new.items ≡ list.old.items }
     ensures len { vec_len list.new ≡ vec_len list.old }
-    ensures ok { OnOk result (vec_len list.new + 1 ≤ vec_capacity list.new) }
+    ensures ok { OnOk result (vec_len list.new + more ≤ vec_capacity list.new) }
 {
     let len = list.len();
-    if HALF <= len && len < MOST {
+    if HALF <= len && len < MOST && more <= MOST - len {
         list.reserve_exact(MOST - len)
     } else {
-        list.reserve(1)
+        list.reserve(more)
+    }
+}
+
+/// Puts in two elements at an index, for which there is room. Those from there on are moved once.
+#[tactic(auto, using(crate::proofs::RunRules::two_put))]
+pub(crate) fn put_two<T: Copy + Drop>(list: &mut Vec<T>, index: usize, one: T, two: T)
+    requires within { index ≤ vec_len list.old }
+    requires room { vec_len list.old + 2 ≤ vec_capacity list.old }
+    ensures items { list.new.items ≡ with_two list.old.items index one two }
+    ensures len { vec_len list.new ≡ vec_len list.old + 2 }
+{
+    let len = list.len();
+    push(list, one);
+    push(list, two);
+    list.copy_within(index..len, index + 2);
+    list[index] = one;
+    list[index + 1] = two;
+}
+
+/// Appends an element for which there is room.
+fn push<T: Drop>(list: &mut Vec<T>, element: T)
+    requires { vec_len list.old + 1 ≤ vec_capacity list.old }
+    ensures items { list.new.items ≡ list.old.items ++ (element ∷ []) }
+    ensures len { vec_len list.new ≡ vec_len list.old + 1 }
+    ensures room { vec_capacity list.old ≤ vec_capacity list.new }
+{
+    match list.push(element) {
+        Ok(()) => {}
+        Err(_) => unreachable!(),
     }
 }

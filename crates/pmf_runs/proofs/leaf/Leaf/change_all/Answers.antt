@@ -1,4 +1,4 @@
-use Rattle.std.proofs.Common.{◌≡◌, ◌∙◌, ap, arith}
+use Rattle.std.proofs.Common.{◌∙◌, ap, arith}
 use Rattle.pmf_runs.{specs.Ranks.{low_rank, high_rank}, proofs.RankLemmas.{high_rank-bound}, proofs.LeafLemmas.{leaf-counted}}
 use Rattle.pmf_runs.proofs.leaf.Leaf.change_all.Goals as goal
 

@@ -1,4 +1,4 @@
-use Rattle.std.proofs.Common.{refl, None, Some}
+use Rattle.std.proofs.Common.{refl, Some}
 use Rattle.pmf_runs.{specs.Leaves.{leaf_state}, proofs.LeafLemmas.{same-items, same-both}, proofs.ChangingLemmas.{changes-after, on-ok, on-error}, proofs.RunLemmas.{on-err}, proofs.CutLemmas.{hinted}}
 use Rattle.pmf_runs.proofs.leaf.Leaf.change_from.Goals as goal
 

@@ -1,4 +1,4 @@
-use Rattle.std.proofs.{Common.{◌≡◌, refl, subst, ◌∙◌, sym}, lemmas.List.{with_items_is}}
+use Rattle.std.proofs.{Common.{refl, subst, ◌∙◌, sym}, lemmas.List.{with_items_is}}
 use Rattle.pmf_runs.{specs.Ranks.{low_rank, high_rank, ChangesItems}, proofs.LeafLemmas.{changes-rewritten}, proofs.JoinedLemmas.{joined-rewritten}}
 use Rattle.pmf_runs.proofs.leaf.Leaf.change_runs.Goals as goal
 
