@@ -68,6 +68,7 @@ impl Section {
 
     /// Adds the event at the end. After either refusal the section is unchanged; only
     /// [`SectionFault::OutOfMemory`] has asked for memory.
+    #[inline(always)]
     pub fn push(&mut self, event: Event) -> Result<(), SectionFault>
         ensures ok { OnOk result
             (self.new ≡ record self.old { events = self.old.events ++ event ∷ [] }) }

@@ -32,6 +32,7 @@ impl<S: State> Group<S> {
     }
 
     /// Changes the states of a range that lies in the group.
+    #[inline(always)]
     fn change_range<C: Change<S>>(
         &mut self,
         first: u64,
@@ -87,6 +88,7 @@ impl<S: State> Group<S> {
 }
 
 /// The summary of the level after a change that the wide one covers, and what becomes of the one above.
+#[inline(always)]
 fn renewed<S: State>(
     level: &Level<Page<S>>,
     wide: S::Summary,

@@ -90,6 +90,7 @@ impl<S: State> Leaf<S> {
     }
 
     /// Where the change alters states of the numbers from `first` up to `end`.
+    #[inline(always)]
     #[tactic(auto, using(crate::proofs::RunRules::leaf_altered))]
     pub(crate) fn altered<C: Change<S>>(
         &self,
@@ -119,6 +120,7 @@ impl<S: State> Leaf<S> {
 
     /// Changes the states of the numbers from `first` up to `end`, the first of them likely in the run
     /// `near` or a few behind it. After an `Err` no state is changed.
+    #[inline(always)]
     pub(crate) fn change_from<C: Change<S>>(
         &mut self,
         first: u64,
@@ -160,6 +162,7 @@ impl<S: State> Leaf<S> {
 
     /// Makes a run of a range that lies in the run of this index, which changes no state, and answers the
     /// index of its own.
+    #[inline(always)]
     #[tactic(auto, using(crate::proofs::RunRules::leaf_cut))]
     fn cut_run(&mut self, index: usize, first: u64, end: u64) -> Result<usize, AllocError>
         requires rank { index ≡ rank self.old.keys.items first }
@@ -203,6 +206,7 @@ impl<S: State> Leaf<S> {
     }
 
     /// The same where a run begins at the first number.
+    #[inline(always)]
     #[tactic(auto, using(crate::proofs::RunRules::leaf_cut))]
     fn cut_end(&mut self, index: usize, first: u64, end: u64) -> Result<usize, AllocError>
         requires rank { index ≡ rank self.old.keys.items first }
@@ -222,6 +226,7 @@ impl<S: State> Leaf<S> {
     }
 
     /// A summary of the states.
+    #[inline(never)]
     pub(crate) fn summary(&self) -> S::Summary
         ensures { CoversAll S.covers result (leaf_state self.now) }
     {
@@ -233,6 +238,7 @@ impl<S: State> Leaf<S> {
     }
 
     /// Whether a state is unsettled. Most often none is, and all are asked without a branch for each.
+    #[inline(never)]
     pub(crate) fn has_unsettled(&self) -> bool
         ensures { result ≡ false → AllSettled S.unsettled (leaf_state self.now) }
     {
@@ -277,6 +283,7 @@ impl<S: State> Leaf<S> {
     }
 
     /// The same for the runs from `low` up to `high`.
+    #[inline(always)]
     fn change_runs<C: Change<S>>(&mut self, low: usize, high: usize, change: &C)
         requires { high ≤ vec_len self.old.states }
         ensures { (from end : Option ℕ) → AreBounds self.old from end low high → ChangesCut leaf_state JoinedBut from end (C.changed change.now) self.old self.new }
@@ -286,6 +293,7 @@ impl<S: State> Leaf<S> {
     }
 
     /// Joins the runs from the one before `low` up to the one of `high` where neighbours are equal.
+    #[inline(always)]
     fn join_between(&mut self, low: usize, high: usize)
         ensures same { SameStates (leaf_state self.old) (leaf_state self.new) }
         ensures joined { JoinedBeside self.old low high → JoinedBut self.new None None }
@@ -298,6 +306,7 @@ impl<S: State> Leaf<S> {
     }
 
     /// Takes out a key where the states on its two sides are equal.
+    #[inline(always)]
     fn join_at(&mut self, key: usize)
         requires { key < vec_len self.old.keys }
         ensures same { SameStates (leaf_state self.old) (leaf_state self.new) }
@@ -373,6 +382,7 @@ impl<S: State> Leaf<S> {
     }
 }
 
+#[inline(always)]
 fn change_between<S: State, C: Change<S>>(states: &mut [S], low: usize, high: usize, change: &C)
     requires { high ≤ length states.old }
     ensures { ChangesItems low high (C.changed change.now) states.old states.new }
@@ -399,6 +409,7 @@ impl Altered {
     ghost use Rattle.pmf_runs.specs.Ranks.{Sees};
 
     /// The same after the next run, which begins at `start` and ends before `stop`.
+    #[inline(always)]
     fn after<S: State, C: Change<S>>(
         self,
         start: u64,
@@ -422,6 +433,7 @@ impl Altered {
 }
 
 /// Where the run of this index ends, or the range.
+#[inline(always)]
 fn stop_of(keys: &[u64], index: usize, end: u64) -> u64
     ensures { IsStop keys.now index end result }
 {

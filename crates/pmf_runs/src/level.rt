@@ -349,6 +349,7 @@ impl<P> Level<P> {
     }
 
     /// Changes the states of the numbers from `first` up to `end`. After an `Err` no state is changed.
+    #[inline(always)]
     #[tactic(auto, using(crate::proofs::RunRules::in_level))]
     pub(crate) fn change_range<S: State, C: Change<S>>(
         &mut self,
@@ -393,6 +394,7 @@ impl<P> Level<P> {
     }
 
     /// The same where the part of the first number has room.
+    #[inline(always)]
     #[tactic(auto, using(crate::proofs::RunRules::level_changes))]
     fn change_at<S: State, C: Change<S>>(
         &mut self,
@@ -439,6 +441,7 @@ impl<P> Level<P> {
     }
 
     /// A summary of the states of all parts.
+    #[inline(never)]
     pub(crate) fn summary<S: State>(&self) -> S::Summary
     where
         P: Part<S>,
@@ -452,6 +455,7 @@ impl<P> Level<P> {
     }
 
     /// Whether a part may have an unsettled state.
+    #[inline(never)]
     pub(crate) fn has_unsettled<S: State>(&self) -> bool
     where
         P: Part<S>,

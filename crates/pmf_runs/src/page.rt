@@ -31,6 +31,7 @@ impl<S: State> Page<S> {
     }
 
     /// Changes the states of a range that lies in the page.
+    #[inline(always)]
     #[tactic(auto, using(crate::proofs::RunRules::page_changes))]
     fn change_range<C: Change<S>>(
         &mut self,
@@ -92,6 +93,7 @@ impl<S: State> Page<S> {
 }
 
 /// The summary of the leaf after a change that the wide one covers, and what becomes of the one above.
+#[inline(always)]
 fn renewed<S: State>(leaf: &Leaf<S>, wide: S::Summary, effect: Effect) -> (S::Summary, Effect)
     requires { CoversAll S.covers wide (leaf_state leaf.now) }
     ensures { CoversAll S.covers result.0 (leaf_state leaf.now) }

@@ -53,6 +53,7 @@ impl<S: State> RunMap<S> {
     /// Changes the states of the numbers from `first` up to `end`, which is not one of them. Where
     /// neighbouring runs differ, they do so after it. An empty range takes no memory. After an `Err`,
     /// which is want of memory, each number has the state that it had.
+    #[inline(always)]
     #[tactic(auto, using(crate::proofs::RunRules::none_changed))]
     pub fn change<C: Change<S>>(
         &mut self,
@@ -73,6 +74,7 @@ impl<S: State> RunMap<S> {
     }
 
     /// Makes a root where there is none.
+    #[inline(always)]
     fn ensure_root(&mut self) -> Result<(), AllocError>
         ensures root { OnOk result (is_some self.new.root ≡ true) }
         ensures same { KeepsStates self.old self.new }
@@ -97,6 +99,7 @@ impl<S: State> RunMap<S> {
         Ok(root)
     }
 
+    #[inline(always)]
     fn change_root<C: Change<S>>(
         &mut self,
         first: u64,

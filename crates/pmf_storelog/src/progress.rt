@@ -49,7 +49,7 @@ impl Progress {
     }
 
     // Takes the part that ends with these bytes; they may be known to say an event.
-    #[inline]
+    #[inline(always)]
     fn end_part(&mut self, end: &[u8], says: Option<Event>) -> Result<(), LogFault>
         requires room { self.old.tally.records + 1 < 2 ^ 64 }
         requires says { IfSome says (SaysAlone end.now) }
@@ -83,7 +83,7 @@ impl Progress {
 
 /// How long the first part of the text is, where a separator ends it; and the event that it says, where it is spelled as usual, with no
 /// blanks around it. Takes no memory.
-#[inline]
+#[inline(always)]
 pub fn next_part(text: &[u8]) -> Option<(usize, Option<Event>)>
     ensures cases { MatchOption result (parts_of text.now ≡ text.now ∷ [])
         (λ part. parts_of (take (part.0 + 1) text.now)

@@ -26,7 +26,7 @@ pub(crate) fn read_quickly(text: &[u8]) -> Option<Saying>
 
 /// The event of the text's first part, and how long the part is, if it is a record of the usual
 /// spelling that isn't refused, has no blanks around it, and is ended by a separator.
-#[inline]
+#[inline(always)]
 #[tactic(auto, using(std::proofs::lemmas::Grind::common_steps, crate::proofs::QuickLemmas::part_found))]
 pub(crate) fn read_part(text: &[u8]) -> Option<(Event, usize)>
     ensures { IfSome result (λ found. BeginsWithPart text.now found.0 found.1) }
@@ -92,7 +92,7 @@ fn read_other(text: &[u8]) -> Option<Saying>
 }
 
 // The span of a store's fields, and how long they are.
-#[inline]
+#[inline(always)]
 #[tactic(auto, using(std::proofs::lemmas::Grind::common_steps, crate::proofs::QuickLemmas::stored_found))]
 fn read_stored(text: &[u8]) -> Option<(Span, usize)>
     ensures { IfSome result (λ found. BeginsWithFields stored_span text.now found.0 found.1) }
@@ -107,7 +107,7 @@ fn read_stored(text: &[u8]) -> Option<(Span, usize)>
 }
 
 // The span of a record's two fields, and how long they are.
-#[inline]
+#[inline(always)]
 #[tactic(auto, using(std::proofs::lemmas::Grind::common_steps, crate::proofs::QuickLemmas::span_found))]
 fn read_span(text: &[u8]) -> Option<(Span, usize)>
     ensures { IfSome result (λ found. BeginsWithFields span_of_fields text.now found.0 found.1) }

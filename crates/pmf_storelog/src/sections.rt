@@ -45,7 +45,7 @@ impl OpenSections {
     }
 
     /// Adds an event to the current section, or to section 0 before the first one.
-    #[inline]
+    #[inline(always)]
     pub(crate) fn add(&mut self, event: Event) -> Result<(), Cause>
         ensures ok { (run : ℕ) (numbers : List ℕ) (events : ℕ → List Event) (current : ℕ)
             → HasSections run numbers events current self.old
@@ -64,7 +64,7 @@ impl OpenSections {
         self.push(event)
     }
 
-    #[inline]
+    #[inline(always)]
     fn push(&mut self, event: Event) -> Result<(), Cause>
         requires { length self.old.sections.items ≢ 0 }
         ensures ok { (run : ℕ) (numbers : List ℕ) (events : ℕ → List Event) (current : ℕ)

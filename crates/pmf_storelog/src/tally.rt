@@ -55,7 +55,7 @@ impl Tally {
     }
 
     /// The same, where the part may be known to say an event as it stands.
-    #[inline]
+    #[inline(always)]
     pub(crate) fn take_alone(&mut self, part: &[u8], says: Option<Event>) -> Result<(), LogFault>
         requires room { self.old.records + 1 < 2 ^ 64 }
         requires says { IfSome says (SaysAlone part.now) }
@@ -95,7 +95,7 @@ impl Tally {
     }
 
     /// Takes a record that says this event, whatever its text.
-    #[inline]
+    #[inline(always)]
     pub(crate) fn take_event(&mut self, event: Event) -> Result<(), LogFault>
         requires { self.old.records + 1 < 2 ^ 64 }
         ensures grows { self.new.records ≤ self.old.records + 1 }
@@ -111,7 +111,7 @@ impl Tally {
     }
 
     // Counts a record whose section took it, or tells its fault.
-    #[inline]
+    #[inline(always)]
     fn count(&mut self, taken: Result<(), Cause>) -> Result<(), LogFault>
         requires { self.old.records + 1 < 2 ^ 64 }
         ensures ok { OnOk result (IsOk taken × AddsRecord self.old self.new) }
