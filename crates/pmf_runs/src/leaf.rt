@@ -184,6 +184,26 @@ impl<S: State> Leaf<S> {
         Ok(index + 1)
     }
 
+    /// The same where a run begins at the first number.
+    #[inline(always)]
+    #[tactic(auto, using(crate::proofs::RunRules::leaf_cut))]
+    fn cut_end(&mut self, index: usize, first: u64, end: u64) -> Result<usize, AllocError>
+        requires rank { index ≡ rank self.old.keys.items first }
+        requires begins { leaf_begins self.old first }
+        requires order { first < end }
+        requires within { LiesBefore self.old.keys.items index end }
+        ensures run { IfOk result (λ run. run < vec_len self.new.states) }
+        ensures bounds { IfOk result (λ run. AreBounds self.new (Some first) (Some end) run (run + 1)) }
+        ensures same { SameStates (leaf_state self.old) (leaf_state self.new) }
+        ensures joined { OnOk result (JoinedBut self.old (Some first) None → JoinedBut self.new (Some first) (Some end)) }
+    {
+        if is_key_at(&self.keys, index, end) {
+            return Ok(index);
+        }
+        self.put_key(index, end)?;
+        Ok(index)
+    }
+
     /// Puts in two keys at the rank of the first. The same state holds on all sides.
     #[inline(never)]
     #[tactic(auto, using(crate::proofs::RunRules::leaf_keys))]
@@ -203,26 +223,6 @@ impl<S: State> Leaf<S> {
         put_two(&mut self.keys, index, first, end);
         put_two(&mut self.states, index + 1, state, state);
         Ok(())
-    }
-
-    /// The same where a run begins at the first number.
-    #[inline(always)]
-    #[tactic(auto, using(crate::proofs::RunRules::leaf_cut))]
-    fn cut_end(&mut self, index: usize, first: u64, end: u64) -> Result<usize, AllocError>
-        requires rank { index ≡ rank self.old.keys.items first }
-        requires begins { leaf_begins self.old first }
-        requires order { first < end }
-        requires within { LiesBefore self.old.keys.items index end }
-        ensures run { IfOk result (λ run. run < vec_len self.new.states) }
-        ensures bounds { IfOk result (λ run. AreBounds self.new (Some first) (Some end) run (run + 1)) }
-        ensures same { SameStates (leaf_state self.old) (leaf_state self.new) }
-        ensures joined { OnOk result (JoinedBut self.old (Some first) None → JoinedBut self.new (Some first) (Some end)) }
-    {
-        if is_key_at(&self.keys, index, end) {
-            return Ok(index);
-        }
-        self.put_key(index, end)?;
-        Ok(index)
     }
 
     /// A summary of the states.
