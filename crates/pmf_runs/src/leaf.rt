@@ -237,6 +237,17 @@ impl<S: State> Leaf<S> {
         summary
     }
 
+    /// How many runs there are. For speed alone.
+    #[inline(always)]
+    pub(crate) fn runs(&self) -> usize {
+        self.states.len()
+    }
+
+    /// A state that there is. For speed alone.
+    pub(crate) fn first_state(&self) -> S {
+        self.states[0]
+    }
+
     /// Whether a state is unsettled. Most often none is, and all are asked without a branch for each.
     #[inline(never)]
     pub(crate) fn has_unsettled(&self) -> bool

@@ -12,11 +12,16 @@ use std::alloc::AllocError;
 #[cfg(test)]
 mod counting;
 
+/// One in so many of a leaf's runs are changed before a summary that they narrow is made anew.
+const NARROWED: usize = 8;
+
 /// A leaf, and a summary that covers its states.
 #[derive(Drop)]
 pub(crate) struct Page<S: State> {
     leaf: Leaf<S>,
     summary: S::Summary,
+    /// How many changes narrowed it since it was made anew. For speed alone.
+    narrowed: usize,
     ghost covered: { CoversAll S.covers summary (leaf_state leaf) },
 }
 
@@ -27,7 +32,11 @@ impl<S: State> Page<S> {
         ensures leaf { result.leaf ≡ leaf }
     {
         let summary = leaf.summary();
-        Page { leaf, summary }
+        Page {
+            leaf,
+            summary,
+            narrowed: 0,
+        }
     }
 
     /// Changes the states of a range that lies in the page.
@@ -52,7 +61,8 @@ impl<S: State> Page<S> {
         }
         self.leaf
             .change_from(altered.first, altered.end, altered.near, change)?;
-        let (summary, effect) = renewed(&self.leaf, change.widened(self.summary), altered.effect);
+        let effect = put_off(&mut self.narrowed, self.leaf.runs(), altered.effect);
+        let (summary, effect) = renewed(&self.leaf, change.widened(self.summary), effect);
         self.summary = summary;
         Ok(effect)
     }
@@ -74,8 +84,15 @@ impl<S: State> Page<S> {
         if from.is_none() && end.is_none() && !altered {
             return false;
         }
+        let effect = change.effect(self.summary, self.leaf.first_state());
         self.leaf.change_all(from, end, change);
-        self.summary = self.leaf.summary();
+        let effect = if self.leaf.runs() < NARROWED {
+            Effect::Narrows
+        } else {
+            effect
+        };
+        let (summary, _) = renewed(&self.leaf, change.widened(self.summary), effect);
+        self.summary = summary;
         altered
     }
 
@@ -90,6 +107,20 @@ impl<S: State> Page<S> {
         self.summary = self.leaf.summary();
         Ok(Page::around(rest))
     }
+}
+
+/// What becomes of the summary of so many runs, which is made anew once for several changes that narrow it. For speed alone.
+#[inline(always)]
+fn put_off(narrowed: &mut usize, runs: usize, effect: Effect) -> Effect {
+    if effect != Effect::Narrows {
+        return effect;
+    }
+    *narrowed = narrowed.wrapping_add(1);
+    if *narrowed < runs / NARROWED {
+        return Effect::Widens;
+    }
+    *narrowed = 0;
+    effect
 }
 
 /// The summary of the leaf after a change that the wide one covers, and what becomes of the one above.
