@@ -97,11 +97,11 @@ try_check() {
     check 'worked logs have the answers of tests/logs' tests/try-logs "$program"
     check 'a run that is no number is refused' refused check --run x
     check 'a profile that is neither 1 nor 2 is refused' refused check --profile 3
-    check 'no workers are refused' told 2 FENCE '' 'pmfarm: workers must be 1 to 64' check --workers 0
     check '65 workers are refused' told 2 FENCE '' 'pmfarm: workers must be 1 to 64' check --workers 65
     check 'a faulty log is refused before its workers' told 2 'FENCE|PMT.X' '' 'pmfarm: record 2: unknown marker' check --workers 65
     check 'a number of workers that is no number is refused' refused check --workers x
     check 'two workers check two sections' told 1 "$interleaved" "$interleaved_report" '' check --workers 2
+    check 'as many workers as the machine has check them' told 1 "$interleaved" "$interleaved_report" '' check --workers 0
     check 'each request for memory of check --workers 2 refused in turn' sweep_workers
     check 'threads that are refused, one or all, change nothing' threads_refused
     check 'a run is the name of its sections' told 0 FENCE "$one_fence" '' check --run 7

@@ -301,7 +301,7 @@ try_join() {
     check 'a front of a ledger is not merged on trust' joins 2 /dev/null "pmfarm: $scratch/cut_off/cut: line 4: not a ledger" --stream --trust "$scratch/cut_off/cut"
     check 'trust is for a merge' trust_refused
     check 'trust writes no summary' trust_refused --stream --summary
-    check 'a merge by no worker is refused' refused join --stream --workers 0 examples/shared_a.ledger
+    check 'a merge by as many workers as the machine has' joins 0 examples/shared.report '' --stream --workers 0 shared_a.ledger shared_b.ledger
     check 'a merge by 65 workers is refused' refused join --stream --workers 65 examples/shared_a.ledger
     check 'a merge without a file is refused' joins 2 /dev/null 'pmfarm: error: no ledger is named' --stream
     check 'join without a file is refused' refused join

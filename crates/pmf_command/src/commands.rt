@@ -10,8 +10,11 @@ use pmf_request::{Cuts, Request};
 use pmf_words::request_of;
 use std::io::{ErrorKind, Input, IsTerminal};
 use std::sync::Wait;
-use std::thread::Threads;
+use std::thread::{Threads, available_parallelism};
 use std::{env, io};
+
+/// How many workers there are at most.
+const MOST: u32 = 64;
 
 /// Does what the words of the command line ask for. Workers' threads are started by the second handle: the program's
 /// `main` has it.
@@ -23,8 +26,34 @@ pub fn execute<T: Threads + Wait + Sync>(rt: &HostRuntime, threads: &T) -> Ended
         Err(_) => return refused(rt, "error: a word of the command line is not UTF-8\n"),
     };
     match request_of(alloc, words.as_slice()) {
-        Ok(request) => answer_by_devices(rt, threads, &request),
+        Ok(request) => answer_by_devices(rt, threads, &with_workers(threads, request)),
         Err(error) => report_words(rt, alloc, &error),
+    }
+}
+
+// The request with as many workers as the machine has, where it asks for 0.
+fn with_workers<'a, T: Threads>(threads: &T, request: Request<'a>) -> Request<'a> {
+    match request {
+        Request::Check(mut settings, input) => {
+            settings.workers = count_of(threads, settings.workers);
+            Request::Check(settings, input)
+        }
+        Request::Join(mut files) => {
+            files.workers = count_of(threads, files.workers);
+            Request::Join(files)
+        }
+        _ => request,
+    }
+}
+
+// So many workers, or for 0 as many as the machine has, 1 to 64, and 1 where it does not tell.
+fn count_of<T: Threads>(threads: &T, workers: u32) -> u32 {
+    if workers > 0 {
+        return workers;
+    }
+    match available_parallelism(threads) {
+        Ok(count) => u32::try_from(count.get()).unwrap_or(MOST).clamp(1, MOST),
+        Err(_) => 1,
     }
 }
 

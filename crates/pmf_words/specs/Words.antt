@@ -27,7 +27,7 @@ abbrev pub row_count : ValueParser
 row_count = vp.Signed (pos 1) (pos 1000)
 
 abbrev pub thread_count : ValueParser
-thread_count = vp.Signed (pos 1) (pos 64)
+thread_count = vp.Signed (pos 0) (pos 64)
 
 -- an option with one value
 abbrev pub option : Text → Rule
