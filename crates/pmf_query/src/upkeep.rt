@@ -93,28 +93,46 @@ impl Walk {
         requires { length events.now ≤ EVENT_LIMIT }
         ensures { IfOk result (λ walk. HasWalkedOver walk events.now (length events.now)) }
     {
-        let mut walk = Walk::new(alloc);
+        let mut walk = Walk::new(alloc, events);
         let mut place: u32 = 0;
         for event in events {
             place += 1;
+            walk.settle_for(event)?;
             walk.follow(place, event)?;
         }
+        walk.settle()?;
         Ok(walk)
     }
 
     #[tactic(auto, using(crate::proofs::UpkeepLemmas::walked_none))]
-    fn new(alloc: Global) -> Walk
+    fn new(alloc: Global, events: &[Event]) -> Walk
         ensures { (es : List Event) → HasWalkedOver result es 0 }
     {
         Walk {
             alloc,
-            shadow: Shadow::new(alloc),
+            shadow: Shadow::for_walk(alloc, events),
             flushed: false,
             fences: 0,
             idle: 0,
             overwriting: 0,
             misread: 0,
         }
+    }
+
+    /// Makes the shadow ready for what is asked at the event. The walk stands where it stood.
+    fn settle_for(&mut self, event: &Event) -> Result<(), AllocError>
+        ensures { OnOk result ((es : List Event) (p : ℕ) → HasWalkedOver self.old es p → HasWalkedOver self.new es p) }
+    {
+        self.shadow.settle_for(event)?;
+        Ok(())
+    }
+
+    /// Makes the shadow ready for what is asked at the end. The walk stands where it stood.
+    fn settle(&mut self) -> Result<(), AllocError>
+        ensures { OnOk result ((es : List Event) (p : ℕ) → HasWalkedOver self.old es p → HasWalkedOver self.new es p) }
+    {
+        self.shadow.settle()?;
+        Ok(())
     }
 
     /// Passes the event at the place.

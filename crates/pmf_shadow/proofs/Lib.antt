@@ -1,3 +1,5 @@
+pub mod FrontLemmas
+pub mod AskLemmas
 pub mod OrderLemmas
 pub mod BoundsLemmas
 pub mod SameLemmas

@@ -2,7 +2,7 @@
 use Rattle.std.proofs.{Common.{◌≡◌, ℕ, ◌+◌, ◌*◌, ◌<◌, ◌≤◌, Bool, true, false, not, ◌&&◌, ◌==◌, nat_lt, if◌then◌else◌, List, refl, sym, ◌∙◌, ap, arith, inl, inr, Option, Some, None, is_none, le-ltb, lt-ltb, ne_eqb}, lemmas.Bool.{cases_lt}, Math.Bool.{and-false}}
 use Rattle.pmf_event.{specs.declared.event.Event.{Event}, specs.declared.interval.Interval.{Interval}, specs.Span.{Extent}, specs.Line.{line_of_byte}, specs.Places.{count}, specs.Ranges.{first_byte}, specs.Store.{at, stores, is_fence, last_store, epoch_of}, specs.WriteBack.{write_back_epoch, epoch_unless}, specs.Interval.{closing_fence, epoch_after, interval_at}, specs.Exclusion.{is_excluded, is_included}, specs.Persist.{is_checked, is_exposed}, specs.FlushWarnings.{is_clean, is_pending, lines_where}, specs.LineBytes.{is_undurable, is_unwritten}, proofs.RangeLemmas.{first_from-same}, proofs.WriteBackLemmas.{closing-from_epoch, closing-none, closing-late}, proofs.LineBytesLemmas.{lines_follow_from_their_bytes}}
 use Rattle.pmf_shadow.{specs.declared.byte.ByteState.{ByteState}, specs.declared.byte.Stored.{Stored}, specs.declared.shadow.Shadow.{Shadow}, specs.States.{stored_of, checked_store, holds_of, any_store, is_late, is_from, late_for, lacks_write_back, written_back_from}, specs.Shadow.{stored_at, closing, StandsFor}, specs.Told.{interval_as_told}, specs.Stretches.{line_lacks, line_has_but, lines_by}, proofs.StandsLemmas.{IsByteAt, stands-bytes}, proofs.StretchLemmas.{lines_by-same, clean-by, pending-by}}
-use Rattle.pmf_runs.specs.Runs.{state_at, passing}
+use Rattle.pmf_shadow.specs.Bytes.{state_at, passing}
 
 -- ---- where an interval closes
 

@@ -1,10 +1,10 @@
 -- A run of equal states: its bytes stand alike, and it goes on up to the first byte that has another state.
 use Rattle.std.proofs.{Common.{◌≡◌, ℕ, ◌+◌, ◌-◌, ◌<◌, ◌≤◌, true, false, not, nat_lt, List, arith, sym, ◌∙◌, ap, inl, inr, Option, Some, None, unwrap_or, ltb-false}, lemmas.Bool.{cases_eq, ltb-true, not-false, not_from_true}}
 use Rattle.pmf_event.{specs.declared.event.Event.{Event}, specs.Ranges.{first_from}, specs.Store.{last_store}, proofs.RangeLemmas.{IsFirst, none-passes, first-passes}}
-use Rattle.pmf_shadow.{specs.declared.byte.ByteState.{ByteState}, specs.declared.byte.bounds.Bounds.{Bounds}, specs.declared.shadow.Shadow.{Shadow}, specs.declared.standing.Standing.{Standing}, specs.EqualStates.{is_like, equal_states}, specs.Shadow.{StandsFor, ForEachList}, specs.Standing.{StandsSo, LeavesOpen, AllLeaveOpen, AllStandSo, AreFirstStored, LiesBetween, NoneStored}, specs.States.{holds_of, is_outstanding, lacks_write_back, late_for, place_of, stored_of}, proofs.QuestionLemmas.{lacks-late, undurable-by, unwritten-by}}
-use Rattle.pmf_runs.specs.{declared.runs.RunMap.{RunMap}, declared.state.State.{Ghosts}, Runs.{state_at, passing}}
+use Rattle.pmf_shadow.{specs.declared.byte.ByteState.{ByteState}, specs.declared.shadow.Shadow.{Shadow}, specs.declared.standing.Standing.{Standing}, specs.EqualStates.{is_like, equal_states}, specs.Shadow.{StandsFor, ForEachList}, specs.Standing.{StandsSo, LeavesOpen, AllLeaveOpen, AllStandSo, AreFirstStored, LiesBetween, NoneStored}, specs.States.{holds_of, is_outstanding, lacks_write_back, late_for, place_of, stored_of}, proofs.QuestionLemmas.{lacks-late, undurable-by, unwritten-by}}
+use Rattle.pmf_shadow.specs.{declared.front.ByteMap.{ByteMap}, Bytes.{state_at, passing}}
 
-module _ {laws : Ghosts ByteState Bounds} (runs : RunMap ByteState Bounds laws) (state : ByteState) where
+module _ (runs : ByteMap) (state : ByteState) where
   pub same-from_none : (first n : ℕ) → first_from (passing (λ s. not (is_like s state)) runs) first n ≡ None → (b : ℕ) → first ≤ b → b < first + n → state_at runs b ≡ state
   unfolding passing
   same-from_none first n none b low high =

@@ -3,7 +3,7 @@
 use Rattle.std.proofs.{Common.{◌≡◌, ℕ, suc, ◌+◌, ◌-◌, ◌*◌, ◌/◌, ◌<◌, ◌≤◌, Bool, true, false, ◌==◌, if◌then◌else◌, List, [], ◌∷◌, ◌++◌, length, take, refl, sym, ◌∙◌, ap, subst, arith, Option, Some, None, is_none, ne_eqb, add-one}, lemmas.Bool.{cases_eq}, lemmas.Bool.Decides.{Decides-eqb}, lemmas.List.{length_push}}
 use Rattle.pmf_event.{specs.declared.event.Event.{Event}, specs.declared.event.Event.TheVariants.{Store, Flush, Fence}, specs.Span.{Extent}, specs.Line.{line_of_byte, meets_line}, specs.Places.{count}, specs.Store.{event_at, at, stores, flushes, is_fence, last_store, epoch_of}, specs.WriteBack.{write_back_epoch}, specs.Exclusion.{excludes, marks, is_excluded}, specs.LineBytes.{HasBytes}, proofs.PlacesLemmas.{count-le, count-zero}, proofs.EventLemmas.{at-is, last-none, last-other, last-here, epoch_of-next, fences-step}, proofs.WriteBackLemmas.{last-bound, write_back-kept, write_back-stored, write_back-flushed}}
 use Rattle.pmf_shadow.{specs.declared.byte.ByteState.{ByteState}, specs.declared.byte.Stored.{Stored}, specs.declared.shadow.Shadow.{Shadow}, specs.States.{stored_of, after_store, after_write_back, after_mark}, specs.EqualStates.{state_of}, specs.Shadow.{stored_at, StandsFor, FollowsAt}, specs.Laws.{SameEvents, SamePlaces, is_unseen, UnseenEventsChangeNothing, OnlyPastEventsCount, StepsFollowWithin, StepsStandForSome}, proofs.SameLemmas.{told_also, told-there, same-places_before, count_at-same, last-same, last_epoch-same, write_back_epoch-same, excluded-same, sized-same, same-longer, at_the_end, length-taken, same-taken, same-retaken}}
-use Rattle.pmf_runs.specs.{declared.runs.RunMap.{RunMap}, declared.state.State.{Ghosts}, Runs.{state_at, is_between, ChangesBetween}}
+use Rattle.pmf_shadow.specs.{declared.front.ByteMap.{ByteMap}, Bytes.{state_at, is_between, ChangesBetween}}
 
 -- ---- one byte
 
@@ -77,9 +77,9 @@ module _ (told : ℕ → ℕ) (es : List Event) (p b : ℕ) (e : Event) (here : 
 -- ---- the runs
 
 -- what holds of the states before a change holds of them after it in its new form, where the change and what it leaves keep it
-changed-stands : {S M : Type 0} {laws : Ghosts S M} (first end : ℕ) (change : S → S) (old new : RunMap S M laws) (was now : ℕ → S → Type 0) → ChangesBetween first end change old new →
-    ((k : ℕ) → was k (state_at old k)) → ((k : ℕ) → is_between first end k ≡ true → (s : S) → was k s → now k (change s)) →
-    ((k : ℕ) → is_between first end k ≡ false → (s : S) → was k s → now k s) → (k : ℕ) → now k (state_at new k)
+changed-stands : (first end : ℕ) (change : ByteState → ByteState) (old new : ByteMap) (was now : ℕ → ByteState → Type 0) → ChangesBetween first end change old new →
+    ((k : ℕ) → was k (state_at old k)) → ((k : ℕ) → is_between first end k ≡ true → (s : ByteState) → was k s → now k (change s)) →
+    ((k : ℕ) → is_between first end k ≡ false → (s : ByteState) → was k s → now k s) → (k : ℕ) → now k (state_at new k)
 changed-stands first end change old new was now changes before inside outside k = grind arith
 
 pub stands-bytes : (shadow : Shadow) (told : ℕ → ℕ) (es : List Event) (p : ℕ) → StandsFor shadow told es p → (b : ℕ) → IsByteAt told es p b (state_at shadow.bytes b)

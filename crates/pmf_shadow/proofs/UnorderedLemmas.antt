@@ -3,7 +3,7 @@
 use Rattle.std.proofs.{Common.{◌≡◌, ℕ, ◌+◌, ◌-◌, ◌<◌, ◌≤◌, Bool, true, false, not, ◌&&◌, nat_lt, List, refl, sym, ◌∙◌, ap, subst, arith, inl, inr, ◌||◌, Option, Some, None, le-leb, le-ltb, lt-ltb, ne_eqb}, lemmas.Bool.{cases_lt, cases_eq, and_parts, ltb-true}, lemmas.Bool.Decides.{Decides-eqb}, Math.Bool.{and-false, or-true, and-true}}
 use Rattle.pmf_event.{proofs.LeastPairLemmas.{least_pair-by, least_pair-none}, specs.declared.event.Event.{Event}, specs.declared.event.Event.TheVariants.{Store}, specs.declared.profile.Profile.{Profile}, specs.declared.profile.Profile.TheVariants.{One, Two}, specs.Span.{Extent}, specs.Line.{line_of_byte}, specs.Places.{least, count}, specs.Ranges.{first_byte}, specs.Store.{event_at, passes, at, stores, is_fence, last, last_store, epoch_of}, specs.WriteBack.{write_back_epoch}, specs.Interval.{writes_back, first_write_back, interval_at}, specs.Persist.{is_checked}, specs.Order.{precedes, share_line, is_stored_before, is_ordered, is_unordered, is_certified, with_partner, least_pair}, proofs.PlacesLemmas.{greatest-passes, least-passes, count-mono}, proofs.RangeLemmas.{none-passes, first_from-same}, proofs.WriteBackLemmas.{last-bound, epoch_unless-place}}
 use Rattle.pmf_shadow.{specs.declared.byte.ByteState.{ByteState}, specs.declared.byte.Stored.{Stored}, specs.declared.shadow.Shadow.{Shadow}, specs.States.{stored_of, checked_store, holds_of, any_store, is_late, late_for, is_before, opens_in, stored_by, comes_after, has_one_by, opening_of, place_of}, specs.Pairs.{kept, both_hold, by_epoch, by_place, by_epochs, by_lines, by_line, on_line, off_line, IsLeastValue}, specs.Shadow.{stored_at, closing, StandsFor}, specs.Told.{KeepsOrder}, proofs.PairLemmas.{both_hold-right, late-monotone, no_pairs-by_epochs, has_partner-by_epochs, partner-by_epochs, no_pairs-by_lines, has_partner-by_lines, partner-by_lines, by_lines-on, by_lines-off, by_line-on, by_line-off, on_line-on}, proofs.StandsLemmas.{stands-bytes}, proofs.QuestionLemmas.{IsWritten, written-from_stored, checked-is, interval_at-is, interval_of-some, closes-is}}
-use Rattle.pmf_runs.specs.Runs.{state_at}
+use Rattle.pmf_shadow.specs.Bytes.{state_at}
 
 -- ---- what is kept of a checked byte
 

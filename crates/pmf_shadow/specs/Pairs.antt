@@ -2,7 +2,7 @@
 use Rattle.std.specs.Prelude.{◌≡◌, ℕ, ◌+◌, ◌<◌, ◌≤◌, Bool, true, false, ◌==◌, List, Option, None, Some, if◌then◌else◌}
 use Rattle.pmf_event.specs.{declared.event.Event.{Event}, declared.profile.Profile.{Profile}, Line.{line_of_byte}, Order.{share_line, is_unordered, is_certified}}
 use Rattle.pmf_shadow.specs.{declared.byte.ByteState.{ByteState}, declared.byte.Stored.{Stored}, declared.byte.bounds.Bounds.{Bounds}, States.{checked_store, comes_after, stored_by}}
-use Rattle.pmf_runs.specs.{declared.runs.RunMap.{RunMap}, declared.state.State.{Ghosts}, Runs.{state_at}}
+use Rattle.pmf_shadow.specs.{declared.front.ByteMap.{ByteMap}, Bytes.{state_at}}
 
 -- the pairs that are asked for: those that are certified, or all that are unordered
 abbrev pub pairs_of : Bool → Profile → List Event → ℕ → ℕ → ℕ → Bool
@@ -10,7 +10,7 @@ pairs_of true profile es p = is_certified profile es p
 pairs_of false profile es p = is_unordered profile es p
 
 -- the last store of each byte that is checked
-unfoldable pub kept : {laws : Ghosts ByteState Bounds} → RunMap ByteState Bounds laws → ℕ → Option Stored
+unfoldable pub kept : ByteMap → ℕ → Option Stored
 kept runs b = checked_store (state_at runs b)
 
 -- whether both bytes are checked, and their stores pass

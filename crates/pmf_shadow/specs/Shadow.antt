@@ -4,7 +4,7 @@
 use Rattle.std.specs.Prelude.{◌≡◌, ℕ, suc, ◌+◌, ◌<◌, ◌==◌, nat_lt, [], ◌∷◌, ◌++◌, List, length, Option, None, Some, if◌then◌else◌}
 use Rattle.pmf_event.specs.{declared.event.Event.{Event}, declared.section.TheConstants.{EVENT_LIMIT}, Line.{line_of_byte}, Places.{count}, Store.{at, stores, is_fence, last_store, epoch_of}, WriteBack.{write_back_epoch}, Exclusion.{is_excluded}, LineBytes.{HasBytes}}
 use Rattle.pmf_shadow.specs.{declared.byte.Stored.{Stored}, declared.shadow.Shadow.{Shadow}, States.{stored_of}}
-use Rattle.pmf_runs.specs.Runs.{state_at}
+use Rattle.pmf_shadow.specs.Bytes.{state_at}
 
 -- the last store of byte b at p: the place that was told of it, its epoch, and the epoch of the first
 -- write-back after it

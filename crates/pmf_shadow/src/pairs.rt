@@ -2,7 +2,7 @@
 
 ghost use Rattle.std.specs.Prelude.{◌≡◌, ◌%◌, ◌<◌};
 ghost use Rattle.pmf_event.specs.{declared.span.TheConstants.{ADDRESS_LIMIT, LINE_SIZE}, Span.{IsValidExtent}, Ranges.{first_byte, lesser}, Order.{least_pair, paired}};
-ghost use Rattle.pmf_runs.specs.Runs.{passing, keyed};
+ghost use Rattle.pmf_shadow.specs.Bytes.{passing, keyed};
 ghost use Rattle.pmf_shadow.specs.{Pairs.{by_epochs, by_line, by_lines, kept, off_line, on_line, pairs_of, IsLeastValue}, Shadow.{ForEachList}, States.{kept_opening, kept_place}, Told.{KeepsOrder}};
 
 use crate::byte::{ByteState, ComesAfter, HasOneBy, IsLate, Opening, OpensIn, Place, StoredBy};
@@ -25,7 +25,7 @@ impl Shadow {
 
     // The least pair whose second byte comes after the first: the first byte that was not written
     // back before the earliest epoch of `b`, and the first byte of `b` that comes after it.
-    #[tactic(auto, using(crate::proofs::ShadowRules::least_by_epochs), unfolding(pmf_runs::specs::Runs::keyed, crate::specs::Pairs::kept, pmf_runs::specs::Runs::passing))]
+    #[tactic(auto, using(crate::proofs::ShadowRules::least_by_epochs), unfolding(crate::specs::Bytes::keyed, crate::specs::Pairs::kept, crate::specs::Bytes::passing))]
     fn least_by_epochs(&self, a: &Span, b: &Span) -> Option<(u64, u64)>
         ensures { result ≡ least_pair (by_epochs (kept self.now.bytes)) a.now b.now }
     {
@@ -40,7 +40,7 @@ impl Shadow {
 
     // The least pair by the order of stores on one line, and by epochs elsewhere. The earliest epoch
     // of `b` lies on one line; every byte off that line meets it there.
-    #[tactic(auto, using(crate::proofs::ShadowRules::least_by_lines), unfolding(pmf_runs::specs::Runs::keyed, crate::specs::Pairs::kept, pmf_runs::specs::Runs::passing))]
+    #[tactic(auto, using(crate::proofs::ShadowRules::least_by_lines), unfolding(crate::specs::Bytes::keyed, crate::specs::Pairs::kept, crate::specs::Bytes::passing))]
     fn least_by_lines(&self, a: &Span, b: &Span, ties: bool) -> Option<(u64, u64)>
         ensures { ForEachList self.now (λ told es p. KeepsOrder told es p → result ≡ least_pair (by_lines ties (kept self.now.bytes)) a.now b.now) }
     {

@@ -2,16 +2,18 @@
 
 ghost use Rattle.std.specs.Prelude.{◌≡◌, ℕ, ◌+◌, List, OnOk, OnErr, is_some};
 ghost use Rattle.pmf_event.specs.{declared.event.Event.{Event}, Span.{IsValidExtent}, Ranges.{first_byte}, Interval.{interval_at}, Exclusion.{is_included}, Persist.{is_checked, is_exposed}, FlushWarnings.{is_clean, is_pending, lines_where}};
-ghost use Rattle.pmf_runs.specs.Runs.{passing};
+ghost use Rattle.pmf_shadow.specs.Bytes.{passing};
 ghost use Rattle.pmf_shadow.specs.{Shadow.{StandsFor, ForEachList, HasRoom, FollowsAt, Follows, Keeps, closing}, Told.{interval_as_told}};
 
 use crate::byte::{
     ByteState, IsChecked, IsIncluded, IsLate, IsPending, IsUndurable, IsUnwritten, Marked,
     StoredAt, UNTOUCHED, WrittenBackIn,
 };
+use crate::front::ByteMap;
 use crate::stretches::lines_of;
+use crate::wide::{asks_widely, lines_for, stores_widely};
 use pmf_event::{Event, Interval, LINE_SIZE, Lines, Span};
-use pmf_runs::{RunMap, Test};
+use pmf_runs::Test;
 use std::alloc::{AllocError, Global};
 
 /// What is kept of some events: for each byte its last store, the first write-back after it and
@@ -19,11 +21,15 @@ use std::alloc::{AllocError, Global};
 ///
 /// Each change and each question takes O((k + 1) log n) steps for k runs of equal state that it
 /// meets and n that are held, whatever the size of its span; a fence is one addition. Memory
-/// follows the number of runs, not of events.
+/// follows the number of runs, not of events. With lines in front ([`Shadow::for_walk`]) a change of
+/// words takes a few steps and a question one for each line that it meets. Memory follows the lines, too; a
+/// change of other bytes takes the runs of the lines that it meets, and of all where it is wide.
 #[derive(Debug, Drop)]
 pub struct Shadow {
-    pub(crate) bytes: RunMap<ByteState>,
+    pub(crate) bytes: ByteMap,
     pub(crate) fences: u32,
+    /// Whether a wide span was stored to. For speed alone.
+    has_wide: bool,
 }
 
 /// Of the lines that a span meets, those of which a write-back warns.
@@ -40,10 +46,47 @@ impl Shadow {
     pub fn new(alloc: Global) -> Shadow
         ensures { (told : ℕ → ℕ) (es : List Event) → StandsFor result told es 0 }
     {
+        Shadow::with_front(alloc, 0)
+    }
+
+    /// The same for a walk over these events. Where few of them ask of wide spans, it has lines in front of the map of runs, on which a
+    /// change of a few words takes few steps, and a question one for each line of its span: so call [`Shadow::settle_for`] before each
+    /// event, and [`Shadow::settle`] before any other question of a wide span. Takes no memory.
+    pub fn for_walk(alloc: Global, events: &[Event]) -> Shadow
+        ensures { (told : ℕ → ℕ) (es : List Event) → StandsFor result told es 0 }
+    {
+        Shadow::with_front(alloc, lines_for(events))
+    }
+
+    /// The shadow of no events, with so many lines in front at most.
+    pub(crate) fn with_front(alloc: Global, most: usize) -> Shadow
+        ensures { (told : ℕ → ℕ) (es : List Event) → StandsFor result told es 0 }
+    {
         Shadow {
-            bytes: RunMap::new(alloc, UNTOUCHED),
+            bytes: ByteMap::new(alloc, UNTOUCHED, most),
             fences: 0,
+            has_wide: false,
         }
+    }
+
+    /// Puts the lines in front behind. The shadow stands for what it stood for, after an `Err`, which is want of memory, too.
+    pub fn settle(&mut self) -> Result<(), AllocError>
+        ensures { Keeps self.old self.new }
+    {
+        self.bytes.settle()?;
+        Ok(())
+    }
+
+    /// The same where the event, which comes next, asks of a wide span.
+    pub fn settle_for(&mut self, event: &Event) -> Result<(), AllocError>
+        ensures { Keeps self.old self.new }
+    {
+        let is_wide = stores_widely(*event);
+        self.has_wide = self.has_wide | is_wide;
+        if !asks_widely(*event, self.has_wide) {
+            return Ok(());
+        }
+        self.settle()
     }
 
     /// Follows a store to the bytes of the span, and keeps this place of it. Memory: at most two runs.

@@ -2,7 +2,7 @@
 
 ghost use Rattle.std.specs.Prelude.{◌≡◌, ◌<◌, ◌≤◌, ◌-◌, ℕ, IfSome, MatchOption};
 ghost use Rattle.pmf_event.specs.{LineBytes.{is_undurable}, Ranges.{first_from}};
-ghost use Rattle.pmf_runs.specs.Runs.{state_at};
+ghost use Rattle.pmf_shadow.specs.Bytes.{state_at};
 ghost use Rattle.pmf_shadow.specs.{Shadow.{ForEachList}, Standing.{AllLeaveOpen, AllStandSo, AreFirstStored, LiesBetween, NoneStored}, States.{holds_of, lacks_write_back, late_for, place_of, stored_of}};
 
 use crate::byte::{ByteState, Fails, HasOther, IsOutstanding, IsStored, IsUndurable, IsUnwritten};

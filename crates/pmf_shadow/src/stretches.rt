@@ -3,7 +3,8 @@
 ghost use Rattle.std.specs.Prelude.{◌≡◌, ℕ, ◌+◌, ◌-◌, ◌*◌, ◌/◌, ◌<◌, ◌≤◌, Bool, true, false};
 ghost use Rattle.pmf_event.specs.{declared.span.TheConstants.{ADDRESS_LIMIT, LINE_SIZE}, Span.{IsValidExtent}, Ranges.{count_from, first_from}, FlushWarnings.{first_line}};
 ghost use Rattle.pmf_shadow.specs.{declared.byte.ByteState.{ByteState}, Stretches.{AllHave, line_has_but, line_lacks, lines_at, lines_by}};
-ghost use Rattle.pmf_runs.specs.{Runs.{passing}, Lines.{line_has}};
+ghost use Rattle.pmf_shadow.specs.Bytes.{passing};
+ghost use Rattle.pmf_runs.specs.Lines.{line_has};
 
 use crate::byte::{ByteState, Fails};
 use crate::shadow::Shadow;
@@ -15,7 +16,7 @@ impl Shadow {
     /// other test, and those without a byte that passes: the least, and how many. What passes the other
     /// test passes the one, and what passes the one alone passes the third. Most often the span meets one
     /// line, and a byte of it passes the other test.
-    #[tactic(auto, using(crate::proofs::ShadowRules::lines_apart), unfolding(pmf_runs::specs::Runs::passing))]
+    #[tactic(auto, using(crate::proofs::ShadowRules::lines_apart), unfolding(crate::specs::Bytes::passing))]
     pub(crate) fn lines_apart<
         T: Test<ByteState> + Copy,
         U: Test<ByteState> + Copy,
@@ -62,7 +63,7 @@ impl Shadow {
 
     // The lines with a byte that passes and without one that passes the other test, where so many have one
     // that passes.
-    #[tactic(auto, using(crate::proofs::ShadowRules::lines_with_but), unfolding(pmf_runs::specs::Runs::passing))]
+    #[tactic(auto, using(crate::proofs::ShadowRules::lines_with_but), unfolding(crate::specs::Bytes::passing))]
     fn lines_with_but<T: Test<ByteState> + Copy, U: Test<ByteState> + Copy, V: Test<ByteState>>(
         &self,
         first: u64,
@@ -96,13 +97,12 @@ impl Shadow {
         ensures { result ≡ count_from (line_has (passing (T.passes test.now) self.now.bytes))
             first (end - first) }
     {
-        self.bytes
-            .count_lines(first * LINE_SIZE, end * LINE_SIZE, test)
+        self.bytes.count_lines(first, end, test)
     }
 
     // The same as `least_line_but`. It begins at the first byte that passes the third test, and most often
     // there is none.
-    #[tactic(auto, using(crate::proofs::ShadowRules::least_line_alone), unfolding(pmf_runs::specs::Runs::passing))]
+    #[tactic(auto, using(crate::proofs::ShadowRules::least_line_alone), unfolding(crate::specs::Bytes::passing))]
     fn least_line_alone<T: Test<ByteState> + Copy, U: Test<ByteState> + Copy, V: Test<ByteState>>(
         &self,
         first: u64,
@@ -204,7 +204,7 @@ impl Shadow {
     }
 
     // Where the bytes that pass end, from the first of the lines on: the line after those they meet.
-    #[tactic(auto, using(crate::proofs::ShadowRules::stretch_end), unfolding(pmf_runs::specs::Runs::passing))]
+    #[tactic(auto, using(crate::proofs::ShadowRules::stretch_end), unfolding(crate::specs::Bytes::passing))]
     fn stretch_end<T: Test<ByteState> + Copy>(&self, first: u64, end: u64, test: &T) -> u64
         requires ordered { first ≤ end }
         requires room { end * LINE_SIZE ≤ ADDRESS_LIMIT }

@@ -20,12 +20,17 @@ const BASE: u64 = 0x1000;
 
 const BYTES: u64 = 256;
 
-/// The shadow of the events. Where one of them is refused, what it answered before is what it answers.
-fn shadow_of(rt: &impl Abort, alloc: Global, events: &[Event]) -> Result<Shadow, AllocError> {
+/// The shadow of the events, with so many lines in front at most. Where one of them is refused, what it answered before is what it answers.
+fn shadow_of(
+    rt: &impl Abort,
+    alloc: Global,
+    most: usize,
+    events: &[Event],
+) -> Result<Shadow, AllocError> {
     if events.len() > EVENT_LIMIT {
         return Err(AllocError);
     }
-    let (shadow, count) = follow_all(alloc, events);
+    let (shadow, count) = follow_all(alloc, most, events);
     if count < events.len() {
         assert_answers(rt, &shadow, &events[..count]);
         return Err(AllocError);
@@ -34,10 +39,10 @@ fn shadow_of(rt: &impl Abort, alloc: Global, events: &[Event]) -> Result<Shadow,
 }
 
 /// Follows the events up to the first that is refused, and counts them.
-fn follow_all(alloc: Global, events: &[Event]) -> (Shadow, usize)
+fn follow_all(alloc: Global, most: usize, events: &[Event]) -> (Shadow, usize)
     requires { length events.now ≤ EVENT_LIMIT }
 {
-    let mut shadow = Shadow::new(alloc);
+    let mut shadow = Shadow::with_front(alloc, most);
     for (index, event) in events.iter().enumerate() {
         match shadow.follow(index as u32 + 1, *event) {
             Ok(()) => {}
@@ -100,8 +105,10 @@ fn an_interval_closes_with_the_fence_after_a_write_back(rt: HostRuntime) -> Resu
         (&[STORE, Step::Flush(0x1040, 0x40), FENCE], open),
     ] {
         let events = events_of(rt.alloc(), steps)?;
-        let shadow = shadow_of(&rt, rt.alloc(), events.as_slice())?;
-        assert_eq!(rt; shadow.interval_at(0x1007), want, "{steps:?}");
+        for most in [0, 1, 64] {
+            let shadow = shadow_of(&rt, rt.alloc(), most, events.as_slice())?;
+            assert_eq!(rt; shadow.interval_at(0x1007), want, "{steps:?}");
+        }
     }
     Ok(())
 }

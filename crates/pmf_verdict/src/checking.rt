@@ -31,12 +31,12 @@ struct Walk {
 }
 
 impl Walk {
-    fn new(alloc: Global, profile: Profile) -> Walk
+    fn new(alloc: Global, profile: Profile, events: &[Event]) -> Walk
         ensures walks { (es : List Event) → Walks result es 0 }
         ensures profile { result.profile ≡ profile }
     {
         Walk {
-            shadow: Shadow::new(alloc),
+            shadow: Shadow::for_walk(alloc, events),
             transactions: TxState::new(alloc),
             rows: Rows::new(alloc),
             profile,
@@ -93,6 +93,15 @@ impl Walk {
         Ok(())
     }
 
+    // Makes the shadow ready for what the event asks. The walk stands where it stood.
+    fn settle_for(&mut self, event: &Event) -> Result<(), AllocError>
+        ensures walks { OnOk result ((es : List Event) (p : ℕ) → Walks self.old es p → Walks self.new es p) }
+        ensures profile { OnOk result (self.new.profile ≡ self.old.profile) }
+    {
+        self.shadow.settle_for(event)?;
+        Ok(())
+    }
+
     // Walks over the event at this place.
     fn follow(&mut self, place: u32, event: Event) -> Result<(), AllocError>
         requires { (es : List Event) × (p : ℕ) × Walks self.old es p
@@ -137,8 +146,9 @@ fn rows_for(alloc: Global, events: &[Event], profile: Profile) -> Result<Rows, A
     requires { length events.now ≤ EVENT_LIMIT }
     ensures { IfOk result (λ rows. rows ≡ rows_of profile events.now) }
 {
-    let mut walk = Walk::new(alloc, profile);
+    let mut walk = Walk::new(alloc, profile, events);
     for (index, event) in events.iter().enumerate() {
+        walk.settle_for(event)?;
         walk.follow(index as u32 + 1, *event)?;
     }
     let found = walk.transactions.close_section();

@@ -107,10 +107,10 @@ impl Bounds {
         ensures { result ≡ joined self other }
     {
         Bounds {
-            excluded: self.excluded || other.excluded,
-            included: self.included || other.included,
-            stored: self.stored || other.stored,
-            unsettled: self.unsettled || other.unsettled,
+            excluded: self.excluded | other.excluded,
+            included: self.included | other.included,
+            stored: self.stored | other.stored,
+            unsettled: self.unsettled | other.unsettled,
             least_opening: self.least_opening.min(other.least_opening),
             least_last: self.least_last.min(other.least_last),
             greatest_last: self.greatest_last.max(other.greatest_last),

@@ -8,10 +8,11 @@ use std::alloc::{AllocError, Global};
 use std::process::Abort;
 use std::test::Fail;
 
-/// Of 1 to 100 bytes.
+/// Of 1 to 100 bytes, or of 1 to 13 words, which may be in front.
 fn span(numbers: &mut Numbers) -> Result<Span, SpanFault> {
-    let offset = numbers.below(BYTES);
-    let size = numbers.below(100) + 1;
+    let unit = if numbers.below(2) == 0 { 1 } else { 8 };
+    let offset = numbers.below(BYTES / unit) * unit;
+    let size = (numbers.below(100 / unit) + 1) * unit;
     Span::make(BASE + offset, size.min(BYTES - offset))
 }
 
@@ -48,14 +49,17 @@ fn assert_of_pair(
 fn a_shadow_answers_as_a_plain_checker_does(rt: HostRuntime) -> Result<(), Fail> {
     let alloc = rt.alloc();
     let mut numbers = Numbers::of(1);
-    for _list in 0..160 {
+    for list in 0..160 {
         let mut events = Vec::new(alloc);
         for _event in 0..numbers.below(13) + 6 {
             events.push(event(&mut numbers)?)?;
         }
         let past = events.as_slice();
-        let shadow = shadow_of(&rt, alloc, past)?;
+        let mut shadow = shadow_of(&rt, alloc, list % 4 * 2, past)?;
         assert_answers(&rt, &shadow, past);
+        if list % 4 == 3 {
+            shadow.settle()?;
+        }
         for _span in 0..2 {
             let (a, b) = (span(&mut numbers)?, span(&mut numbers)?);
             assert_of_span(&rt, &shadow, past, a);

@@ -4,7 +4,7 @@ use Rattle.pmf_shadow.proofs.StandsLemmas.{follows-within, stands-fences}
 use Rattle.pmf_shadow.proofs.tests.follow_all.Goals as goal
 
 pub loop-index-init : goal.loop-index-init
-loop-index-init c = c.new-shadow.ensures (λ k. k) c.args.events.now
+loop-index-init c = c.with_front-shadow.ensures (λ k. k) c.args.events.now
 
 pub follow-requires : goal.follow-requires
 follow-requires c = let few = stands-fences _ (λ k. k) c.args.events.now c.loop-index.index c.loop-index.invariant in omega arith

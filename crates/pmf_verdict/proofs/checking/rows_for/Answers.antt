@@ -12,7 +12,7 @@ loop-index-preserved c =
     let es = c.args.events.now in
     let i = c.loop-index.index in
     let here : event_at es (suc i) ≡ Some c.index-events-index.result = slice_get_read es (length es) i c.index-events-index.result refl (omega arith) c.index-events-index.is in
-    rw add-one (c.in_ok-follow.ensures.walks es i c.loop-index.invariant.0 here (add-one i), c.in_ok-follow.ensures.profile ∙ c.loop-index.invariant.1)
+    rw add-one (c.in_ok-follow.ensures.walks es i (c.in_ok-settle_for.ensures.walks es i c.loop-index.invariant.0) here (add-one i), c.in_ok-follow.ensures.profile ∙ c.in_ok-settle_for.ensures.profile ∙ c.loop-index.invariant.1)
 
 pub returns : goal.returns
 unfolding rows_of rows_at_end

@@ -1,4 +1,4 @@
-use Rattle.std.proofs.Common.{refl, suc, ◌+◌, ◌≡◌, ap, subst, arith}
+use Rattle.std.proofs.Common.{refl, suc, ◌+◌, ◌≡◌, ap, subst, length, arith}
 use Rattle.pmf_query.{specs.Upkeep.{HasWalkedOver}, proofs.InsideLemmas.{event_here}}
 use Rattle.pmf_query.proofs.upkeep.Walk.over.Goals as goal
 
@@ -12,6 +12,11 @@ loop-event-preserved c =
     let next : suc c.loop-event.event-index ≡ c.loop-event.event-index + 1 = omega arith in record {
       place = ap (λ n. n + 1) place;
       walked = subst (HasWalkedOver c.follow.new.self c.args.events.now) next
-          (c.in_ok-follow.ensures c.args.events.now c.loop-event.event-index c.loop-event.invariant.walked
+          (c.in_ok-follow.ensures c.args.events.now c.loop-event.event-index (c.in_ok-settle_for.ensures c.args.events.now c.loop-event.event-index c.loop-event.invariant.walked)
           (event_here c.args.events.now c.loop-event.event-index c.event-item.result c.loop-event-test.true c.event-item.is) (omega (arith, place)));
     }
+
+pub returns : goal.returns
+returns c =
+    let end : c.loop-event.event-index ≡ length c.args.events.now = omega arith in
+    c.in_ok-settle.ensures c.args.events.now (length c.args.events.now) (subst (HasWalkedOver c.loop-event.walk c.args.events.now) end c.loop-event.invariant.walked)

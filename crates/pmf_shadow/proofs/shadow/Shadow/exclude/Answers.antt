@@ -1,6 +1,6 @@
 use Rattle.std.proofs.Common.{refl, true}
 use Rattle.pmf_event.specs.{declared.event.Event.TheVariants.{Exclude}, Store.{stores, flushes, is_fence}, Exclusion.{marks, excludes}}
-use Rattle.pmf_runs.specs.Runs.{is_between}
+use Rattle.pmf_shadow.specs.Bytes.{is_between}
 use Rattle.pmf_shadow.proofs.StandsLemmas.{follows-mark}
 use Rattle.pmf_shadow.proofs.shadow.Shadow.exclude.Goals as goal
 

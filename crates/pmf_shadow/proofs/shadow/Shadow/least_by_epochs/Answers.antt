@@ -1,6 +1,6 @@
 use Rattle.std.proofs.Common.{◌≡◌, refl, sym, ◌∙◌, ap, Some}
 use Rattle.pmf_event.specs.Order.{paired, with_partner}
-use Rattle.pmf_runs.specs.Runs.{passing, keyed}
+use Rattle.pmf_shadow.specs.Bytes.{passing, keyed}
 use Rattle.pmf_shadow.{specs.States.{kept_opening, checked_store}, specs.Pairs.{kept, by_epochs}, proofs.PieceLemmas.{least-of_span}, proofs.UnorderedLemmas.{epochs-found, epochs-partner}}
 use Rattle.pmf_shadow.proofs.shadow.Shadow.least_by_epochs.Goals as goal
 

@@ -1,6 +1,6 @@
 use Rattle.std.proofs.Common.{◌≡◌, refl, sym, ◌∙◌, ap, subst, Some}
 use Rattle.pmf_event.{specs.Order.{paired, with_partner}, proofs.RangeLemmas.{first-passes}}
-use Rattle.pmf_runs.specs.Runs.{passing, keyed}
+use Rattle.pmf_shadow.specs.Bytes.{passing, keyed}
 use Rattle.pmf_shadow.{specs.States.{kept_opening, kept_place, checked_store, late_for, has_one_by}, specs.Pairs.{kept, by_lines, on_line, IsLeastValue}, proofs.PieceLemmas.{least-of_span}, proofs.UnorderedLemmas.{lines-found-at, lines-partner-at, early-found, place-found, found-kept, opens-from}}
 use Rattle.pmf_shadow.proofs.shadow.Shadow.least_by_lines.Goals as goal
 

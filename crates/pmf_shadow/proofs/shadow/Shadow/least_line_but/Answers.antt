@@ -1,5 +1,5 @@
 use Rattle.std.proofs.Common.{sym, ◌∙◌}
-use Rattle.pmf_runs.specs.Runs.{passing}
+use Rattle.pmf_shadow.specs.Bytes.{passing}
 use Rattle.pmf_shadow.proofs.StretchLemmas.{but-more}
 use Rattle.pmf_shadow.proofs.shadow.Shadow.least_line_but.Goals as goal
 

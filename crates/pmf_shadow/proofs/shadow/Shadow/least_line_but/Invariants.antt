@@ -1,5 +1,5 @@
 use Rattle.std.proofs.Common.{◌-◌}
-use Rattle.pmf_runs.specs.Runs.{passing}
+use Rattle.pmf_shadow.specs.Bytes.{passing}
 use Rattle.pmf_shadow.{specs.Stretches.{line_has_but}, proofs.StretchLemmas.{NoneBefore}}
 use Rattle.pmf_shadow.proofs.shadow.Shadow.least_line_but.Given as goal
 

@@ -1,5 +1,5 @@
 use Rattle.std.proofs.Common.{◌-◌}
-use Rattle.pmf_runs.specs.Runs.{passing}
+use Rattle.pmf_shadow.specs.Bytes.{passing}
 use Rattle.pmf_shadow.{specs.Stretches.{line_lacks}, proofs.StretchLemmas.{NoneBefore}}
 use Rattle.pmf_shadow.proofs.shadow.Shadow.least_line_without.Given as goal
 

@@ -1,5 +1,5 @@
 use Rattle.std.proofs.Common.{arith, ◌-◌}
-use Rattle.pmf_runs.specs.Runs.{passing, state_at}
+use Rattle.pmf_shadow.specs.Bytes.{passing, state_at}
 use Rattle.pmf_shadow.proofs.StretchLemmas.{count-but}
 use Rattle.pmf_shadow.proofs.shadow.Shadow.lines_with_but.Goals as goal
 

@@ -1,5 +1,5 @@
 use Rattle.std.proofs.Common.{arith, ◌-◌}
-use Rattle.pmf_runs.specs.Runs.{passing}
+use Rattle.pmf_shadow.specs.Bytes.{passing}
 use Rattle.pmf_shadow.proofs.StretchLemmas.{count-lacks}
 use Rattle.pmf_shadow.proofs.shadow.Shadow.lines_without.Goals as goal
 

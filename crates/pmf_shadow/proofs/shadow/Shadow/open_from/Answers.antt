@@ -1,6 +1,6 @@
 use Rattle.std.proofs.Common.{◌-◌, sym, arith}
 use Rattle.pmf_event.proofs.RangeLemmas.{first-passes, none-passes}
-use Rattle.pmf_runs.specs.Runs.{passing}
+use Rattle.pmf_shadow.specs.Bytes.{passing}
 use Rattle.pmf_shadow.{specs.States.{is_outstanding}, proofs.StandingLemmas.{quiet-run, stands-open}}
 use Rattle.pmf_shadow.proofs.shadow.Shadow.open_from.Goals as goal
 

@@ -4,7 +4,7 @@ use Rattle.pmf_verdict.proofs.checking.Walk.new.Goals as goal
 
 pub returns-clause-walks : goal.returns-clause-walks
 returns-clause-walks c = λ es. record {
-  stands = c.new.ensures (λ k. k) es;
-  tracks = c.new-2.ensures (λ k. k) es;
-  rows_are = c.new-3.ensures ∙ sym (rows_upto-none c.args.profile es);
+  stands = c.for_walk.ensures (λ k. k) es;
+  tracks = c.new.ensures (λ k. k) es;
+  rows_are = c.new-2.ensures ∙ sym (rows_upto-none c.args.profile es);
 }

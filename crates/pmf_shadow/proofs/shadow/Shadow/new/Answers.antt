@@ -1,6 +1,0 @@
-use Rattle.std.proofs.Common.{refl}
-use Rattle.pmf_shadow.proofs.StandsLemmas.{stands-empty}
-use Rattle.pmf_shadow.proofs.shadow.Shadow.new.Goals as goal
-
-pub returns : goal.returns
-returns c = λ told es. stands-empty _ told es refl c.new.ensures.states
