@@ -1,6 +1,6 @@
 //! A section: its name and its events.
 
-ghost use Rattle.std.specs.Prelude.{◌≡◌, ◌↔◌, ◌≤◌, ◌<◌, [], ◌∷◌, ◌++◌, length, IsTrue, OnOk, OnErr, IsErrOf, All};
+ghost use Rattle.std.specs.Prelude.{◌≡◌, ◌↔◌, ◌+◌, ◌≤◌, ◌<◌, [], ◌∷◌, ◌++◌, length, IsTrue, OnOk, OnErr, IsErrOf, All};
 ghost use Rattle.pmf_event.specs.{Section.{Trace, IsValidEvent}, declared.section.TheConstants.{EVENT_LIMIT}};
 
 use crate::event::Event;
@@ -82,6 +82,29 @@ impl Section {
         event.has_valid_spans();
         self.events.push(event)?;
         Ok(())
+    }
+
+    /// Adds the events of the other section behind its own, whatever that one's name is. Where it has none, it takes those over as they
+    /// lie. After either refusal the section is unchanged; only [`SectionFault::OutOfMemory`] has asked for memory.
+    pub fn append(&mut self, more: Section) -> Result<(), SectionFault>
+        ensures ok { OnOk result
+            (self.new ≡ record self.old { events = self.old.events ++ more.events }) }
+        ensures too_many { IsErrOf result SectionFault.TooManyEvents
+            ↔ (EVENT_LIMIT < length self.old.events + length more.events) }
+        ensures unchanged { OnErr result (self.new ≡ self.old) }
+    {
+        if more.events.len() > EVENT_LIMIT - self.events.len() {
+            return Err(SectionFault::TooManyEvents);
+        }
+        let Section { events, .. } = more;
+        if self.events.is_empty() {
+            self.events = events;
+            return Ok(());
+        }
+        match self.events.extend_from_slice(&events) {
+            Ok(()) => Ok(()),
+            Err(_) => Err(SectionFault::OutOfMemory),
+        }
     }
 
     /// The section's name.

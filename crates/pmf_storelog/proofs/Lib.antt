@@ -8,6 +8,7 @@ pub mod LogLemmas
 pub mod SectionLemmas
 pub mod RisingLemmas
 pub mod TallyLemmas
+pub mod AheadLemmas
 pub mod ProgressLemmas
 pub mod ReaderLemmas
 pub mod CallerLemmas

@@ -1,7 +1,7 @@
 -- The open sections with one more event, and with another current one.
 use Rattle.std.{proofs.Common.{◌≡◌, ◌≢◌, ℕ, suc, ◌+◌, ◌<◌, ◌≤◌, Bool, false, cond, map, List, [], ◌∷◌, ◌++◌, Option, Some, None, length, set, get_or, length-append, Result, Ok, Err, OnOk, IfOk, IfErr, refl, sym, ap, ◌∙◌, arith, ⊎_elim, nat_cmp, Ordering, eq-eqb, ne_eqb, append_assoc, append-nil, get_or-set_same, get_or-set_other, length-set}, specs.Cmp.{nat_cmp_total}, proofs.lemmas.Bool.{cases_eq}, proofs.lemmas.List.{get_or_append_left, get_or_push, length_push}, specs.declared.cmp.Ordering.TheVariants.{Less, Equal, Greater}, specs.Map.{lookup, keys_of}, specs.BTreeMap.{get, is_at, insert_entry}, specs.BTreeSet.{insert_key}, specs.List.Sorted.{IsStrictlySortedBy}, proofs.lemmas.Map.{lookup-none}, proofs.lemmas.Map.Entries.{none_below_head}, proofs.lemmas.Map.Views.{All-found}, proofs.lemmas.Map.Keys.{sorted_tail}, proofs.lemmas.Grind.{common_steps}}
 use Rattle.pmf_event.specs.{declared.event.Event.{Event}, Section.{Trace}}
-use Rattle.pmf_storelog.specs.{declared.fault.Cause.{Cause}, declared.fault.Cause.TheVariants.{OutOfMemory, TooManySections}, declared.fault.TheConstants.{SECTION_LIMIT}, declared.sections.OpenSections.{OpenSections}, LogText.{section_named}, Rising.{with_number}, Sections.{HasSections, Opens, StandsAt, current_place, with_event}}
+use Rattle.pmf_storelog.specs.{declared.fault.Cause.{Cause}, declared.fault.Cause.TheVariants.{OutOfMemory, TooManySections}, declared.fault.TheConstants.{SECTION_LIMIT}, declared.sections.OpenSections.{OpenSections}, LogText.{section_named}, Rising.{with_number}, Sections.{HasSections, Opens, StandsAt, current_place, with_events}}
 
 -- the same said of equal numbers and events
 pub sections_as : (run : ℕ) (numbers numbers' : List ℕ) (events events' : ℕ → List Event) (current current' : ℕ) (opened : OpenSections) →
@@ -111,11 +111,11 @@ module _ (run : ℕ) (numbers : List ℕ) (events : ℕ → List Event) (current
   pub none_yet : length old.sections.items ≡ 0 → get nat_cmp old.places 0 ≡ None
   none_yet empty = ap (get nat_cmp old.places) (sym (has.before empty)) ∙ has.here ∙ here_none old empty
 
-  -- the current section takes an event
-  pub taken : (event : Event) (new : OpenSections) → length old.sections.items ≢ 0 → new.run ≡ old.run → new.places ≡ old.places → new.current ≡ old.current →
-      new.sections.items ≡ set old.sections.items old.current (section_named run current (events current ++ event ∷ [])) →
-      HasSections run (with_number numbers current) (with_event events current event) current new
-  taken event new some same_run same_places same_current is = record {
+  -- the current section takes events
+  pub taken : (more : List Event) (new : OpenSections) → length old.sections.items ≢ 0 → new.run ≡ old.run → new.places ≡ old.places → new.current ≡ old.current →
+      new.sections.items ≡ set old.sections.items old.current (section_named run current (events current ++ more)) →
+      HasSections run (with_number numbers current) (with_events events current more) current new
+  taken more new some same_run same_places same_current is = record {
     run_is = same_run ∙ has.run_is;
     ordered = rw same_places has.ordered;
     numbers_are = rw same_places (has.numbers_are ∙ sym (same_numbers current old.current current_at));
@@ -135,23 +135,23 @@ module _ (run : ℕ) (numbers : List ℕ) (events : ℕ → List Event) (current
       stands : StandsAt (section_named run current (events current)) old.sections.items old.current
       stands = has.found current old.current current_at
 
-      found : (n place : ℕ) → get nat_cmp new.places n ≡ Some place → StandsAt (section_named run n (with_event events current event n)) new.sections.items place
+      found : (n place : ℕ) → get nat_cmp new.places n ≡ Some place → StandsAt (section_named run n (with_events events current more n)) new.sections.items place
       found n place at_n = ⊎_elim
           (λ equal.
           let at_current : get nat_cmp old.places current ≡ Some place = ap (λ m. get nat_cmp m current) (sym same_places) ∙ ap (get nat_cmp new.places) equal ∙ at_n in
           let places : Some old.current ≡ Some place = sym current_at ∙ at_current in let there : old.current ≡ place = cc in
-          let long : place < length new.sections.items = omega (arith, there, stands.0, ap length is, length-set old.sections.items old.current (section_named run current (events current ++ event ∷ []))) in
+          let long : place < length new.sections.items = omega (arith, there, stands.0, ap length is, length-set old.sections.items old.current (section_named run current (events current ++ more))) in
           rw (← equal, eq-eqb current current refl) (long, λ d. rw (is, ← there) (get_or-set_same old.sections.items old.current _ d stands.0)))
           (λ apart.
           let before = has.found n place (ap (λ m. get nat_cmp m n) (sym same_places) ∙ at_n) in
           let elsewhere : place ≢ old.current = λ there. apart (ap (λ t. t.name.number) (sym (stands.1 blank) ∙ ap (λ p. get_or old.sections.items p blank) (sym there) ∙ before.1 blank)) in
           rw (ne_eqb current n apart) (
-            omega (arith, before.0, ap length is, length-set old.sections.items old.current (section_named run current (events current ++ event ∷ []))),
+            omega (arith, before.0, ap length is, length-set old.sections.items old.current (section_named run current (events current ++ more))),
             λ d. rw is (get_or-set_other old.sections.items old.current place _ d elsewhere ∙ before.1 d),
           ))
           (cases_eq current n)
 
-      others : (n : ℕ) → get nat_cmp new.places n ≡ None → with_event events current event n ≡ []
+      others : (n : ℕ) → get nat_cmp new.places n ≡ None → with_events events current more n ≡ []
       others n none = ⊎_elim
           (λ equal. absurd (some_is_none (sym (ap (λ m. get nat_cmp m current) (sym same_places) ∙ ap (get nat_cmp new.places) equal ∙ none) ∙ current_at)))
           (λ apart. rw (ne_eqb current n apart) (has.others n (ap (λ m. get nat_cmp m n) (sym same_places) ∙ none)))
@@ -181,9 +181,9 @@ module _ (run : ℕ) (numbers : List ℕ) (events : ℕ → List Event) (current
 
 -- what the first section's event answers is said of no section before it
 module _ (run : ℕ) (numbers : List ℕ) (events : ℕ → List Event) (current : ℕ) (old mid : OpenSections) (has : HasSections run numbers events current old) (empty : length old.sections.items ≡ 0) (opens : Opens 0 old mid) where
-  pub first_ok : (event : Event) (new : OpenSections) (r : Result (Unit {0}) Cause) → OnOk r (HasSections run (with_number (with_number numbers 0) 0) (with_event events 0 event) 0 new) →
-      OnOk r (HasSections run (with_number numbers current) (with_event events current event) current new)
-  first_ok event new r holds = grind (arith, common_steps, sections_as, same_numbers, first_begun)
+  pub first_ok : (more : List Event) (new : OpenSections) (r : Result (Unit {0}) Cause) → OnOk r (HasSections run (with_number (with_number numbers 0) 0) (with_events events 0 more) 0 new) →
+      OnOk r (HasSections run (with_number numbers current) (with_events events current more) current new)
+  first_ok more new r holds = grind (arith, common_steps, sections_as, same_numbers, first_begun)
 
 -- a list by entries is a list by their numbers
 by_number : (entries : List (ℕ × ℕ)) (f : ℕ × ℕ → Trace) (g : ℕ → Trace) → ((k : ℕ) (d : ℕ × ℕ) → k < length entries → f (get_or entries k d) ≡ g (get_or entries k d).0) →

@@ -15,6 +15,7 @@ pub mod Answers
 pub mod Sections
 pub mod Tally
 pub mod Progress
+pub mod Ahead
 pub mod Reader
 pub mod Canonical
 pub mod Spelling

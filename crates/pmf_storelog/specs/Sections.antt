@@ -13,9 +13,13 @@ StandsAt section sections place =
 abbrev pub current_place : OpenSections → Option ℕ
 current_place opened = if length opened.sections.items == 0 then None else Some opened.current
 
--- the events of each number, with one more of this number
+-- the events of each number, with more of this number
+abbrev pub with_events : (ℕ → List Event) → ℕ → List Event → ℕ → List Event
+with_events events current more number = if current == number then events number ++ more else events number
+
+-- the same with one more
 abbrev pub with_event : (ℕ → List Event) → ℕ → Event → ℕ → List Event
-with_event events current event number = if current == number then events number ++ event ∷ [] else events number
+with_event events current event = with_events events current (event ∷ [])
 
 -- there are sections of exactly these numbers, each with its events, and this number is current
 pub record HasSections (run : ℕ) (numbers : List ℕ) (events : ℕ → List Event) (current : ℕ) (opened : OpenSections) : Type 0 where

@@ -11,6 +11,9 @@
 //! `Numbers` and `Records`; what a reader in mid-log stands for, in `Reader`; that want of memory is
 //! left out of each promise, in `Answers`.
 //!
+//! Parts of a piece can be read before their turn ([`Ahead`]), by threads of their own; a reader that is fed the piece with them
+//! answers what it answers of the piece alone.
+//!
 //! [`write_section`] writes a section as such a text (`Canonical`), and the text reads as that section
 //! and nothing else.
 //!
@@ -21,6 +24,7 @@
 //! Not promised here: that memory suffices, or that a log is what the program did.
 #![tactic(auto)]
 
+mod ahead;
 mod fault;
 mod fields;
 pub mod laws;
@@ -29,6 +33,7 @@ mod line;
 mod line_tests;
 mod log;
 mod number;
+mod plain;
 mod progress;
 mod quick;
 #[cfg(test)]
@@ -37,6 +42,7 @@ mod reader;
 mod reading;
 mod record;
 mod sections;
+mod stretch;
 mod tally;
 #[cfg(test)]
 mod tests;
@@ -45,6 +51,7 @@ mod writing;
 #[cfg(test)]
 mod writing_tests;
 
+pub use ahead::Ahead;
 pub use fault::{Cause, LOG_LIMIT, LogFault, SECTION_LIMIT};
 pub use line::{LineFault, read_event};
 pub use log::Log;

@@ -1,10 +1,12 @@
 //! How far a log was read: the records that ended, and the one that a piece cut.
 
-ghost use Rattle.std.specs.Prelude.{◌≡◌, ◌+◌, ◌<◌, ◌≤◌, ◌^◌, ℕ, List, [], ◌∷◌, ◌++◌, length, take, MatchOption, OnOk, IfOk, IfErr, IfSome};
+ghost use Rattle.std.specs.Prelude.{◌≡◌, ◌+◌, ◌<◌, ◌≤◌, ◌^◌, ℕ, List, [], ◌∷◌, ◌++◌, length, take, drop, All, MatchOption, OnOk, OnErr, IfOk, IfErr, IfSome};
 ghost use Rattle.pmf_storelog.specs.{Quick.{SaysAlone}, Separators.{ended_records, parts_of}};
 
+use crate::ahead::Ahead;
 use crate::fault::LogFault;
 use crate::quick::read_part;
+use crate::stretch::Stretch;
 use crate::tally::Tally;
 use memchr::memchr3;
 use pmf_event::Event;
@@ -18,7 +20,7 @@ pub(crate) struct Progress {
 }
 
 impl Progress {
-    ghost use Rattle.pmf_storelog.specs.{LogText.{first_fault, out_of_memory}, Answers.{IsShown}, Progress.{HasParsed, HasParsedTo}};
+    ghost use Rattle.pmf_storelog.specs.{LogText.{first_fault, out_of_memory}, Answers.{IsShown}, Ahead.{IsAheadOf, IsStretchOf}, Progress.{HasParsed, HasParsedTo, IsFaultBehind, Reaches}};
 
     /// What no bytes give. Takes no memory.
     pub(crate) fn new(alloc: Global, run: u64) -> Progress
@@ -31,9 +33,15 @@ impl Progress {
         }
     }
 
-    /// Takes every part of the piece that a separator ends, and hands back the bytes after the last one.
-    pub(crate) fn read_ended<'a>(&mut self, piece: &'a [u8]) -> Result<&'a [u8], LogFault>
-        requires { self.old.tally.records + length piece.now < 2 ^ 64 }
+    /// Takes every part of the piece that a separator ends, and hands back the bytes after the last one. Parts of it may have been read
+    /// before their turn.
+    pub(crate) fn read_ended<'a>(
+        &mut self,
+        piece: &'a [u8],
+        ahead: Vec<Ahead>,
+    ) -> Result<&'a [u8], LogFault>
+        requires room { self.old.tally.records + length piece.now < 2 ^ 64 }
+        requires ahead { All (IsAheadOf piece.now) ahead.items }
         ensures grows { self.new.tally.records ≤ self.old.tally.records + length piece.now }
         ensures ok { (run : ℕ) (bytes : List ℕ) → HasParsed run bytes self.old
             → IfOk result (λ rest. HasParsedTo run bytes piece.now rest.now self.new) }
@@ -41,11 +49,67 @@ impl Progress {
             → IfErr result (λ fault. IsShown fault (first_fault (ended_records (bytes ++ piece.now)))) }
     {
         let mut start = 0;
-        while let Some((len, says)) = next_part(&piece[start..]) {
-            self.end_part(&piece[start..start + len], says)?;
-            start += len + 1;
+        for part in ahead {
+            start = self.take_ahead(piece, start, part)?;
         }
+        start = self.read_to(piece, start, piece.len())?;
         Ok(&piece[start..])
+    }
+
+    // Goes on from this place of the piece by what was read of a part of it, and tells where that ends.
+    fn take_ahead(&mut self, piece: &[u8], start: usize, ahead: Ahead) -> Result<usize, LogFault>
+        requires from { start ≤ length piece.now }
+        requires room { self.old.tally.records + length piece.now < 2 ^ 64 + start }
+        requires ahead { IsAheadOf piece.now ahead }
+        ensures grows { self.new.tally.records + start ≤ self.old.tally.records + length piece.now }
+        ensures ok { IfOk result (λ end. Reaches piece.now start end self.old self.new) }
+        ensures err { IfErr result (IsFaultBehind piece.now start self.old) }
+    {
+        let mut at = start;
+        for stretch in ahead.stretches {
+            at = self.read_to(piece, at, stretch.from)?;
+            at = self.take_stretch(at, stretch)?;
+        }
+        Ok(at)
+    }
+
+    // Takes parts from this place of the piece on, until one ends at the other place or behind it, or no separator follows.
+    fn read_to(&mut self, piece: &[u8], start: usize, to: usize) -> Result<usize, LogFault>
+        requires from { start ≤ length piece.now }
+        requires room { self.old.tally.records + length piece.now < 2 ^ 64 + start }
+        ensures grows { self.new.tally.records + start ≤ self.old.tally.records + length piece.now }
+        ensures ok { IfOk result (λ end. Reaches piece.now start end self.old self.new) }
+        ensures all { IfOk result (λ end. end < to → parts_of (drop end piece.now) ≡ drop end piece.now ∷ []) }
+        ensures err { IfErr result (IsFaultBehind piece.now start self.old) }
+    {
+        let mut end = start;
+        while end < to {
+            let Some((len, says)) = next_part(&piece[end..]) else {
+                break;
+            };
+            self.end_part(&piece[end..end + len], says)?;
+            end += len + 1;
+        }
+        Ok(end)
+    }
+
+    // Takes the stretch of a piece and tells where it ends, if it begins at this place, where nothing is kept of a part, and there is room.
+    fn take_stretch(&mut self, start: usize, stretch: Stretch) -> Result<usize, LogFault>
+        requires { stretch.from ≡ start → self.old.tally.records + stretch.plain.records < 2 ^ 64 }
+        ensures kept { OnErr result (self.new.tally.records ≡ self.old.tally.records) }
+        ensures ok { IfOk result (λ end. (piece : List ℕ) → IsStretchOf piece stretch → start ≤ length piece
+            → Reaches piece start end self.old self.new) }
+        ensures err { IfErr result (λ fault. fault ≡ out_of_memory) }
+    {
+        if stretch.from != start || !self.carry.is_empty() {
+            return Ok(start);
+        }
+        let Stretch { end, plain, .. } = stretch;
+        if self.tally.take_plain(plain)? {
+            Ok(end)
+        } else {
+            Ok(start)
+        }
     }
 
     // Takes the part that ends with these bytes; they may be known to say an event.

@@ -1,8 +1,9 @@
 //! The reader of a log in pieces.
 
-ghost use Rattle.std.specs.Prelude.{◌≡◌, ◌≢◌, ◌≤◌, ℕ, List, [], ◌++◌, None, OnOk, OnErr, IfErr};
+ghost use Rattle.std.specs.Prelude.{◌≡◌, ◌≤◌, ℕ, List, [], All};
 ghost use Rattle.pmf_storelog.specs.declared.fault.TheConstants.{LOG_LIMIT};
 
+use crate::ahead::Ahead;
 use crate::fault::{Cause, LOG_LIMIT, LogFault};
 use crate::log::Log;
 use crate::progress::Progress;
@@ -19,12 +20,13 @@ pub struct LogReader {
     total: usize,
     /// Whether a piece was refused.
     spent: bool,
+    alloc: Global,
     ghost counted: { progress.tally.records ≤ total },
     ghost within: { total ≤ LOG_LIMIT },
 }
 
 impl LogReader {
-    ghost use Rattle.pmf_storelog.specs.{LogText.{IsFaultOfAll, log_of, out_of_memory, shown_fault, spent}, Answers.{Answers, IsShown}, Reader.{HasRead, IsSpent}};
+    ghost use Rattle.pmf_storelog.specs.{Ahead.{IsAheadOf}, LogText.{log_of, spent}, Answers.{Answers}, Reader.{Feeds, HasRead, IsSpent}};
 
     /// A reader of the run's log, of which nothing is fed yet. Takes no memory.
     pub fn new(alloc: Global, run: u64) -> LogReader
@@ -34,6 +36,7 @@ impl LogReader {
             progress: Progress::new(alloc, run),
             total: 0,
             spent: false,
+            alloc,
         }
     }
 
@@ -43,22 +46,16 @@ impl LogReader {
     ///
     /// Takes memory for events, and for a record that a piece cuts.
     pub fn feed(&mut self, piece: &[u8]) -> Result<(), LogFault>
-        // The reader stands for the piece too, which shows no fault.
-        ensures ok { (run : ℕ) (bytes : List ℕ) → HasRead run bytes self.old
-            → OnOk result (HasRead run (bytes ++ piece.now) self.new) }
-        ensures faultless { (run : ℕ) (bytes : List ℕ) → HasRead run bytes self.old
-            → OnOk result (shown_fault (bytes ++ piece.now) ≡ None) }
+        ensures { Feeds self.old piece.now self.new result }
+    {
+        self.feed_ahead(piece, Vec::new(self.alloc))
+    }
 
-        // Want of memory aside, the fault is the one that the bytes show, whatever follows them.
-        ensures err { (run : ℕ) (bytes : List ℕ) → HasRead run bytes self.old
-            → IfErr result (λ fault. IsShown fault (shown_fault (bytes ++ piece.now))) }
-        ensures of_all { (run : ℕ) (bytes : List ℕ) → HasRead run bytes self.old
-            → IfErr result (λ fault. fault ≢ out_of_memory
-            → IsFaultOfAll fault (bytes ++ piece.now)) }
-
-        // A refusal spends the reader, which stays spent.
-        ensures refused { OnErr result (IsSpent self.new) }
-        ensures spent { IsSpent self.old → result ≡ Err spent }
+    /// The same, where parts of the piece were read before their turn, in the order in which they stand there. What was read of a part isn't
+    /// read again, unless a record goes on into it, or a section would get too many events.
+    pub fn feed_ahead(&mut self, piece: &[u8], ahead: Vec<Ahead>) -> Result<(), LogFault>
+        requires { All (IsAheadOf piece.now) ahead.items }
+        ensures { Feeds self.old piece.now self.new result }
     {
         if self.spent {
             return Err(LogFault::SPENT);
@@ -66,7 +63,12 @@ impl LogReader {
         self.spent = true;
         let taken = piece.len().min(LOG_LIMIT - self.total);
         self.total += taken;
-        let rest = self.progress.read_ended(&piece[..taken])?;
+        let ahead = if taken == piece.len() {
+            ahead
+        } else {
+            Vec::new(self.alloc)
+        };
+        let rest = self.progress.read_ended(&piece[..taken], ahead)?;
         if taken < piece.len() {
             return Err(self.progress.tally.fault(Cause::TooLong));
         }

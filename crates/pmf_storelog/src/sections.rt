@@ -1,11 +1,11 @@
 //! The sections of a run that have begun.
 
-ghost use Rattle.std.specs.{Prelude.{◌≡◌, ◌≢◌, ◌<◌, ◌≤◌, ℕ, List, [], ◌∷◌, ◌++◌, length, map, slice_index_or, None, OnOk, IfOk, IfErr}, Option.{ForSome}, Ordering.{nat_cmp}, BTreeMap.{get, IsOrdered}};
+ghost use Rattle.std.specs.{Prelude.{◌≡◌, ◌≢◌, ◌+◌, ◌<◌, ◌≤◌, ℕ, true, List, [], ◌∷◌, ◌++◌, length, map, slice_index_or, None, OnOk, IfOk, IfErr}, Option.{ForSome}, Ordering.{nat_cmp}, BTreeMap.{get, IsOrdered}};
 ghost use Rattle.pmf_event.specs.{declared.section.TheConstants.{EVENT_LIMIT}, Section.{Trace}};
 ghost use Rattle.pmf_storelog.specs.declared.fault.TheConstants.{SECTION_LIMIT};
 
 use crate::fault::{Cause, SECTION_LIMIT};
-use pmf_event::{Event, Name, Section, SectionFault};
+use pmf_event::{EVENT_LIMIT, Event, Name, Section, SectionFault};
 use std::alloc::{AllocError, Global};
 use std::collections::BTreeMap;
 use std::sync::Arc;
@@ -29,7 +29,7 @@ pub(crate) struct OpenSections {
 
 impl OpenSections {
     ghost use Rattle.pmf_event.specs.declared.event.Event.{Event};
-    ghost use Rattle.pmf_storelog.specs.{LogText.{section_named}, Rising.{with_number}, Sections.{HasSections, Opens, with_event}, declared.fault.Cause.TheVariants.{OutOfMemory, TooManyEvents, TooManySections}};
+    ghost use Rattle.pmf_storelog.specs.{Ahead.{with_number_of}, LogText.{section_named}, Rising.{with_number}, Sections.{HasSections, Opens, with_event, with_events}, declared.fault.Cause.TheVariants.{OutOfMemory, TooManyEvents, TooManySections}};
 
     /// No section yet. Takes no memory.
     pub(crate) fn new(alloc: Global, run: u64) -> OpenSections
@@ -79,6 +79,46 @@ impl OpenSections {
             → (cause ≡ TooManyEvents) × (length (events current) ≡ EVENT_LIMIT)) }
     {
         match self.sections[self.current].push(event) {
+            Ok(()) => Ok(()),
+            Err(SectionFault::TooManyEvents) => Err(Cause::TooManyEvents),
+            Err(SectionFault::OutOfMemory) => Err(Cause::OutOfMemory),
+        }
+    }
+
+    /// Whether the current section, or section 0 before the first one, has room for so many events more.
+    pub(crate) fn has_room(&self, more: &Section) -> bool
+        ensures { (run : ℕ) (numbers : List ℕ) (events : ℕ → List Event) (current : ℕ)
+            → HasSections run numbers events current self.now
+            → result ≡ true → length (events current) + length more.now.events ≤ EVENT_LIMIT }
+    {
+        if self.sections.is_empty() {
+            return more.events().len() <= EVENT_LIMIT;
+        }
+        more.events().len() <= EVENT_LIMIT - self.sections[self.current].events().len()
+    }
+
+    /// Adds the events of a section, whatever its name is, behind those of the current one, as `add` does one after another.
+    pub(crate) fn append(&mut self, more: Section) -> Result<(), Cause>
+        ensures { (run : ℕ) (numbers : List ℕ) (events : ℕ → List Event) (current : ℕ)
+            → HasSections run numbers events current self.old
+            → OnOk result (HasSections run (with_number_of numbers current more.events) (with_events events current more.events) current self.new) }
+    {
+        if more.events().is_empty() {
+            return Ok(());
+        }
+        if self.sections.is_empty() {
+            self.open(0)?;
+        }
+        self.append_here(more)
+    }
+
+    fn append_here(&mut self, more: Section) -> Result<(), Cause>
+        requires { length self.old.sections.items ≢ 0 }
+        ensures { (run : ℕ) (numbers : List ℕ) (events : ℕ → List Event) (current : ℕ)
+            → HasSections run numbers events current self.old
+            → OnOk result (HasSections run (with_number numbers current) (with_events events current more.events) current self.new) }
+    {
+        match self.sections[self.current].append(more) {
             Ok(()) => Ok(()),
             Err(SectionFault::TooManyEvents) => Err(Cause::TooManyEvents),
             Err(SectionFault::OutOfMemory) => Err(Cause::OutOfMemory),

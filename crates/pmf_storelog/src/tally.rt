@@ -1,9 +1,10 @@
 //! What the ended records of a log gave so far.
 
-ghost use Rattle.std.specs.Prelude.{◌≡◌, ◌≢◌, ◌+◌, ◌<◌, ◌≤◌, ◌^◌, ℕ, List, [], ◌∷◌, ◌++◌, Ok, OnOk, IfOk, IfErr, IfSome, IsOk};
+ghost use Rattle.std.specs.Prelude.{◌≡◌, ◌≢◌, ◌+◌, ◌<◌, ◌≤◌, ◌^◌, ℕ, false, if◌then◌else◌, List, [], ◌∷◌, ◌++◌, Ok, OnOk, OnErr, IfOk, IfErr, IfSome, IsOk};
 
 use crate::fault::{Cause, LogFault};
 use crate::log::Log;
+use crate::plain::Plain;
 use crate::record::{Saying, read_record};
 use crate::sections::OpenSections;
 use crate::trimming::trim;
@@ -23,7 +24,7 @@ pub(crate) struct Tally {
 }
 
 impl Tally {
-    ghost use Rattle.pmf_storelog.specs.{Separators.{records_in}, LogText.{first_fault, out_of_memory, sections_of, skipped_of}, Answers.{IsShown}, Quick.{SaysAlone}, Records.{record_of}, Tally.{AddsRecord, AddsSkipped, HasTaken, IsFaultFor}, declared.record.Saying.TheVariants.{Happens}};
+    ghost use Rattle.pmf_storelog.specs.{Ahead.{IsPlain}, Separators.{records_in}, LogText.{first_fault, out_of_memory, sections_of, skipped_of}, Answers.{IsShown}, Quick.{SaysAlone}, Records.{record_of}, Tally.{AddsRecord, AddsSkipped, HasTaken, IsFaultFor}, declared.record.Saying.TheVariants.{Happens}};
 
     /// The tally of no record.
     pub(crate) fn new(alloc: Global, run: u64) -> Tally
@@ -108,6 +109,33 @@ impl Tally {
     {
         let added = self.sections.add(event);
         self.count(added)
+    }
+
+    /// Takes the records of which this was kept, wherever they stood, if the current section has room for their events; tells whether it has.
+    pub(crate) fn take_plain(&mut self, plain: Plain) -> Result<bool, LogFault>
+        requires { self.old.records + plain.records < 2 ^ 64 }
+        ensures ok { (run : ℕ) (before records : List (List ℕ)) → HasTaken run before self.old → IsPlain records plain
+            → IfOk result (λ taken. HasTaken run (if taken then before ++ records else before) self.new) }
+        ensures err { IfErr result (λ fault. fault ≡ out_of_memory) }
+        ensures grows { self.new.records ≤ self.old.records + plain.records }
+        ensures kept { OnErr result (self.new.records ≡ self.old.records) }
+        ensures left { IfOk result (λ taken. taken ≡ false → self.new ≡ self.old) }
+    {
+        if !self.sections.has_room(&plain.section) {
+            return Ok(false);
+        }
+        let Plain {
+            section,
+            records,
+            skipped,
+        } = plain;
+        // There is room, so that nothing is refused for another cause.
+        let Ok(()) = self.sections.append(section) else {
+            return Err(LogFault::OUT_OF_MEMORY);
+        };
+        self.records += records;
+        self.skipped += skipped;
+        Ok(true)
     }
 
     // Counts a record whose section took it, or tells its fault.
