@@ -30,6 +30,13 @@ impl Ahead {
         }
     }
 
+    /// How many stretches were read.
+    pub fn stretches(&self) -> usize
+        ensures { result ≡ length self.now.stretches.items }
+    {
+        self.stretches.len()
+    }
+
     /// Reads the part, which begins with a record, of this piece. What isn't read, as where memory is refused, is read once it is its turn
     /// ([`LogReader::feed_ahead`](crate::LogReader::feed_ahead)).
     ///

@@ -25,6 +25,8 @@
 #![tactic(auto)]
 
 mod ahead;
+#[cfg(test)]
+mod ahead_tests;
 mod fault;
 mod fields;
 pub mod laws;

@@ -1,6 +1,5 @@
 -- What was read of a stream. Defined here.
 use Rattle.std.specs.{Prelude.{◌≡◌, ℕ, ◌+◌, ◌≤◌, ◌⊎◌, List, ◌++◌, length, Option}, Io.KnownBytes.{Consumes, IsAtEnd}}
-use Rattle.pmf_stream.specs.declared.reading.TheConstants.{PIECE}
 
 -- these bytes were read, at most one more than the limit
 pub record HasReadBytes (limit : ℕ) (old new : Option (List ℕ)) (bytes : List ℕ) : Type 0 where
@@ -16,11 +15,11 @@ pub record HasReadAll (limit : ℕ) (old new : Option (List ℕ)) (bytes : List 
 abbrev pub ReadsWithin : ℕ → Option (List ℕ) → Option (List ℕ) → Type 0
 ReadsWithin limit old new = (bytes : List ℕ) × HasReadBytes limit old new bytes
 
--- what the pieces go to took some bytes, and refused the piece behind them, which is the last that was read
-pub record HasReadTo {I E : Type 0} (Takes : I → List ℕ → I → Type 0) (Refuses : I → List ℕ → E → Type 0) (limit : ℕ) (old new : Option (List ℕ)) (fresh : I) (fault : E) : Type 0 where
+-- what the pieces, of at most so many bytes, go to took some bytes, and refused the piece behind them, which is the last that was read
+pub record HasReadTo {I E : Type 0} (most : ℕ) (Takes : I → List ℕ → I → Type 0) (Refuses : I → List ℕ → E → Type 0) (limit : ℕ) (old new : Option (List ℕ)) (fresh : I) (fault : E) : Type 0 where
   pub before : List ℕ
   pub piece : List ℕ
-  pub small : length piece ≤ PIECE
+  pub small : length piece ≤ most
   pub read : HasReadBytes limit old new (before ++ piece)
   pub taken : I
   pub takes : Takes fresh before taken

@@ -7,6 +7,7 @@ ghost use Rattle.pmf_ledger.specs.{declared.loading.TheConstants.{LEDGER_LIMIT},
 ghost use Rattle.pmf_device.specs.Failures.{CanCountOneMore};
 ghost use Rattle.pmf_stream.specs.{Answering.{Answers, RefusesReading, TellsFaults, failed_reads}, Checking.{AreWarnings, HasKept, IsCheckFaultOf, IsLogOf, IsReportOf, IsTooLong, IsWrittenOf, Reports, form_of}, Reading.{ReadsWithin}};
 
+use crate::ahead::{most_in_piece, read_ahead};
 use crate::excerpt::Excerpt;
 use crate::fault::StreamFault;
 use crate::reading::{Intake, read_into};
@@ -64,24 +65,33 @@ impl fmt::Display for CheckLogFault {
 
 impl Error for CheckLogFault {}
 
-// A log's reader, the record for which it refuses a piece, and the bytes that it has taken, where these are kept.
+// A log's reader with the workers that read parts of a piece for it, the record for which it refuses a piece, and the bytes that it has
+// taken, where these are kept.
 #[derive(Drop)]
-struct Watched {
+struct Watched<'a, T: Threads + Sync> {
+    rt: &'a T,
+    alloc: Global,
+    workers: u32,
+    /// How many pieces more are read plainly.
+    plain: u32,
     log: LogReader,
     excerpt: Excerpt,
     keeps: bool,
     kept: Vec<u8>,
 }
 
-impl Intake for Watched {
+impl<'a, T: Threads + Sync> Intake for Watched<'a, T> {
     type Fault = LogFault;
 
     ghost use Rattle.std.proofs.{Common.{append_assoc, refl, sym, ap, subst, ◌∙◌}, lemmas.List.{append-nil}};
     ghost use Rattle.pmf_stream.specs.Pieces.{Keeps, Refuses, StandsFor, Takes};
+    ghost use denote.Param.Send.{IsSync};
 
     ghost Takes = { λ a xs b. Takes a.log xs b.log × Keeps a.keeps b.keeps a.kept.items xs b.kept.items };
 
     ghost Refuses = { λ a xs fault. Refuses a.log xs fault };
+
+    ghost Ready = { IsSync T.row };
 
     ghost takes_none = { λ a. (
       λ run bytes stands. subst (λ xs. StandsFor run xs a.log) (sym (append-nil bytes)) stands,
@@ -97,7 +107,8 @@ impl Intake for Watched {
     ) };
 
     fn take(&mut self, piece: &[u8]) -> Result<(), LogFault> {
-        match self.log.feed(piece) {
+        let ahead = read_ahead(self.rt, self.alloc, self.workers, &mut self.plain, piece);
+        match self.log.feed_ahead(piece, ahead) {
             Ok(()) => {
                 self.excerpt.pass(piece);
                 if self.keeps {
@@ -114,7 +125,8 @@ impl Intake for Watched {
 }
 
 /// Reads the log to the end of the stream, or to its first fault; its bytes, too, where the settings are strict.
-fn read_log<R: Source>(
+fn read_log<T: Threads + Sync, R: Source>(
+    rt: &T,
     alloc: Global,
     reader: &mut R,
     settings: Settings,
@@ -127,13 +139,20 @@ fn read_log<R: Source>(
     ensures reads { R.failed_calls reader.new ≡ R.failed_calls reader.old + failed_reads result }
     ensures within { ReadsWithin LOG_LIMIT (R.left reader.old) (R.left reader.new) }
 {
+    let workers = settings.workers;
+    let most = most_in_piece(workers);
+    let mut piece = vec![in alloc; 0u8; most]?;
     let mut watched = Watched {
+        rt,
+        alloc,
+        workers,
+        plain: 0,
         log: LogReader::new(alloc, settings.run),
         excerpt: Excerpt::none(),
         keeps: settings.strict,
         kept: Vec::new(alloc),
     };
-    match read_into(reader, &mut watched, LOG_LIMIT) {
+    match read_into(reader, &mut piece, &mut watched, LOG_LIMIT) {
         Ok(Ok(())) => {}
         Ok(Err(fault)) => {
             let Watched { excerpt, .. } = watched;
@@ -288,7 +307,7 @@ pub fn check_stream<H: Threads + Wait + Sync, R: Source, W: Sink, G: Gate + Sync
     // Whatever the answer is, at most one byte more than a log may have was read.
     ensures within { ReadsWithin LOG_LIMIT (R.left reader.old) (R.left reader.new) }
 {
-    let (log, kept) = match read_log(alloc, reader, settings, refused) {
+    let (log, kept) = match read_log(rt, alloc, reader, settings, refused) {
         Ok(read) => read,
         Err(fault) => return Err(fault),
     };

@@ -9,6 +9,7 @@
 //! Not promised here: what a device does with the bytes, or that memory suffices.
 #![tactic(auto)]
 
+mod ahead;
 mod answering;
 mod checking;
 mod cutting;

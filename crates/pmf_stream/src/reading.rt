@@ -1,6 +1,6 @@
 //! The one loop that reads a stream, and what its pieces go to.
 
-ghost use Rattle.std.specs.Prelude.{◌≡◌, ◌+◌, ◌++◌, ◌<◌, ◌^◌, ℕ, [], List, IfOk, IfErr, MatchResult};
+ghost use Rattle.std.specs.Prelude.{◌≡◌, ◌+◌, ◌++◌, ◌<◌, ◌^◌, ℕ, [], List, length, IfOk, IfErr, MatchResult};
 ghost use Rattle.pmf_device.specs.Failures.{CanCountOneMore, CountsFailure};
 ghost use Rattle.pmf_stream.specs.{Answering.{RefusesReading, failed_reads}, Reading.{HasReadAll, HasReadTo, ReadsWithin}};
 
@@ -8,8 +8,8 @@ use crate::fault::StreamFault;
 use pmf_device::{Failed, Source, read_piece};
 use std::alloc::{AllocError, Global};
 
-/// How many bytes are read at once, at most.
-const PIECE: usize = 65_536;
+/// How many bytes are read at once, at most, by one thread.
+pub(crate) const PIECE: usize = 65_536;
 
 /// What the pieces of a stream go to, one after another.
 pub(crate) trait Intake {
@@ -22,8 +22,12 @@ pub(crate) trait Intake {
     // This is the fault with which it refuses a piece.
     ghost Refuses: { Self → List ℕ → Self.Fault → Type 0 };
 
+    // What has to be known of its type.
+    ghost Ready: { Type 0 } = { Unit {0} };
+
     /// Takes a piece, or refuses it.
     fn take(&mut self, piece: &[u8]) -> Result<(), Self::Fault>
+        requires { Ready }
         ensures { MatchResult result (λ _. Takes self.old piece.now self.new) (Refuses self.old piece.now) };
 
     // With no piece nothing is taken.
@@ -34,29 +38,31 @@ pub(crate) trait Intake {
 }
 
 /// Reads the stream to its end, to one byte past the limit, or to the first piece that the intake
-/// refuses. The outer fault is that of a read, the inner one the intake's.
+/// refuses, in pieces that fit the buffer. The outer fault is that of a read, the inner one the intake's.
 pub(crate) fn read_into<R: Source, I: Intake>(
     reader: &mut R,
+    buffer: &mut [u8],
     intake: &mut I,
     limit: usize,
 ) -> Result<Result<(), I::Fault>, Failed>
     requires read { CanCountOneMore (R.failed_calls reader.old) }
     requires limited { limit < 2 ^ 63 }
+    requires some { 0 < length buffer.old }
+    requires ready { I.Ready }
     ensures taken { IfOk result (λ answer. MatchResult answer
         (λ _. (bytes : List ℕ) × HasReadAll limit (R.left reader.old) (R.left reader.new) bytes
         × I.Takes intake.old bytes intake.new)
-        (HasReadTo I.Takes I.Refuses limit (R.left reader.old) (R.left reader.new) intake.old)) }
+        (HasReadTo (length buffer.old) I.Takes I.Refuses limit (R.left reader.old) (R.left reader.new) intake.old)) }
     ensures within { ReadsWithin limit (R.left reader.old) (R.left reader.new) }
     ensures counted { CountsFailure (R.failed_calls reader.old) (R.failed_calls reader.new) result }
 {
-    let mut piece = [0u8; PIECE];
     let mut total = 0;
     while total <= limit {
-        let count = read_piece(reader, &mut piece, limit + 1 - total)?;
+        let count = read_piece(reader, buffer, limit + 1 - total)?;
         if count == 0 {
             break;
         }
-        if let Err(fault) = intake.take(&piece[..count]) {
+        if let Err(fault) = intake.take(&buffer[..count]) {
             return Ok(Err(fault));
         }
         total += count;
@@ -99,7 +105,7 @@ pub fn read_all<R: Source, E: Drop>(
     ensures faults { IfErr result (RefusesReading (λ _. ⊥)) }
 {
     let mut bytes = Vec::new(alloc);
-    match read_into(reader, &mut bytes, limit) {
+    match read_into(reader, &mut [0u8; PIECE], &mut bytes, limit) {
         Ok(Ok(())) => Ok(bytes),
         Ok(Err(AllocError)) => Err(StreamFault::OutOfMemory),
         Err(Failed) => Err(StreamFault::ReadFault),

@@ -43,8 +43,8 @@ IsLogOf-kept run left rest fresh taken bytes log all takes start is strict kept 
 
 -- a fault that a reader shows is that of every log that begins so, and none shows before the piece in which it stands
 pub IsLogFaultOf-shown : {I : Type 0} (log : I → LogReader) (TakesSo : I → List ℕ → I → Type 0) → ((a : I) (xs : List ℕ) (b : I) → TakesSo a xs b → Takes (log a) xs (log b)) →
-    (run : ℕ) (left rest : Option (List ℕ)) (fresh : I) (found : LogFault) → HasReadTo TakesSo (λ a xs fault. Refuses (log a) xs fault) LOG_LIMIT left rest fresh found → HasRead run [] (log fresh) → IsLogFaultOf run left rest found
-IsLogFaultOf-shown log TakesSo so run left rest fresh found read start memory =
+    (run most : ℕ) (left rest : Option (List ℕ)) (fresh : I) (found : LogFault) → HasReadTo most TakesSo (λ a xs fault. Refuses (log a) xs fault) LOG_LIMIT left rest fresh found → HasRead run [] (log fresh) → IsLogFaultOf run most left rest found
+IsLogFaultOf-shown log TakesSo so run most left rest fresh found read start memory =
     let stands = so fresh read.before read.taken read.takes run [] (start, nothing-shown) in
     let bytes = read.before ++ read.piece in
     let all = read.refuses run read.before stands memory in record {
@@ -56,10 +56,10 @@ IsLogFaultOf-shown log TakesSo so run left rest fresh found read start memory =
     }
 
 -- so is one that shows at the end
-pub IsLogFaultOf-end : (run : ℕ) (left rest : Option (List ℕ)) (fresh taken : LogReader) (bytes : List ℕ) (found : LogFault) →
+pub IsLogFaultOf-end : (run most : ℕ) (left rest : Option (List ℕ)) (fresh taken : LogReader) (bytes : List ℕ) (found : LogFault) →
     HasReadAll LOG_LIMIT left rest bytes → Takes fresh bytes taken → HasRead run [] fresh → (HasRead run bytes taken → found ≢ out_of_memory → log_of run bytes ≡ Err found) →
-    IsLogFaultOf run left rest found
-IsLogFaultOf-end run left rest fresh taken bytes found all takes start is memory =
+    IsLogFaultOf run most left rest found
+IsLogFaultOf-end run most left rest fresh taken bytes found all takes start is memory =
     let stands = takes run [] (start, nothing-shown) in
     let fits = fits-from_shown bytes stands.1 in record {
       bytes = bytes;

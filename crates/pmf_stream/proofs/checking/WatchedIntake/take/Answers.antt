@@ -2,13 +2,16 @@ use Rattle.std.proofs.{Common.{refl, sym, ◌∙◌}, lemmas.Bool.{false≢true}
 use Rattle.pmf_stream.proofs.checking.WatchedIntake.take.Goals as goal
 
 pub returns-in_ok-extend_from_slice-in-Ok : goal.returns-in_ok-extend_from_slice-in-Ok
-returns-in_ok-extend_from_slice-in-Ok c = (
+returns-in_ok-extend_from_slice-in-Ok g c = (
   λ run bytes stands. (c.in-Ok.ensures.ok run bytes stands.0, c.in-Ok.ensures.faultless run bytes stands.0),
   record { same = refl; all = λ keeps. c.in_ok-extend_from_slice-in-Ok.ensures.items },
 )
 
 pub returns-else-self : goal.returns-else-self
-returns-else-self c = (
+returns-else-self g c = (
   λ run bytes stands. (c.in-Ok.ensures.ok run bytes stands.0, c.in-Ok.ensures.faultless run bytes stands.0),
   record { same = refl; all = λ keeps. absurd (false≢true (sym c.if-self.false ∙ keeps)) },
 )
+
+pub read_ahead-ahead-requires-sync-T : goal.read_ahead-ahead-requires-sync-T
+read_ahead-ahead-requires-sync-T g c = λ κs lives. c.requires

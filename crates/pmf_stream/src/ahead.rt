@@ -1,0 +1,111 @@
+//! The parts of a piece of a log, read side by side.
+
+ghost use Rattle.std.specs.Prelude.{◌≡◌, ◌<◌, All, IfOk};
+ghost use Rattle.pmf_storelog.specs.Ahead.{IsAheadOf};
+ghost use Rattle.pmf_stream.specs.Checking.{most_in_piece};
+
+use crate::reading::PIECE;
+use pmf_storelog::{Ahead, next_part};
+use std::alloc::{AllocError, Global};
+use std::thread::{Threads, for_each_mut};
+
+/// How many bytes a piece has for each worker, where there are several.
+const PART: usize = 1 << 20;
+
+/// For how many workers it has so many, at most.
+const MOST_PARTS: usize = 16;
+
+/// How many bytes a part has at least: to start a thread takes longer than to read fewer.
+const LEAST: usize = 1 << 16;
+
+/// How many bytes of a log are read at once, at most.
+pub(crate) fn most_in_piece(workers: u32) -> usize
+    ensures value { result ≡ most_in_piece workers }
+    ensures some { 0 < result }
+{
+    if workers > 1 {
+        (workers as usize).min(MOST_PARTS) * PART
+    } else {
+        PIECE
+    }
+}
+
+/// How many bytes a stretch of a section has on the average where it is worth to read parts ahead: less is sooner read than handed on.
+const LONG: usize = 1 << 11;
+
+/// How many pieces are read plainly behind one whose stretches were short.
+const PLAIN: u32 = 15;
+
+/// The parts of a piece, each read by a worker of its own before their turn. None where the piece is short, memory for their list is refused, or
+/// as many pieces more are to be read plainly as is told: behind one whose stretches were short.
+pub(crate) fn read_ahead<T: Threads + Sync>(
+    rt: &T,
+    alloc: Global,
+    workers: u32,
+    plain: &mut u32,
+    piece: &[u8],
+) -> Vec<Ahead>
+    ensures { All (IsAheadOf piece.now) result.items }
+{
+    let count = (workers as usize).min(piece.len() / LEAST);
+    if count <= 1 {
+        return Vec::new(alloc);
+    }
+    if *plain > 0 {
+        *plain -= 1;
+        return Vec::new(alloc);
+    }
+    let Ok(mut parts) = parts_of(alloc, piece, count) else {
+        return Vec::new(alloc);
+    };
+    for_each_mut(
+        rt,
+        &mut parts,
+        count,
+        &|_: usize, part: &mut Ahead|
+            requires { IsAheadOf piece.now part.now }
+            ensures { IsAheadOf piece.entry.now part.exit.now }
+        { part.read(alloc, piece) },
+    );
+    if are_short(&parts, piece.len()) {
+        *plain = PLAIN;
+    }
+    parts
+}
+
+// Whether the parts of so many bytes have stretches that are short on the average.
+fn are_short(parts: &[Ahead], bytes: usize) -> bool {
+    let mut stretches: usize = 0;
+    for part in parts {
+        stretches = stretches.saturating_add(part.stretches());
+    }
+    stretches > bytes / LONG
+}
+
+// So many parts of the piece, of which nothing is read yet; the first begins behind a separator, as all others.
+fn parts_of(alloc: Global, piece: &[u8], count: usize) -> Result<Vec<Ahead>, AllocError>
+    requires { 0 < count }
+    ensures { IfOk result (λ parts. All (IsAheadOf piece.now) parts.items) }
+{
+    let mut parts = Vec::with_capacity(alloc, count)?;
+    let size = piece.len() / count;
+    let mut from = behind(piece, 0);
+    for _ in 1..count {
+        let to = behind(piece, from.saturating_add(size));
+        parts.push(Ahead::new(alloc, from, to))?;
+        from = to;
+    }
+    parts.push(Ahead::new(alloc, from, piece.len()))?;
+    Ok(parts)
+}
+
+// The place behind the first separator from this place of the piece on, or behind the piece.
+fn behind(piece: &[u8], at: usize) -> usize {
+    if at >= piece.len() {
+        return piece.len();
+    }
+    match next_part(&piece[at..]) {
+        Some((len, _)) => at + len + 1,
+        None => piece.len(),
+    }
+}
