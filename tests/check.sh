@@ -41,6 +41,39 @@ threads_refused() {
     tests/refuse-threads "$program" "$scratch/interleaved.log" "$scratch/wanted" 1
 }
 
+# A log of 6 MB, so that several workers read it: long sections and short ones in turns, records of all spellings, and one of 300,000 bytes.
+# Whatever the number of workers, the report and what is said are those of one; and so is the fault of a record put into it.
+read_by_workers() {
+    local workers
+    python3 - "$scratch" <<'END' || return
+import random, sys
+pick = random.Random(7)
+def run(count):
+    for _ in range(count):
+        at = pick.randrange(1 << 14) * 8
+        yield pick.choice([f"STORE;0x{at:x};0x1;0x8", f"STORE;{at};x;8", f" FLUSH;0x{at:x};0x40\t", "FENCE", "FENCE;1", "==7== x", f"PMT.PERSIST;0x{at:x};0x8", "PMT.TXBEGIN", "PMT.TXEND"])
+records = list(run(1000))
+for turn in range(180):
+    records += [f"PMT.SECTION;{turn % 7}", *run(pick.choice([3, 30, 300, 9000]))]
+records.insert(len(records) // 2, "z" * 300_000)
+def write(name, records):
+    with open(f"{sys.argv[1]}/{name}.log", "w", newline="") as out:
+        for record in records:
+            out.write(record + pick.choice(["\n", "\n", "|", "\r\n", "||"]))
+write("wide", records)
+for name, place in (("faulty_early", 900), ("faulty", len(records) * 2 // 3), ("faulty_late", len(records) - 2)):
+    write(name, records[:place] + ["STORE;1"] + records[place:])
+END
+    for log in wide faulty_early faulty faulty_late; do
+        for workers in 1 2 3 7 64; do
+            "$program" check --workers "$workers" "$scratch/$log.log" >"$scratch/report.$workers" 2>"$scratch/diagnostics.$workers"
+            printf '%s\n' "$?" >>"$scratch/diagnostics.$workers"
+            same "$scratch/report.1" "$scratch/report.$workers" && same "$scratch/diagnostics.1" "$scratch/diagnostics.$workers" || return
+        done
+    done
+    grep -q '^pmfarm: record [0-9]*: too few fields' "$scratch/diagnostics.64"
+}
+
 # A report of 3,000 sections, longer than a pipe is wide, ends after 1, 100 and 140 times 1,024 bytes.
 cut_off_report() {
     local i blocks
@@ -103,6 +136,7 @@ try_check() {
     check 'two workers check two sections' told 1 "$interleaved" "$interleaved_report" '' check --workers 2
     check 'as many workers as the machine has check them' told 1 "$interleaved" "$interleaved_report" '' check --workers 0
     check 'each request for memory of check --workers 2 refused in turn' sweep_workers
+    check 'a log that several workers read is reported, or refused, as by one' read_by_workers
     check 'threads that are refused, one or all, change nothing' threads_refused
     check 'a run is the name of its sections' told 0 FENCE "$one_fence" '' check --run 7
     check 'a skipped record is told' told 0 'START|FENCE' "${one_fence/7/0}" 'pmfarm: skipped 1 records' check

@@ -29,6 +29,21 @@ fn a_section_holds_its_events_in_order(rt: HostRuntime) -> Result<(), Fail> {
 }
 
 #[test]
+fn a_section_takes_the_events_of_another_behind_its_own(rt: HostRuntime) -> Result<(), Fail> {
+    let mut section = Section::new(rt.alloc(), FIRST);
+    for count in [2, 0, 3] {
+        let mut more = Section::new(rt.alloc(), FIRST);
+        for _ in 0..count {
+            more.push(Event::Fence)?;
+        }
+        section.append(more)?;
+    }
+    assert_eq!(rt; section.name(), FIRST);
+    assert_eq!(rt; section.events(), [Event::Fence; 5].as_slice());
+    Ok(())
+}
+
+#[test]
 fn rows_hold_what_was_added_in_order(rt: HostRuntime) -> Result<(), Fail> {
     let pass = Row {
         place: 4,
