@@ -1,6 +1,6 @@
 //! The reader of a log in pieces.
 
-ghost use Rattle.std.specs.Prelude.{◌≡◌, ◌≤◌, ℕ, List, [], All};
+ghost use Rattle.std.specs.Prelude.{◌≡◌, ◌≢◌, ◌≤◌, ℕ, List, [], ◌++◌, None, All, OnOk, OnErr, IfErr};
 ghost use Rattle.pmf_storelog.specs.declared.fault.TheConstants.{LOG_LIMIT};
 
 use crate::ahead::Ahead;
@@ -26,7 +26,7 @@ pub struct LogReader {
 }
 
 impl LogReader {
-    ghost use Rattle.pmf_storelog.specs.{Ahead.{IsAheadOf}, LogText.{log_of, spent}, Answers.{Answers}, Reader.{Feeds, HasRead, IsSpent}};
+    ghost use Rattle.pmf_storelog.specs.{Ahead.{IsAheadOf}, LogText.{IsFaultOfAll, log_of, out_of_memory, shown_fault, spent}, Answers.{Answers, IsShown}, Reader.{Feeds, HasRead, IsSpent}};
 
     /// A reader of the run's log, of which nothing is fed yet. Takes no memory.
     pub fn new(alloc: Global, run: u64) -> LogReader
@@ -46,7 +46,22 @@ impl LogReader {
     ///
     /// Takes memory for events, and for a record that a piece cuts.
     pub fn feed(&mut self, piece: &[u8]) -> Result<(), LogFault>
-        ensures { Feeds self.old piece.now self.new result }
+        // The reader stands for the piece too, which shows no fault.
+        ensures ok { (run : ℕ) (bytes : List ℕ) → HasRead run bytes self.old
+            → OnOk result (HasRead run (bytes ++ piece.now) self.new) }
+        ensures faultless { (run : ℕ) (bytes : List ℕ) → HasRead run bytes self.old
+            → OnOk result (shown_fault (bytes ++ piece.now) ≡ None) }
+
+        // Want of memory aside, the fault is the one that the bytes show, whatever follows them.
+        ensures err { (run : ℕ) (bytes : List ℕ) → HasRead run bytes self.old
+            → IfErr result (λ fault. IsShown fault (shown_fault (bytes ++ piece.now))) }
+        ensures of_all { (run : ℕ) (bytes : List ℕ) → HasRead run bytes self.old
+            → IfErr result (λ fault. fault ≢ out_of_memory
+            → IsFaultOfAll fault (bytes ++ piece.now)) }
+
+        // A refusal spends the reader, which stays spent.
+        ensures refused { OnErr result (IsSpent self.new) }
+        ensures spent { IsSpent self.old → result ≡ Err spent }
     {
         self.feed_ahead(piece, Vec::new(self.alloc))
     }
