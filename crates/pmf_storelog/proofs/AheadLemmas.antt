@@ -1,7 +1,7 @@
 -- Records that add their events to whatever section is current: with one more, by stretches of a piece, and taken at once behind others.
-use Rattle.std.proofs.{Common.{◌≡◌, ◌==◌, ℕ, ◌+◌, ◌-◌, ◌<◌, ◌≤◌, Bool, true, false, cond, List, [], ◌∷◌, ◌++◌, None, Ok, length, length-append, take, drop, refl, sym, ap, ◌∙◌, arith, append_assoc, append-nil, length-drop, ⊎_elim, ne_eqb, eq-eqb}, lemmas.Bool.{cases_lt, cases_order}, lemmas.List.Sums.{sum_by-append}, lemmas.List.{drop-drop, nil_from_length}, Math.Seq.{take-add}, lemmas.Grind.{common_steps}}
+use Rattle.std.proofs.{Common.{take-append-drop, ◌≡◌, ◌==◌, ℕ, ◌+◌, ◌-◌, ◌≤◌, Bool, true, false, cond, List, [], ◌∷◌, ◌++◌, None, Ok, length, length-append, take, drop, refl, sym, ap, ◌∙◌, arith, append_assoc, append-nil, ne_eqb, eq-eqb}, lemmas.Bool.{cases_order}, lemmas.List.Sums.{sum_by-append}, lemmas.List.{drop-drop, take_rest}, Math.Seq.{take-add}, lemmas.Grind.{common_steps}}
 use Rattle.pmf_event.specs.declared.{event.Event.{Event}, section.TheConstants.{EVENT_LIMIT}}
-use Rattle.pmf_storelog.{specs.declared.plain.Plain.{Plain}, specs.declared.record.Saying.TheVariants.{Happens, Skipped}, specs.declared.tally.Tally.{Tally}, specs.Ahead.{AddsTo, IsClosed, IsPlain, IsStretchOf, between, with_number_of}, specs.LogText.{current_of, numbers_of, events_in, skipped_of, is_skipped, first_fault, refusal_after}, specs.Records.{record_of}, specs.Rising.{with_number}, specs.Sections.{HasSections, with_events}, specs.Separators.{ended_parts, ended_records, parts_of, records_in}, specs.Tally.{HasTaken}, specs.Progress.{HasParsed, Reaches}, specs.declared.progress.Progress.{Progress}, specs.declared.stretch.Stretch.{Stretch}, proofs.SplitLemmas.{joined, joined_at}, proofs.PartLemmas.{ended_is, parts_of-append, records_in-append, ended_records-ended, parts_of-ended, parts_of-nil}, proofs.TallyLemmas.{records_in-none}, proofs.LogLemmas.{current_of-push, numbers_of-push, events_in-event, events_in-nothing, skipped_of-event, first_fault-push}, proofs.SectionLemmas.{sections_as}}
+use Rattle.pmf_storelog.{specs.declared.plain.Plain.{Plain}, specs.declared.record.Saying.TheVariants.{Happens, Skipped}, specs.declared.tally.Tally.{Tally}, specs.Ahead.{AddsTo, IsClosed, IsPlain, IsStretchOf, between, with_number_of}, specs.LogText.{current_of, numbers_of, events_in, skipped_of, is_skipped, first_fault, refusal_after}, specs.Records.{record_of}, specs.Rising.{with_number}, specs.Sections.{HasSections, with_events}, specs.Separators.{ended_parts, ended_records, parts_of, records_in}, specs.Tally.{HasTaken}, specs.Answers.{IsShown}, specs.declared.fault.LogFault.{LogFault}, specs.Progress.{HasParsed, HasParsedTo, Reaches}, specs.declared.progress.Progress.{Progress}, specs.declared.stretch.Stretch.{Stretch}, proofs.SplitLemmas.{joined, joined_at}, proofs.PartLemmas.{ended_is, parts_of-append, records_in-append, ended_records-ended, parts_of-ended, parts_of-nil}, proofs.TallyLemmas.{records_in-none}, proofs.LogLemmas.{current_of-push, numbers_of-push, events_in-event, events_in-nothing, skipped_of-event, first_fault-push}, proofs.SectionLemmas.{sections_as}}
 
 -- a number that was put among others is there
 twice : (ns : List ℕ) (n : ℕ) → with_number (with_number ns n) n ≡ with_number ns n
@@ -197,6 +197,18 @@ reached_both piece start mid end old met new first more = record {
 pub at_start : (run : ℕ) (bytes piece : List ℕ) (progress : Progress) → HasParsed run bytes progress → HasParsed run (bytes ++ take 0 piece) progress
 at_start run bytes piece progress parsed = rw (append-nil bytes) parsed
 
--- what is left has no separator, or nothing is left
-pub rest_open : (piece : List ℕ) (end : ℕ) → (end < length piece → parts_of (drop end piece) ≡ drop end piece ∷ []) → parts_of (drop end piece) ≡ drop end piece ∷ []
-rest_open piece end open_end = ⊎_elim open_end (λ past. rw (nil_from_length (drop end piece) (omega (arith, length-drop end piece))) parts_of-nil) (cases_lt end (length piece))
+-- reading goes on behind a front of the piece, which was read
+module _ (run : ℕ) (bytes piece : List ℕ) (start : ℕ) where
+  whole_again : (bytes ++ take start piece) ++ take (length piece - start) (drop start piece) ≡ bytes ++ piece
+  whole_again = append_assoc bytes (take start piece) (take (length piece - start) (drop start piece)) ∙ ap (λ l. bytes ++ l) (ap (λ l. take start piece ++ l) (take_rest piece start) ∙ take-append-drop start piece)
+
+  pub parsed_behind : (rest : List ℕ) (progress : Progress) → HasParsedTo run (bytes ++ take start piece) (take (length piece - start) (drop start piece)) rest progress → HasParsedTo run bytes piece rest progress
+  parsed_behind rest progress reached = record {
+    front = take start piece ++ reached.front;
+    whole = append_assoc (take start piece) reached.front rest ∙ ap (λ l. take start piece ++ l) (reached.whole ∙ take_rest piece start) ∙ take-append-drop start piece;
+    open_end = reached.open_end;
+    parsed = rw (← append_assoc bytes (take start piece) reached.front) reached.parsed;
+  }
+
+  pub shown_behind : (fault : LogFault) → IsShown fault (first_fault (ended_records ((bytes ++ take start piece) ++ take (length piece - start) (drop start piece)))) → IsShown fault (first_fault (ended_records (bytes ++ piece)))
+  shown_behind fault shown = rw (← whole_again) shown

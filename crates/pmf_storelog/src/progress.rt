@@ -33,9 +33,25 @@ impl Progress {
         }
     }
 
-    /// Takes every part of the piece that a separator ends, and hands back the bytes after the last one. Parts of it may have been read
-    /// before their turn.
-    pub(crate) fn read_ended<'a>(
+    /// Takes every part of the piece that a separator ends, and hands back the bytes after the last one.
+    pub(crate) fn read_ended<'a>(&mut self, piece: &'a [u8]) -> Result<&'a [u8], LogFault>
+        requires { self.old.tally.records + length piece.now < 2 ^ 64 }
+        ensures grows { self.new.tally.records ≤ self.old.tally.records + length piece.now }
+        ensures ok { (run : ℕ) (bytes : List ℕ) → HasParsed run bytes self.old
+            → IfOk result (λ rest. HasParsedTo run bytes piece.now rest.now self.new) }
+        ensures err { (run : ℕ) (bytes : List ℕ) → HasParsed run bytes self.old
+            → IfErr result (λ fault. IsShown fault (first_fault (ended_records (bytes ++ piece.now)))) }
+    {
+        let mut start = 0;
+        while let Some((len, says)) = next_part(&piece[start..]) {
+            self.end_part(&piece[start..start + len], says)?;
+            start += len + 1;
+        }
+        Ok(&piece[start..])
+    }
+
+    /// The same, where parts of the piece were read before their turn.
+    pub(crate) fn read_with<'a>(
         &mut self,
         piece: &'a [u8],
         ahead: Vec<Ahead>,
@@ -52,8 +68,8 @@ impl Progress {
         for part in ahead {
             start = self.take_ahead(piece, start, part)?;
         }
-        start = self.read_to(piece, start, piece.len())?;
-        Ok(&piece[start..])
+        let rest = self.read_ended(&piece[start..])?;
+        Ok(rest)
     }
 
     // Goes on from this place of the piece by what was read of a part of it, and tells where that ends.
@@ -79,7 +95,6 @@ impl Progress {
         requires room { self.old.tally.records + length piece.now < 2 ^ 64 + start }
         ensures grows { self.new.tally.records + start ≤ self.old.tally.records + length piece.now }
         ensures ok { IfOk result (λ end. Reaches piece.now start end self.old self.new) }
-        ensures all { IfOk result (λ end. end < to → parts_of (drop end piece.now) ≡ drop end piece.now ∷ []) }
         ensures err { IfErr result (IsFaultBehind piece.now start self.old) }
     {
         let mut end = start;

@@ -83,7 +83,7 @@ impl LogReader {
         } else {
             Vec::new(self.alloc)
         };
-        let rest = self.progress.read_ended(&piece[..taken], ahead)?;
+        let rest = self.progress.read_with(&piece[..taken], ahead)?;
         if taken < piece.len() {
             return Err(self.progress.tally.fault(Cause::TooLong));
         }

@@ -22,10 +22,10 @@ returns-then-taken-piece-2 c =
       ok = λ run bytes read. tt;
       faultless = λ run bytes read. tt;
       err = λ run bytes read memory. fed_long run bytes piece old.total c.min-taken.result read.total old.within c.min-taken.ensures
-          c.in_ok-rest.rest.now c.read_ended.new.self c.fault.result (c.in_ok-rest.ensures.ok run bytes read.parsed) c.if-taken-piece-2.true c.fault.ensures;
+          c.in_ok-rest.rest.now c.read_with.new.self c.fault.result (c.in_ok-rest.ensures.ok run bytes read.parsed) c.if-taken-piece-2.true c.fault.ensures;
       of_all = λ run bytes read memory. shown_of_all (bytes ++ piece) c.fault.result
           (fed_long run bytes piece old.total c.min-taken.result read.total old.within c.min-taken.ensures
-          c.in_ok-rest.rest.now c.read_ended.new.self c.fault.result (c.in_ok-rest.ensures.ok run bytes read.parsed) c.if-taken-piece-2.true c.fault.ensures);
+          c.in_ok-rest.rest.now c.read_with.new.self c.fault.result (c.in_ok-rest.ensures.ok run bytes read.parsed) c.if-taken-piece-2.true c.fault.ensures);
       refused = refl;
       is_spent = λ spent. cc;
     }
@@ -36,14 +36,14 @@ returns c =
     record {
       ok = λ run bytes read. record {
         parsed = fed_whole run bytes piece old.total c.min-taken.result read.total old.within c.min-taken.ensures
-            c.in_ok-rest.rest.now c.read_ended.new.self c.keep.new.self (c.in_ok-rest.ensures.ok run bytes read.parsed) c.if-taken-piece-2.false
+            c.in_ok-rest.rest.now c.read_with.new.self c.keep.new.self (c.in_ok-rest.ensures.ok run bytes read.parsed) c.if-taken-piece-2.false
             c.keep.ensures.tally c.in_ok-keep.ensures.carry;
         total = fed_length run bytes piece old.total c.min-taken.result read.total old.within c.min-taken.ensures c.if-taken-piece-2.false;
         ready = refl;
       };
       faultless = λ run bytes read.
           let parsed = fed_whole run bytes piece old.total c.min-taken.result read.total old.within c.min-taken.ensures
-          c.in_ok-rest.rest.now c.read_ended.new.self c.keep.new.self (c.in_ok-rest.ensures.ok run bytes read.parsed) c.if-taken-piece-2.false
+          c.in_ok-rest.rest.now c.read_with.new.self c.keep.new.self (c.in_ok-rest.ensures.ok run bytes read.parsed) c.if-taken-piece-2.false
           c.keep.ensures.tally c.in_ok-keep.ensures.carry in
           fed_none run bytes piece old.total c.min-taken.result read.total old.within c.min-taken.ensures c.keep.new.self c.if-taken-piece-2.false parsed;
       err = λ run bytes read. tt;
