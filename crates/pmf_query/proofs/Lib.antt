@@ -18,6 +18,7 @@ pub mod NotingLemmas
 pub mod EndingLemmas
 pub mod LeavingLemmas
 pub mod UpkeepLemmas
+pub mod EmptyLemmas
 pub mod TallySumLemmas
 pub mod StoreNameLemmas
 pub mod LintLemmas

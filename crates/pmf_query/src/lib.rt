@@ -28,6 +28,7 @@ mod leaving;
 mod lint;
 mod listing;
 mod locate;
+mod looking;
 mod misread;
 mod naming;
 mod nearness;

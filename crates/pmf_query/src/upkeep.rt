@@ -7,7 +7,7 @@ ghost use Rattle.pmf_query.specs.{Upkeep.{HasWalkedOver, flushed_after, IsUpkeep
 
 use crate::covering::{both, one_if};
 use crate::leaving::Left;
-use crate::misread::misreads;
+use crate::misread::{lacks_bytes, misreads};
 use pmf_event::Event;
 use pmf_shadow::Shadow;
 use std::alloc::{AllocError, Global};
@@ -85,6 +85,8 @@ pub(crate) struct Walk {
     pub(crate) overwriting: u64,
     /// Assertions that are EMPTY, and would not be if their addresses were hexadecimal.
     pub(crate) misread: u64,
+    /// Assertions that are EMPTY.
+    pub(crate) empty: u64,
 }
 
 impl Walk {
@@ -116,6 +118,7 @@ impl Walk {
             idle: 0,
             overwriting: 0,
             misread: 0,
+            empty: 0,
         }
     }
 
@@ -141,9 +144,11 @@ impl Walk {
         ensures { (es : List Event) (p : ℕ) → HasWalkedOver self.old es p → event_at es (suc p) ≡ Some event.now
             → suc p ≡ place → OnOk result (HasWalkedOver self.new es (suc p)) }
     {
-        let misread = misreads(self.alloc, &self.shadow, event)?;
+        let unmet = lacks_bytes(&self.shadow, event);
+        let misread = misreads(self.alloc, &self.shadow, event, unmet)?;
         let overwrites = overwrites(&self.shadow, event);
         let fence = is_fence(event);
+        self.empty += one_if(unmet);
         self.misread += one_if(misread);
         self.overwriting += one_if(overwrites);
         self.fences += one_if(fence);
