@@ -15,6 +15,7 @@ pub mod InsideLemmas
 pub mod CoverLemmas
 pub mod FieldLemmas
 pub mod NotingLemmas
+pub mod UsualLemmas
 pub mod EndingLemmas
 pub mod LeavingLemmas
 pub mod UpkeepLemmas

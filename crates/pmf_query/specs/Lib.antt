@@ -25,6 +25,7 @@ pub mod Counting
 pub mod Marks
 pub mod Covering
 pub mod Ending
+pub mod Usual
 pub mod Leaving
 pub mod Misread
 pub mod Upkeep

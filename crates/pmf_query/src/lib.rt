@@ -45,6 +45,7 @@ mod telling;
 #[cfg(test)]
 mod tests;
 mod upkeep;
+mod usual;
 mod walking;
 mod warnings;
 

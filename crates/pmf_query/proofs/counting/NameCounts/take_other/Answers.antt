@@ -1,6 +1,6 @@
 use Rattle.std.proofs.Common.{sym, ap, subst, ◌∙◌, refl, List, [], ◌∷◌, ◌++◌, map, ℕ}
 use Rattle.pmf_query.{specs.Counting.{Lists}, specs.Naming.{counting, skipped_names}, proofs.NamingLemmas.{tallies_known, tallies_skipped}}
-use Rattle.pmf_query.proofs.counting.NameCounts.take.Goals as goal
+use Rattle.pmf_query.proofs.counting.NameCounts.take_other.Goals as goal
 
 pub returns-in_ok-take : goal.returns-in_ok-take
 returns-in_ok-take c = λ records tallies.
