@@ -20,6 +20,7 @@ pub mod EndingLemmas
 pub mod LeavingLemmas
 pub mod UpkeepLemmas
 pub mod EmptyLemmas
+pub mod DueLemmas
 pub mod TallySumLemmas
 pub mod StoreNameLemmas
 pub mod LintLemmas

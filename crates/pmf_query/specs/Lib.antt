@@ -31,6 +31,7 @@ pub mod Misread
 pub mod Upkeep
 pub mod Summing
 pub mod Warnings
+pub mod Due
 pub mod StoreNames
 pub mod Linting
 pub mod LintText

@@ -18,6 +18,7 @@
 
 mod counting;
 mod covering;
+mod due;
 mod ending;
 mod explain;
 mod explaining;
@@ -49,6 +50,7 @@ mod usual;
 mod walking;
 mod warnings;
 
+pub use due::warnings_due;
 pub use explain::explain_text;
 pub use explaining::explain_all;
 pub use fields::field;

@@ -120,9 +120,9 @@ fn lint_of<'a>(alloc: Global, log: &'a [u8], read: &Log, sums: Sums) -> Result<L
     Ok(told(counts, read.skipped(), sections, sums, warnings))
 }
 
-// Which warnings are due of the log whose records tell this, and whose sections hold this.
+/// Which warnings are due of the log whose records tell this, and whose sections hold this.
 #[tactic(auto, unfolding(crate::specs::Warnings::warnings_by, crate::specs::Ending::lacks_stop))]
-fn warnings_by(log: &[u8], notes: Notes, sums: Sums) -> Warnings
+pub(crate) fn warnings_by(log: &[u8], notes: Notes, sums: Sums) -> Warnings
     requires { AreNotes notes (records_of log.now) }
     ensures { result ≡ warnings_by log.now (records_of log.now) sums }
 {

@@ -101,7 +101,7 @@ pub(crate) fn look_through(
     Ok((sums, all))
 }
 
-fn count_assertions(events: &[Event]) -> u64
+pub(crate) fn count_assertions(events: &[Event]) -> u64
     ensures { result ≡ count_by (λ e. asserts e) events.now }
 {
     let mut count: u64 = 0;
@@ -122,7 +122,7 @@ fn count_stores(events: &[Event]) -> u64
 }
 
 #[tactic(auto, unfolding(crate::specs::Summing::asserts))]
-fn asserts(event: &Event) -> bool
+pub(crate) fn asserts(event: &Event) -> bool
     ensures { result ≡ asserts event.now }
 {
     matches!(
