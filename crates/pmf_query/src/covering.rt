@@ -121,8 +121,8 @@ pub(crate) fn both(one: bool, other: bool) -> bool
     one && other
 }
 
-// The span of a store.
-fn stored(event: &Event) -> Option<Span>
+/// The span of a store.
+pub(crate) fn stored(event: &Event) -> Option<Span>
     ensures { result ≡ stored_by event.now }
 {
     match event {

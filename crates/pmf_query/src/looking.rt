@@ -36,7 +36,7 @@ impl Looked {
     {
         let events = section.events();
         let uncovered = mark_uncovered(alloc, events)?;
-        let left = Left::of(alloc, &walk.shadow, events.len())?;
+        let left = Left::of(alloc, &walk.shadow, events)?;
         Ok(Looked {
             section: Arc::try_clone(section)?,
             left,

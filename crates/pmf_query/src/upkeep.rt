@@ -6,7 +6,7 @@ ghost use Rattle.pmf_shadow.specs.Shadow.{ForEachList};
 ghost use Rattle.pmf_query.specs.{Upkeep.{HasWalkedOver, flushed_after, IsUpkeepWithin, overwrites, upkeep_of}, Leaving.{AreLeft}, Summing.{kept_both, upkeeps_of}};
 
 use crate::covering::{both, one_if};
-use crate::leaving::Left;
+use crate::leaving::{Left, are_narrow};
 use crate::misread::{lacks_bytes, misreads};
 use pmf_event::Event;
 use pmf_shadow::Shadow;
@@ -102,7 +102,7 @@ impl Walk {
             walk.settle_for(event)?;
             walk.follow(place, event)?;
         }
-        walk.settle()?;
+        walk.settle(events)?;
         Ok(walk)
     }
 
@@ -130,10 +130,13 @@ impl Walk {
         Ok(())
     }
 
-    /// Makes the shadow ready for what is asked at the end. The walk stands where it stood.
-    fn settle(&mut self) -> Result<(), AllocError>
+    /// Makes the shadow ready for what is asked at the end of wide spans. The walk stands where it stood.
+    fn settle(&mut self, events: &[Event]) -> Result<(), AllocError>
         ensures { OnOk result ((es : List Event) (p : ℕ) → HasWalkedOver self.old es p → HasWalkedOver self.new es p) }
     {
+        if are_narrow(events) {
+            return Ok(());
+        }
         self.shadow.settle()?;
         Ok(())
     }

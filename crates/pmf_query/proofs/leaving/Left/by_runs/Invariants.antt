@@ -2,7 +2,7 @@ use Rattle.std.proofs.Common.{◌≡◌, ◌≤◌, ◌-◌, List, length}
 use Rattle.pmf_event.specs.declared.event.Event.{Event}
 use Rattle.pmf_shadow.specs.Shadow.{StandsFor}
 use Rattle.pmf_query.specs.Leaving.{AreLeftBelow}
-use Rattle.pmf_query.proofs.leaving.Left.of.Given as goal
+use Rattle.pmf_query.proofs.leaving.Left.by_runs.Given as goal
 
 abbrev pub invariant-loop-first : goal.invariant-loop-first
 invariant-loop-first l = record {

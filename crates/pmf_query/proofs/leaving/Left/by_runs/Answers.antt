@@ -1,7 +1,7 @@
 use Rattle.std.proofs.Common.{subst, sym, arith}
 use Rattle.pmf_shadow.specs.Standing.{AllLeaveOpen}
 use Rattle.pmf_query.proofs.LeavingLemmas.{left_none}
-use Rattle.pmf_query.proofs.leaving.Left.of.Goals as goal
+use Rattle.pmf_query.proofs.leaving.Left.by_runs.Goals as goal
 
 pub loop-first-init : goal.loop-first-init
 loop-first-init c = record {
