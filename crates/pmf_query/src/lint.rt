@@ -12,6 +12,7 @@ use crate::naming::Named;
 use crate::noting::Notes;
 use crate::query::{Answer, Query};
 use crate::refusal::LogRefusal;
+use crate::standing::Standing;
 use crate::storing::name_all;
 use crate::summing::{Sums, look_through};
 use crate::telling::lint_text;
@@ -57,7 +58,8 @@ fn tell(
 {
     let (sums, looked) = look_through(alloc, read.sections())?;
     let lint = lint_of(alloc, log, read, sums)?;
-    let names = name_all(alloc, log, &looked, unasserted)?;
+    let standing = Standing::of_faultless(alloc, log)?;
+    let names = name_all(alloc, log, &standing, &looked, unasserted)?;
     let told = Linted {
         is_suspicious: lint.warnings.are_due(),
     };

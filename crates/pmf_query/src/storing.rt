@@ -3,7 +3,7 @@
 ghost use Rattle.std.specs.Prelude.{◌≡◌, ◌+◌, ◌<◌, ◌≤◌, ◌^◌, ℕ, Bool, List, [], ◌∷◌, ◌++◌, length, map, sum_by, slice_get, if◌then◌else◌, IfOk, OnOk};
 ghost use Rattle.pmf_event.specs.Section.{Trace};
 ghost use Rattle.pmf_storelog.specs.declared.fault.TheConstants.{SECTION_LIMIT};
-ghost use Rattle.pmf_query.specs.{declared.locate.Located.{Located}, Counting.{Lists}, Marks.{Marks}, StoreNames.{AreNamed, AreNamesIn, is_asked, name_there, names_among, store_name}};
+ghost use Rattle.pmf_query.specs.{declared.locate.Located.{Located}, Counting.{Lists}, Marks.{Marks}, Standing.{Stands}, StoreNames.{AreNamed, AreNamesIn, is_asked, name_there, names_among, store_name}};
 
 use crate::fields::field;
 use crate::listing::Listing;
@@ -40,20 +40,23 @@ pub fn name_stores<'a>(
     ensures { IfOk result (AreNamesIn log.now unasserted (map (λ s. s.value) sections.now)) }
 {
     let (_, looked) = look_through(alloc, sections)?;
-    name_all(alloc, log, &looked, unasserted)
+    let standing = Standing::of(alloc, log)?;
+    let names = name_all(alloc, log, &standing, &looked, unasserted)?;
+    Ok(names)
 }
 
-/// The same of sections that were looked through.
+/// The same of sections that were looked through, by where the events of the log stand.
 pub(crate) fn name_all<'a>(
     alloc: Global,
-    log: &'a [u8],
+    _log: &'a [u8],
+    standing: &Standing<'a>,
     sections: &[Looked],
     unasserted: bool,
 ) -> Result<StoreNames<'a>, AllocError>
-    requires { length sections.now ≤ SECTION_LIMIT }
-    ensures { IfOk result (AreNamesIn log.now unasserted (map (λ l. l.section.value) sections.now)) }
+    requires few { length sections.now ≤ SECTION_LIMIT }
+    requires stands { Stands _log.now standing.now }
+    ensures { IfOk result (AreNamesIn _log.now unasserted (map (λ l. l.section.value) sections.now)) }
 {
-    let standing = Standing::of(alloc, log)?;
     let mut names = StoreNames::none(alloc);
     for looked in sections {
         let located = standing.kept_of(looked.section.name().number);

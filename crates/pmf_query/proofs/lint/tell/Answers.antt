@@ -6,8 +6,11 @@ use Rattle.pmf_query.proofs.lint.tell.Goals as goal
 pub lint_of-requires-clause-sums : goal.lint_of-requires-clause-sums
 lint_of-requires-clause-sums c = c.in_ok-sums.ensures.sums ∙ ap sums_of c.sections.ensures
 
-pub name_all-requires : goal.name_all-requires
-name_all-requires c =
+pub of_faultless-requires : goal.of_faultless-requires
+of_faultless-requires c = (read_so 0 c.args.log.now c.args.read.now c.requires).0
+
+pub name_all-requires-clause-few : goal.name_all-requires-clause-few
+name_all-requires-clause-few c =
     let value = λ (k : Looked). k.section.value in
     let long = sym (length-map c.in_ok-sums.looked.items value) ∙ ap (λ (ts : List Trace). length ts) (c.in_ok-sums.ensures.looked ∙ c.sections.ensures) in
     omega (arith, long, ap (λ (ks : List Looked). length ks) c.deref.ensures.value, sections_few 0 c.args.log.now c.args.read.now c.requires)
