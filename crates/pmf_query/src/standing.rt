@@ -39,8 +39,8 @@ impl<'a> Standing<'a> {
         Ok(walked.standing)
     }
 
-    /// The same of a log without a fault: a record whose name is known by how it begins gives its event, and is not read.
-    pub(crate) fn of_faultless(alloc: Global, log: &'a [u8]) -> Result<Standing<'a>, AllocError>
+    /// The same of a log without a fault: a record that begins with the name of a usual event gives one, and is not read again.
+    pub fn of_faultless(alloc: Global, log: &'a [u8]) -> Result<Standing<'a>, AllocError>
         requires { IsFaultless log.now }
         ensures { IfOk result (λ standing. Stands log.now standing) }
     {
@@ -141,12 +141,12 @@ impl<'a> Walked<'a> {
             → OnOk result (HasWalked bytes (records_of (take found.entry.next bytes)) self.new) }
     {
         self.records += 1;
-        let located = Located {
+        let here = Located {
             record: self.records,
             offset: found.offset as u64,
             text: found.text,
         };
-        self.standing.add(self.current, located)
+        self.standing.add(self.current, here)
     }
 
     fn pass(&mut self, found: Found<'a>) -> Result<(), AllocError>
