@@ -1,8 +1,8 @@
 -- What is left of a section below one limit, and below a further one.
-use Rattle.std.proofs.{Common.{◌≡◌, ℕ, suc, ◌<◌, ◌≤◌, Bool, true, false, not, ◌&&◌, ◌||◌, ◌==◌, inl, inr, List, length, Option, Some, None, is_some, refl, sym, ap, ◌∙◌, arith, slice_index_or}, lemmas.Bool.{cases_lt}}
-use Rattle.pmf_event.{specs.declared.event.Event.{Event}, specs.Ranges.{first_from}, specs.Store.{last_store}, specs.Exclusion.{is_excluded}, specs.Persist.{is_checked, is_exposed}, specs.LineBytes.{is_undurable, is_unwritten}, proofs.RangeLemmas.{NonePass, first_from-none, first_from-some, first-passes, none-passes}}
+use Rattle.std.proofs.{Common.{◌≡◌, ℕ, zero, ◌+◌, le-ltb, lt-ltb, suc, ◌<◌, ◌≤◌, Bool, true, false, not, ◌&&◌, ◌||◌, ◌==◌, inl, inr, List, [], ◌∷◌, ◌++◌, length, Option, Some, None, is_some, refl, sym, ap, ◌∙◌, arith, slice_index_or}, lemmas.Bool.{cases_lt, false≢true}, lemmas.Grind.{common_steps}}
+use Rattle.pmf_event.{specs.declared.event.Event.{Event}, specs.Ranges.{first_from}, specs.declared.event.Event.TheVariants.{Store}, specs.Span.{Extent, covers_byte}, specs.Store.{at, event_at, last, last_store, stores}, specs.Exclusion.{is_excluded}, specs.Persist.{is_checked, is_exposed}, specs.LineBytes.{is_undurable, is_unwritten}, proofs.EventLemmas.{at-is}, proofs.PlacesLemmas.{greatest-passes}, proofs.RangeLemmas.{NonePass, first_from-none, first_from-some, first-passes, none-passes}}
 use Rattle.pmf_shadow.specs.{declared.standing.Standing.{Standing}, Standing.{AllLeaveOpen, place_as_told}}
-use Rattle.pmf_query.specs.{declared.leaving.Left.{Left}, Leaving.{AreLeft, AreLeftBelow, AreMarked, is_left, is_left_unwritten, leaves_unfenced, leaves_unwritten, some_below}, Marks.{Marks}}
+use Rattle.pmf_query.specs.{declared.leaving.Left.{Left}, Covering.{stored_by}, Leaving.{AreLeft, AreLeftBelow, AreMarked, is_hit, is_told, is_left, is_left_unwritten, leaves_unfenced, leaves_unwritten, some_below}, Marks.{Marks}}
 
 -- ---- whether a byte below a limit passes
 
@@ -157,3 +157,103 @@ left_none es left places same long none long_too none_too = record {
   all = marked_none (is_left es) (length es) left.left.items (long ∙ sym same) (λ k d within. none k d (omega (arith, same)));
   unwritten = marked_none (is_left_unwritten es) (length es) left.unwritten.items (long_too ∙ sym same) (λ k d within. none_too k d (omega (arith, same)));
 }
+
+-- ---- by the bytes of one store
+
+hit_by : (u x : Bool) (last : Option ℕ) (k : ℕ) (is : Bool) → (last ≡ None → is ≡ false) → ((l : ℕ) → last ≡ Some l → is ≡ ((u && not x) && k == l)) → is ≡ ((u && not x) && is_told last k)
+hit_by u x None k is none some = none refl ∙ sym (and_false (u && not x))
+hit_by u x (Some l) k is none some = some l refl
+
+pub hit_there : (es : List Event) (first end : ℕ) (standing : Standing) → AllLeaveOpen (λ k. k) es (length es) first end standing → (k b : ℕ) → first ≤ b → b < end → is_left es k b ≡ is_hit standing k
+hit_there es first end standing all k b from below =
+    hit_by standing.undurable standing.excluded standing.last k (is_left es k b) (λ none. none_left es first end standing all none k b from below) (λ l some. left_there es first end standing all l some k b from below)
+
+uncovered_before : (s : Extent) (b : ℕ) → b < s.first → covers_byte s b ≡ false
+uncovered_before s b less = grind (arith, common_steps, le-ltb, lt-ltb)
+
+uncovered_behind : (s : Extent) (b : ℕ) → s.first + s.size ≤ b → covers_byte s b ≡ false
+uncovered_behind s b beyond = grind (arith, common_steps, le-ltb, lt-ltb)
+
+-- a byte is left by none but a store to it
+last_stores : (es : List Event) (n k b : ℕ) → 0 < k → last_store es n b ≡ k → at (stores b) es k ≡ true
+unfolding last
+last_stores es n k b some is = ap (at (stores b) es) (sym is) ∙ greatest-passes (at (stores b) es) n (omega (arith, some, is))
+
+other_left : (l k : ℕ) (e : Bool) → (l ≡ k → ⊥) → (l == k && e) ≡ false
+other_left l k e apart = grind (arith, common_steps)
+
+pub left_alone : (es : List Event) (k b : ℕ) → 0 < k → at (stores b) es k ≡ false → is_left es k b ≡ false
+unfolding is_left
+left_alone es k b some other = other_left (last_store es (length es) b) k (is_exposed es (length es) b) (λ is. false≢true (sym other ∙ last_stores es (length es) k b some is))
+
+pub left_outside : (es : List Event) (k b : ℕ) (s : Extent) → 0 < k → event_at es k ≡ Some (Store s) → covers_byte s b ≡ false → is_left es k b ≡ false
+unfolding stores
+left_outside es k b s some here out = left_alone es k b some (at-is (stores b) es k (Some (Store s)) here ∙ out)
+
+none_stored : (e : Event) (b : ℕ) → stored_by e ≡ None → stores b e ≡ false
+unfolding stores
+none_stored e b none = grind (arith, common_steps)
+
+pub left_by_none : (es : List Event) (k b : ℕ) (e : Event) → 0 < k → event_at es k ≡ Some e → stored_by e ≡ None → is_left es k b ≡ false
+left_by_none es k b e some here none = left_alone es k b some (at-is (stores b) es k (Some e) here ∙ none_stored e b none)
+
+unwritten_alone : (es : List Event) (k b : ℕ) → is_left es k b ≡ false → is_left_unwritten es k b ≡ false
+unfolding is_left_unwritten
+unwritten_alone es k b none = ap (λ l. l && is_unwritten es (length es) b) none
+
+none_upto : (test : ℕ → Bool) (n : ℕ) → ((b : ℕ) → b < n → test b ≡ false) → some_below test n ≡ false
+none_upto test n none = ap is_some (first_from-none test 0 n (λ j from below. none j (omega (arith, below))))
+
+-- bytes from m on that no store leaves change nothing
+still_below : (test : ℕ → Bool) (m n : ℕ) → m ≤ n → ((b : ℕ) → m ≤ b → b < n → test b ≡ false) → some_below test m ≡ some_below test n
+still_below test m n within none = elim (cases_lt m n) [
+  | inl less ↦ or_false (some_below test m) ∙ sym (below_more test m n false less none)
+  | inr same ↦ (let is : m ≡ n = omega (arith, within, same) in ap (some_below test) is)
+]
+
+module _ (es : List Event) (k : ℕ) (s : Extent) (some : 0 < k) (here : event_at es k ≡ Some (Store s)) where
+  before : (b : ℕ) → b < s.first → is_left es k b ≡ false
+  before b less = left_outside es k b s some here (uncovered_before s b less)
+
+  behind : (b : ℕ) → s.first + s.size ≤ b → is_left es k b ≡ false
+  behind b beyond = left_outside es k b s some here (uncovered_behind s b beyond)
+
+  pub none_before : (some_below (is_left es k) s.first ≡ false) × (some_below (is_left_unwritten es k) s.first ≡ false)
+  none_before = (none_upto (is_left es k) s.first before, none_upto (is_left_unwritten es k) s.first (λ b less. unwritten_alone es k b (before b less)))
+
+  pub all_there : (end limit : ℕ) → s.first + s.size ≤ end → end ≤ limit → (some_below (is_left es k) end ≡ some_below (is_left es k) limit) × (some_below (is_left_unwritten es k) end ≡ some_below (is_left_unwritten es k) limit)
+  all_there end limit from within = (
+    still_below (is_left es k) end limit within (λ b beyond below. behind b (omega (arith, from, beyond))),
+    still_below (is_left_unwritten es k) end limit within (λ b beyond below. unwritten_alone es k b (behind b (omega (arith, from, beyond)))),
+  )
+
+pub none_there : (es : List Event) (k : ℕ) (e : Event) (limit : ℕ) → 0 < k → event_at es k ≡ Some e → stored_by e ≡ None → (false ≡ some_below (is_left es k) limit) × (false ≡ some_below (is_left_unwritten es k) limit)
+none_there es k e limit some here none = (
+  sym (none_upto (is_left es k) limit (λ b less. left_by_none es k b e some here none)),
+  sym (none_upto (is_left_unwritten es k) limit (λ b less. unwritten_alone es k b (left_by_none es k b e some here none))),
+)
+
+-- the event at a place stands behind the begin
+pub some_place : (es : List Event) (k : ℕ) (e : Event) → event_at es k ≡ Some e → 0 < k
+unfolding event_at
+some_place es zero e here = let bad : None ≡ Some e = here in cc
+some_place es (suc k) e here = omega arith
+
+-- with a run of bytes more
+pub hit_more : (es : List Event) (k m n : ℕ) (standing : Standing) (left unwritten hit : Bool) → m < n → AllLeaveOpen (λ k. k) es (length es) m n standing → hit ≡ is_hit standing k →
+    left ≡ some_below (is_left es k) m → unwritten ≡ some_below (is_left_unwritten es k) m → ((left || hit) ≡ some_below (is_left es k) n) × ((unwritten || (hit && standing.unwritten)) ≡ some_below (is_left_unwritten es k) n)
+hit_more es k m n standing left unwritten hit less all hit_is left_is unwritten_is =
+    let there = λ (b : ℕ) (from : m ≤ b) (below : b < n). hit_there es m n standing all k b from below ∙ sym hit_is in (
+      ap (λ l. l || hit) left_is ∙ sym (below_more (is_left es k) m n hit less there),
+      ap (λ u. u || (hit && standing.unwritten)) unwritten_is ∙ sym (below_more (is_left_unwritten es k) m n (hit && standing.unwritten) less
+          (λ b from below. left_unwritten_there es m n standing all (λ j. is_hit standing j) (λ j c at_least under. hit_there es m n standing all j c at_least under) k b from below ∙ ap (λ h. h && standing.unwritten) (sym hit_is))),
+    )
+
+-- the event whose span this is
+pub stored_is : (e : Event) (s : Extent) → stored_by e ≡ Some s → e ≡ Store s
+stored_is e s is = grind (arith, common_steps)
+
+-- one mark more
+pub marked_next : (test : ℕ → Bool) (n : ℕ) (marks : List Bool) (b : Bool) → length marks ≡ n → ((k : ℕ) (d : Bool) → k < n → slice_index_or marks k d ≡ test (suc k)) → b ≡ test (suc n) →
+    (k : ℕ) (d : Bool) → k < n + 1 → slice_index_or (marks ++ b ∷ []) k d ≡ test (suc k)
+marked_next test n marks b long each is k d within = grind (arith, common_steps)

@@ -15,9 +15,12 @@ pub mod InsideLemmas
 pub mod CoverLemmas
 pub mod FieldLemmas
 pub mod NotingLemmas
+pub mod UsualLemmas
 pub mod EndingLemmas
 pub mod LeavingLemmas
 pub mod UpkeepLemmas
+pub mod EmptyLemmas
+pub mod DueLemmas
 pub mod TallySumLemmas
 pub mod StoreNameLemmas
 pub mod LintLemmas

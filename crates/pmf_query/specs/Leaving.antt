@@ -1,6 +1,7 @@
 -- Which stores of a section are not durable at its end, and what they lack. Defined here.
-use Rattle.std.specs.Prelude.{ℕ, Bool, not, ◌&&◌, ◌==◌, List, length, is_some}
+use Rattle.std.specs.Prelude.{ℕ, Bool, false, not, ◌&&◌, ◌==◌, List, length, Option, None, Some, is_some}
 use Rattle.pmf_event.specs.{declared.event.Event.{Event}, declared.span.TheConstants.{ADDRESS_LIMIT}, Ranges.{first_from}, Store.{last_store}, Persist.{is_exposed}, LineBytes.{is_unwritten}}
+use Rattle.pmf_shadow.specs.declared.standing.Standing.{Standing}
 use Rattle.pmf_query.specs.{declared.leaving.Left.{Left}, Marks.{Marks}}
 
 -- whether byte b is checked and not durable at the end of the section, and its last store is at place k
@@ -36,3 +37,12 @@ pub record AreLeftBelow (es : List Event) (limit : ℕ) (left : Left) : Type 0 w
 -- the same of all bytes
 abbrev pub AreLeft : List Event → Left → Type 0
 AreLeft es left = AreLeftBelow es ADDRESS_LIMIT left
+
+-- whether this is the place that was told
+abbrev pub is_told : Option ℕ → ℕ → Bool
+is_told None place = false
+is_told (Some last) place = place == last
+
+-- whether bytes that stand so are left by the store at the place
+abbrev pub is_hit : Standing → ℕ → Bool
+is_hit standing place = (standing.undurable && not standing.excluded) && is_told standing.last place

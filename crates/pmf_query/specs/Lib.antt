@@ -25,11 +25,13 @@ pub mod Counting
 pub mod Marks
 pub mod Covering
 pub mod Ending
+pub mod Usual
 pub mod Leaving
 pub mod Misread
 pub mod Upkeep
 pub mod Summing
 pub mod Warnings
+pub mod Due
 pub mod StoreNames
 pub mod Linting
 pub mod LintText

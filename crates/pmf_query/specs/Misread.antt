@@ -24,6 +24,16 @@ read_as_hexadecimal s = record_of (text_as_hexadecimal s.first s.size)
 abbrev pub may_be_met : List Event → ℕ → Extent → Bool
 may_be_met es p s = is_met es p s || is_met_as_read es p (read_as_hexadecimal s)
 
+-- whether the event is an assertion that has nothing to check at p: no byte of its span is checked, or of one of its two
+abbrev pub lacks_bytes : List Event → ℕ → Option Event → Bool
+lacks_bytes es p (Some (Persist s)) = not (is_met es p s)
+lacks_bytes es p (Some (Ordered s t)) = not (is_met es p s && is_met es p t)
+lacks_bytes es p _ = false
+
+-- whether place k is such an assertion
+unfoldable pub is_unmet : List Event → ℕ → Bool
+is_unmet es k = lacks_bytes es k (event_at es k)
+
 -- whether the event is an assertion that is EMPTY at p, and would not be if such an address were hexadecimal
 abbrev pub misreads : List Event → ℕ → Option Event → Bool
 misreads es p (Some (Persist s)) = not (is_met es p s) && may_be_met es p s

@@ -2,7 +2,7 @@
 use Rattle.std.specs.Prelude.{◌≡◌, ℕ, ◌-◌, ◌≤◌, Bool, true, false, not, ◌&&◌, nat_lt, List, length, Option, Some, is_some, if◌then◌else◌}
 use Rattle.pmf_event.specs.{declared.event.Event.{Event}, declared.event.Event.TheVariants.{Store, Flush}, Places.{count}, Ranges.{first_byte}, Store.{at, event_at, is_fence, last}, Persist.{is_exposed}}
 use Rattle.pmf_shadow.specs.Shadow.{StandsFor}
-use Rattle.pmf_query.specs.{declared.upkeep.{Upkeep.{Upkeep}, Walk.{Walk}}, Leaving.{leaves_unfenced, leaves_unwritten}, Misread.{is_misread}}
+use Rattle.pmf_query.specs.{declared.upkeep.{Upkeep.{Upkeep}, Walk.{Walk}}, Leaving.{leaves_unfenced, leaves_unwritten}, Misread.{is_misread, is_unmet}}
 
 -- whether the event is a write-back
 unfoldable pub is_flush : Event → Bool
@@ -61,3 +61,4 @@ pub record HasWalkedOver (walk : Walk) (es : List Event) (p : ℕ) : Type 0 wher
   pub idle : walk.idle ≡ count (is_idle es) p
   pub overwriting : walk.overwriting ≡ count (is_overwriting es) p
   pub misread : walk.misread ≡ count (is_misread es) p
+  pub empty : walk.empty ≡ count (is_unmet es) p

@@ -5,6 +5,7 @@ ghost use Rattle.std.specs.Prelude.{◌≡◌, ◌+◌, ◌<◌, ◌^◌, ℕ, L
 use crate::listing::Listing;
 use crate::naming::{Named, count_name, is_skipped, known_counts, name_of};
 use crate::noting::Notes;
+use crate::usual::{count_known, usual_name};
 use std::alloc::{AllocError, Global};
 
 /// How many records of each name a walk has passed.
@@ -20,7 +21,7 @@ pub(crate) struct NameCounts<'a> {
 }
 
 impl<'a> NameCounts<'a> {
-    ghost use Rattle.pmf_query.specs.Counting.{Tallies};
+    ghost use Rattle.pmf_query.specs.{Counting.{Tallies}, Usual.{IsUsual}};
 
     /// Of no record.
     pub(crate) fn new(alloc: Global) -> Result<NameCounts<'a>, AllocError>
@@ -36,8 +37,32 @@ impl<'a> NameCounts<'a> {
     }
 
     /// Counts one more record.
-    #[tactic(auto, using(crate::proofs::NamingLemmas::names_long, crate::proofs::NamingLemmas::skipped_few, crate::proofs::NamingLemmas::small_counts))]
     pub(crate) fn take(&mut self, text: &'a [u8]) -> Result<(), AllocError>
+        requires { (records : List (List ℕ)) × Tallies self.old records × (length records + 1 < 2 ^ 64) }
+        ensures { (records : List (List ℕ)) → Tallies self.old records
+            → OnOk result (Tallies self.new (records ++ text.now ∷ [])) }
+    {
+        if let Some(index) = usual_name(text) {
+            self.take_usual(text, index);
+            return Ok(());
+        }
+        self.take_other(text)?;
+        Ok(())
+    }
+
+    // Counts one whose name is known by how it begins.
+    #[tactic(auto, using(crate::proofs::NamingLemmas::names_long, crate::proofs::NamingLemmas::small_counts))]
+    fn take_usual(&mut self, text: &[u8], index: usize)
+        requires room { (records : List (List ℕ)) × Tallies self.old records × (length records + 1 < 2 ^ 64) }
+        requires usual { IsUsual text.now index }
+        ensures { (records : List (List ℕ)) → Tallies self.old records → Tallies self.new (records ++ text.now ∷ []) }
+    {
+        self.records += 1;
+        count_known(&mut self.known, index);
+    }
+
+    #[tactic(auto, using(crate::proofs::NamingLemmas::names_long, crate::proofs::NamingLemmas::skipped_few, crate::proofs::NamingLemmas::small_counts))]
+    fn take_other(&mut self, text: &'a [u8]) -> Result<(), AllocError>
         requires { (records : List (List ℕ)) × Tallies self.old records × (length records + 1 < 2 ^ 64) }
         ensures { (records : List (List ℕ)) → Tallies self.old records
             → OnOk result (Tallies self.new (records ++ text.now ∷ [])) }

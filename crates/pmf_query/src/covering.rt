@@ -3,21 +3,12 @@
 ghost use Rattle.std.specs.Prelude.{◌≡◌, ◌<◌, ◌^◌, ◌||◌, ◌&&◌, if◌then◌else◌, ℕ, suc, Bool, List, Some, length, IfOk, OnOk};
 ghost use Rattle.pmf_event.specs.{declared.event.Event.{Event}, Places.{count}, Store.{event_at}};
 ghost use Rattle.pmf_runs.specs.Runs.{state_at};
-ghost use Rattle.pmf_query.specs.{Covering.{is_in, is_inside, is_uncovered, names, stored_by, uncovered_of, StandsAfter}, Marks.{Marks}};
+ghost use Rattle.pmf_query.specs.{Covering.{is_in, is_inside, is_uncovered, names, stored_by, StandsAfter}, Marks.{Marks}};
 
 use crate::inside::{closes, places_inside};
 use pmf_event::{Event, Span};
 use pmf_runs::{IsIn, PutIn, RunMap};
 use std::alloc::{AllocError, Global};
-
-/// How many stores no later assertion covers. Takes what `mark_uncovered` does.
-pub(crate) fn count_uncovered(alloc: Global, events: &[Event]) -> Result<u64, AllocError>
-    requires { length events.now < 2 ^ 63 }
-    ensures { IfOk result (λ count. count ≡ uncovered_of events.now) }
-{
-    let marks = mark_uncovered(alloc, events)?;
-    Ok(count_marked(&marks))
-}
 
 /// Of each event, by its index: whether it is a store that no later assertion covers. One walk from the last event to the first, with
 /// a set of the bytes that later assertions name: each step takes O(log n) for n runs of such bytes. Takes memory for them, and a byte
@@ -38,8 +29,8 @@ pub(crate) fn mark_uncovered(alloc: Global, events: &[Event]) -> Result<Vec<bool
     Ok(marks)
 }
 
-// How many of the places are marked.
-fn count_marked(marks: &[bool]) -> u64
+/// How many of the places are marked.
+pub(crate) fn count_marked(marks: &[bool]) -> u64
     ensures { (test : ℕ → Bool) (n : ℕ) → Marks test n marks.now → result ≡ count test n }
 {
     let mut count: u64 = 0;
@@ -130,8 +121,8 @@ pub(crate) fn both(one: bool, other: bool) -> bool
     one && other
 }
 
-// The span of a store.
-fn stored(event: &Event) -> Option<Span>
+/// The span of a store.
+pub(crate) fn stored(event: &Event) -> Option<Span>
     ensures { result ≡ stored_by event.now }
 {
     match event {

@@ -1,14 +1,17 @@
 //! Which stores of a section are not durable at its end.
 
-ghost use Rattle.std.specs.Prelude.{◌≡◌, ◌==◌, ◌&&◌, ◌||◌, ◌<◌, ℕ, suc, Bool, false, List, length, slice_index_or, IfOk};
-ghost use Rattle.pmf_event.specs.{declared.event.Event.{Event}, Places.{count}};
+ghost use Rattle.std.specs.Prelude.{◌≡◌, ◌==◌, ◌&&◌, ◌||◌, ◌<◌, ℕ, suc, Bool, false, List, Some, length, slice_index_or, ◌≤◌, IfOk};
+ghost use Rattle.pmf_event.specs.{declared.event.Event.{Event}, declared.section.TheConstants.{EVENT_LIMIT}, declared.span.TheConstants.{ADDRESS_LIMIT}, Places.{count}, Store.{event_at}};
 ghost use Rattle.pmf_shadow.specs.{Shadow.{StandsFor}, Standing.{AllLeaveOpen}};
-ghost use Rattle.pmf_query.specs.{Leaving.{AreLeft, AreLeftBelow, leaves_unfenced, leaves_unwritten}, Marks.{Marks}};
+ghost use Rattle.pmf_query.specs.{Leaving.{AreLeft, AreLeftBelow, is_hit, is_left, is_left_unwritten, leaves_unfenced, leaves_unwritten, some_below}, Marks.{Marks}};
 
-use crate::covering::{both, one_if};
-use pmf_event::ADDRESS_LIMIT;
+use crate::covering::{both, either, one_if, stored};
+use pmf_event::{ADDRESS_LIMIT, Event, Span};
 use pmf_shadow::{Shadow, Standing};
 use std::alloc::{AllocError, Global};
+
+/// How many bytes are few.
+const FEW: u64 = 64;
 
 /// Of each event of a section, by its index: what it leaves at the end.
 #[derive(Debug, Drop)]
@@ -20,9 +23,42 @@ pub(crate) struct Left {
 }
 
 impl Left {
-    /// What the events leave for which the shadow stands, each told at its place. One look at each run of bytes that is not durable:
-    /// O(log n) steps for each of n runs. Takes two bytes for each event.
-    pub(crate) fn of(alloc: Global, shadow: &Shadow, places: usize) -> Result<Left, AllocError>
+    /// What the events leave for which the shadow stands, each told at its place. Where each store has a few bytes, these are looked at,
+    /// and else each run of bytes that is not durable. Takes two bytes for each event.
+    pub(crate) fn of(alloc: Global, shadow: &Shadow, events: &[Event]) -> Result<Left, AllocError>
+        requires { length events.now ≤ EVENT_LIMIT }
+        ensures { IfOk result (λ left. StandsFor shadow.now (λ k. k) events.now (length events.now) → AreLeft events.now left) }
+    {
+        let left = if are_narrow(events) {
+            Left::by_stores(alloc, shadow, events)?
+        } else {
+            Left::by_runs(alloc, shadow, events.len())?
+        };
+        Ok(left)
+    }
+
+    // By the bytes of each store: a step or two for each.
+    fn by_stores(alloc: Global, shadow: &Shadow, events: &[Event]) -> Result<Left, AllocError>
+        requires { length events.now ≤ EVENT_LIMIT }
+        ensures { IfOk result (λ left. StandsFor shadow.now (λ k. k) events.now (length events.now) → AreLeft events.now left) }
+    {
+        let mut all = Vec::with_capacity(alloc, events.len())?;
+        let mut unwritten = Vec::with_capacity(alloc, events.len())?;
+        let mut place: u32 = 0;
+        for event in events {
+            place += 1;
+            let (one, other) = left_by(shadow, place, event);
+            all.push(one)?;
+            unwritten.push(other)?;
+        }
+        Ok(Left {
+            left: all,
+            unwritten,
+        })
+    }
+
+    // By one look at each run of bytes that is not durable: O(log n) steps for each of n runs.
+    fn by_runs(alloc: Global, shadow: &Shadow, places: usize) -> Result<Left, AllocError>
         ensures { IfOk result (λ left. (es : List Event) → length es ≡ places → StandsFor shadow.now (λ k. k) es places → AreLeft es left) }
     {
         let mut left = Left {
@@ -97,6 +133,58 @@ impl Left {
         let left = both(standing.undurable, !standing.excluded);
         mark_if(&mut self.left, last, left);
         mark_if(&mut self.unwritten, last, both(left, standing.unwritten));
+    }
+}
+
+/// Whether each store has a few bytes. For speed alone: these may be looked at again for each store of them.
+pub(crate) fn are_narrow(events: &[Event]) -> bool {
+    for event in events {
+        if let Some(span) = stored(event) {
+            if span.size() > FEW {
+                return false;
+            }
+        }
+    }
+    true
+}
+
+// Whether the event at the place is a store with a byte that is not durable at the end, and with one that no write-back follows.
+fn left_by(shadow: &Shadow, place: u32, event: &Event) -> (bool, bool)
+    ensures { (es : List Event) → StandsFor shadow.now (λ k. k) es (length es) → event_at es place ≡ Some event.now
+        → (result.0 ≡ some_below (is_left es place) ADDRESS_LIMIT) × (result.1 ≡ some_below (is_left_unwritten es place) ADDRESS_LIMIT) }
+{
+    match stored(event) {
+        Some(span) => left_in(shadow, place, span),
+        None => (false, false),
+    }
+}
+
+// The same of a store to the span.
+fn left_in(shadow: &Shadow, place: u32, span: Span) -> (bool, bool)
+    ensures { (es : List Event) → StandsFor shadow.now (λ k. k) es (length es) → event_at es place ≡ Some (Event.Store span)
+        → (result.0 ≡ some_below (is_left es place) ADDRESS_LIMIT) × (result.1 ≡ some_below (is_left_unwritten es place) ADDRESS_LIMIT) }
+{
+    let mut left = false;
+    let mut unwritten = false;
+    let mut first = span.first();
+    let end = span.end();
+    while first < end {
+        let (standing, next) = shadow.open_from(first, end);
+        let hit = is_hit(&standing, place);
+        left = either(left, hit);
+        unwritten = either(unwritten, both(hit, standing.unwritten));
+        first = next;
+    }
+    (left, unwritten)
+}
+
+// Whether bytes that stand so are left by the store at the place.
+fn is_hit(standing: &Standing, place: u32) -> bool
+    ensures { result ≡ is_hit standing.now place }
+{
+    match standing.last {
+        Some(last) => both(both(standing.undurable, !standing.excluded), place == last),
+        None => false,
     }
 }
 

@@ -18,6 +18,7 @@
 
 mod counting;
 mod covering;
+mod due;
 mod ending;
 mod explain;
 mod explaining;
@@ -28,6 +29,7 @@ mod leaving;
 mod lint;
 mod listing;
 mod locate;
+mod looking;
 mod misread;
 mod naming;
 mod nearness;
@@ -44,9 +46,11 @@ mod telling;
 #[cfg(test)]
 mod tests;
 mod upkeep;
+mod usual;
 mod walking;
 mod warnings;
 
+pub use due::warnings_due;
 pub use explain::explain_text;
 pub use explaining::explain_all;
 pub use fields::field;

@@ -2,7 +2,7 @@
 
 ghost use Rattle.std.specs.Prelude.{◌≡◌, Ok, MatchResult, IfOk};
 ghost use Rattle.pmf_storelog.specs.{LogText.{log_of}, Separators.{records_of}};
-ghost use Rattle.pmf_query.specs.{Counting.{AreNotes, Tallies}, Linting.{IsLint, Overviews}, Refusals.{IsLogRefusal}, Warnings.{warnings_by}};
+ghost use Rattle.pmf_query.specs.{Counting.{AreNotes, Tallies}, Linting.{IsLint, Overviews}, Refusals.{IsLogRefusal}, Summing.{sums_of}, Warnings.{warnings_by}};
 
 use crate::counting::NameCounts;
 use crate::covering::both;
@@ -12,8 +12,9 @@ use crate::naming::Named;
 use crate::noting::Notes;
 use crate::query::{Answer, Query};
 use crate::refusal::LogRefusal;
-use crate::storing::name_stores;
-use crate::summing::{Sums, sum};
+use crate::standing::Standing;
+use crate::storing::name_all;
+use crate::summing::{Sums, look_through};
 use crate::telling::lint_text;
 use crate::walking::next_record;
 use crate::warnings::Warnings;
@@ -55,8 +56,10 @@ fn tell(
     requires { log_of 0 log.now ≡ Ok read.now }
     ensures { IfOk result (λ answer. Overviews unasserted log.now answer.told answer.text.items) }
 {
-    let lint = lint_of(alloc, log, read)?;
-    let names = name_stores(alloc, log, read.sections(), unasserted)?;
+    let (sums, looked) = look_through(alloc, read.sections())?;
+    let lint = lint_of(alloc, log, read, sums)?;
+    let standing = Standing::of_faultless(alloc, log)?;
+    let names = name_all(alloc, log, &standing, &looked, unasserted)?;
     let told = Linted {
         is_suspicious: lint.warnings.are_due(),
     };
@@ -87,13 +90,14 @@ pub struct Lint<'a> {
 
 /// What the log holds. A faulty log is refused with its first fault.
 ///
-/// Takes memory for the events of the log, the verdict, the shadow and a few bytes for each event of one section at a time, and at most 45
-/// names; none for a record.
+/// Takes memory for the events of the log and a few bytes for each, for the shadow of one section at a time, and for at most 45 names; none
+/// for a record.
 pub fn lint_log<'a>(alloc: Global, log: &'a [u8]) -> Result<Lint<'a>, LogRefusal>
     ensures { MatchResult result (λ lint. IsLint log.now lint) (IsLogRefusal 0 log.now) }
 {
     let read = read_whole(alloc, log)?;
-    let lint = lint_of(alloc, log, &read)?;
+    let (sums, _) = look_through(alloc, read.sections())?;
+    let lint = lint_of(alloc, log, &read, sums)?;
     Ok(lint)
 }
 
@@ -106,24 +110,21 @@ fn read_whole(alloc: Global, log: &[u8]) -> Result<Log, LogRefusal>
     }
 }
 
-// What a log holds that reads so.
-fn lint_of<'a>(alloc: Global, log: &'a [u8], read: &Log) -> Result<Lint<'a>, AllocError>
-    requires { log_of 0 log.now ≡ Ok read.now }
+// What a log holds that reads so, and whose sections hold this.
+fn lint_of<'a>(alloc: Global, log: &'a [u8], read: &Log, sums: Sums) -> Result<Lint<'a>, AllocError>
+    requires read { log_of 0 log.now ≡ Ok read.now }
+    requires sums { sums ≡ sums_of read.now.sections }
     ensures { IfOk result (λ lint. IsLint log.now lint) }
 {
-    let sums = match sum(alloc, read.sections()) {
-        Ok(sums) => sums,
-        Err(_) => return Err(AllocError),
-    };
     let counts = count_names(alloc, log)?;
     let sections = read.sections().len() as u64;
     let warnings = warnings_by(log, counts.notes, sums);
     Ok(told(counts, read.skipped(), sections, sums, warnings))
 }
 
-// Which warnings are due of the log whose records tell this, and whose sections hold this.
+/// Which warnings are due of the log whose records tell this, and whose sections hold this.
 #[tactic(auto, unfolding(crate::specs::Warnings::warnings_by, crate::specs::Ending::lacks_stop))]
-fn warnings_by(log: &[u8], notes: Notes, sums: Sums) -> Warnings
+pub(crate) fn warnings_by(log: &[u8], notes: Notes, sums: Sums) -> Warnings
     requires { AreNotes notes (records_of log.now) }
     ensures { result ≡ warnings_by log.now (records_of log.now) sums }
 {

@@ -3,7 +3,7 @@
 ghost use Rattle.std.specs.Prelude.{◌≡◌, Some, IfOk, string_bytes};
 ghost use Rattle.pmf_storelog.specs.Records.{record_of};
 ghost use Rattle.pmf_shadow.specs.Shadow.{ForEachList};
-ghost use Rattle.pmf_query.specs.Misread.{is_met_as_read, may_be_met, misreads, read_as_hexadecimal, text_as_hexadecimal};
+ghost use Rattle.pmf_query.specs.Misread.{is_met_as_read, lacks_bytes, may_be_met, misreads, read_as_hexadecimal, text_as_hexadecimal};
 
 use crate::covering::both;
 use pmf_event::{Event, Span};
@@ -11,26 +11,41 @@ use pmf_shadow::Shadow;
 use pmf_storelog::{Saying, read_record};
 use std::alloc::{AllocError, Global};
 
-/// Whether the event, behind those that the shadow stands for, is an assertion that is EMPTY there, and would not be if its address, or one
-/// of its two, were hexadecimal. Takes memory for the text of such an address, and for none of an assertion that is met.
-pub(crate) fn misreads(alloc: Global, shadow: &Shadow, event: &Event) -> Result<bool, AllocError>
-    ensures { IfOk result (λ misread. ForEachList shadow.now (λ told es p. misread ≡ misreads es p (Some event.now))) }
+/// Whether the event, behind those that the shadow stands for, is an assertion that has nothing to check there.
+pub(crate) fn lacks_bytes(shadow: &Shadow, event: &Event) -> bool
+    ensures { ForEachList shadow.now (λ told es p. result ≡ lacks_bytes es p (Some event.now)) }
 {
     match event {
+        Event::Persist(span) => !shadow.written_included(*span),
+        Event::Ordered(before, after) => !both(
+            shadow.written_included(*before),
+            shadow.written_included(*after),
+        ),
+        _ => false,
+    }
+}
+
+/// Whether the event, behind those that the shadow stands for, is an assertion that is EMPTY there, and would not be if its address, or one
+/// of its two, were hexadecimal; for an event of which it is known whether it lacks bytes. Takes memory for the text of such an address, and
+/// for none of an assertion that is met.
+pub(crate) fn misreads(
+    alloc: Global,
+    shadow: &Shadow,
+    event: &Event,
+    unmet: bool,
+) -> Result<bool, AllocError>
+    ensures { IfOk result (λ misread. ForEachList shadow.now (λ told es p.
+        unmet ≡ lacks_bytes es p (Some event.now) → misread ≡ misreads es p (Some event.now))) }
+{
+    if !unmet {
+        return Ok(false);
+    }
+    match event {
         Event::Persist(span) => {
-            if shadow.written_included(*span) {
-                return Ok(false);
-            }
             let met = may_be_met(alloc, shadow, *span)?;
             Ok(met)
         }
         Event::Ordered(before, after) => {
-            if both(
-                shadow.written_included(*before),
-                shadow.written_included(*after),
-            ) {
-                return Ok(false);
-            }
             let first = may_be_met(alloc, shadow, *before)?;
             let second = may_be_met(alloc, shadow, *after)?;
             Ok(both(first, second))

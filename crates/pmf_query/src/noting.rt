@@ -6,7 +6,9 @@ ghost use Rattle.pmf_query.specs.{Counting.{AreNotes}, Ending.{asserts_decimal, 
 
 use crate::covering::either;
 use crate::fields::field;
+use crate::naming::{is_skipped, name_of};
 use crate::nearness::{is_misspelt, is_text};
+use crate::usual::usual_name;
 
 /// What some records tell.
 #[derive(Clone, Copy, Debug)]
@@ -35,6 +37,17 @@ impl Notes {
             stops: false,
             has_decimal: false,
         }
+    }
+
+    /// Of one record more.
+    pub(crate) fn pass(self, text: &[u8]) -> Notes
+        ensures { (records : List (List ℕ)) → AreNotes self records → AreNotes result (records ++ text.now ∷ []) }
+    {
+        if let Some(_index) = usual_name(text) {
+            return self;
+        }
+        let name = name_of(text);
+        self.and(text, name, is_skipped(text))
     }
 
     /// Of one record more, which has this name, and is skipped or not.

@@ -1,8 +1,9 @@
 //! Where each event of each section of a log stands.
 
-ghost use Rattle.std.specs.Prelude.{◌≡◌, ◌+◌, ◌<◌, ◌≤◌, ◌^◌, ℕ, List, [], ◌∷◌, ◌++◌, length, take, IfOk, OnOk};
+ghost use Rattle.std.specs.Prelude.{◌≡◌, ◌+◌, ◌<◌, ◌≤◌, ◌^◌, ℕ, List, [], ◌∷◌, ◌++◌, length, take, Ok, Err, IfOk, OnOk};
 
 use crate::locate::Located;
+use crate::usual::usual_name;
 use crate::walking::{Found, next_record};
 use pmf_storelog::{Saying, read_record};
 use std::alloc::{AllocError, Global};
@@ -21,7 +22,7 @@ pub struct Standing<'a> {
 
 impl<'a> Standing<'a> {
     ghost use Rattle.pmf_storelog.specs.Separators.{records_of};
-    ghost use Rattle.pmf_query.specs.{Locating.{AreLocations}, Standing.{AddsLocation, HasWalked, Stands, located_in}, Walking.{BeginsAnew}};
+    ghost use Rattle.pmf_query.specs.{Locating.{AreLocations, IsFaultless}, Standing.{AddsLocation, HasWalked, Stands, located_in}, Walking.{BeginsAnew}};
 
     /// Where each event of each section of the log stands, faults or not, by one walk over its records.
     ///
@@ -33,6 +34,20 @@ impl<'a> Standing<'a> {
         let mut start = 0;
         while let Some(found) = next_record(log, start) {
             walked.pass(found)?;
+            start = found.next;
+        }
+        Ok(walked.standing)
+    }
+
+    /// The same of a log without a fault: a record that begins with the name of a usual event gives one, and is not read again.
+    pub fn of_faultless(alloc: Global, log: &'a [u8]) -> Result<Standing<'a>, AllocError>
+        requires { IsFaultless log.now }
+        ensures { IfOk result (λ standing. Stands log.now standing) }
+    {
+        let mut walked = Walked::none(alloc);
+        let mut start = 0;
+        while let Some(found) = next_record(log, start) {
+            walked.pass_sound(found)?;
             start = found.next;
         }
         Ok(walked.standing)
@@ -80,7 +95,8 @@ struct Walked<'a> {
 }
 
 impl<'a> Walked<'a> {
-    ghost use Rattle.pmf_storelog.specs.Separators.{records_of};
+    ghost use Rattle.pmf_event.specs.declared.event.Event.{Event};
+    ghost use Rattle.pmf_storelog.specs.{Records.{record_of}, Separators.{records_of}, declared.fault.Cause.{Cause}, declared.record.Saying.TheVariants.{Happens}};
     ghost use Rattle.pmf_query.specs.{Standing.{HasWalked}, Walking.{IsNext}};
 
     fn none(alloc: Global) -> Walked<'a>
@@ -96,6 +112,41 @@ impl<'a> Walked<'a> {
                 none: Vec::new(alloc),
             },
         }
+    }
+
+    // Passes a record that is not refused.
+    fn pass_sound(&mut self, found: Found<'a>) -> Result<(), AllocError>
+        requires room { self.old.records + 1 < 2 ^ 64 }
+        requires sound { (cause : Cause) → record_of found.text.now ≡ Err cause → ⊥ }
+        ensures count { OnOk result (self.new.records ≡ self.old.records + 1) }
+        ensures walked { (bytes : List ℕ) (start : ℕ) → IsNext bytes start found.entry.offset found.entry.text.now found.entry.next
+            → HasWalked bytes (records_of (take start bytes)) self.old
+            → OnOk result (HasWalked bytes (records_of (take found.entry.next bytes)) self.new) }
+    {
+        if let Some(_index) = usual_name(found.text) {
+            self.pass_event(found)?;
+            return Ok(());
+        }
+        self.pass(found)?;
+        Ok(())
+    }
+
+    // Passes a record that gives an event.
+    fn pass_event(&mut self, found: Found<'a>) -> Result<(), AllocError>
+        requires room { self.old.records + 1 < 2 ^ 64 }
+        requires event { (event : Event) × (record_of found.text.now ≡ Ok (Happens event)) }
+        ensures count { OnOk result (self.new.records ≡ self.old.records + 1) }
+        ensures walked { (bytes : List ℕ) (start : ℕ) → IsNext bytes start found.entry.offset found.entry.text.now found.entry.next
+            → HasWalked bytes (records_of (take start bytes)) self.old
+            → OnOk result (HasWalked bytes (records_of (take found.entry.next bytes)) self.new) }
+    {
+        self.records += 1;
+        let here = Located {
+            record: self.records,
+            offset: found.offset as u64,
+            text: found.text,
+        };
+        self.standing.add(self.current, here)
     }
 
     fn pass(&mut self, found: Found<'a>) -> Result<(), AllocError>

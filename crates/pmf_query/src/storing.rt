@@ -1,18 +1,17 @@
 //! The names of stores: where in the source they were made, or their addresses.
 
 ghost use Rattle.std.specs.Prelude.{◌≡◌, ◌+◌, ◌<◌, ◌≤◌, ◌^◌, ℕ, Bool, List, [], ◌∷◌, ◌++◌, length, map, sum_by, slice_get, if◌then◌else◌, IfOk, OnOk};
-ghost use Rattle.pmf_event.specs.{declared.section.TheConstants.{EVENT_LIMIT}, Section.{Trace}};
+ghost use Rattle.pmf_event.specs.Section.{Trace};
 ghost use Rattle.pmf_storelog.specs.declared.fault.TheConstants.{SECTION_LIMIT};
-ghost use Rattle.pmf_query.specs.{declared.locate.Located.{Located}, Counting.{Lists}, Marks.{Marks}, StoreNames.{AreNamed, AreNamesIn, is_asked, name_there, names_among, store_name}};
+ghost use Rattle.pmf_query.specs.{declared.locate.Located.{Located}, Counting.{Lists}, Marks.{Marks}, Standing.{Stands}, StoreNames.{AreNamed, AreNamesIn, is_asked, name_there, names_among, store_name}};
 
-use crate::covering::mark_uncovered;
 use crate::fields::field;
-use crate::leaving::Left;
 use crate::listing::Listing;
 use crate::locate::Located;
+use crate::looking::Looked;
 use crate::standing::Standing;
-use crate::upkeep::Walk;
-use pmf_event::{Event, Section};
+use crate::summing::look_through;
+use pmf_event::Section;
 use std::alloc::{AllocError, Global};
 use std::sync::Arc;
 
@@ -30,7 +29,7 @@ pub struct StoreNames<'a> {
 
 /// The names of the stores of a log's sections, and where it is asked those of the stores that no later assertion covers.
 ///
-/// Takes memory for a location of each event of the log, and for one section at a time.
+/// Takes memory for a location of each event of the log, and a few bytes more for each, and for the shadow of one section at a time.
 pub fn name_stores<'a>(
     alloc: Global,
     log: &'a [u8],
@@ -40,11 +39,28 @@ pub fn name_stores<'a>(
     requires { length sections.now ≤ SECTION_LIMIT }
     ensures { IfOk result (AreNamesIn log.now unasserted (map (λ s. s.value) sections.now)) }
 {
+    let (_, looked) = look_through(alloc, sections)?;
     let standing = Standing::of(alloc, log)?;
+    let names = name_all(alloc, log, &standing, &looked, unasserted)?;
+    Ok(names)
+}
+
+/// The same of sections that were looked through, by where the events of the log stand.
+pub(crate) fn name_all<'a>(
+    alloc: Global,
+    _log: &'a [u8],
+    standing: &Standing<'a>,
+    sections: &[Looked],
+    unasserted: bool,
+) -> Result<StoreNames<'a>, AllocError>
+    requires few { length sections.now ≤ SECTION_LIMIT }
+    requires stands { Stands _log.now standing.now }
+    ensures { IfOk result (AreNamesIn _log.now unasserted (map (λ l. l.section.value) sections.now)) }
+{
     let mut names = StoreNames::none(alloc);
-    for section in sections {
-        let located = standing.kept_of(section.name().number);
-        names.take(alloc, section.events(), located, unasserted)?;
+    for looked in sections {
+        let located = standing.kept_of(looked.section.name().number);
+        names.take(alloc, looked, located, unasserted)?;
     }
     Ok(names)
 }
@@ -60,27 +76,24 @@ impl<'a> StoreNames<'a> {
         }
     }
 
-    // With those of one section more, which has these events, and they stand there.
+    // With those of one section more, whose events stand there.
     fn take(
         &mut self,
         alloc: Global,
-        events: &[Event],
+        looked: &Looked,
         located: &[Located<'a>],
         unasserted: bool,
     ) -> Result<(), AllocError>
-        requires few { length events.now ≤ EVENT_LIMIT }
-        requires room { (stands : ℕ → List Located) × (sections : List Trace) × AreNamed stands unasserted sections self.old
-            × (sum_by (λ (t : Trace). length t.events) sections + length events.now < 2 ^ 64) }
-        ensures { (stands : ℕ → List Located) (sections : List Trace) (t : Trace) → AreNamed stands unasserted sections self.old
-            → t.events ≡ events.now → stands t.name.number ≡ located.now
-            → OnOk result (AreNamed stands unasserted (sections ++ t ∷ []) self.new) }
+        requires { (stands : ℕ → List Located) × (sections : List Trace) × AreNamed stands unasserted sections self.old
+            × (sum_by (λ (t : Trace). length t.events) sections + length looked.now.section.value.events < 2 ^ 64) }
+        ensures { (stands : ℕ → List Located) (sections : List Trace) → AreNamed stands unasserted sections self.old
+            → stands looked.now.section.value.name.number ≡ located.now
+            → OnOk result (AreNamed stands unasserted (sections ++ looked.now.section.value ∷ []) self.new) }
     {
-        let walk = Walk::over(alloc, events)?;
-        let left = Left::of(alloc, &walk.shadow, events.len())?;
-        let unfenced = left.all_unfenced(alloc)?;
-        take_marked(&mut self.unwritten, &left.unwritten, located)?;
+        let unfenced = looked.left.all_unfenced(alloc)?;
+        take_marked(&mut self.unwritten, &looked.left.unwritten, located)?;
         take_marked(&mut self.unfenced, &unfenced, located)?;
-        take_uncovered(&mut self.unasserted, alloc, events, located, unasserted)?;
+        take_uncovered(&mut self.unasserted, looked, located, unasserted)?;
         Ok(())
     }
 }
@@ -88,21 +101,19 @@ impl<'a> StoreNames<'a> {
 // Counts the names of those stores of a section that no later assertion covers, where these are asked for.
 fn take_uncovered<'a>(
     listing: &mut Listing<'a>,
-    alloc: Global,
-    events: &[Event],
+    looked: &Looked,
     located: &[Located<'a>],
     asked: bool,
 ) -> Result<(), AllocError>
-    requires few { length events.now < 2 ^ 63 }
-    requires room { (names : List (List ℕ)) × Lists listing.old names × (length names + length events.now < 2 ^ 64) }
+    requires { (names : List (List ℕ)) × Lists listing.old names × (length names + length looked.now.section.value.events < 2 ^ 64) }
     ensures { (names : List (List ℕ)) → Lists listing.old names
-        → OnOk result (Lists listing.new (names ++ names_among (is_asked asked events.now) located.now (length events.now))) }
+        → OnOk result (Lists listing.new (names ++ names_among (is_asked asked looked.now.section.value.events) located.now
+        (length looked.now.section.value.events))) }
 {
     if !asked {
         return Ok(());
     }
-    let marks = mark_uncovered(alloc, events)?;
-    take_marked(listing, &marks, located)?;
+    take_marked(listing, &looked.uncovered, located)?;
     Ok(())
 }
 

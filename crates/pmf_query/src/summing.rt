@@ -1,15 +1,13 @@
 //! What the sections of a log hold, in numbers.
 
 ghost use Rattle.std.specs.Prelude.{◌≡◌, ◌-◌, ◌<◌, ◌^◌, [], ◌∷◌, map, count_by, IfOk};
-ghost use Rattle.pmf_query.specs.Summing.{IsWithin, asserts, both, empty_of, is_empty_row, is_store, sums_of};
+ghost use Rattle.pmf_query.specs.Summing.{IsWithin, asserts, both, is_store, sums_of};
 
-use crate::covering::{count_uncovered, one_if};
-use crate::leaving::Left;
-use crate::refusal::LogRefusal;
+use crate::covering::{count_marked, one_if};
+use crate::looking::Looked;
 use crate::upkeep::{Upkeep, Walk, upkeep_of};
-use pmf_event::{Event, Profile, Row, Section};
-use pmf_verdict::{Outcome, check, outcome_of};
-use std::alloc::Global;
+use pmf_event::{Event, Section};
+use std::alloc::{AllocError, Global};
 use std::sync::Arc;
 
 /// What sections hold, in numbers.
@@ -48,26 +46,26 @@ impl Sums {
         }
     }
 
-    // Of the section alone.
+    // Of the section alone, and which of its stores lack something.
     #[tactic(auto, using(crate::proofs::TallySumLemmas::sums_one))]
-    fn of(alloc: Global, section: &Arc<Section>) -> Result<Sums, LogRefusal>
-        ensures value { IfOk result (λ sums. sums ≡ sums_of (section.now.value ∷ [])) }
-        ensures small { IfOk result (IsWithin (2 ^ 64)) }
+    fn of(alloc: Global, section: &Arc<Section>) -> Result<(Sums, Looked), AllocError>
+        ensures value { IfOk result (λ found. found.0 ≡ sums_of (section.now.value ∷ [])) }
+        ensures small { IfOk result (λ found. IsWithin (2 ^ 64) found.0) }
+        ensures looked { IfOk result (λ found. found.1.section.value ≡ section.now.value) }
     {
-        let empty = count_empty(alloc, section)?;
         let events = section.events();
-        let unasserted = count_uncovered(alloc, events)?;
         let walk = Walk::over(alloc, events)?;
-        let left = Left::of(alloc, &walk.shadow, events.len())?;
-        Ok(Sums {
+        let looked = Looked::of(alloc, section, &walk)?;
+        let sums = Sums {
             events: events.len() as u128,
             assertions: u128::from(count_assertions(events)),
-            empty: u128::from(empty),
+            empty: u128::from(walk.empty),
             misread: u128::from(walk.misread),
             stores: u128::from(count_stores(events)),
-            unasserted: u128::from(unasserted),
-            upkeep: upkeep_of(&walk, &left),
-        })
+            unasserted: u128::from(count_marked(&looked.uncovered)),
+            upkeep: upkeep_of(&walk, &looked.left),
+        };
+        Ok((sums, looked))
     }
 
     fn add(&mut self, more: Sums)
@@ -84,42 +82,26 @@ impl Sums {
     }
 }
 
-/// What the sections hold. Takes memory for the verdict and the shadow of one section at a time, and a few bytes for each of its events.
-#[tactic(auto, using(std::proofs::lemmas::Grind::common_steps, crate::proofs::TallySumLemmas::none_within))]
-pub(crate) fn sum(alloc: Global, sections: &[Arc<Section>]) -> Result<Sums, LogRefusal>
-    ensures { IfOk result (λ sums. sums ≡ sums_of (map (λ s. s.value) sections.now)) }
+/// What the sections hold, and of each which of its stores lack something. Takes memory for the shadow of one section at a time, and a few
+/// bytes for each event.
+pub(crate) fn look_through(
+    alloc: Global,
+    sections: &[Arc<Section>],
+) -> Result<(Sums, Vec<Looked>), AllocError>
+    ensures sums { IfOk result (λ found. found.0 ≡ sums_of (map (λ s. s.value) sections.now)) }
+    ensures looked { IfOk result (λ found. map (λ l. l.section.value) found.1.items ≡ map (λ s. s.value) sections.now) }
 {
     let mut sums = Sums::none();
+    let mut all = Vec::new(alloc);
     for section in sections {
-        let more = Sums::of(alloc, section)?;
+        let (more, looked) = Sums::of(alloc, section)?;
         sums.add(more);
+        all.push(looked)?;
     }
-    Ok(sums)
+    Ok((sums, all))
 }
 
-// How many rows of the section are of assertions that had nothing to check.
-#[tactic(auto, unfolding(crate::specs::Summing::empty_of))]
-fn count_empty(alloc: Global, section: &Arc<Section>) -> Result<u64, LogRefusal>
-    ensures { IfOk result (λ count. count ≡ empty_of section.now.value) }
-{
-    let shared = Arc::try_clone(section)?;
-    match check(alloc, shared, Profile::One) {
-        Ok(verdict) => Ok(count_empty_rows(verdict.rows())),
-        Err(_) => Err(LogRefusal::OutOfMemory),
-    }
-}
-
-fn count_empty_rows(rows: &[Row]) -> u64
-    ensures { result ≡ count_by (λ row. is_empty_row row) rows.now }
-{
-    let mut count: u64 = 0;
-    for row in rows {
-        count += one_if(is_empty(row));
-    }
-    count
-}
-
-fn count_assertions(events: &[Event]) -> u64
+pub(crate) fn count_assertions(events: &[Event]) -> u64
     ensures { result ≡ count_by (λ e. asserts e) events.now }
 {
     let mut count: u64 = 0;
@@ -139,20 +121,8 @@ fn count_stores(events: &[Event]) -> u64
     count
 }
 
-#[tactic(auto, unfolding(crate::specs::Summing::is_empty_row, pmf_verdict::specs::Outcome::is_same))]
-fn is_empty(row: &Row) -> bool
-    ensures { result ≡ is_empty_row row.now }
-{
-    match outcome_of(row.finding) {
-        Outcome::Pass => false,
-        Outcome::Fail => false,
-        Outcome::Warn => false,
-        Outcome::Empty => true,
-    }
-}
-
 #[tactic(auto, unfolding(crate::specs::Summing::asserts))]
-fn asserts(event: &Event) -> bool
+pub(crate) fn asserts(event: &Event) -> bool
     ensures { result ≡ asserts event.now }
 {
     matches!(

@@ -6,8 +6,8 @@ ghost use Rattle.pmf_shadow.specs.Shadow.{ForEachList};
 ghost use Rattle.pmf_query.specs.{Upkeep.{HasWalkedOver, flushed_after, IsUpkeepWithin, overwrites, upkeep_of}, Leaving.{AreLeft}, Summing.{kept_both, upkeeps_of}};
 
 use crate::covering::{both, one_if};
-use crate::leaving::Left;
-use crate::misread::misreads;
+use crate::leaving::{Left, are_narrow};
+use crate::misread::{lacks_bytes, misreads};
 use pmf_event::Event;
 use pmf_shadow::Shadow;
 use std::alloc::{AllocError, Global};
@@ -85,6 +85,8 @@ pub(crate) struct Walk {
     pub(crate) overwriting: u64,
     /// Assertions that are EMPTY, and would not be if their addresses were hexadecimal.
     pub(crate) misread: u64,
+    /// Assertions that are EMPTY.
+    pub(crate) empty: u64,
 }
 
 impl Walk {
@@ -100,7 +102,7 @@ impl Walk {
             walk.settle_for(event)?;
             walk.follow(place, event)?;
         }
-        walk.settle()?;
+        walk.settle(events)?;
         Ok(walk)
     }
 
@@ -116,6 +118,7 @@ impl Walk {
             idle: 0,
             overwriting: 0,
             misread: 0,
+            empty: 0,
         }
     }
 
@@ -127,10 +130,13 @@ impl Walk {
         Ok(())
     }
 
-    /// Makes the shadow ready for what is asked at the end. The walk stands where it stood.
-    fn settle(&mut self) -> Result<(), AllocError>
+    /// Makes the shadow ready for what is asked at the end of wide spans. The walk stands where it stood.
+    fn settle(&mut self, events: &[Event]) -> Result<(), AllocError>
         ensures { OnOk result ((es : List Event) (p : ℕ) → HasWalkedOver self.old es p → HasWalkedOver self.new es p) }
     {
+        if are_narrow(events) {
+            return Ok(());
+        }
         self.shadow.settle()?;
         Ok(())
     }
@@ -141,9 +147,11 @@ impl Walk {
         ensures { (es : List Event) (p : ℕ) → HasWalkedOver self.old es p → event_at es (suc p) ≡ Some event.now
             → suc p ≡ place → OnOk result (HasWalkedOver self.new es (suc p)) }
     {
-        let misread = misreads(self.alloc, &self.shadow, event)?;
+        let unmet = lacks_bytes(&self.shadow, event);
+        let misread = misreads(self.alloc, &self.shadow, event, unmet)?;
         let overwrites = overwrites(&self.shadow, event);
         let fence = is_fence(event);
+        self.empty += one_if(unmet);
         self.misread += one_if(misread);
         self.overwriting += one_if(overwrites);
         self.fences += one_if(fence);

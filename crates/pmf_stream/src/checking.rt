@@ -1,7 +1,7 @@
 //! From a stream of bytes to its report, or its ledger text.
 
-ghost use Rattle.std.specs.Prelude.{◌≡◌, ◌≢◌, ◌<◌, ◌≤◌, ◌++◌, ◌+◌, ℕ, List, [], length, Option, None, IfOk, IfErr, IfSome, MatchOption, MatchResult};
-ghost use Rattle.pmf_storelog.specs.{declared.fault.TheConstants.{LOG_LIMIT}, LogText.{out_of_memory, shown_fault}, Reader.{HasRead}};
+ghost use Rattle.std.specs.Prelude.{◌≡◌, ◌≢◌, ◌<◌, ◌≤◌, ◌++◌, ◌+◌, ℕ, List, [], length, true, Ok, Option, None, IfOk, IfErr, IfSome, MatchOption, MatchResult};
+ghost use Rattle.pmf_storelog.specs.{declared.fault.TheConstants.{LOG_LIMIT}, LogText.{log_of, out_of_memory, shown_fault}, Reader.{HasRead}};
 ghost use Rattle.pmf_farm.specs.Running.{IsTaken};
 ghost use Rattle.pmf_ledger.specs.{declared.loading.TheConstants.{LEDGER_LIMIT}, Gathered.{IsLedgerOf}, LedgerText.{text_of_ledger}, Loading.{LoadsAs}, Report.{totals_of}};
 ghost use Rattle.pmf_device.specs.Failures.{CanCountOneMore};
@@ -15,7 +15,7 @@ use crate::writing::write_answer;
 use pmf_device::{Failed, Sink, Source};
 use pmf_farm::{FarmFault, Gate, run};
 use pmf_ledger::{Form, LEDGER_LIMIT, Ledger, Totals};
-use pmf_query::{Warnings, lint_log};
+use pmf_query::{Warnings, warnings_due};
 use pmf_request::Settings;
 use pmf_storelog::{LOG_LIMIT, Log, LogFault, LogReader};
 use std::alloc::{AllocError, Global};
@@ -233,18 +233,21 @@ pub(crate) fn text_within(
     Ok(Some(text))
 }
 
-/// Which warnings `lint` has of these bytes, where they are asked for. A log that was read without a fault is not refused again, but for want
-/// of memory.
-fn look(alloc: Global, bytes: &[u8], strict: bool) -> Result<Option<Warnings>, AllocError>
+/// Which warnings `lint` has of these bytes, where they are asked for, by what was read of them.
+fn look(
+    alloc: Global,
+    bytes: &[u8],
+    log: &Log,
+    strict: bool,
+) -> Result<Option<Warnings>, AllocError>
+    requires { strict ≡ true → (run : ℕ) × (log_of run bytes.now ≡ Ok log.now) }
     ensures { IfOk result (AreWarnings strict bytes.now) }
 {
     if !strict {
         return Ok(None);
     }
-    match lint_log(alloc, bytes) {
-        Ok(lint) => Ok(Some(lint.warnings)),
-        Err(_) => Err(AllocError),
-    }
+    let warnings = warnings_due(alloc, bytes, log)?;
+    Ok(Some(warnings))
 }
 
 /// What is written of the log's ledger by the settings, and what is told of it; or none where it is too long to be loaded.
@@ -284,7 +287,7 @@ fn report_log(
 /// then [`StreamFault::OutOfMemory`] (also as a cause of the two before) and [`CheckLogFault::TooLong`], then
 /// [`StreamFault::WriteFault`]. Takes memory
 /// for the events, the verdicts and the report, and for no other byte of the log; where the settings are strict for each of its bytes, and
-/// for what `lint` takes.
+/// for what [`warnings_due`] takes.
 pub fn check_stream<H: Threads + Wait + Sync, R: Source, W: Sink, G: Gate + Sync>(
     rt: &H,
     alloc: Global,
@@ -322,7 +325,7 @@ pub fn check_stream<H: Threads + Wait + Sync, R: Source, W: Sink, G: Gate + Sync
         Ok(ledger) => ledger,
         Err(fault) => return Err(StreamFault::Refused(CheckLogFault::Farm(fault))),
     };
-    let warnings = look(alloc, &kept, settings.strict)?;
+    let warnings = look(alloc, &kept, &log, settings.strict)?;
     let Some((text, done)) = report_log(alloc, &log, &ledger, settings, warnings)? else {
         return Err(StreamFault::Refused(CheckLogFault::TooLong));
     };

@@ -68,7 +68,7 @@ pub fn tell_why<W: Sink>(
     if !has_asked(read.sections(), asked.section) {
         return Err(refused(asked, EventFault::NoSection));
     }
-    let Ok(standing) = Standing::of(alloc, log) else {
+    let Ok(standing) = Standing::of_faultless(alloc, log) else {
         return Err(refused(asked, EventFault::OutOfMemory));
     };
     match tell_sections(alloc, read.sections(), &standing, asked, writer) {

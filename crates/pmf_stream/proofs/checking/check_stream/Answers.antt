@@ -1,7 +1,12 @@
-use Rattle.std.proofs.Common.{◌∙◌, subst}
+use Rattle.std.proofs.Common.{◌∙◌, ap, subst}
+use Rattle.pmf_storelog.specs.LogText.{log_of}
 use Rattle.pmf_farm.specs.Running.{IsRefused}
 use Rattle.pmf_stream.{proofs.lemmas.TakenLemmas.{refuses-workers}, specs.Checking.{IsCheckFaultOf, IsReportOf}, proofs.lemmas.AnsweringLemmas.{Answers-written}, proofs.lemmas.StreamLemmas.{warnings-kept}}
 use Rattle.pmf_stream.proofs.checking.check_stream.Goals as goal
+
+pub look-requires : goal.look-requires
+look-requires g c = λ strict.
+    let read = c.in-Ok.ensures.ok in (c.args.settings.run, ap (log_of c.args.settings.run) (c.deref.ensures.value ∙ read.1 strict) ∙ read.0.faultless)
 
 pub returns-clause-answer : goal.returns-clause-answer
 returns-clause-answer g c =

@@ -8,4 +8,5 @@ returns c = λ es p walked. record {
   idle = walked.idle;
   overwriting = walked.overwriting;
   misread = walked.misread;
+  empty = walked.empty;
 }
