@@ -11,7 +11,7 @@ use crate::byte::{
 };
 use crate::front::ByteMap;
 use crate::stretches::lines_of;
-use crate::wide::{asks_widely, lines_for, stores_widely};
+use crate::wide::{asked_at, lines_for, stores_widely};
 use pmf_event::{Event, Interval, LINE_SIZE, Lines, Span};
 use pmf_runs::Test;
 use std::alloc::{AllocError, Global};
@@ -77,16 +77,16 @@ impl Shadow {
         Ok(())
     }
 
-    /// The same where the event, which comes next, asks of a wide span.
+    /// Makes the lines in front ready for what the event asks, which comes next: where that is of a wide span, they are put in order, or
+    /// behind. The shadow stands for what it stood for, after an `Err`, which is want of memory, too.
     pub fn settle_for(&mut self, event: &Event) -> Result<(), AllocError>
         ensures { Keeps self.old self.new }
     {
         let is_wide = stores_widely(*event);
         self.has_wide = self.has_wide | is_wide;
-        if !asks_widely(*event, self.has_wide) {
-            return Ok(());
-        }
-        self.settle()
+        let asked = asked_at(*event, self.has_wide);
+        self.bytes.make_ready_for(asked / LINE_SIZE)?;
+        Ok(())
     }
 
     /// Follows a store to the bytes of the span, and keeps this place of it. Memory: at most two runs.
