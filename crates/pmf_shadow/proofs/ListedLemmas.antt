@@ -1,5 +1,5 @@
 -- Numbers that are sorted.
-use Rattle.std.proofs.{Common.{◌≡◌, ℕ, Bool, true, List, length, get_or, ◌∙◌}, lemmas.List.{get_or_default}, lemmas.List.Sorted.{Contains-permutation, IsNonDecreasingBy-from_sort}}
+use Rattle.std.proofs.{Common.{ℕ, Bool, true, List, ◌∙◌}, lemmas.List.{get_or_default}, lemmas.List.Sorted.{Contains-permutation, IsNonDecreasingBy-from_sort}}
 use Rattle.std.specs.{List.{Contains}, List.Sorted.{IsPermutation, IsSorted}, Ordering.{nat_cmp}}
 use Rattle.pmf_runs.specs.Ranks.{HasKey}
 use Rattle.pmf_shadow.specs.Orders.{NeverFall, AreListed}

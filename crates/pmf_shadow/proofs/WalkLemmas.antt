@@ -1,10 +1,10 @@
 -- Walks over the lines in front and what lies between them.
-use Rattle.std.proofs.{Common.{◌≡◌, ℕ, ◌⊎◌, ◌+◌, ◌-◌, ◌*◌, ◌/◌, ◌%◌, ◌<◌, ◌≤◌, Bool, true, false, zero, suc, get_or, nat_eq, nat_le, nat_lt, ◌&&◌, cond, if◌then◌else◌, sym, ◌∙◌, ap, subst, arith, rules, refl, inl, inr, Option, None, Some, is_some}, lemmas.Bool.{cases_eq, cases_lt}, lemmas.Bool.Decides.{nat_tests}}
+use Rattle.std.proofs.{Common.{◌≡◌, ℕ, ◌⊎◌, ◌+◌, ◌-◌, ◌*◌, ◌/◌, ◌%◌, ◌<◌, ◌≤◌, Bool, true, false, zero, suc, get_or, nat_eq, nat_le, nat_lt, ◌&&◌, cond, if◌then◌else◌, sym, ◌∙◌, ap, subst, arith, refl, inl, inr, Option, None, Some, is_some}, lemmas.Bool.{cases_eq, cases_lt}, lemmas.Bool.Decides.{nat_tests}}
 use Rattle.std.specs.HashMap.{get}
 use Rattle.pmf_event.{specs.Ranges.{first_from, count_from}, proofs.RangeLemmas.{count_from-same, first_from-same}}
 use Rattle.pmf_runs.specs.Runs as behind
 use Rattle.pmf_runs.specs.{Lines.{line_has}, Ranks.{ChangesItems}}
-use Rattle.pmf_shadow.{specs.Bytes.{state_on, state_at, line_at, is_between, passing, ChangesBetween, ChangesFront, KeepsStates, AreAlike, AreBehind, IsLineOf}, specs.Words.{AreWords, IsStep}, specs.declared.byte.ByteState.{ByteState}, specs.declared.front.ByteMap.{ByteMap}, specs.declared.line.Line.{Line}, proofs.FrontLemmas.{at_front, at_behind, same_state, word_within, nat_eq-true, nat_eq-false, between_words, not_between}, proofs.AskLemmas.{first_front, line_asked}}
+use Rattle.pmf_shadow.{specs.Bytes.{state_on, state_at, line_at, is_between, passing, ChangesBetween, ChangesFront, KeepsStates, AreAlike, AreBehind, IsLineOf}, specs.Words.{AreWords}, specs.declared.byte.ByteState.{ByteState}, specs.declared.front.ByteMap.{ByteMap}, specs.declared.line.Line.{Line}, proofs.FrontLemmas.{at_front, at_behind, same_state, word_within, nat_eq-true, nat_eq-false, between_words, not_between}, proofs.AskLemmas.{first_front, line_asked}}
 
 none_some : {P : Type 0} (o : Option Line) → o ≡ None → is_some o ≡ true → P
 none_some o none some = absurd (let bad : false ≡ true = sym (ap is_some none) ∙ some in cc)

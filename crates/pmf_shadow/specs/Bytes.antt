@@ -1,5 +1,5 @@
 -- The states of bytes: of a line in front by its words, and of all others by the map of runs behind.
-use Rattle.std.specs.Prelude.{◌≡◌, ℕ, ◌+◌, ◌*◌, ◌/◌, ◌%◌, ◌<◌, ◌≤◌, Bool, ◌&&◌, nat_eq, nat_le, nat_lt, length, get_or, Option, None, Some, is_some, true, if◌then◌else◌}
+use Rattle.std.specs.Prelude.{◌≡◌, ℕ, ◌+◌, ◌*◌, ◌/◌, ◌%◌, ◌<◌, ◌≤◌, Bool, ◌&&◌, nat_eq, nat_le, nat_lt, get_or, Option, None, Some, is_some, true, if◌then◌else◌}
 use Rattle.std.specs.HashMap.{get}
 use Rattle.pmf_shadow.specs.{declared.byte.ByteState.{ByteState}, declared.front.ByteMap.{ByteMap}, declared.line.Line.{Line}}
 use Rattle.pmf_runs.specs.Runs as behind

@@ -22,7 +22,7 @@ const FEW_LINES: u64 = 64;
 const FEW_OF: usize = 16;
 
 /// Lines are put behind before so many walks over all of them.
-const WALKS: usize = 16;
+const WALKS: usize = 8;
 
 /// How many times a line is to be changed in front, so that it pays to take it there.
 const PAYS: usize = 8;

@@ -11,6 +11,11 @@ const RARELY: usize = 256;
 /// How many lines are in front at most, 144 bytes each.
 const MOST: usize = 1 << 18;
 
+/// The same where more than so many events ask of a wide span, so that lines may be put behind, and are in both places for a moment.
+const FEW: usize = 1 << 14;
+
+const SEVERAL: usize = 16;
+
 /// Of how many bytes the event asks, at least: any number at the end of a scope, once a wide span was stored to.
 pub(crate) fn asked_at(event: Event, has_wide: bool) -> u64 {
     match event {
@@ -30,7 +35,7 @@ pub(crate) fn stores_widely(event: Event) -> bool {
     }
 }
 
-/// How many lines may be in front while these events are followed: none where many of them ask of a wide span.
+/// How many lines may be in front while these events are followed: none where many of them ask of a wide span, and few where several do.
 pub(crate) fn lines_for(events: &[Event]) -> usize {
     let mut wide = 0_usize;
     for event in events {
@@ -40,6 +45,8 @@ pub(crate) fn lines_for(events: &[Event]) -> usize {
     }
     if wide > events.len() / RARELY {
         0
+    } else if wide > SEVERAL {
+        FEW
     } else {
         MOST
     }

@@ -1,4 +1,4 @@
-use Rattle.std.proofs.Common.{◌≡◌, ℕ, Some, None, nat_eq, All}
+use Rattle.std.proofs.Common.{◌≡◌, ℕ, Some, None, nat_eq}
 use Rattle.std.specs.{HashMap.{get}, Map.{lookup}}
 use Rattle.pmf_runs.specs.Ranks.{HasKey}
 use Rattle.pmf_shadow.specs.declared.line.Line.{Line}

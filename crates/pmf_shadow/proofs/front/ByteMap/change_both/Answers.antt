@@ -1,5 +1,4 @@
-use Rattle.std.proofs.Common.{◌∙◌, ◌/◌, ◌-◌, ap, nat_eq}
-use Rattle.std.specs.HashMap.{get}
+use Rattle.std.proofs.Common.{◌/◌}
 use Rattle.pmf_shadow.proofs.{FrontLemmas.{always_err, keeps_both}, WalkLemmas.{both_changed}}
 use Rattle.pmf_shadow.proofs.front.ByteMap.change_both.Goals as goal
 

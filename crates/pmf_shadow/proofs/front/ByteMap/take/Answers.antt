@@ -1,4 +1,4 @@
-use Rattle.std.proofs.Common.{refl, sym, ap, ◌∙◌, nat_eq}
+use Rattle.std.proofs.Common.{refl, ap, ◌∙◌, nat_eq}
 use Rattle.std.specs.HashMap.{get}
 use Rattle.pmf_shadow.proofs.FrontLemmas.{taken, unchanged, absent, keeps_both}
 use Rattle.pmf_shadow.proofs.front.ByteMap.take.Goals as goal
