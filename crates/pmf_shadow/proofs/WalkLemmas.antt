@@ -11,11 +11,14 @@ none_some o none some = absurd (let bad : false ≡ true = sym (ap is_some none)
 
 -- ---- bytes that are alike
 
-pub alike_line : (bytes : ByteMap) (line : ℕ) → AreAlike bytes (64 * line) (64 * line + 64)
-alike_line bytes line = record {
-  one = λ some. omega arith;
-  none = λ none b from below. let same : b / 64 ≡ 64 * line / 64 = omega arith in ap (get nat_eq bytes.front) same ∙ none;
+pub alike_within : (bytes : ByteMap) (first end : ℕ) → end ≤ 64 * (first / 64) + 64 → AreAlike bytes first end
+alike_within bytes first end within = record {
+  one = λ some. within;
+  none = λ none b from below. let same : b / 64 ≡ first / 64 = omega arith in ap (get nat_eq bytes.front) same ∙ none;
 }
+
+pub alike_line : (bytes : ByteMap) (line : ℕ) → AreAlike bytes (64 * line) (64 * line + 64)
+alike_line bytes line = alike_within bytes (64 * line) (64 * line + 64) (omega arith)
 
 -- one line, or the lines before the next one in front
 pub alike_lines : (bytes : ByteMap) (line found next : ℕ) → ((q : ℕ) → line ≤ q → q < found → get nat_eq bytes.front q ≡ None) → next ≤ found ⊎ (next ≡ line + 1) → AreAlike bytes (64 * line) (64 * next)

@@ -549,7 +549,8 @@ impl ByteMap {
     }
 
     /// The least byte from `first` up to `end` whose state passes. An empty range has none, also one whose end is below
-    /// its first number. Where lines are in front it takes a step for each line of the range.
+    /// its first number. Where lines are in front it takes a step for each line of the range, or, where they are in order, for each of
+    /// them in the range and for what lies between two.
     pub(crate) fn first_where<T: Test<ByteState>>(
         &self,
         first: u64,
@@ -596,7 +597,7 @@ impl ByteMap {
     }
 
     /// The same for bytes that are all on one line in front, or all behind.
-    fn first_on<T: Test<ByteState>>(&self, first: u64, end: u64, test: &T) -> Option<u64>
+    pub(crate) fn first_on<T: Test<ByteState>>(&self, first: u64, end: u64, test: &T) -> Option<u64>
         requires { AreAlike self.now first end }
         ensures { result ≡ first_from (passing (T.passes test.now) self.now) first (end - first) }
     {
@@ -606,8 +607,7 @@ impl ByteMap {
         }
     }
 
-    /// The least key that a state of the bytes from `first` up to `end` has, if one of them has any. Where lines are in
-    /// front it takes a step for each line of the range.
+    /// The least key that a state of the bytes from `first` up to `end` has, if one of them has any. It takes as many steps.
     pub(crate) fn least_key<K: Key<ByteState>>(&self, first: u64, end: u64, key: &K) -> Option<u32>
         ensures { result ≡ least_from (keyed (K.key key.now) self.now) first (end - first) }
     {
@@ -636,8 +636,7 @@ impl ByteMap {
         }
     }
 
-    /// How many of the cache lines from `first` up to `end`, by their numbers, have a byte whose state passes. Where lines are
-    /// in front it takes a step for each.
+    /// How many of the cache lines from `first` up to `end`, by their numbers, have a byte whose state passes. It takes as many steps.
     pub(crate) fn count_lines<T: Test<ByteState>>(&self, first: u64, end: u64, test: &T) -> u64
         requires order { first ≤ end }
         requires room { 64 * end ≤ ADDRESS_LIMIT }

@@ -3,7 +3,7 @@
 use pmf_event::{Event, Span};
 
 /// How many bytes a span has at least that is wide.
-const WIDE: u64 = 1024;
+pub(crate) const WIDE: u64 = 1024;
 
 /// One of so many events may ask of a wide span where lines in front are to pay.
 const RARELY: usize = 256;
