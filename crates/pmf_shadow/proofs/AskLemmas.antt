@@ -2,7 +2,7 @@
 use Rattle.std.proofs.{Common.{◌≡◌, ℕ, ◌+◌, ◌-◌, ◌*◌, ◌/◌, ◌%◌, ◌<◌, ◌≤◌, Bool, true, false, if◌then◌else◌, zero, suc, get_or, nat_eq, sym, ◌∙◌, ap, arith, refl, inl, inr, Option, None, Some, is_some}, lemmas.Bool.{cases_lt}, lemmas.List.{get_or_default}}
 use Rattle.std.specs.HashMap.{get, hash_map_len}
 use Rattle.pmf_event.{specs.Ranges.{first_from, count_from, least_from, lesser}, proofs.RangeLemmas.{least_from-split, least_from-alike, least_from-same, first_from-none, first_from-some, none-passes, first-passes, first_from-same, count_from-same, some-from}}
-use Rattle.pmf_shadow.{specs.Bytes.{passing, keyed}, specs.declared.byte.ByteState.{ByteState}, specs.declared.front.ByteMap.{ByteMap}, specs.declared.line.Line.{Line}, proofs.FrontLemmas.{at_front, at_behind, no_line, word_within}}
+use Rattle.pmf_shadow.{specs.Bytes.{passing, keyed, AreAlike}, specs.declared.byte.ByteState.{ByteState}, specs.declared.front.ByteMap.{ByteMap}, specs.declared.line.Line.{Line}, proofs.FrontLemmas.{at_front, at_behind, no_line, word_within}}
 use Rattle.pmf_runs.specs.Runs as behind
 use Rattle.pmf_runs.specs.Lines.{line_has}
 
@@ -41,16 +41,17 @@ pub found_here : (test : ℕ → Bool) (first at end : ℕ) → first ≤ at →
 found_here test first at end from below none passes = sym (first_from-some test first (end - first) at (record { from = from; within = omega arith; passes = passes; before = none }))
 
 -- on one line the search is that in front or that behind
-pub first_behind : (bytes : ByteMap) (passes : ByteState → Bool) (first end : ℕ) (o : Option ℕ) → end ≤ 64 * (first / 64) + 64 → get nat_eq bytes.front (first / 64) ≡ None →
+pub first_behind : (bytes : ByteMap) (passes : ByteState → Bool) (first end : ℕ) (o : Option ℕ) → AreAlike bytes first end → get nat_eq bytes.front (first / 64) ≡ None →
     o ≡ first_from (behind.passing passes bytes.behind) first (end - first) → o ≡ first_from (passing passes bytes) first (end - first)
 unfolding passing behind.passing
-first_behind bytes passes first end o within none is =
-    is ∙ first_from-same (behind.passing passes bytes.behind) (passing passes bytes) first (end - first) (λ b low high. ap passes (at_behind bytes b (ap (get nat_eq bytes.front) (on_line first end b within low high) ∙ none)))
+first_behind bytes passes first end o alike none is =
+    is ∙ first_from-same (behind.passing passes bytes.behind) (passing passes bytes) first (end - first) (λ b low high. ap passes (at_behind bytes b (alike.none none b low (omega arith))))
 
-pub first_front : (bytes : ByteMap) (passes : ByteState → Bool) (line : Line) (d : ByteState) (first end : ℕ) (o : Option ℕ) → end ≤ 64 * (first / 64) + 64 → get nat_eq bytes.front (first / 64) ≡ Some line →
+pub first_front : (bytes : ByteMap) (passes : ByteState → Bool) (line : Line) (d : ByteState) (first end : ℕ) (o : Option ℕ) → AreAlike bytes first end → get nat_eq bytes.front (first / 64) ≡ Some line →
     o ≡ first_from (λ b. passes (get_or line.words (b % 64 / 8) d)) first (end - first) → o ≡ first_from (passing passes bytes) first (end - first)
 unfolding passing
-first_front bytes passes line d first end o within has is =
+first_front bytes passes line d first end o alike has is =
+    let within = alike.one (ap is_some has) in
     is ∙ first_from-same (λ b. passes (get_or line.words (b % 64 / 8) d)) (passing passes bytes) first (end - first)
     (λ b low high. ap passes (at_front bytes line b d (ap (get nat_eq bytes.front) (on_line first end b within low high) ∙ has)))
 
@@ -79,16 +80,17 @@ word_key line key d byte stop some within =
     least_from-alike (λ b. key (get_or line.words (b % 64 / 8) d)) byte (stop - byte) (key (get_or line.words (byte % 64 / 8) d)) (omega arith)
     (λ b low high. let same : b % 64 / 8 ≡ byte % 64 / 8 = omega arith in ap (λ k. key (get_or line.words k d)) same)
 
-pub least_behind : (bytes : ByteMap) (key : ByteState → Option ℕ) (first end : ℕ) (o : Option ℕ) → end ≤ 64 * (first / 64) + 64 → get nat_eq bytes.front (first / 64) ≡ None →
+pub least_behind : (bytes : ByteMap) (key : ByteState → Option ℕ) (first end : ℕ) (o : Option ℕ) → AreAlike bytes first end → get nat_eq bytes.front (first / 64) ≡ None →
     o ≡ least_from (behind.keyed key bytes.behind) first (end - first) → o ≡ least_from (keyed key bytes) first (end - first)
 unfolding keyed behind.keyed
-least_behind bytes key first end o within none is =
-    is ∙ least_from-same (behind.keyed key bytes.behind) (keyed key bytes) first (end - first) (λ b low high. ap key (at_behind bytes b (ap (get nat_eq bytes.front) (on_line first end b within low high) ∙ none)))
+least_behind bytes key first end o alike none is =
+    is ∙ least_from-same (behind.keyed key bytes.behind) (keyed key bytes) first (end - first) (λ b low high. ap key (at_behind bytes b (alike.none none b low (omega arith))))
 
-pub least_front : (bytes : ByteMap) (key : ByteState → Option ℕ) (line : Line) (d : ByteState) (first end : ℕ) (o : Option ℕ) → end ≤ 64 * (first / 64) + 64 → get nat_eq bytes.front (first / 64) ≡ Some line →
+pub least_front : (bytes : ByteMap) (key : ByteState → Option ℕ) (line : Line) (d : ByteState) (first end : ℕ) (o : Option ℕ) → AreAlike bytes first end → get nat_eq bytes.front (first / 64) ≡ Some line →
     o ≡ least_from (λ b. key (get_or line.words (b % 64 / 8) d)) first (end - first) → o ≡ least_from (keyed key bytes) first (end - first)
 unfolding keyed
-least_front bytes key line d first end o within has is =
+least_front bytes key line d first end o alike has is =
+    let within = alike.one (ap is_some has) in
     is ∙ least_from-same (λ b. key (get_or line.words (b % 64 / 8) d)) (keyed key bytes) first (end - first)
     (λ b low high. ap key (at_front bytes line b d (ap (get nat_eq bytes.front) (on_line first end b within low high) ∙ has)))
 

@@ -30,10 +30,10 @@ pub same_state : (old new : ByteMap) (b : ℕ) → line_at new b ≡ line_at old
 unfolding state_at
 same_state old new b lines behind_same = ap (λ o. state_on o (behind.state_at new.behind) b) lines ∙ ap (λ runs. state_on (line_at old b) (behind.state_at runs) b) behind_same
 
-nat_eq-true : (a b : ℕ) → a ≡ b → nat_eq a b ≡ true
+pub nat_eq-true : (a b : ℕ) → a ≡ b → nat_eq a b ≡ true
 nat_eq-true a b is = search (rules, arith)
 
-nat_eq-false : (a b : ℕ) → (a ≡ b → ⊥) → nat_eq a b ≡ false
+pub nat_eq-false : (a b : ℕ) → (a ≡ b → ⊥) → nat_eq a b ≡ false
 nat_eq-false a b other = search (rules, arith)
 
 -- the bytes from one word up to another of a line
@@ -262,6 +262,9 @@ on_ok r more holds = grind arith
 
 pub on_err : {A E : Type 0} {P Q : Type 0} (r : Result A E) → (P → Q) → OnErr r P → OnErr r Q
 on_err r more holds = grind arith
+
+pub always_err : {A E : Type 0} {P : Type 0} (r : Result A E) → P → OnErr r P
+always_err r holds = grind arith
 
 between_none : (first end b : ℕ) → end ≤ first → is_between first end b ≡ false
 unfolding is_between

@@ -1,5 +1,7 @@
 pub mod FrontLemmas
 pub mod AskLemmas
+pub mod ListedLemmas
+pub mod WalkLemmas
 pub mod OrderLemmas
 pub mod BoundsLemmas
 pub mod SameLemmas

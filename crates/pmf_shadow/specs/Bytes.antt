@@ -1,5 +1,5 @@
 -- The states of bytes: of a line in front by its words, and of all others by the map of runs behind.
-use Rattle.std.specs.Prelude.{◌≡◌, ℕ, ◌+◌, ◌*◌, ◌/◌, ◌%◌, ◌<◌, ◌≤◌, Bool, ◌&&◌, nat_eq, nat_le, nat_lt, length, get_or, Option, None, Some, is_some, true, if◌then◌else◌}
+use Rattle.std.specs.Prelude.{◌≡◌, ℕ, ◌+◌, ◌*◌, ◌/◌, ◌%◌, ◌<◌, ◌≤◌, Bool, ◌&&◌, nat_eq, nat_le, nat_lt, get_or, Option, None, Some, is_some, true, if◌then◌else◌}
 use Rattle.std.specs.HashMap.{get}
 use Rattle.pmf_shadow.specs.{declared.byte.ByteState.{ByteState}, declared.front.ByteMap.{ByteMap}, declared.line.Line.{Line}}
 use Rattle.pmf_runs.specs.Runs as behind
@@ -40,6 +40,16 @@ is_between first end b = nat_le first b && nat_lt b end
 -- the states of the bytes from first up to the end are changed, and the others are as they were
 pub record ChangesBetween (first end : ℕ) (change : ByteState → ByteState) (old new : ByteMap) : Type 0 where
   pub states : (b : ℕ) → state_at new b ≡ (if is_between first end b then change (state_at old b) else state_at old b)
+
+-- all states of the lines in front from the first one up to the end are changed, and no other state is
+pub record ChangesFront (first end : ℕ) (change : ByteState → ByteState) (old new : ByteMap) : Type 0 where
+  pub front : (b : ℕ) → is_some (line_at old b) ≡ true → state_at new b ≡ (if is_between first end (b / 64) then change (state_at old b) else state_at old b)
+  pub behind : (b : ℕ) → line_at old b ≡ None → state_at new b ≡ state_at old b
+
+-- the bytes from first up to the end are all on one line in front, or none of them is on a line in front
+pub record AreAlike (bytes : ByteMap) (first end : ℕ) : Type 0 where
+  pub one : is_some (line_at bytes first) ≡ true → end ≤ 64 * (first / 64) + 64
+  pub none : line_at bytes first ≡ None → (b : ℕ) → first ≤ b → b < end → line_at bytes b ≡ None
 
 -- whether the state of a byte passes
 unfoldable pub passing : (ByteState → Bool) → ByteMap → ℕ → Bool

@@ -3,10 +3,11 @@
 ghost use Rattle.std.specs.Prelude.{◌≡◌, ◌*◌, ◌-◌, ◌%◌, ◌≤◌, get_or, if◌then◌else◌, ◌/◌, ◌<◌, ◌+◌, ℕ, length, is_some, nat_eq, true, false, IfSome, OnOk, OnErr, Ok, None, Some};
 ghost use Rattle.std.specs.HashMap.{get, hash_map_len};
 ghost use Rattle.pmf_runs.specs.Lines.{line_has};
-ghost use Rattle.pmf_shadow.specs.Words.{AreLow, AreWords};
+ghost use Rattle.pmf_shadow.specs.{Orders.{AreListed}, Words.{AreLow, AreWords}};
 
 use crate::byte::ByteState;
 use crate::line::{Line, WORD_SIZE, lesser, step};
+use crate::order::Order;
 use pmf_event::LINE_SIZE;
 use pmf_runs::{Change, Key, RunMap, Test};
 use std::alloc::{AllocError, Global};
@@ -15,8 +16,13 @@ use std::collections::HashMap;
 /// How many bytes a change may have in front.
 const MOST: u64 = 256;
 
-/// Where a change meets more lines, all lines are put behind, in place of those that it meets.
+/// A walk of so many lines or fewer, or of one in so many of those in front, looks for each of them.
 const FEW_LINES: u64 = 64;
+
+const FEW_OF: usize = 16;
+
+/// Lines are put behind before so many walks over all of them.
+const WALKS: usize = 8;
 
 /// How many times a line is to be changed in front, so that it pays to take it there.
 const PAYS: usize = 8;
@@ -43,6 +49,8 @@ struct Taking {
     changes: usize,
     /// Lines that could not be taken since then, as their bytes have several states behind.
     uneven: usize,
+    /// Steps over lines in front since then, on walks over all of them.
+    steps: usize,
 }
 
 impl Taking {
@@ -53,7 +61,14 @@ impl Taking {
             pause: 0,
             changes: 0,
             uneven: 0,
+            steps: 0,
         }
+    }
+
+    /// Whether so many lines are to be walked over once more, and not put behind.
+    fn is_to_walk(&mut self, lines: usize) -> bool {
+        self.steps = self.steps.saturating_add(lines);
+        self.steps / WALKS < lines
     }
 
     /// Whether a line is taken, where so many are in front.
@@ -89,6 +104,7 @@ impl Taking {
         self.wait = self.pause;
         self.changes = 0;
         self.uneven = 0;
+        self.steps = 0;
     }
 }
 
@@ -98,12 +114,17 @@ pub(crate) struct ByteMap {
     front: HashMap<u64, Line>,
     behind: RunMap<ByteState>,
     taking: Taking,
+    /// The numbers of the lines in front, if they were put in order since a line was taken.
+    order: Order,
+    is_ordered: bool,
     alloc: Global,
     ghost low: { AreLow (λ line. is_some (get nat_eq front line)) },
+    ghost listed: { AreListed is_ordered order.numbers.items (λ line. is_some (get nat_eq front line)) },
 }
 
 impl ByteMap {
-    ghost use Rattle.pmf_shadow.specs.Bytes.{state_at, KeepsStates, ChangesBetween, AreInFront, AreBehind, line_at, passing, keyed};
+    ghost use Rattle.pmf_shadow.specs.Bytes.{state_at, KeepsStates, ChangesBetween, ChangesFront, IsLineOf, AreAlike, AreInFront, AreBehind, line_at, passing, keyed};
+    ghost use Rattle.pmf_runs.specs.Runs as behind;
     ghost use Rattle.pmf_event.specs.Ranges.{first_from, count_from, least_from};
     ghost use Rattle.pmf_event.specs.declared.span.TheConstants.{ADDRESS_LIMIT};
 
@@ -116,6 +137,8 @@ impl ByteMap {
             front: HashMap::new(alloc),
             behind: RunMap::new(alloc, gap),
             taking: Taking::new(most),
+            order: Order::new(alloc),
+            is_ordered: true,
             alloc,
         }
     }
@@ -143,7 +166,7 @@ impl ByteMap {
         requires upto { upto ≤ 8 }
         ensures changes { result ≡ true → ChangesBetween (64 * line + 8 * from) (64 * line + 8 * upto) (C.changed change.now) self.old self.new }
         ensures unchanged { result ≡ false → KeepsStates self.old self.new }
-        ensures there { is_some (get nat_eq self.old.front line) ≡ true → result ≡ true }
+        ensures there { result ≡ is_some (get nat_eq self.old.front line) }
         ensures front { (b : ℕ) → is_some (line_at self.new b) ≡ is_some (line_at self.old b) }
     {
         match self.front.get_mut(&line) {
@@ -166,19 +189,33 @@ impl ByteMap {
         if self.front.contains_key(&line) {
             return Ok(true);
         }
-        if !self.taking.is_now(self.front.len()) {
-            return Ok(false);
-        }
-        match Line::of_one(&self.behind, line) {
-            None => {
-                self.taking.has_failed();
-                Ok(false)
+        match self.to_take(line) {
+            None => Ok(false),
+            Some(found) => {
+                self.is_ordered = false;
+                match self.front.insert(line, found) {
+                    Ok(_) => Ok(true),
+                    Err(_) => Err(AllocError),
+                }
             }
-            Some(found) => match self.front.insert(line, found) {
-                Ok(_) => Ok(true),
-                Err(_) => Err(AllocError),
-            },
         }
+    }
+
+    /// The states of the words of a line that is to be taken in front, if it is now, and all its bytes have one state behind.
+    fn to_take(&mut self, line: u64) -> Option<Line>
+        requires { 64 * line + 64 ≤ ADDRESS_LIMIT }
+        ensures front { self.new.front ≡ self.old.front }
+        ensures same { KeepsStates self.old self.new }
+        ensures even { IfSome result (IsLineOf (behind.state_at self.new.behind) line) }
+    {
+        if !self.taking.is_now(self.front.len()) {
+            return None;
+        }
+        let found = Line::of_one(&self.behind, line);
+        if found.is_none() {
+            self.taking.has_failed();
+        }
+        found
     }
 
     /// Takes a line that is in front out of there. No state is changed.
@@ -218,34 +255,92 @@ impl ByteMap {
         if !are_words(first, end) {
             return self.change_behind(first, end, change);
         }
-        if self.change_one(first, end, change) {
-            return Ok(());
-        }
-        self.change_more(first, end, change)
-    }
-
-    /// Changes the states of words of one line, if it is in front, and tells whether it is.
-    #[inline(always)]
-    fn change_one<C: Change<ByteState>>(&mut self, first: u64, end: u64, change: &C) -> bool
-        requires words { AreWords first end }
-        requires room { end ≤ ADDRESS_LIMIT }
-        ensures changes { result ≡ true → ChangesBetween first end (C.changed change.now) self.old self.new }
-        ensures unchanged { result ≡ false → KeepsStates self.old self.new }
-    {
         let line = first / LINE_SIZE;
         if end > (line + 1) * LINE_SIZE {
-            return false;
+            return self.change_more(first, end, change);
         }
         let from = (first % LINE_SIZE / WORD_SIZE) as usize;
-        self.change_on(
-            line,
-            from,
-            from + ((end - first) / WORD_SIZE) as usize,
+        let upto = from + ((end - first) / WORD_SIZE) as usize;
+        if self.change_on(line, from, upto, change) {
+            return Ok(());
+        }
+        self.change_absent(line, from, upto, change)
+    }
+
+    /// Changes the states of words of a line that is not in front, and takes it there if it can be.
+    #[inline(never)]
+    fn change_absent<C: Change<ByteState>>(
+        &mut self,
+        line: u64,
+        from: usize,
+        upto: usize,
+        change: &C,
+    ) -> Result<(), AllocError>
+        requires room { 64 * line + 64 ≤ ADDRESS_LIMIT }
+        requires order { from < upto }
+        requires upto { upto ≤ 8 }
+        requires absent { get nat_eq self.old.front line ≡ None }
+        ensures ok { OnOk result (ChangesBetween (64 * line + 8 * from) (64 * line + 8 * upto) (C.changed change.now) self.old self.new) }
+        ensures unchanged { OnErr result (KeepsStates self.old self.new) }
+    {
+        match self.to_take(line) {
+            None => self.change_line_behind(line, from, upto, change),
+            Some(found) => self.take_changed(line, found, from, upto, change),
+        }
+    }
+
+    /// Takes a line in front whose words are changed.
+    fn take_changed<C: Change<ByteState>>(
+        &mut self,
+        line: u64,
+        found: Line,
+        from: usize,
+        upto: usize,
+        change: &C,
+    ) -> Result<(), AllocError>
+        requires room { 64 * line + 64 ≤ ADDRESS_LIMIT }
+        requires upto { upto ≤ 8 }
+        requires absent { get nat_eq self.old.front line ≡ None }
+        requires even { IsLineOf (behind.state_at self.old.behind) line found }
+        ensures ok { OnOk result (ChangesBetween (64 * line + 8 * from) (64 * line + 8 * upto) (C.changed change.now) self.old self.new) }
+        ensures unchanged { OnErr result (KeepsStates self.old self.new) }
+    {
+        let mut changed = found;
+        changed.change(from, upto, change);
+        self.is_ordered = false;
+        match self.front.insert(line, changed) {
+            Ok(_) => {
+                self.taking.has_changed();
+                Ok(())
+            }
+            Err(_) => Err(AllocError),
+        }
+    }
+
+    /// Changes the states of words of a line that is not in front in the map of runs.
+    fn change_line_behind<C: Change<ByteState>>(
+        &mut self,
+        line: u64,
+        from: usize,
+        upto: usize,
+        change: &C,
+    ) -> Result<(), AllocError>
+        requires room { 64 * line + 64 ≤ ADDRESS_LIMIT }
+        requires order { from < upto }
+        requires upto { upto ≤ 8 }
+        requires absent { get nat_eq self.old.front line ≡ None }
+        ensures ok { OnOk result (ChangesBetween (64 * line + 8 * from) (64 * line + 8 * upto) (C.changed change.now) self.old self.new) }
+        ensures unchanged { OnErr result (KeepsStates self.old self.new) }
+    {
+        let first = LINE_SIZE * line;
+        self.behind.change(
+            first + WORD_SIZE * from as u64,
+            first + WORD_SIZE * upto as u64,
             change,
         )
     }
 
-    /// Changes the states of words of which a line is not in front yet, or which lie on several.
+    /// Changes the states of words that lie on several lines.
     #[inline(never)]
     fn change_more<C: Change<ByteState>>(
         &mut self,
@@ -312,23 +407,128 @@ impl ByteMap {
         if self.front.is_empty() {
             return self.behind.change(first, end, change);
         }
-        self.spill_lines(first / LINE_SIZE, (end - 1) / LINE_SIZE)?;
+        let (low, high) = (first / LINE_SIZE, (end - 1) / LINE_SIZE);
+        if self.are_many(high - low) {
+            return self.change_both(first, end, change);
+        }
+        self.spill_lines(low, high)?;
         self.behind.change(first, end, change)
     }
 
-    /// Takes the lines from the first to the last out of the front, and all others where these are many. No state is changed.
+    /// Whether so many lines are not looked for one by one.
+    fn are_many(&self, lines: u64) -> bool {
+        lines > FEW_LINES.max((self.front.len() / FEW_OF) as u64)
+    }
+
+    /// Changes the states of a range behind and in front, but for those lines in front that it meets in part, which are put behind before.
+    #[inline(never)]
+    fn change_both<C: Change<ByteState>>(
+        &mut self,
+        first: u64,
+        end: u64,
+        change: &C,
+    ) -> Result<(), AllocError>
+        requires some { first < end }
+        requires room { end ≤ ADDRESS_LIMIT }
+        ensures ok { OnOk result (ChangesBetween first end (C.changed change.now) self.old self.new) }
+        ensures unchanged { OnErr result (KeepsStates self.old self.new) }
+    {
+        let (low, high) = (first / LINE_SIZE, (end - 1) / LINE_SIZE);
+        self.make_ready()?;
+        self.spill(low)?;
+        self.spill(high)?;
+        self.change_runs(first, end, change)?;
+        self.change_front(low, high + 1, change);
+        Ok(())
+    }
+
+    /// Changes the states of a range in the map of runs alone.
+    fn change_runs<C: Change<ByteState>>(
+        &mut self,
+        first: u64,
+        end: u64,
+        change: &C,
+    ) -> Result<(), AllocError>
+        ensures front { self.new.front ≡ self.old.front }
+        ensures ok { OnOk result (behind.ChangesBetween first end (C.changed change.now) self.old.behind self.new.behind) }
+        ensures unchanged { OnErr result (KeepsStates self.old self.new) }
+    {
+        self.behind.change(first, end, change)
+    }
+
+    /// Changes all states of the lines in front from the first one up to the end.
+    fn change_front<C: Change<ByteState>>(&mut self, first: u64, end: u64, change: &C)
+        requires { first ≤ end }
+        ensures { ChangesFront first end (C.changed change.now) self.old self.new }
+    {
+        let mut hint = 0;
+        let mut line = first;
+        while line < end {
+            let at = self.next_front(line, end, &mut hint);
+            if at == end {
+                return;
+            }
+            self.change_on(at, 0, 8, change);
+            line = at + 1;
+        }
+    }
+
+    /// The least line in front from this one on, if it is below the end, or else the end; or this one, where they are not in order.
+    #[inline(always)]
+    fn next_front(&self, line: u64, end: u64, hint: &mut usize) -> u64
+        requires { line ≤ end }
+        ensures from { line ≤ result }
+        ensures upto { result ≤ end }
+        ensures none { (q : ℕ) → line ≤ q → q < result → get nat_eq self.now.front q ≡ None }
+    {
+        if !self.is_ordered {
+            return line;
+        }
+        self.order.next(line, end, hint)
+    }
+
+    /// Takes the lines from the first to the last out of the front. No state is changed.
     fn spill_lines(&mut self, first: u64, last: u64) -> Result<(), AllocError>
         requires order { first ≤ last }
         requires room { 64 * last + 64 ≤ ADDRESS_LIMIT }
         ensures same { KeepsStates self.old self.new }
         ensures behind { OnOk result (AreBehind self.new first last) }
     {
-        if last - first >= FEW_LINES {
-            return self.settle();
-        }
         for number in first..last + 1 {
             self.spill(number)?;
         }
+        Ok(())
+    }
+
+    /// Makes ready for a walk over so many lines. No state is changed.
+    pub(crate) fn make_ready_for(&mut self, lines: u64) -> Result<(), AllocError>
+        ensures { KeepsStates self.old self.new }
+    {
+        if !self.are_many(lines) {
+            return Ok(());
+        }
+        self.make_ready()
+    }
+
+    /// Whether the lines in front are to be walked over once more, and not put behind. No state is changed.
+    fn is_to_walk(&mut self) -> bool
+        ensures { KeepsStates self.old self.new }
+    {
+        self.taking.is_to_walk(self.front.len())
+    }
+
+    /// Puts the lines in front in order, or behind, where they were walked over often. No state is changed.
+    fn make_ready(&mut self) -> Result<(), AllocError>
+        ensures { KeepsStates self.old self.new }
+    {
+        if !self.is_to_walk() {
+            return self.settle();
+        }
+        if self.is_ordered {
+            return Ok(());
+        }
+        self.order = Order::of(self.alloc, &self.front)?;
+        self.is_ordered = true;
         Ok(())
     }
 
@@ -343,11 +543,14 @@ impl ByteMap {
         self.taking.has_put_behind(self.front.len());
         Line::put_all(&self.front, &mut self.behind)?;
         self.front = HashMap::new(self.alloc);
+        self.order = Order::new(self.alloc);
+        self.is_ordered = true;
         Ok(())
     }
 
     /// The least byte from `first` up to `end` whose state passes. An empty range has none, also one whose end is below
-    /// its first number. Where lines are in front it takes a step for each line of the range.
+    /// its first number. Where lines are in front it takes a step for each line of the range, or, where they are in order, for each of
+    /// them in the range and for what lies between two.
     pub(crate) fn first_where<T: Test<ByteState>>(
         &self,
         first: u64,
@@ -359,9 +562,10 @@ impl ByteMap {
         if self.front.is_empty() {
             return self.behind.first_where(first, end, test);
         }
+        let mut hint = 0;
         let mut at = first;
         while at < end {
-            let stop = step(at, end, LINE_SIZE);
+            let stop = self.next(at, end, &mut hint);
             let found = self.first_on(at, stop, test);
             if found.is_some() {
                 return found;
@@ -371,9 +575,30 @@ impl ByteMap {
         None
     }
 
-    /// The same on one line.
-    fn first_on<T: Test<ByteState>>(&self, first: u64, end: u64, test: &T) -> Option<u64>
-        requires { end ≤ 64 * (first / 64) + 64 }
+    /// Where the bytes end, at most at the end, that are all on one line in front, or all behind.
+    #[inline(always)]
+    fn next(&self, first: u64, end: u64, hint: &mut usize) -> u64
+        requires { first < end }
+        ensures from { first < result }
+        ensures upto { result ≤ end }
+        ensures alike { AreAlike self.now first result }
+    {
+        let stop = step(first, end, LINE_SIZE);
+        if stop == end {
+            return end;
+        }
+        let line = first / LINE_SIZE;
+        let last = (end - 1) / LINE_SIZE;
+        let found = self.next_front(line, last, hint);
+        if found == line {
+            return stop;
+        }
+        found * LINE_SIZE
+    }
+
+    /// The same for bytes that are all on one line in front, or all behind.
+    pub(crate) fn first_on<T: Test<ByteState>>(&self, first: u64, end: u64, test: &T) -> Option<u64>
+        requires { AreAlike self.now first end }
         ensures { result ≡ first_from (passing (T.passes test.now) self.now) first (end - first) }
     {
         match self.front.get(&(first / LINE_SIZE)) {
@@ -382,27 +607,27 @@ impl ByteMap {
         }
     }
 
-    /// The least key that a state of the bytes from `first` up to `end` has, if one of them has any. Where lines are in
-    /// front it takes a step for each line of the range.
+    /// The least key that a state of the bytes from `first` up to `end` has, if one of them has any. It takes as many steps.
     pub(crate) fn least_key<K: Key<ByteState>>(&self, first: u64, end: u64, key: &K) -> Option<u32>
         ensures { result ≡ least_from (keyed (K.key key.now) self.now) first (end - first) }
     {
         if self.front.is_empty() {
             return self.behind.least_key(first, end, key);
         }
+        let mut hint = 0;
         let mut least = None;
         let mut at = first;
         while at < end {
-            let stop = step(at, end, LINE_SIZE);
+            let stop = self.next(at, end, &mut hint);
             least = lesser(least, self.least_on(at, stop, key));
             at = stop;
         }
         least
     }
 
-    /// The same on one line.
+    /// The same for bytes that are all on one line in front, or all behind.
     fn least_on<K: Key<ByteState>>(&self, first: u64, end: u64, key: &K) -> Option<u32>
-        requires { end ≤ 64 * (first / 64) + 64 }
+        requires { AreAlike self.now first end }
         ensures { result ≡ least_from (keyed (K.key key.now) self.now) first (end - first) }
     {
         match self.front.get(&(first / LINE_SIZE)) {
@@ -411,8 +636,7 @@ impl ByteMap {
         }
     }
 
-    /// How many of the cache lines from `first` up to `end`, by their numbers, have a byte whose state passes. Where lines are
-    /// in front it takes a step for each.
+    /// How many of the cache lines from `first` up to `end`, by their numbers, have a byte whose state passes. It takes as many steps.
     pub(crate) fn count_lines<T: Test<ByteState>>(&self, first: u64, end: u64, test: &T) -> u64
         requires order { first ≤ end }
         requires room { 64 * end ≤ ADDRESS_LIMIT }
@@ -423,26 +647,37 @@ impl ByteMap {
                 .behind
                 .count_lines(LINE_SIZE * first, LINE_SIZE * end, test);
         }
+        let mut hint = 0;
         let mut count = 0;
-        for line in first..end {
-            count = self.with_line(line, test, count);
+        let mut line = first;
+        while line < end {
+            let found = self.next_front(line, end, &mut hint);
+            let next = found.max(line + 1);
+            count = self.with_lines(line, next, test, count);
+            line = next;
         }
         count
     }
 
-    /// A count with this line, if a byte of it has a state that passes.
-    #[inline(always)]
-    fn with_line<T: Test<ByteState>>(&self, line: u64, test: &T, count: u64) -> u64
-        requires low { 64 * line + 64 ≤ ADDRESS_LIMIT }
+    /// A count with those of the lines that have a byte whose state passes. They are one line in front, or all behind.
+    fn with_lines<T: Test<ByteState>>(&self, line: u64, next: u64, test: &T, count: u64) -> u64
+        requires low { 64 * next ≤ ADDRESS_LIMIT }
+        requires some { line < next }
         requires few { count ≤ line }
-        ensures is { result ≡ (if line_has (passing (T.passes test.now) self.now) line then count + 1 else count) }
-        ensures few { result ≤ line + 1 }
+        requires alike { AreAlike self.now (64 * line) (64 * next) }
+        ensures is { result ≡ count + count_from (line_has (passing (T.passes test.now) self.now)) line (next - line) }
+        ensures few { result ≤ next }
     {
         let first = LINE_SIZE * line;
-        if self.first_on(first, first + LINE_SIZE, test).is_some() {
-            count + 1
-        } else {
-            count
+        match self.front.get(&line) {
+            None => count + self.behind.count_lines(first, LINE_SIZE * next, test),
+            Some(found) => {
+                if found.first_where(first, first + LINE_SIZE, test).is_some() {
+                    count + 1
+                } else {
+                    count
+                }
+            }
         }
     }
 

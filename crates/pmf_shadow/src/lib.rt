@@ -12,6 +12,7 @@ mod byte;
 mod front;
 pub mod laws;
 mod line;
+mod order;
 mod pairs;
 mod shadow;
 mod standing;

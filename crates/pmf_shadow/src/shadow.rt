@@ -11,7 +11,7 @@ use crate::byte::{
 };
 use crate::front::ByteMap;
 use crate::stretches::lines_of;
-use crate::wide::{asks_widely, lines_for, stores_widely};
+use crate::wide::{WIDE, asked_at, lines_for, stores_widely};
 use pmf_event::{Event, Interval, LINE_SIZE, Lines, Span};
 use pmf_runs::Test;
 use std::alloc::{AllocError, Global};
@@ -22,8 +22,9 @@ use std::alloc::{AllocError, Global};
 /// Each change and each question takes O((k + 1) log n) steps for k runs of equal state that it
 /// meets and n that are held, whatever the size of its span; a fence is one addition. Memory
 /// follows the number of runs, not of events. With lines in front ([`Shadow::for_walk`]) a change of
-/// words takes a few steps and a question one for each line that it meets. Memory follows the lines, too; a
-/// change of other bytes takes the runs of the lines that it meets, and of all where it is wide.
+/// words takes a few steps and a question one for each line that it meets, or for each of those in front.
+/// Memory follows the lines, too; a change of other bytes takes the runs of the lines that it meets, or of all where
+/// these were walked over often.
 #[derive(Debug, Drop)]
 pub struct Shadow {
     pub(crate) bytes: ByteMap,
@@ -50,8 +51,8 @@ impl Shadow {
     }
 
     /// The same for a walk over these events. Where few of them ask of wide spans, it has lines in front of the map of runs, on which a
-    /// change of a few words takes few steps, and a question one for each line of its span: so call [`Shadow::settle_for`] before each
-    /// event, and [`Shadow::settle`] before any other question of a wide span. Takes no memory.
+    /// change of a few words takes few steps, and a question one for each line of its span, unless they are in order: so call
+    /// [`Shadow::settle_for`] before each event, and [`Shadow::settle`] before any other question of a wide span. Takes no memory.
     pub fn for_walk(alloc: Global, events: &[Event]) -> Shadow
         ensures { (told : ℕ → ℕ) (es : List Event) → StandsFor result told es 0 }
     {
@@ -77,16 +78,19 @@ impl Shadow {
         Ok(())
     }
 
-    /// The same where the event, which comes next, asks of a wide span.
+    /// Makes the lines in front ready for what the event asks, which comes next: where that is of a wide span, they are put in order, or
+    /// behind. The shadow stands for what it stood for, after an `Err`, which is want of memory, too.
     pub fn settle_for(&mut self, event: &Event) -> Result<(), AllocError>
         ensures { Keeps self.old self.new }
     {
         let is_wide = stores_widely(*event);
         self.has_wide = self.has_wide | is_wide;
-        if !asks_widely(*event, self.has_wide) {
+        let asked = asked_at(*event, self.has_wide);
+        if asked < WIDE {
             return Ok(());
         }
-        self.settle()
+        self.bytes.make_ready_for(asked / LINE_SIZE)?;
+        Ok(())
     }
 
     /// Follows a store to the bytes of the span, and keeps this place of it. Memory: at most two runs.

@@ -199,7 +199,7 @@ impl Shadow {
     {
         let first = line * LINE_SIZE;
         self.bytes
-            .first_where(first, first + LINE_SIZE, test)
+            .first_on(first, first + LINE_SIZE, test)
             .is_some()
     }
 

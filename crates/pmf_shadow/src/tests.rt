@@ -14,6 +14,7 @@ use std::test::Fail;
 mod memory;
 mod places;
 mod random;
+mod wide;
 
 /// The bytes of four lines, from this one on.
 const BASE: u64 = 0x1000;

@@ -1,9 +1,9 @@
-//! Which events ask of so many bytes that lines in front are put behind before. For speed alone.
+//! Which events ask of so many bytes that lines in front are made ready before. For speed alone.
 
 use pmf_event::{Event, Span};
 
-/// How many bytes a span has at least that is wide: a question of it takes a step for each line while lines are in front.
-const WIDE: u64 = 1024;
+/// How many bytes a span has at least that is wide.
+pub(crate) const WIDE: u64 = 1024;
 
 /// One of so many events may ask of a wide span where lines in front are to pay.
 const RARELY: usize = 256;
@@ -11,46 +11,43 @@ const RARELY: usize = 256;
 /// How many lines are in front at most, 144 bytes each.
 const MOST: usize = 1 << 18;
 
-/// The same where they are to be put behind at times.
+/// The same where more than so many events ask of a wide span, so that lines may be put behind, and are in both places for a moment.
 const FEW: usize = 1 << 14;
 
-fn is_wide(span: Span) -> bool {
-    span.size() >= WIDE
-}
+const SEVERAL: usize = 16;
 
-/// Whether what is asked at the event may be of a wide span, as at the end of a scope once one was stored to.
-pub(crate) fn asks_widely(event: Event, has_wide: bool) -> bool {
+/// Of how many bytes the event asks, at least: any number at the end of a scope, once a wide span was stored to.
+pub(crate) fn asked_at(event: Event, has_wide: bool) -> u64 {
     match event {
-        Event::Store(span) => is_wide(span),
-        Event::Flush(span) => is_wide(span),
-        Event::Persist(span) => is_wide(span),
-        Event::Ordered(a, b) => is_wide(a) || is_wide(b),
-        Event::CheckEnd => has_wide,
-        _ => false,
+        Event::Store(span) => span.size(),
+        Event::Flush(span) => span.size(),
+        Event::Persist(span) => span.size(),
+        Event::Ordered(a, b) => a.size().max(b.size()),
+        Event::CheckEnd if has_wide => u64::MAX,
+        _ => 0,
     }
 }
 
 pub(crate) fn stores_widely(event: Event) -> bool {
     match event {
-        Event::Store(span) => is_wide(span),
+        Event::Store(span) => span.size() >= WIDE,
         _ => false,
     }
 }
 
-/// How many lines may be in front while these events are followed: none where many of them ask of a wide span, and few where some do, since
-/// lines that are put behind are in both places for a moment.
+/// How many lines may be in front while these events are followed: none where many of them ask of a wide span, and few where several do.
 pub(crate) fn lines_for(events: &[Event]) -> usize {
     let mut wide = 0_usize;
     for event in events {
-        if asks_widely(*event, false) {
+        if asked_at(*event, false) >= WIDE {
             wide = wide.wrapping_add(1);
         }
     }
-    if wide == 0 {
-        MOST
-    } else if wide > events.len() / RARELY {
+    if wide > events.len() / RARELY {
         0
-    } else {
+    } else if wide > SEVERAL {
         FEW
+    } else {
+        MOST
     }
 }

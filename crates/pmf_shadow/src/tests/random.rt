@@ -9,7 +9,7 @@ use std::process::Abort;
 use std::test::Fail;
 
 /// Of 1 to 100 bytes, or of 1 to 13 words, which may be in front.
-fn span(numbers: &mut Numbers) -> Result<Span, SpanFault> {
+pub(super) fn span(numbers: &mut Numbers) -> Result<Span, SpanFault> {
     let unit = if numbers.below(2) == 0 { 1 } else { 8 };
     let offset = numbers.below(BYTES / unit) * unit;
     let size = (numbers.below(100 / unit) + 1) * unit;

@@ -1,4 +1,4 @@
-use Rattle.std.proofs.Common.{◌/◌, arith}
+use Rattle.std.proofs.Common.{◌/◌, ◌∙◌, arith}
 use Rattle.pmf_shadow.proofs.FrontLemmas.{changes_none, one_line, there_kept}
 use Rattle.pmf_shadow.proofs.front.ByteMap.change_words.Goals as goal
 
@@ -26,5 +26,5 @@ loop-at-preserved g c =
       word = grind arith;
       there = there_kept c.loop-at.self c.change_on.new.self _ _ c.change_on.ensures.front c.loop-at.invariant.there;
       changes = one_line c.args.self.now c.loop-at.self c.change_on.new.self c.args.first c.loop-at.at c.min-stop.result c.args.end (g.C.Change.changed c.args.change.now) from (grind arith) word (grind arith)
-          c.loop-at.invariant.changes (c.change_on.ensures.changes (c.change_on.ensures.there (c.loop-at.invariant.there.each (c.loop-at.at / 64) (omega arith) (omega arith))));
+          c.loop-at.invariant.changes (c.change_on.ensures.changes (c.change_on.ensures.there ∙ (c.loop-at.invariant.there.each (c.loop-at.at / 64) (omega arith) (omega arith))));
     }

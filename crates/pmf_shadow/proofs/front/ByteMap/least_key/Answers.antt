@@ -13,13 +13,13 @@ loop-at-init g c = record {
 
 pub loop-at-preserved : goal.loop-at-preserved
 loop-at-preserved g c =
-    let up = c.step-stop.ensures.up in
+    let up = c.next-stop.ensures.from in
     let from = c.loop-at.invariant.from in
     record {
       from = omega arith;
-      upto = λ some. c.step-stop.ensures.upto;
+      upto = λ some. c.next-stop.ensures.upto;
       none = λ lt. absurd (omega (arith, c.loop-at-test.true));
-      least = c.lesser-least.ensures ∙ least_more (keyed (g.K.Key.key c.args.key.now) c.args.self.now) c.args.first c.loop-at.at c.step-stop.result c.loop-at.least c.least_on.result from (omega arith) c.loop-at.invariant.least c.least_on.ensures;
+      least = c.lesser-least.ensures ∙ least_more (keyed (g.K.Key.key c.args.key.now) c.args.self.now) c.args.first c.loop-at.at c.next-stop.result c.loop-at.least c.least_on.result from (omega arith) c.loop-at.invariant.least c.least_on.ensures;
     }
 
 pub returns : goal.returns
