@@ -30,9 +30,6 @@ pub(crate) fn most_in_piece(workers: u32) -> usize
     }
 }
 
-/// How many bytes a stretch of a section has on the average where it is worth to read parts ahead: less is sooner read than handed on.
-const LONG: usize = 1 << 11;
-
 /// How many pieces are read plainly behind one whose stretches were short.
 const PLAIN: u32 = 15;
 
@@ -67,19 +64,12 @@ pub(crate) fn read_ahead<T: Threads + Sync>(
             ensures { IsAheadOf piece.entry.now part.exit.now }
         { part.read(alloc, piece) },
     );
-    if are_short(&parts, piece.len()) {
-        *plain = PLAIN;
+    for part in &parts {
+        if part.is_short() {
+            *plain = PLAIN;
+        }
     }
     parts
-}
-
-// Whether the parts of so many bytes have stretches that are short on the average.
-fn are_short(parts: &[Ahead], bytes: usize) -> bool {
-    let mut stretches: usize = 0;
-    for part in parts {
-        stretches = stretches.saturating_add(part.stretches());
-    }
-    stretches > bytes / LONG
 }
 
 // So many parts of the piece, of which nothing is read yet; the first begins behind a separator, as all others.
