@@ -42,7 +42,8 @@ threads_refused() {
 }
 
 # A log of 6 MB, so that several workers read it: long sections and short ones in turns, records of all spellings, and one of 300,000 bytes.
-# Whatever the number of workers, the report and what is said are those of one; and so is the fault of a record put into it.
+# Whatever the number of workers, the report and what is said are those of one; and so is the fault of a record put into it, and that of
+# a section that is full.
 read_by_workers() {
     local workers
     python3 - "$scratch" <<'END' || return
@@ -63,8 +64,9 @@ def write(name, records):
 write("wide", records)
 for name, place in (("faulty_early", 900), ("faulty", len(records) * 2 // 3), ("faulty_late", len(records) - 2)):
     write(name, records[:place] + ["STORE;1"] + records[place:])
+write("full", ["FENCE"] * ((1 << 20) + 3))
 END
-    for log in wide faulty_early faulty faulty_late; do
+    for log in wide full faulty_early faulty faulty_late; do
         for workers in 1 2 3 7 64; do
             "$program" check --workers "$workers" "$scratch/$log.log" >"$scratch/report.$workers" 2>"$scratch/diagnostics.$workers"
             printf '%s\n' "$?" >>"$scratch/diagnostics.$workers"
@@ -72,6 +74,7 @@ END
         done
     done
     grep -q '^pmfarm: record [0-9]*: too few fields' "$scratch/diagnostics.64"
+    "$program" check --workers 4 "$scratch/full.log" 2>&1 | grep -q '^pmfarm: record 1048577: too many events in the section'
 }
 
 # A report of 3,000 sections, longer than a pipe is wide, ends after 1, 100 and 140 times 1,024 bytes.

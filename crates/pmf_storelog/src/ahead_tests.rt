@@ -4,7 +4,6 @@ ghost use Rattle.std.specs.Prelude.{All, IfOk};
 ghost use Rattle.pmf_storelog.specs.Ahead.{IsAheadOf};
 
 use super::*;
-use pmf_event::EVENT_LIMIT;
 use std::alloc::{AllocError, Global};
 use std::test::Fail;
 
@@ -85,23 +84,4 @@ fn a_fault_in_a_part_is_that_of_its_record(rt: HostRuntime) {
     let refused = read_with_parts(rt.alloc(), b"FENCE|", piece, 0, 8).map(|log| log.skipped());
     let cause = Cause::TooFewFields;
     assert_eq!(rt; refused, Err(LogFault { at: 4, cause }));
-}
-
-#[test]
-fn a_section_that_is_full_refuses_the_event_that_was_read_ahead(
-    rt: HostRuntime,
-) -> Result<(), Fail> {
-    let mut reader = LogReader::new(rt.alloc(), 0);
-    for _ in 1..EVENT_LIMIT {
-        reader.feed(b"FENCE|")?;
-    }
-    let piece = b"FENCE|FENCE|";
-    let parts = parts_at(rt.alloc(), piece, 0, 6)?;
-    let at = EVENT_LIMIT as u64 + 1;
-    let cause = Cause::TooManyEvents;
-    assert_eq!(rt;
-        reader.feed_ahead(piece, parts),
-        Err(LogFault { at, cause })
-    );
-    Ok(())
 }
