@@ -73,8 +73,8 @@ END
             same "$scratch/report.1" "$scratch/report.$workers" && same "$scratch/diagnostics.1" "$scratch/diagnostics.$workers" || return
         done
     done
-    grep -q '^pmfarm: record [0-9]*: too few fields' "$scratch/diagnostics.64"
-    "$program" check --workers 4 "$scratch/full.log" 2>&1 | grep -q '^pmfarm: record 1048577: too many events in the section'
+    grep -q '^pmfarm: record [0-9]*: too few fields' "$scratch/diagnostics.64" &&
+        "$program" check --workers 4 "$scratch/full.log" 2>&1 | grep -q '^pmfarm: record 1048577: too many events in the section'
 }
 
 # A report of 3,000 sections, longer than a pipe is wide, ends after 1, 100 and 140 times 1,024 bytes.
