@@ -34,6 +34,18 @@ sweep_workers() {
     sweep "$scratch/interleaved.log" check --workers 2
 }
 
+# The same of a log of 134 KB, of which two workers read a part each.
+sweep_readers() {
+    local section event
+    for section in 0 1 2; do
+        printf 'PMT.SECTION;%d\n' "$section"
+        for ((event = 0; event < 900; event++)); do
+            printf 'STORE;0x%x;0x1;0x8\nFLUSH;0x%x;0x40\nFENCE\nx\n' $((event * 64 + (section << 20))) $((event * 64 + (section << 20)))
+        done
+    done >"$scratch/readers.log"
+    sweep "$scratch/readers.log" check --workers 2
+}
+
 # Threads that the system refuses, one or all, leave the report as it is.
 threads_refused() {
     printf '%s' "$interleaved" >"$scratch/interleaved.log"
@@ -139,6 +151,7 @@ try_check() {
     check 'two workers check two sections' told 1 "$interleaved" "$interleaved_report" '' check --workers 2
     check 'as many workers as the machine has check them' told 1 "$interleaved" "$interleaved_report" '' check --workers 0
     check 'each request for memory of check --workers 2 refused in turn' sweep_workers
+    check 'each request for memory of two workers that read refused in turn' sweep_readers
     check 'a log that several workers read is reported, or refused, as by one' read_by_workers
     check 'threads that are refused, one or all, change nothing' threads_refused
     check 'a run is the name of its sections' told 0 FENCE "$one_fence" '' check --run 7
