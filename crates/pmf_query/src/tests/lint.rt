@@ -1,7 +1,7 @@
 //! What is told of logs, and its text.
 
-use crate::{LogRefusal, Overview, Query, is_text, lint_log, near};
-use pmf_storelog::{Cause, LogFault};
+use crate::{LogRefusal, Overview, Query, Warnings, is_text, lint_log, near, warnings_due};
+use pmf_storelog::{Cause, LogFault, read_log};
 use std::alloc::Global;
 use std::test::Fail;
 
@@ -44,9 +44,17 @@ fn stores_of(alloc: Global, log: &[u8]) -> Result<(u128, u128), LogRefusal> {
     Ok((lint.sums.stores, lint.sums.unasserted))
 }
 
+// The warnings, as they are looked for where nothing else is told of the log.
+fn warnings_alone(alloc: Global, log: &[u8]) -> Result<Warnings, LogRefusal> {
+    match read_log(alloc, log, 0) {
+        Ok(read) => Ok(warnings_due(alloc, log, &read)?),
+        Err(fault) => Err(LogRefusal::Log(fault)),
+    }
+}
+
 // What is suspicious: nothing is asserted, each assertion is empty, a name is near, a name is no text.
 fn warnings_of(alloc: Global, log: &[u8]) -> Result<(bool, bool, bool, bool), LogRefusal> {
-    let w = lint_log(alloc, log)?.warnings;
+    let w = warnings_alone(alloc, log)?;
     Ok((
         w.asserts_nothing,
         w.checks_nothing,
@@ -213,6 +221,7 @@ fn a_log_may_be_cut_off_or_misread(rt: HostRuntime) -> Result<(), Fail> {
     ];
     for (log, want) in cases {
         let w = lint_log(rt.alloc(), log)?.warnings;
+        assert_eq!(rt; warnings_alone(rt.alloc(), log)?, w, "at {}", log.len());
         let found = (w.is_open_ended, w.lacks_stop, w.is_misread);
         assert_eq!(rt; found, want, "at {}", log.len());
     }
