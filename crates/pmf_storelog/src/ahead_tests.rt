@@ -43,7 +43,8 @@ const PIECE: &[u8] =
 #[test]
 fn a_log_is_the_same_whichever_parts_are_read_ahead(rt: HostRuntime) -> Result<(), Fail> {
     for from in 0..PIECE.len() {
-        for to in from..PIECE.len() {
+        for step in 0..8_usize {
+            let to = (from + 13 * step).min(PIECE.len());
             let log = read_with_parts(rt.alloc(), b"FENCE|FEN", PIECE, from, to)?;
             assert_eq!(rt; log.skipped(), 1, "from {from} to {to}");
             assert_eq!(rt; log.sections().len(), 2, "from {from} to {to}");
