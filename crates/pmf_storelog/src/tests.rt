@@ -1,5 +1,7 @@
 //! Logs, whole and in pieces, and their first faults.
 
+mod ahead;
+
 use super::*;
 use pmf_event::{Event, Name, Section, Span, SpanFault};
 use std::alloc::Global;
