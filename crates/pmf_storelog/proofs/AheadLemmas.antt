@@ -175,15 +175,6 @@ module _ (piece : List ℕ) (stretch : Stretch) (is : IsStretchOf piece stretch)
     parsed = λ run bytes parsed. stretch_parsed run bytes (rw from parsed) (take_plain run);
   }
 
--- nothing is taken
-pub reached_here : (piece : List ℕ) (start : ℕ) (progress : Progress) → start ≤ length piece → Reaches piece start start progress progress
-reached_here piece start progress within = record {
-  rises = omega arith;
-  within = within;
-  grows = omega arith;
-  parsed = λ run bytes parsed. parsed;
-}
-
 -- reading goes on from where it came
 pub reached_both : (piece : List ℕ) (start mid end : ℕ) (old met new : Progress) → Reaches piece start mid old met → Reaches piece mid end met new → Reaches piece start end old new
 reached_both piece start mid end old met new first more = record {
