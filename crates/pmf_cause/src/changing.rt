@@ -5,7 +5,7 @@ ghost use Rattle.pmf_event.specs.declared.section.TheConstants.{EVENT_LIMIT};
 ghost use Rattle.pmf_cause.specs.{Changed.{changed, old_places, place_of, RisesFrom}, Changing.{Grows, Puts}};
 
 use crate::edit::Edit;
-use pmf_event::{Event, Name, Section, SectionFault};
+use pmf_event::{Event, Events, Name, Section, SectionFault};
 use std::alloc::Global;
 
 /// A section as it is with changes, and for each of its events, and its end, the place that it had.
@@ -30,7 +30,7 @@ impl Changed {
 pub(crate) fn change(
     alloc: Global,
     name: Name,
-    events: &[Event],
+    events: &Events,
     edits: &[Edit],
 ) -> Result<Changed, SectionFault>
     requires rises { RisesFrom 1 edits.now }
@@ -44,10 +44,11 @@ pub(crate) fn change(
     };
     let mut rest = edits;
     let mut place: u32 = 1;
-    for event in events {
+    for index in 0..events.len() {
+        let event = events.at(index);
         let here = put_here(&mut made, rest, place)?;
         if !here.left_out {
-            made.push(*event, place)?;
+            made.push(event, place)?;
         }
         rest = here.rest;
         place += 1;

@@ -9,7 +9,7 @@ use crate::cause::Cause;
 use crate::lack::Lack;
 use crate::need::Need;
 use crate::past::Past;
-use pmf_event::{Event, Finding, Row};
+use pmf_event::{Event, Events, Finding, Row};
 use pmf_verdict::{Outcome, outcome_of};
 use std::alloc::AllocError;
 
@@ -19,7 +19,7 @@ impl Past {
     /// the last one on.
     pub(crate) fn cause_of(
         &mut self,
-        events: &[Event],
+        events: &Events,
         row: &Row,
         written_back: u32,
         fences: &[u32],
@@ -47,7 +47,7 @@ impl Past {
     #[tactic(auto, using(crate::proofs::JudgingLemmas::by_need, crate::proofs::JudgingLemmas::need_asks))]
     fn cause(
         &self,
-        events: &[Event],
+        events: &Events,
         finding: Finding,
         written_back: u32,
         fences: &[u32],
@@ -90,7 +90,7 @@ impl Past {
     // The cause where the need's byte lacks something.
     fn not_durable(
         &self,
-        events: &[Event],
+        events: &Events,
         need: Need,
         written_back: u32,
         fences: &[u32],

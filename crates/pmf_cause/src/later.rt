@@ -6,7 +6,7 @@ ghost use Rattle.pmf_cause.specs.{Cause.{write_back_after}, Later.{AllAsk, AreBe
 
 use crate::past::write_back_watched;
 use crate::watch::Watch;
-use pmf_event::{Event, Finding, Row};
+use pmf_event::{Event, Events, Finding, Row};
 use pmf_places::{NO_PLACE, Place, place_if};
 use pmf_runs::RunMap;
 use std::alloc::{AllocError, Global};
@@ -32,7 +32,7 @@ impl Later {
     }
 
     /// Goes back to the place in front of the row, if it asks for a byte. The first write-back of the line of that byte, behind that place.
-    fn behind(&mut self, watch: &Watch, events: &[Event], row: &Row) -> Result<u32, AllocError>
+    fn behind(&mut self, watch: &Watch, events: &Events, row: &Row) -> Result<u32, AllocError>
         requires later { IsLater watch.now self.old events.now }
         requires asks { Asks watch.now row.now.finding }
         requires some { 0 < row.now.place }
@@ -51,7 +51,7 @@ impl Later {
     }
 
     // Goes back to the place.
-    fn go_to(&mut self, watch: &Watch, events: &[Event], place: u32) -> Result<(), AllocError>
+    fn go_to(&mut self, watch: &Watch, events: &Events, place: u32) -> Result<(), AllocError>
         requires later { IsLater watch.now self.old events.now }
         requires behind { place ≤ self.old.place }
         requires within { self.old.place ≤ length events.now }
@@ -59,7 +59,7 @@ impl Later {
         ensures place { OnOk result (self.new.place ≡ place) }
     {
         while self.place > place {
-            self.follow(watch, &events[self.place as usize - 1])?;
+            self.follow(watch, &events.at(self.place as usize - 1))?;
         }
         Ok(())
     }
@@ -89,7 +89,7 @@ impl Later {
 pub(crate) fn written_back_behind(
     alloc: Global,
     watch: &Watch,
-    events: &[Event],
+    events: &Events,
     rows: &[Row],
 ) -> Result<Vec<u32>, AllocError>
     requires asks { AllAsk watch.now rows.now }
@@ -110,7 +110,7 @@ pub(crate) fn written_back_behind(
 /// The first fence behind each place, from the last one on, where a row asks for a byte.
 pub(crate) fn fences_for(
     alloc: Global,
-    events: &[Event],
+    events: &Events,
     rows: &[Row],
 ) -> Result<Vec<u32>, AllocError>
     requires few { length events.now ≤ EVENT_LIMIT }
@@ -135,7 +135,7 @@ fn any_asks(rows: &[Row]) -> bool
 }
 
 // For each place, from the last one on, the first fence behind it.
-fn fences_behind(alloc: Global, events: &[Event]) -> Result<Vec<u32>, AllocError>
+fn fences_behind(alloc: Global, events: &Events) -> Result<Vec<u32>, AllocError>
     requires few { length events.now ≤ EVENT_LIMIT }
     ensures { IfOk result (λ fences. AreFences events.now fences.items) }
 {
@@ -144,7 +144,7 @@ fn fences_behind(alloc: Global, events: &[Event]) -> Result<Vec<u32>, AllocError
     fences.push(fence)?;
     let mut left = events.len();
     while left > 0 {
-        fence = place_if(is_fence(&events[left - 1]), left as u32, fence);
+        fence = place_if(is_fence(&events.at(left - 1)), left as u32, fence);
         left -= 1;
         fences.push(fence)?;
     }

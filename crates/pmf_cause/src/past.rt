@@ -8,7 +8,7 @@ ghost use Rattle.pmf_cause.specs.{Cause.{last_add, last_flush}, Past.{AreStores,
 use crate::marks::Marks;
 use crate::stored::{Stored, StoredAt, UNTOUCHED, WrittenBackAt};
 use crate::watch::{Watch, are_met};
-use pmf_event::{Event, LINE_SIZE};
+use pmf_event::{Event, Events, LINE_SIZE};
 use pmf_places::{NO_PLACE, Place, back_up, lines_of, write_back};
 use pmf_runs::RunMap;
 use std::alloc::{AllocError, Global};
@@ -45,7 +45,7 @@ impl Past {
     }
 
     /// Goes on to the place.
-    pub(crate) fn go_to(&mut self, events: &[Event], place: u32) -> Result<(), AllocError>
+    pub(crate) fn go_to(&mut self, events: &Events, place: u32) -> Result<(), AllocError>
         requires past { IsPast self.old events.now }
         requires before { self.old.place ≤ place }
         requires within { place ≤ length events.now }
@@ -55,7 +55,7 @@ impl Past {
         ensures place { OnOk result (self.new.place ≡ place) }
     {
         while self.place < place {
-            self.follow(&events[self.place as usize])?;
+            self.follow(&events.at(self.place as usize))?;
         }
         Ok(())
     }

@@ -10,7 +10,7 @@ use crate::needs::{MOST, Needs};
 use crate::plan::Plan;
 use crate::reach::{Looks, Reach};
 use crate::watch::{Watch, put_all, put_lines};
-use pmf_event::{Event, Finding, LINE_SIZE, Row, Span};
+use pmf_event::{Event, Events, Finding, LINE_SIZE, Row, Span};
 use pmf_runs::RunMap;
 use pmf_verdict::Verdict;
 use std::alloc::{AllocError, Global};
@@ -85,7 +85,7 @@ impl Seeker {
     fn seek(
         &mut self,
         reach: &Reach,
-        events: &[Event],
+        events: &Events,
         rows: &[Row],
         index: usize,
     ) -> Result<(), AllocError> {
@@ -101,9 +101,9 @@ impl Seeker {
             Some(event) => self.seek_at(
                 reach,
                 events,
-                event,
+                &event,
                 row,
-                warn_of_all(rows, index, event),
+                warn_of_all(rows, index, &event),
             )?,
             None => self.close(reach, row.place)?,
         }
@@ -117,7 +117,7 @@ impl Seeker {
     fn seek_at(
         &mut self,
         reach: &Reach,
-        events: &[Event],
+        events: &Events,
         event: &Event,
         row: &Row,
         warned: bool,
@@ -141,7 +141,7 @@ impl Seeker {
     fn check_end(
         &mut self,
         reach: &Reach,
-        events: &[Event],
+        events: &Events,
         event: &Event,
         row: &Row,
     ) -> Result<(), AllocError> {
@@ -265,16 +265,16 @@ impl Seeker {
 }
 
 // The event of the row, unless it is of the section's end.
-fn event_of<'a>(events: &'a [Event], row: &Row) -> Option<&'a Event> {
+fn event_of(events: &Events, row: &Row) -> Option<Event> {
     events.get(row.place.saturating_sub(1) as usize)
 }
 
 // The lines whose stores and write-backs the changes for the rows depend on.
-fn watched(alloc: Global, events: &[Event], rows: &[Row]) -> Result<Watch, AllocError> {
+fn watched(alloc: Global, events: &Events, rows: &[Row]) -> Result<Watch, AllocError> {
     let mut watch = Watch::new(alloc);
     for row in rows {
         if asks_why(row.finding) {
-            put_row(&mut watch, event_of(events, row), row.finding)?;
+            put_row(&mut watch, event_of(events, row).as_ref(), row.finding)?;
         }
     }
     Ok(watch)
@@ -295,11 +295,11 @@ fn put_row(watch: &mut Watch, event: Option<&Event>, finding: Finding) -> Result
 }
 
 // What they depend on beside that.
-fn looked_at(alloc: Global, events: &[Event], rows: &[Row]) -> Result<Looks, AllocError> {
+fn looked_at(alloc: Global, events: &Events, rows: &[Row]) -> Result<Looks, AllocError> {
     let mut backups = RunMap::new(alloc, false);
     for row in rows {
         if asks_why(row.finding) {
-            put_backup(&mut backups, event_of(events, row))?;
+            put_backup(&mut backups, event_of(events, row).as_ref())?;
         }
     }
     Ok(Looks {
@@ -376,21 +376,17 @@ fn span_between(first: u64, end: u64) -> Option<Span> {
 }
 
 // The place behind this one at which so many transactions have ended, if no scope begins or ends on the way.
-fn end_of_transaction(events: &[Event], place: u32, depth: u32) -> Option<u32> {
+fn end_of_transaction(events: &Events, place: u32, depth: u32) -> Option<u32> {
     let mut left = depth;
-    let behind = events.get(place as usize..)?;
-    for (index, event) in behind.iter().enumerate() {
-        match event {
+    for index in place as usize..events.len() {
+        match events.at(index) {
             Event::TxBegin => left = left.saturating_add(1),
             Event::TxEnd => left = left.saturating_sub(1),
             Event::CheckStart | Event::CheckEnd => return None,
             _ => {}
         }
         if left == 0 {
-            return u32::try_from(index)
-                .ok()?
-                .checked_add(place)?
-                .checked_add(1);
+            return u32::try_from(index).ok()?.checked_add(1);
         }
     }
     None

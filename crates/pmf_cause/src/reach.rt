@@ -9,7 +9,7 @@ use crate::needs::{Lacking, Needs};
 use crate::past::Past;
 use crate::stored::{IsOpen, IsOther, Stored};
 use crate::watch::{Watch, are_met};
-use pmf_event::{ADDRESS_LIMIT, Event, LINE_SIZE, Row, Span, line_of};
+use pmf_event::{ADDRESS_LIMIT, Event, Events, LINE_SIZE, Row, Span, line_of};
 use pmf_places::{NO_PLACE, Place, Put};
 use pmf_runs::{IsIn, IsOut, PutIn, RunMap, Test};
 use std::alloc::{AllocError, Global};
@@ -57,7 +57,7 @@ impl Reach {
     }
 
     /// Goes on to the place in front of the row, if it counts as fail or as a warning.
-    pub(crate) fn go_before(&mut self, events: &[Event], row: &Row) -> Result<(), AllocError>
+    pub(crate) fn go_before(&mut self, events: &Events, row: &Row) -> Result<(), AllocError>
         requires reached { IsPast self.old.past events.now }
         requires few { length events.now ≤ EVENT_LIMIT }
         ensures { OnOk result (IsPast self.new.past events.now) }
@@ -69,7 +69,7 @@ impl Reach {
     }
 
     // Goes on to the place, or as far as there are events.
-    fn go_to(&mut self, events: &[Event], place: u32) -> Result<(), AllocError>
+    fn go_to(&mut self, events: &Events, place: u32) -> Result<(), AllocError>
         requires reached { IsPast self.old.past events.now }
         requires few { length events.now ≤ EVENT_LIMIT }
         ensures { OnOk result (IsPast self.new.past events.now) }
@@ -77,13 +77,13 @@ impl Reach {
         let end = place.min(events.len() as u32);
         while self.past.place < end {
             let place = self.past.place as usize;
-            self.follow(events, &events[place])?;
+            self.follow(events, &events.at(place))?;
         }
         Ok(())
     }
 
     // Goes on over the next of the events.
-    fn follow(&mut self, events: &[Event], event: &Event) -> Result<(), AllocError>
+    fn follow(&mut self, events: &Events, event: &Event) -> Result<(), AllocError>
         requires reached { IsPast self.old.past events.now }
         requires within { self.old.past.place < length events.now }
         requires few { length events.now ≤ EVENT_LIMIT }

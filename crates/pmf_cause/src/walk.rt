@@ -9,7 +9,7 @@ use crate::cause::Cause;
 use crate::later::{fences_for, written_back_behind};
 use crate::past::Past;
 use crate::watch::Watch;
-use pmf_event::{Event, Row};
+use pmf_event::{Events, Row};
 use pmf_verdict::Verdict;
 use std::alloc::{AllocError, Global};
 
@@ -25,11 +25,7 @@ pub fn causes(alloc: Global, verdict: &Verdict) -> Result<Vec<Option<Cause>>, Al
 }
 
 // The cause of each of the rows.
-fn causes_of(
-    alloc: Global,
-    events: &[Event],
-    rows: &[Row],
-) -> Result<Vec<Option<Cause>>, AllocError>
+fn causes_of(alloc: Global, events: &Events, rows: &[Row]) -> Result<Vec<Option<Cause>>, AllocError>
     requires few { length events.now ≤ EVENT_LIMIT }
     requires order { AreInOrder rows.now (length events.now) }
     ensures { IfOk result (λ causes. causes.items ≡ map (cause_of events.now) rows.now) }

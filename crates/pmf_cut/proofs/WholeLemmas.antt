@@ -1,12 +1,8 @@
 -- A part of a whole goes on with it, and another one begins where it is cut.
 use Rattle.std.proofs.Common.{◌≡◌, ℕ, zero, suc, ◌+◌, ◌-◌, true, false, List, [], ◌∷◌, ◌++◌, length, drop, slice_get, refl, ◌∙◌, ap, subst, arith, Some}
-use Rattle.pmf_event.{specs.declared.event.Event.{Event}, specs.Store.{event_at}, specs.LineBytes.{is_undurable}, proofs.EventLemmas.{last-none}, proofs.TransactionLemmas.{depth-start, scope-start, outside-from, unscoped-from}}
+use Rattle.pmf_event.{specs.declared.event.Event.{Event}, specs.Store.{event_at}, specs.LineBytes.{is_undurable}, proofs.EventLemmas.{last-none}, proofs.TransactionLemmas.{depth-start, scope-start, outside-from, unscoped-from}, proofs.PackedLemmas.{get-behind}}
 use Rattle.pmf_shadow.proofs.SameLemmas.{slice_get-front}
 use Rattle.pmf_cut.{specs.declared.part.Part.{Part}, specs.Alike.{IsCut}, specs.Parts.{Stands, Follows, BeginsWith, Renews, part_of, IsPartOf, GoesOnWith, BeginsAt}, proofs.StepLemmas.{undurable-stored_to}, proofs.BehindLemmas.{behind-cut, behind-step}, proofs.CutLemmas.{behind-there}}
-
-get-behind : {X : Type 0} (xs ys : List X) (k : ℕ) → slice_get (xs ++ ys) (length xs + k) ≡ slice_get ys k
-get-behind [] ys k = ap (slice_get ys) (omega arith)
-get-behind (x ∷ xs) ys k = ap (slice_get (x ∷ xs ++ ys)) (let more : length (x ∷ xs) + k ≡ suc (length xs + k) = omega arith in more) ∙ get-behind xs ys k
 
 get-dropped : {X : Type 0} (p : ℕ) (xs : List X) (k : ℕ) → slice_get (drop p xs) k ≡ slice_get xs (p + k)
 get-dropped zero xs k = ap (slice_get xs) (omega arith)

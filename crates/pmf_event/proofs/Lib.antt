@@ -8,4 +8,5 @@ pub mod WriteBackLemmas
 pub mod LimitLemmas
 pub mod LineBytesLemmas
 pub mod TransactionLemmas
+pub mod PackedLemmas
 pub mod WorkedRows

@@ -1,5 +1,5 @@
 -- Laws of the searches over a range of numbers.
-use Rattle.std.proofs.{Common.{◌≡◌, ℕ, zero, suc, ◌+◌, ◌-◌, ◌<◌, ◌≤◌, min, Bool, true, false, nat_le, if◌then◌else◌, refl, sym, ◌∙◌, ap, arith, inl, inr, Option, Some, None, is_some, ◌⊎◌}, lemmas.Bool.{cases_eq, leb-true, leb-false}}
+use Rattle.std.proofs.{Common.{◌≡◌, ℕ, zero, suc, ◌+◌, ◌<◌, ◌≤◌, min, Bool, true, false, nat_le, if◌then◌else◌, refl, sym, ◌∙◌, ap, arith, inl, inr, Option, Some, None, is_some, ◌⊎◌}, lemmas.Bool.{cases_eq, leb-true, leb-false}}
 use Rattle.pmf_event.specs.Ranges.{first_from, count_from, lesser, least_from}
 
 -- ---- what a search found, or that it found none

@@ -3,6 +3,7 @@ pub mod Address
 pub mod Line
 pub mod Ranges
 pub mod Section
+pub mod Packed
 pub mod Places
 pub mod Store
 pub mod Interval

@@ -1,5 +1,5 @@
 -- A section as a value.
-use Rattle.std.specs.Prelude.{ℕ, ◌<◌, List, length, get_or, All}
+use Rattle.std.specs.Prelude.{List}
 use Rattle.pmf_event.specs.{declared.name.Name.{Name}, declared.event.Event.{Event}, declared.event.Event.TheVariants.{Store, Flush, Persist, Ordered, Exclude, Include, TxAdd}, Span.{IsValidExtent}}
 
 -- the name of a section, and its events by their places

@@ -11,17 +11,20 @@
 #![tactic(auto)]
 
 mod event;
+mod events;
 mod finding;
 mod interval;
 pub mod laws;
 mod lines;
 mod name;
+mod packed;
 mod profile;
 mod row;
 mod section;
 mod span;
 
 pub use event::Event;
+pub use events::Events;
 pub use finding::Finding;
 pub use interval::Interval;
 pub use lines::Lines;

@@ -4,8 +4,9 @@ ghost use Rattle.std.specs.Prelude.{◌≡◌, ◌↔◌, ◌+◌, ◌≤◌, �
 ghost use Rattle.pmf_event.specs.{Section.{Trace, IsValidEvent}, declared.section.TheConstants.{EVENT_LIMIT}};
 
 use crate::event::Event;
+use crate::events::Events;
 use crate::name::Name;
-use std::alloc::{AllocFailed, Global};
+use std::alloc::{AllocError, AllocFailed, Global};
 use std::marker::Model;
 use thiserror::Error;
 
@@ -20,7 +21,7 @@ pub const EVENT_LIMIT: usize = 1 << 20;
 #[derive(Debug, Drop)]
 pub struct Section {
     name: Name,
-    events: Vec<Event>,
+    events: Events,
 }
 
 impl Model for Section {
@@ -29,9 +30,9 @@ impl Model for Section {
 
     ghost Value = { Trace };
 
-    ghost view = { λ s. record { name = s.name; events = s.events.items } };
+    ghost view = { λ s. record { name = s.name; events = s.events } };
 
-    ghost invariant = { λ s. (length s.events.items ≤ EVENT_LIMIT) × All IsValidEvent s.events.items };
+    ghost invariant = { λ s. (length s.events ≤ EVENT_LIMIT) × All IsValidEvent s.events };
 }
 
 /// Why an event was not added: the first that applies, in this order.
@@ -55,6 +56,16 @@ impl<T: Drop> From<AllocFailed<T>> for SectionFault {
     }
 }
 
+impl From<AllocError> for SectionFault {
+    ghost use Rattle.pmf_event.specs.declared.section.SectionFault.TheVariants.{OutOfMemory};
+
+    ghost from_gives = { λ _ e. e ≡ OutOfMemory };
+
+    fn from(_refused: AllocError) -> SectionFault {
+        SectionFault::OutOfMemory
+    }
+}
+
 impl Section {
     /// A section of this name with no events yet. Takes no memory.
     pub fn new(alloc: Global, name: Name) -> Section
@@ -62,7 +73,7 @@ impl Section {
     {
         Section {
             name,
-            events: Vec::new(alloc),
+            events: Events::new(alloc),
         }
     }
 
@@ -97,14 +108,8 @@ impl Section {
             return Err(SectionFault::TooManyEvents);
         }
         let Section { events, .. } = more;
-        if self.events.is_empty() {
-            self.events = events;
-            return Ok(());
-        }
-        match self.events.extend_from_slice(&events) {
-            Ok(()) => Ok(()),
-            Err(_) => Err(SectionFault::OutOfMemory),
-        }
+        self.events.append(events)?;
+        Ok(())
     }
 
     /// The section's name.
@@ -115,7 +120,7 @@ impl Section {
     }
 
     /// The events in order; the event at place p stands at index p - 1.
-    pub fn events(&self) -> &[Event]
+    pub fn events(&self) -> &Events
         ensures value { result.now ≡ self.now.events }
         ensures limit { length self.now.events ≤ EVENT_LIMIT }
         ensures valid { All IsValidEvent result.now }
@@ -127,6 +132,6 @@ impl Section {
     pub fn same_as(&self, other: &Section) -> bool
         ensures { IsTrue result ↔ (self.now ≡ other.now) }
     {
-        other.name == self.name && self.events.as_slice() == other.events.as_slice()
+        other.name == self.name && self.events.same_as(&other.events)
     }
 }

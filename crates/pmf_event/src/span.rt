@@ -18,7 +18,7 @@ pub const ADDRESS_LIMIT: u64 = 1 << 63;
 
 /// A range of bytes: the first one's address and how many there are, at least one.
 ///
-/// It takes 12 bytes and no alignment, so that an event takes 25: the numbers are kept as bytes, the
+/// It takes 12 bytes and no alignment, so that an event takes 13: the numbers are kept as bytes, the
 /// least significant first.
 #[derive(Clone, Copy)]
 pub struct Span {

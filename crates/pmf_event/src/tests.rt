@@ -22,7 +22,10 @@ fn a_section_holds_its_events_in_order(rt: HostRuntime) -> Result<(), Fail> {
     for event in &events {
         section.push(*event)?;
     }
-    assert!(rt; section.events() == events.as_slice());
+    for (index, event) in events.iter().enumerate() {
+        assert_eq!(rt; section.events().get(index), Some(*event));
+    }
+    assert_eq!(rt; section.events().get(events.len()), None);
     assert_eq!(rt; section.name(), FIRST);
     assert!(rt; !section.same_as(&empty));
     Ok(())
@@ -30,16 +33,57 @@ fn a_section_holds_its_events_in_order(rt: HostRuntime) -> Result<(), Fail> {
 
 #[test]
 fn a_section_takes_the_events_of_another_behind_its_own(rt: HostRuntime) -> Result<(), Fail> {
+    let mut all = Section::new(rt.alloc(), FIRST);
     let mut section = Section::new(rt.alloc(), FIRST);
-    for count in [2, 0, 3] {
-        let mut more = Section::new(rt.alloc(), FIRST);
+    let mut first = 0;
+    for count in [2, 0, 3, 1] {
+        let mut more = Section::new(rt.alloc(), Name { run: 7, number: 7 });
         for _ in 0..count {
-            more.push(Event::Fence)?;
+            first += 16;
+            let event = Event::Ordered(Span::make(first, 1)?, Span::make(first + 8, 2)?);
+            for event in [Event::Fence, event] {
+                all.push(event)?;
+                more.push(event)?;
+            }
         }
         section.append(more)?;
     }
-    assert_eq!(rt; section.name(), FIRST);
-    assert_eq!(rt; section.events(), [Event::Fence; 5].as_slice());
+    assert_eq!(rt; section.events().len(), 12);
+    assert!(rt; section.same_as(&all));
+    for index in 0..12 {
+        assert_eq!(rt;
+            section.events().get(index),
+            all.events().get(index),
+            "{index}"
+        );
+    }
+    assert_eq!(rt; section.events().get(12), None);
+    assert!(rt; !section.events().is_empty());
+    all.push(Event::Fence)?;
+    assert!(rt; !section.same_as(&all));
+    Ok(())
+}
+
+#[test]
+fn sections_are_the_same_where_each_event_is(rt: HostRuntime) -> Result<(), Fail> {
+    let (a, b) = (Span::make(0, 8)?, Span::make(64, 8)?);
+    let mut made = Vec::new(rt.alloc());
+    for event in [
+        Event::Ordered(a, b),
+        Event::Ordered(b, a),
+        Event::Ordered(a, a),
+        Event::Store(a),
+        Event::Persist(a),
+    ] {
+        let mut section = Section::new(rt.alloc(), FIRST);
+        section.push(event)?;
+        made.push(section)?;
+    }
+    for (one, section) in made.iter().enumerate() {
+        for (other, beside) in made.iter().enumerate() {
+            assert_eq!(rt; section.same_as(beside), one == other, "{one} and {other}");
+        }
+    }
     Ok(())
 }
 

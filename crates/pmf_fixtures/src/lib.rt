@@ -6,10 +6,12 @@
 mod images;
 mod ledger;
 mod numbers;
+mod packed;
 pub mod plain;
 mod step;
 
 pub use images::{BYTES, Image, images_after};
 pub use ledger::LEDGER;
 pub use numbers::Numbers;
+pub use packed::{listed, section_with};
 pub use step::{FENCE, FLUSH, OTHER, Refused, STORE, Step, events_of};

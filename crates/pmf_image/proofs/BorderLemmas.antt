@@ -1,5 +1,5 @@
 -- Stretches of alike bytes: between two borders all bytes are alike, and alike bytes answer alike.
-use Rattle.std.{proofs.Common.{◌≡◌, ℕ, suc, ◌+◌, ◌-◌, ◌<◌, ◌≤◌, not, ◌&&◌, nat_lt, List, length, refl, sym, ◌∙◌, ap, arith, inl, inr, Option, Some, None, nat_eq, get_or, ◌⊎◌}, specs.Option.{option_eq}, proofs.lemmas.Bool.{cases_lt, cases_eq}, proofs.lemmas.Option.{slice_get_past, slice_get_read}, proofs.Math.Path.{fun_ext}, proofs.lemmas.Grind.{common_steps}}
+use Rattle.std.{proofs.Common.{◌≡◌, ℕ, suc, ◌+◌, ◌-◌, ◌<◌, ◌≤◌, not, ◌&&◌, nat_lt, List, length, refl, sym, ◌∙◌, ap, arith, inl, inr, Option, Some, None, nat_eq, ◌⊎◌}, specs.Option.{option_eq}, proofs.lemmas.Bool.{cases_lt, cases_eq}, proofs.lemmas.Option.{slice_get_past}, proofs.Math.Path.{fun_ext}, proofs.lemmas.Grind.{common_steps}}
 use Rattle.pmf_event.{specs.declared.event.Event.{Event}, specs.declared.event.Event.TheVariants.{Store, Flush, Exclude, Include}, specs.Span.{Extent, covers_byte}, specs.Line.{line_of_byte, meets_line}, specs.Places.{greatest, count, some_between}, specs.Store.{event_at, passes, at, stores, stores_line, flushes, is_fence, last, last_store}, specs.Exclusion.{excludes, marks, is_excluded, is_included}, specs.Persist.{is_checked}, specs.Transactions.{in_transaction, scope_at, in_scope, stores_inside, is_scoped}, proofs.EventLemmas.{at-is}}
 use Rattle.pmf_image.{specs.declared.certificate.Certificate.{Certificate}, specs.declared.questions.Question.{Question}, specs.Image.{count_of, is_fenced, floor_of, reach_of, reaches, shows}, specs.Certificate.{image_of, cut_in, shows_in}, specs.Borders.{AlikeAt, Alike}, specs.Questions.{is_asked, answer_of}, proofs.ImageLemmas.{reach-untorn}, proofs.CertificateLemmas.{cut-is}}
 
@@ -37,9 +37,6 @@ alike_at-none : (es : List Event) (b x k : ℕ) → event_at es k ≡ None → A
 alike_at-none es b x k here = alike_at-from es b x k None here (record { stored = refl; line_stored = refl; flushed = refl; excluded = refl; marked = refl })
 
 -- the event at the next place, as a pass over all events reads it
-pub event-read : (es : List Event) (i : ℕ) (e : Event) → i < length es → e ≡ get_or es i e → event_at es (suc i) ≡ Some e
-unfolding event_at
-event-read es i e below is = slice_get_read es (length es) i e refl below is
 
 event-none : (es : List Event) (k : ℕ) → length es < k → event_at es k ≡ None
 unfolding event_at

@@ -1,14 +1,8 @@
 -- Certificates: what a pass over the events keeps of a line and of a byte, and what a certificate's image
 -- holds.
-use Rattle.std.{proofs.Common.{◌≡◌, ℕ, zero, suc, ◌+◌, ◌-◌, ◌<◌, ◌≤◌, Bool, true, false, ◌&&◌, nat_lt, if◌then◌else◌, List, [], length, refl, sym, ◌∙◌, ap, arith, Option, Some, unwrap_or, get_or, take, nat_eq, length-take-le, get_or-take}, specs.Option.{option_eq}, proofs.lemmas.Bool.{cases_lt, cases_eq, ltb-true, false_from_ne_true}, proofs.Math.Bool.{and-true, and-false}, proofs.lemmas.Option.{slice_get_read}, proofs.lemmas.Grind.{common_steps}}
+use Rattle.std.{proofs.Common.{◌≡◌, ℕ, zero, suc, ◌+◌, ◌-◌, ◌<◌, ◌≤◌, Bool, true, false, ◌&&◌, nat_lt, if◌then◌else◌, List, [], refl, sym, ◌∙◌, ap, arith, Option, Some, unwrap_or, nat_eq}, specs.Option.{option_eq}, proofs.lemmas.Bool.{cases_lt, cases_eq, ltb-true, false_from_ne_true}, proofs.Math.Bool.{and-true, and-false}, proofs.lemmas.Grind.{common_steps}}
 use Rattle.pmf_event.{specs.declared.event.Event.{Event}, specs.Line.{line_of_byte}, specs.Places.{greatest, some_between}, specs.Store.{event_at, at, stores, stores_line, flushes, is_fence, last, last_store}, proofs.PlacesLemmas.{SameUpTo, greatest-step, greatest-zero, greatest-bound, count-step, count-zero, count-le, some_between-here}, proofs.EventLemmas.{at-is, last-step, not_fence_and_flush}}
 use Rattle.pmf_image.{specs.declared.certificate.Certificate.{Certificate}, specs.declared.certificate.Kept.{Kept}, specs.Certificate.{full_cuts, cut_in, shows_in}, specs.Image.{Image, count_of, is_fenced, floor_of, value_of, cut_of, shows}, proofs.ImageLemmas.{reach-untorn, reached-shown, shown-reaches, last_store-stores, last_store-bound, last_store-above, count_of-here, count_of-mono}}
-
--- the event at the next place, as a pass over the first n events reads it
-pub event-taken : (es : List Event) (n i : ℕ) (e : Event) → n ≤ length es → i < length (take n es) → e ≡ get_or (take n es) i e →
-    event_at es (suc i) ≡ Some e
-unfolding event_at
-event-taken es n i e within below is = grind (arith, common_steps, length-take-le, slice_get_read, get_or-take)
 
 pub greatest-same : (s t : ℕ → Bool) (n : ℕ) → SameUpTo s t n → greatest s n ≡ greatest t n
 unfolding greatest

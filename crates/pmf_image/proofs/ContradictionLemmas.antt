@@ -1,27 +1,24 @@
 -- From the searches to the contradiction of an assertion, and back.
-use Rattle.std.proofs.{Common.{◌≡◌, ℕ, zero, suc, ◌+◌, ◌-◌, ◌<◌, ◌≤◌, Bool, true, false, ◌↔◌, List, length, refl, ◌∙◌, ap, arith, Some, get_or, lt-ltb}, lemmas.Option.{slice_get-get_or}, lemmas.Bool.{and_parts, and_from, both_ways, ltb-true, ne_eqb, eqb-false, not-true}, lemmas.Grind.{common_steps}}
+use Rattle.std.proofs.{Common.{◌≡◌, ℕ, suc, ◌+◌, ◌-◌, ◌<◌, ◌≤◌, Bool, true, false, ◌↔◌, List, refl, ◌∙◌, ap, arith, Some, lt-ltb}, lemmas.Bool.{and_parts, and_from, both_ways, ltb-true, ne_eqb, eqb-false, not-true}, lemmas.Grind.{common_steps}}
 use Rattle.pmf_event.{specs.declared.event.Event.{Event}, specs.declared.event.Event.TheVariants.{Persist, Ordered, CheckEnd}, specs.declared.span.TheConstants.{ADDRESS_LIMIT}, specs.Span.{Extent, covers_byte}, specs.Store.{event_at}, specs.Transactions.{depth_at, in_scope}, proofs.LineLemmas.{covers-bounds, bounds-cover}, proofs.TransactionLemmas.{inside-from, outside-from}}
 use Rattle.pmf_image.specs.{declared.certificate.Certificate.{Certificate}, declared.questions.Question.TheVariants.{FallsShort, IsShown, IsLost, ScopeFallsShort}, Contradiction.{PersistContradicted, OrderedContradicted, ScopeContradicted, ContradictsEvent, Contradicts}, Questions.{is_asked, compares, answer_of, SomeByte}}
 
 -- the event at the place, as it is read from the list
-event-placed : (es : List Event) (p : ℕ) (d : Event) → 0 < p → p ≤ length es → event_at es p ≡ Some (get_or es (p - 1) d)
-unfolding event_at
-event-placed es zero d some within = absurd (omega arith)
-event-placed es (suc k) d some within =
-    let same : k ≡ suc k - 1 = omega arith in slice_get-get_or es k d (omega arith) ∙ ap (λ n. Some (get_or es n d)) same
+event-placed : (es : List Event) (p : ℕ) (d : Event) → 0 < p → event_at es (suc (p - 1)) ≡ Some d → event_at es p ≡ Some d
+event-placed es p d some here = let same : p ≡ suc (p - 1) = omega arith in ap (event_at es) same ∙ here
 
-module _ (es : List Event) (p : ℕ) (c : Certificate) (d : Event) (some : 0 < p) (within : p ≤ length es) where
-  pub contradicts-from : (r : Bool) (e : Event) → get_or es (p - 1) d ≡ e → (r ≡ true) ↔ ContradictsEvent es p c (Some e) → (r ≡ true) ↔ Contradicts es p c
+module _ (es : List Event) (p : ℕ) (c : Certificate) (d : Event) (some : 0 < p) (here : event_at es (suc (p - 1)) ≡ Some d) where
+  pub contradicts-from : (r : Bool) (e : Event) → d ≡ e → (r ≡ true) ↔ ContradictsEvent es p c (Some e) → (r ≡ true) ↔ Contradicts es p c
   contradicts-from r e is event = grind (arith, common_steps, event-placed)
 
   other-event : (e : Event) → ((s : Extent) → e ≡ Persist s → ⊥) → ((s t : Extent) → e ≡ Ordered s t → ⊥) → (e ≡ CheckEnd → ⊥) →
       (false ≡ true) ↔ ContradictsEvent es p c (Some e)
   other-event e no_persist no_ordered no_close = grind (arith, common_steps)
 
-  pub contradicts-no_assertion : ((s : Extent) → get_or es (p - 1) d ≡ Persist s → ⊥) → ((s t : Extent) → get_or es (p - 1) d ≡ Ordered s t → ⊥) →
-      (get_or es (p - 1) d ≡ CheckEnd → ⊥) → (false ≡ true) ↔ Contradicts es p c
+  pub contradicts-no_assertion : ((s : Extent) → d ≡ Persist s → ⊥) → ((s t : Extent) → d ≡ Ordered s t → ⊥) →
+      (d ≡ CheckEnd → ⊥) → (false ≡ true) ↔ Contradicts es p c
   contradicts-no_assertion no_persist no_ordered no_close =
-      contradicts-from false (get_or es (p - 1) d) refl (other-event (get_or es (p - 1) d) no_persist no_ordered no_close)
+      contradicts-from false d refl (other-event d no_persist no_ordered no_close)
 
 -- a byte of the span that passes the test
 found : (s : Extent) (test : ℕ → Bool) (first end b : ℕ) → first ≡ s.first → end ≡ s.first + s.size → covers_byte s b ≡ true → test b ≡ true → SomeByte test first end

@@ -1,7 +1,7 @@
 -- Passes over the events, for what they say of transactions, of the scope and of one byte.
 use Rattle.std.proofs.{Common.{add-one, ◌≡◌, ℕ, suc, ◌-◌, Bool, true, false, not, ◌&&◌, ◌||◌, nat_lt, if◌then◌else◌, List, refl, sym, ◌∙◌, ap, arith, Some}, lemmas.Grind.{common_steps}}
 use Rattle.pmf_event.{specs.declared.event.Event.{Event}, specs.declared.event.Event.TheVariants.{Store, TxBegin, TxEnd, CheckStart, CheckEnd}, specs.Store.{event_at, at, stores, last}, specs.Exclusion.{excludes, marks, is_excluded, is_included}, specs.Transactions.{begins, ends, depth_at, in_transaction, opens_scope, closes_scope, scope_at, in_scope, is_scoped}, proofs.EventLemmas.{at-is, last-step, last-none}, proofs.TransactionLemmas.{depth-start, depth-begun, depth-ended, depth-kept, scope-start, scope-none, scope-some, scoped-from, unscoped-from, in_scope-same, scope-stays, scope-opened, scope-kept, scope-closed, scoped-opened, scoped-kept, scoped-stored, not_scoped}}
-use Rattle.pmf_image.{specs.declared.transactions.Scope.{Scope}, proofs.CertificateLemmas.{event-taken}}
+use Rattle.pmf_image.{specs.declared.transactions.Scope.{Scope}}
 
 -- ---- whether a byte is included
 
@@ -88,4 +88,4 @@ module _ (es : List Event) (b i : ℕ) (old new : Scope) (before : Tracked es b 
   tracked-step e here depth opened has =
       kept e here refl refl refl (depth ∙ before.depth_is ∙ sym (depth-kept es i e here refl refl)) opened has
 
-pub ruleset inclusion = (event-taken, add-one, included-start, included-step)
+pub ruleset inclusion = (add-one, included-start, included-step)

@@ -5,12 +5,12 @@ ghost use Rattle.pmf_event.specs.{Line.{line_of_byte, meets_line}, Span.{covers_
 ghost use Rattle.pmf_image.specs.{Certificate.{Fits, IsLine}, Borders.{Alike}};
 
 use crate::certificate::Certificate;
-use pmf_event::{Event, LINE_SIZE, Span, line_of};
+use pmf_event::{Event, Events, LINE_SIZE, Span, line_of};
 
 // The end of a stretch of bytes from this one on that are all alike to it, at `end` at the latest. One pass
 // over the events: a stretch ends at the next border. The borders are where a span of a store, a write-back, an
 // exclusion or an inclusion begins and ends, where the lines that it meets do, and where the full line does.
-pub fn end_of_stretch(events: &[Event], certificate: Certificate, byte: u64, end: u64) -> u64
+pub fn end_of_stretch(events: &Events, certificate: Certificate, byte: u64, end: u64) -> u64
     requires fits { Fits events.now certificate }
     requires before { byte < end }
     ensures above { byte < result }
@@ -18,10 +18,11 @@ pub fn end_of_stretch(events: &[Event], certificate: Certificate, byte: u64, end
     ensures alike { (x : ℕ) → byte ≤ x → x < result → Alike events.now certificate byte x }
 {
     let mut stretch_end = before_line(certificate.full_line, byte, end);
-    for event in events {
+    for index in 0..events.len() {
+        let event = events.at(index);
         match event {
             Event::Store(span) | Event::Flush(span) | Event::Exclude(span) | Event::Include(span) =>
-                stretch_end = before_borders(*span, byte, stretch_end),
+                stretch_end = before_borders(span, byte, stretch_end),
             _ => {}
         }
     }

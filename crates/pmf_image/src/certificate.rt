@@ -4,7 +4,7 @@ ghost use Rattle.std.specs.{Prelude.{◌≡◌, ◌≤◌, length, Some, nat_eq,
 ghost use Rattle.pmf_event.specs.{Line.{meets_line}, Store.{flushes, is_fence, last_store, stores, stores_line}};
 ghost use Rattle.pmf_image.specs.Certificate.{Fits, IsLine, cut_in, shows_in};
 
-use pmf_event::{Event, LINE_SIZE, Span, line_of};
+use pmf_event::{Event, Events, LINE_SIZE, Span, line_of};
 
 /// One crash image: after a crash right behind the place `crash`, in which the full line holds all of
 /// its stores, every other line holds those that are durable by then, and nothing is torn.
@@ -18,15 +18,16 @@ pub struct Certificate {
 
 /// How many stores of the line the certificate's image holds: of the full line all, of another those
 /// before its last write-back that a fence follows. One pass over the events.
-pub fn cut(events: &[Event], certificate: Certificate, line: u64) -> u32
+pub fn cut(events: &Events, certificate: Certificate, line: u64) -> u32
     requires fits { Fits events.now certificate }
     requires line { IsLine line }
     ensures { result ≡ cut_in events.now certificate line }
 {
     let mut counts = Kept::none();
-    for event in &events[..certificate.crash as usize] {
+    for index in 0..certificate.crash as usize {
+        let event = events.at(index);
         let next = counts.stored + 1;
-        counts.follow(event, line, stores_line(event, line), next);
+        counts.follow(&event, line, stores_line(&event, line), next);
     }
     counts.held(certificate, line)
 }
@@ -34,27 +35,29 @@ pub fn cut(events: &[Event], certificate: Certificate, line: u64) -> u32
 /// The place of the store that the byte shows in the certificate's image, or 0 where it shows none: on the
 /// full line its last store, elsewhere that before the line's last write-back that a fence follows. One pass
 /// over the events.
-pub fn shows(events: &[Event], certificate: Certificate, byte: u64) -> u32
+pub fn shows(events: &Events, certificate: Certificate, byte: u64) -> u32
     requires fits { Fits events.now certificate }
     ensures { result ≡ shows_in events.now certificate byte }
 {
     let line = line_of(byte);
     let mut places = Kept::none();
-    for (index, event) in events[..certificate.crash as usize].iter().enumerate() {
-        places.follow(event, line, stores(event, byte), index as u32 + 1);
+    for index in 0..certificate.crash as usize {
+        let event = events.at(index);
+        places.follow(&event, line, stores(&event, byte), index as u32 + 1);
     }
     places.held(certificate, line)
 }
 
 /// The place of the last store of the byte among the events up to the place, or 0 where there is none.
 /// One pass over the events.
-pub fn last_store(events: &[Event], place: u32, byte: u64) -> u32
+pub fn last_store(events: &Events, place: u32, byte: u64) -> u32
     requires { place ≤ length events.now }
     ensures { result ≡ last_store events.now place byte }
 {
     let mut last = 0;
-    for (index, event) in events[..place as usize].iter().enumerate() {
-        if stores(event, byte) {
+    for index in 0..place as usize {
+        let event = events.at(index);
+        if stores(&event, byte) {
             last = index as u32 + 1;
         }
     }

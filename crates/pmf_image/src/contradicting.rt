@@ -6,7 +6,7 @@ ghost use Rattle.pmf_image.specs.{Certificate.{Fits}, Contradiction.{Contradicts
 use crate::certificate::Certificate;
 use crate::questions::Question;
 use crate::transactions::scope_at;
-use pmf_event::{ADDRESS_LIMIT, Event, Span};
+use pmf_event::{ADDRESS_LIMIT, Event, Events, Span};
 
 /// Whether the event at the place is an assertion, and the certificate's image contradicts it: the crash
 /// is one that the assertion speaks of, and the image shows what the assertion rules out. No other event is
@@ -24,13 +24,13 @@ use pmf_event::{ADDRESS_LIMIT, Event, Span};
 /// an end of the full line. For each stretch between two borders inside the assertion's spans, however many
 /// bytes it has, there are at most four passes over the events; at the end of a scope there are five for each
 /// stretch at all, and one more. Takes no memory.
-pub fn contradicts(events: &[Event], place: u32, certificate: Certificate) -> bool
+pub fn contradicts(events: &Events, place: u32, certificate: Certificate) -> bool
     requires fits { Fits events.now certificate }
     requires some { 0 < place }
     requires within { place ≤ length events.now }
     ensures { (result ≡ true) ↔ Contradicts events.now place certificate }
 {
-    match events[place as usize - 1] {
+    match events.at(place as usize - 1) {
         Event::Persist(span) => persist_contradicted(events, place, span, certificate),
         Event::Ordered(first, second) => {
             ordered_contradicted(events, place, first, second, certificate)
@@ -41,7 +41,7 @@ pub fn contradicts(events: &[Event], place: u32, certificate: Certificate) -> bo
 }
 
 // Whether the image contradicts a persist assertion over the span.
-fn persist_contradicted(events: &[Event], place: u32, span: Span, certificate: Certificate) -> bool
+fn persist_contradicted(events: &Events, place: u32, span: Span, certificate: Certificate) -> bool
     requires fits { Fits events.now certificate }
     requires some { 0 < place }
     requires within { place ≤ length events.now }
@@ -56,7 +56,7 @@ fn persist_contradicted(events: &[Event], place: u32, span: Span, certificate: C
 
 // Whether the image contradicts an order assertion over the two spans.
 fn ordered_contradicted(
-    events: &[Event],
+    events: &Events,
     place: u32,
     first: Span,
     second: Span,
@@ -79,7 +79,7 @@ fn ordered_contradicted(
 }
 
 // Whether the image contradicts the end of a scope at the place.
-fn scope_contradicted(events: &[Event], place: u32, certificate: Certificate) -> bool
+fn scope_contradicted(events: &Events, place: u32, certificate: Certificate) -> bool
     requires fits { Fits events.now certificate }
     requires some { 0 < place }
     requires within { place ≤ length events.now }

@@ -7,7 +7,7 @@ ghost use Rattle.pmf_event.specs.Store.{last_store};
 use crate::borders::end_of_stretch;
 use crate::certificate::{Certificate, last_store, shows};
 use crate::transactions::{is_included, scope_at};
-use pmf_event::Event;
+use pmf_event::Events;
 
 /// What is asked of a byte, at a place and in a certificate's image.
 #[derive(Clone, Copy, Debug, PartialEq, Eq)]
@@ -27,7 +27,7 @@ impl Question {
     // Whether the byte is asked, and the answer is yes. At most four passes over the events, and three but
     // for the question of a scope.
     #[tactic(auto, using(crate::proofs::ByteSearchLemmas::passing))]
-    pub fn passes(self, events: &[Event], place: u32, certificate: Certificate, byte: u64) -> bool
+    pub fn passes(self, events: &Events, place: u32, certificate: Certificate, byte: u64) -> bool
         requires fits { Fits events.now certificate }
         requires some { 0 < place }
         requires within { place ≤ length events.now }
@@ -40,7 +40,7 @@ impl Question {
 
     // Whether the byte is one of those that are asked, by its last store. At most two passes over the events.
     #[tactic(auto, using(crate::proofs::ByteSearchLemmas::asking))]
-    fn is_asked(self, events: &[Event], place: u32, byte: u64, last: u32) -> bool
+    fn is_asked(self, events: &Events, place: u32, byte: u64, last: u32) -> bool
         requires some { 0 < place }
         requires within { place ≤ length events.now }
         requires last { last ≡ last_store events.now place byte }
@@ -71,7 +71,7 @@ impl Question {
     // of bytes that are alike.
     pub fn finds(
         self,
-        events: &[Event],
+        events: &Events,
         place: u32,
         certificate: Certificate,
         first: u64,

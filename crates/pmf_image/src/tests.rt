@@ -4,8 +4,8 @@ ghost use Rattle.std.specs.Prelude.{◌≡◌, true};
 ghost use Rattle.pmf_image.specs.Certificate.{Fits};
 
 use super::*;
-use pmf_event::{Event, LINE_SIZE, SPAN_LIMIT, Span, line_of};
-use pmf_fixtures::{FENCE, FLUSH, STORE, Step, events_of};
+use pmf_event::{Events, LINE_SIZE, SPAN_LIMIT, Span, line_of};
+use pmf_fixtures::{FENCE, FLUSH, STORE, Step, events_of, section_with};
 use std::test::Fail;
 
 const PERSIST: Step = Step::Persist(0x1000, 8);
@@ -125,7 +125,7 @@ const LONGEST: &[Step] = &[
 ];
 
 /// Whether the certificate may speak of the events.
-fn fits(events: &[Event], certificate: Certificate) -> bool
+fn fits(events: &Events, certificate: Certificate) -> bool
     ensures { result ≡ true → Fits events.now certificate }
 {
     let is_line = match certificate.full_line {
@@ -149,21 +149,15 @@ fn an_image_holds_the_floor_and_of_the_full_line_all(rt: HostRuntime) -> Result<
         (TOGETHER, 2, FULL, 0x2000, 1, 2),
         (TOGETHER, 0, FULL, 0x2000, 0, 0),
     ] {
-        let events = events_of(rt.alloc(), steps)?;
+        let listed = events_of(rt.alloc(), steps)?;
+        let section = section_with(rt.alloc(), &listed)?;
+        let events = section.events();
         let certificate = Certificate { crash, full_line };
         let line = line_of(byte);
-        assert!(rt; fits(events.as_slice(), certificate), "{steps:?}");
+        assert!(rt; fits(events, certificate), "{steps:?}");
         assert!(rt; line % LINE_SIZE == 0, "{steps:?}");
-        assert_eq!(rt;
-            cut(events.as_slice(), certificate, line),
-            held,
-            "{steps:?}"
-        );
-        assert_eq!(rt;
-            shows(events.as_slice(), certificate, byte),
-            shown,
-            "{steps:?}"
-        );
+        assert_eq!(rt; cut(events, certificate, line), held, "{steps:?}");
+        assert_eq!(rt; shows(events, certificate, byte), shown, "{steps:?}");
     }
     Ok(())
 }
@@ -176,9 +170,11 @@ fn the_last_store_is_that_up_to_the_place(rt: HostRuntime) -> Result<(), Fail> {
         (3, 0x1007, 3),
         (3, 0x1008, 0),
     ] {
-        let events = events_of(rt.alloc(), &[STORE, FENCE, STORE])?;
+        let listed = events_of(rt.alloc(), &[STORE, FENCE, STORE])?;
+        let section = section_with(rt.alloc(), &listed)?;
+        let events = section.events();
         assert!(rt; place as usize <= events.len(), "{place}");
-        assert_eq!(rt; last_store(events.as_slice(), place, byte), want, "{place}");
+        assert_eq!(rt; last_store(events, place, byte), want, "{place}");
     }
     Ok(())
 }
@@ -217,11 +213,13 @@ fn an_assertion_is_contradicted_as_its_kind_asks(rt: HostRuntime) -> Result<(), 
         (NESTED, 9, 9, None, false, "the scope is closed"),
         (SCOPE_PARTLY_EXCLUDED, 6, 6, None, true, "one byte"),
     ] {
-        let events = events_of(rt.alloc(), steps)?;
+        let listed = events_of(rt.alloc(), steps)?;
+        let section = section_with(rt.alloc(), &listed)?;
+        let events = section.events();
         let certificate = Certificate { crash, full_line };
-        assert!(rt; fits(events.as_slice(), certificate), "{what}");
+        assert!(rt; fits(events, certificate), "{what}");
         assert!(rt; place > 0 && place as usize <= events.len(), "{what}");
-        let found = contradicts(events.as_slice(), place, certificate);
+        let found = contradicts(events, place, certificate);
         assert_eq!(rt; found, want, "{what}");
     }
     Ok(())

@@ -3,7 +3,7 @@
 ghost use Rattle.std.specs.Prelude.{◌≡◌, ◌<◌, ◌≤◌, ◌+◌, ◌-◌, ◌^◌, false, not, nat_lt, ◌&&◌, ◌||◌, if◌then◌else◌, length};
 ghost use Rattle.pmf_event.specs.{Exclusion.{excludes, is_included, marks}, Store.{stores}, Transactions.{begins, closes_scope, depth_at, ends, in_scope, is_scoped, opens_scope}};
 
-use pmf_event::Event;
+use pmf_event::{Event, Events};
 
 /// The transactions and the scope at a place, and whether a byte is one of the scope's.
 #[derive(Clone, Copy, Debug, PartialEq, Eq)]
@@ -17,7 +17,7 @@ pub struct Scope {
 }
 
 // The scope at the place, for the byte. One pass over the events.
-pub fn scope_at(events: &[Event], place: u32, byte: u64) -> Scope
+pub fn scope_at(events: &Events, place: u32, byte: u64) -> Scope
     requires { place ≤ length events.now }
     ensures depth { result.depth ≡ depth_at events.now place }
     ensures scope { result.is_open ≡ in_scope events.now place }
@@ -28,8 +28,9 @@ pub fn scope_at(events: &[Event], place: u32, byte: u64) -> Scope
         is_open: false,
         has_byte: false,
     };
-    for event in &events[..place as usize] {
-        scope.follow(event, byte);
+    for index in 0..place as usize {
+        let event = events.at(index);
+        scope.follow(&event, byte);
     }
     scope
 }
@@ -68,13 +69,14 @@ impl Scope {
 
 // Whether the byte is included at the place. One pass over the events.
 #[tactic(auto, using(std::proofs::lemmas::Grind::common_steps, crate::proofs::ScopeLemmas::inclusion))]
-pub fn is_included(events: &[Event], place: u32, byte: u64) -> bool
+pub fn is_included(events: &Events, place: u32, byte: u64) -> bool
     requires { place ≤ length events.now }
     ensures { result ≡ is_included events.now place byte }
 {
     let mut included = true;
-    for event in &events[..place as usize] {
-        included = included_after(event, byte, included);
+    for index in 0..place as usize {
+        let event = events.at(index);
+        included = included_after(&event, byte, included);
     }
     included
 }

@@ -1,14 +1,8 @@
 -- What is asked of a walk, in the order of the places.
-use Rattle.std.proofs.{Common.{◌≡◌, ℕ, suc, ◌+◌, ◌<◌, ◌≤◌, List, [], ◌∷◌, ◌++◌, Some, None, subst, length, get_or, set, refl, sym, ap, ◌∙◌, arith, inl, inr}, lemmas.Bool.{cases_eq}, lemmas.List.{get_or_append_left, get_or_push, get_or_default, get_or-set_same, get_or-set_other}, lemmas.List.Sorted.{All-permutation, Contains-permutation}, lemmas.Option.{slice_get_read}}
+use Rattle.std.proofs.{Common.{◌≡◌, ℕ, suc, ◌+◌, ◌<◌, ◌≤◌, List, [], ◌∷◌, ◌++◌, None, subst, length, get_or, set, sym, ap, ◌∙◌, arith, inl, inr}, lemmas.Bool.{cases_eq}, lemmas.List.{get_or_append_left, get_or_push, get_or_default, get_or-set_same, get_or-set_other}, lemmas.List.Sorted.{All-permutation, Contains-permutation}}
 use Rattle.std.specs.List.{All}
 use Rattle.std.specs.List.Sorted.{IsPermutation, IsNonDecreasingBy}
-use Rattle.pmf_event.specs.{declared.event.Event.{Event}, Store.{event_at}}
 use Rattle.pmf_images.specs.{declared.{showing.Asked.{Asked}, telling.Due.{Due}}, Telling.{due_at, AreDue, AreTold}}
-
--- the event at an index stands at the place behind it
-pub event_here : (es : List Event) (k : ℕ) (e : Event) → k < length es → e ≡ get_or es k e → event_at es (suc k) ≡ Some e
-unfolding event_at
-event_here es k e within is = slice_get_read es (length es) k e refl within is
 
 abbrev pub due_none : Due
 due_none = record { place = 0; byte = 0; index = 0 }

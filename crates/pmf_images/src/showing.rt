@@ -7,7 +7,7 @@ ghost use Rattle.pmf_images.specs.{Horizons.{horizon_of, place_of, crash_of}, Sh
 use crate::counts::Counts;
 use crate::telling::tell_all;
 use crate::walks::{Fences, Flushes, Stores};
-use pmf_event::{Event, line_of};
+use pmf_event::{Events, line_of};
 use pmf_image::Certificate;
 use std::alloc::{AllocError, Global};
 
@@ -37,7 +37,7 @@ pub struct Shown {
 ///
 /// Takes time in proportion to the events and to what is asked, but for a factor of the logarithm of either, and memory for the runs of
 /// bytes that events name, and for some numbers for each that is asked for. With nothing asked for it takes neither.
-pub fn show_all(alloc: Global, events: &[Event], asked: &[Asked]) -> Result<Vec<Shown>, AllocError>
+pub fn show_all(alloc: Global, events: &Events, asked: &[Asked]) -> Result<Vec<Shown>, AllocError>
     ensures { IfOk result (λ shown. shown.items ≡ map (shown_of events.now) asked.now) }
 {
     let mut shown = Vec::new(alloc);
@@ -61,7 +61,7 @@ pub fn show_all(alloc: Global, events: &[Event], asked: &[Asked]) -> Result<Vec<
 
 // The place up to which each image holds the stores of its byte's line: on the full line the crash, elsewhere that in front of the last
 // write-back that a fence follows.
-fn horizons(alloc: Global, events: &[Event], asked: &[Asked]) -> Result<Vec<u32>, AllocError>
+fn horizons(alloc: Global, events: &Events, asked: &[Asked]) -> Result<Vec<u32>, AllocError>
     ensures { IfOk result (λ horizons. ArePlaces (horizon_of events.now) asked.now horizons.items) }
 {
     let crashes = crashes(alloc, events, asked)?;
@@ -85,7 +85,7 @@ fn horizon(one: Asked, crash: u32, flush: u32) -> u32
 }
 
 // The crash of each image.
-fn crashes(alloc: Global, events: &[Event], asked: &[Asked]) -> Result<Vec<u32>, AllocError>
+fn crashes(alloc: Global, events: &Events, asked: &[Asked]) -> Result<Vec<u32>, AllocError>
     ensures { IfOk result (λ crashes. ArePlaces (crash_of events.now) asked.now crashes.items) }
 {
     let mut crashes = Vec::new(alloc);
@@ -96,7 +96,7 @@ fn crashes(alloc: Global, events: &[Event], asked: &[Asked]) -> Result<Vec<u32>,
 }
 
 // The place of each.
-fn places(alloc: Global, events: &[Event], asked: &[Asked]) -> Result<Vec<u32>, AllocError>
+fn places(alloc: Global, events: &Events, asked: &[Asked]) -> Result<Vec<u32>, AllocError>
     ensures { IfOk result (λ places. ArePlaces (place_of events.now) asked.now places.items) }
 {
     let mut places = Vec::new(alloc);
@@ -107,7 +107,7 @@ fn places(alloc: Global, events: &[Event], asked: &[Asked]) -> Result<Vec<u32>, 
 }
 
 // The place, or that of the last event.
-fn place_within(place: u32, events: &[Event]) -> u32
+fn place_within(place: u32, events: &Events) -> u32
     ensures { result ≡ min place (length events.now) }
 {
     if (place as usize) < events.len() {

@@ -5,7 +5,7 @@ ghost use Rattle.pmf_event.specs.{declared.event.Event.{Event}, Store.{event_at}
 ghost use Rattle.pmf_images.specs.{declared.showing.Asked.{Asked}, Telling.{AreDue, AreTold}};
 
 use crate::showing::Asked;
-use pmf_event::Event;
+use pmf_event::{Event, Events};
 use std::alloc::{AllocError, Global};
 
 /// What is kept of a section's first events, to tell of a byte.
@@ -58,7 +58,7 @@ struct Due {
 pub(crate) fn tell_all<W: Walk>(
     alloc: Global,
     walk: W,
-    events: &[Event],
+    events: &Events,
     places: &[u32],
     asked: &[Asked],
 ) -> Result<Vec<u32>, AllocError>
@@ -81,7 +81,7 @@ pub(crate) fn tell_all<W: Walk>(
 
 impl<W: Walk> Course<W> {
     // Goes on to the place.
-    fn go_to(&mut self, events: &[Event], place: u32) -> Result<(), AllocError>
+    fn go_to(&mut self, events: &Events, place: u32) -> Result<(), AllocError>
         requires sound { W.IsSound self.old.walk }
         requires keeps { W.Keeps self.old.walk events.now self.old.place }
         requires before { self.old.place ≤ place }
@@ -93,7 +93,7 @@ impl<W: Walk> Course<W> {
     {
         while self.place < place {
             self.walk
-                .follow(self.place + 1, &events[self.place as usize])?;
+                .follow(self.place + 1, &events.at(self.place as usize))?;
             self.place += 1;
         }
         Ok(())

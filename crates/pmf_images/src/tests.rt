@@ -4,8 +4,8 @@ ghost use Rattle.std.specs.Prelude.{◌≡◌, true};
 ghost use Rattle.pmf_image.specs.Certificate.{Fits};
 
 use super::*;
-use pmf_event::{Event, LINE_SIZE, SPAN_LIMIT, Span, SpanFault, line_of};
-use pmf_fixtures::{FENCE, FLUSH, Numbers, OTHER, STORE, Step, events_of};
+use pmf_event::{Event, Events, LINE_SIZE, SPAN_LIMIT, Span, SpanFault, line_of};
+use pmf_fixtures::{FENCE, FLUSH, Numbers, OTHER, STORE, Step, events_of, section_with};
 use pmf_image::{Certificate, cut, last_store, shows};
 use std::test::Fail;
 
@@ -95,12 +95,12 @@ fn what_is_asked_for_is_shown_as_in_the_table(rt: HostRuntime) -> Result<(), Fai
         ),
     ];
     for (steps, rows) in table {
-        let events = events_of(rt.alloc(), steps)?;
+        let section = section_with(rt.alloc(), &events_of(rt.alloc(), steps)?)?;
         let mut asked = Vec::new(rt.alloc());
         for (one, _) in *rows {
             asked.push(*one)?;
         }
-        let shown = show_all(rt.alloc(), events.as_slice(), &asked)?;
+        let shown = show_all(rt.alloc(), section.events(), &asked)?;
         assert_eq!(rt; shown.len(), rows.len());
         for (index, (one, want)) in rows.iter().enumerate() {
             assert_eq!(rt; shown[index], *want, "{one:?} of {steps:?}");
@@ -111,8 +111,8 @@ fn what_is_asked_for_is_shown_as_in_the_table(rt: HostRuntime) -> Result<(), Fai
 
 #[test]
 fn with_nothing_asked_for_nothing_is_shown(rt: HostRuntime) -> Result<(), Fail> {
-    let events = events_of(rt.alloc(), &[STORE, FLUSH, FENCE])?;
-    let shown = show_all(rt.alloc(), events.as_slice(), &[])?;
+    let section = section_with(rt.alloc(), &events_of(rt.alloc(), &[STORE, FLUSH, FENCE])?)?;
+    let shown = show_all(rt.alloc(), section.events(), &[])?;
     assert!(rt; shown.is_empty());
     Ok(())
 }
@@ -150,7 +150,7 @@ fn random_asked(numbers: &mut Numbers, events: u64) -> Asked {
 }
 
 // Whether the certificate speaks of these events.
-fn fits(events: &[Event], certificate: Certificate) -> bool
+fn fits(events: &Events, certificate: Certificate) -> bool
     ensures { result ≡ true → Fits events.now certificate }
 {
     let is_line = match certificate.full_line {
@@ -164,23 +164,24 @@ fn fits(events: &[Event], certificate: Certificate) -> bool
 fn each_is_shown_as_a_pass_for_it_alone_shows_it(rt: HostRuntime) -> Result<(), Fail> {
     let mut numbers = Numbers::of(29);
     for _section in 0..400 {
-        let mut events = Vec::new(rt.alloc());
+        let mut section = section_with(rt.alloc(), &[])?;
         for _event in 0..numbers.below(60) {
-            events.push(event(&mut numbers)?)?;
+            section.push(event(&mut numbers)?)?;
         }
+        let events = section.events();
         let mut asked = Vec::new(rt.alloc());
         for _one in 0..numbers.below(40) {
             asked.push(random_asked(&mut numbers, events.len() as u64))?;
         }
-        let shown = show_all(rt.alloc(), events.as_slice(), &asked)?;
+        let shown = show_all(rt.alloc(), events, &asked)?;
         assert_eq!(rt; shown.len(), asked.len());
         for (one, is) in asked.iter().zip(shown.iter()) {
-            assert!(rt; fits(events.as_slice(), one.certificate), "{one:?}");
+            assert!(rt; fits(events, one.certificate), "{one:?}");
             assert!(rt; one.place as usize <= events.len(), "{one:?}");
             let want = Shown {
-                cut: cut(events.as_slice(), one.certificate, line_of(one.byte)),
-                shows: shows(events.as_slice(), one.certificate, one.byte),
-                last: last_store(events.as_slice(), one.place, one.byte),
+                cut: cut(events, one.certificate, line_of(one.byte)),
+                shows: shows(events, one.certificate, one.byte),
+                last: last_store(events, one.place, one.byte),
             };
             assert_eq!(rt; *is, want, "{one:?} of {events:?}");
         }
@@ -193,14 +194,14 @@ const MANY: u64 = 1 << 14;
 
 #[test]
 fn wide_stores_over_many_lines_that_are_asked_for(rt: HostRuntime) -> Result<(), Fail> {
-    let mut events = Vec::new(rt.alloc());
+    let mut section = section_with(rt.alloc(), &[])?;
     let mut asked = Vec::new(rt.alloc());
     for index in 0..MANY {
         let line = (index * 7 % MANY) * LINE_SIZE;
-        events.push(Event::Store(Span::make(line, SPAN_LIMIT - line)?))?;
+        section.push(Event::Store(Span::make(line, SPAN_LIMIT - line)?))?;
         asked.push(of(line, MANY as u32, Some(line), index as u32))?;
     }
-    let shown = show_all(rt.alloc(), events.as_slice(), &asked)?;
+    let shown = show_all(rt.alloc(), section.events(), &asked)?;
     // Each line has the stores that begin at it or in front of it.
     for (index, one) in shown.iter().enumerate() {
         let line = index as u64 * 7 % MANY;

@@ -6,7 +6,7 @@ ghost use Rattle.pmf_verdict.specs.{Checked.{Checked, rows_in}, Text.{text_of_ro
 ghost use Rattle.pmf_ledger.specs.{Loading.{LoadsAs}, Names.{Rises}, declared.loading.TheConstants.{LEDGER_LIMIT}, LedgerText.{IsSpelled, text_of_block, text_of_end, text_of_head, text_of_ledger, version_of}};
 
 use crate::ledger::Ledger;
-use pmf_event::{Event, Name, Profile};
+use pmf_event::{Events, Name, Profile};
 use pmf_storelog::push_event;
 use pmf_verdict::{Verdict, push_row};
 use std::alloc::{AllocError, Global};
@@ -84,13 +84,13 @@ fn push_blocks(text: &mut String, verdicts: &[Verdict]) -> Result<(), AllocError
     Ok(())
 }
 
-fn push_events(text: &mut String, events: &[Event]) -> Result<(), AllocError>
+fn push_events(text: &mut String, events: &Events) -> Result<(), AllocError>
     ensures text { OnOk result (string_bytes text.new
         ≡ string_bytes text.old ++ flat_map line_of_event events.now) }
     ensures valid { OnOk result (All AllValid events.now) }
 {
-    for event in events {
-        push_event(text, event)?;
+    for index in 0..events.len() {
+        push_event(text, &events.at(index))?;
     }
     Ok(())
 }

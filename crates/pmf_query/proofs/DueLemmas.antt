@@ -1,5 +1,5 @@
 -- Whether some assertion has something to check, by how many have nothing.
-use Rattle.std.{proofs.Common.{◌≡◌, ℕ, zero, suc, ◌+◌, ◌-◌, ◌<◌, ◌≤◌, ◌==◌, Bool, true, false, cond, not, ◌&&◌, ◌||◌, List, [], ◌∷◌, ◌++◌, Option, Some, None, length, take, get_or, map, refl, sym, ap, subst, ◌∙◌, arith, rules, count_by, sum_by, nat_lt, codes}, proofs.lemmas.List.{take_more, take_all}, proofs.lemmas.List.Sums.{sum_by-append, sum_by-le-sum_by}, proofs.lemmas.Option.{slice_get-get_or}, proofs.lemmas.Bool.{false≢true}, proofs.lemmas.Grind.{common_steps}}
+use Rattle.std.{proofs.Common.{◌≡◌, ℕ, zero, suc, ◌+◌, ◌-◌, ◌<◌, ◌≤◌, ◌==◌, Bool, true, false, cond, not, ◌&&◌, ◌||◌, List, [], ◌∷◌, ◌++◌, Option, Some, length, take, get_or, map, refl, sym, ap, subst, ◌∙◌, arith, count_by, sum_by, nat_lt, codes}, proofs.lemmas.List.{take_more, take_all}, proofs.lemmas.List.Sums.{sum_by-append, sum_by-le-sum_by}, proofs.lemmas.Option.{slice_get-get_or}, proofs.lemmas.Bool.{false≢true}, proofs.lemmas.Grind.{common_steps}}
 use Rattle.pmf_event.{specs.declared.event.Event.{Event}, specs.declared.event.Event.TheVariants.{Fence}, specs.Places.{count}, specs.Section.{Trace}, specs.Store.{at, event_at, passes}, proofs.EventLemmas.{at-is}, proofs.PlacesLemmas.{count-zero}}
 use Rattle.pmf_storelog.specs.{Separators.{records_of}, LogText.{events_in, numbers_of, section_named, sections_of}}
 use Rattle.pmf_query.{specs.declared.noting.Notes.{Notes}, specs.declared.warnings.Warnings.{Warnings}, specs.Counting.{AreNotes}, specs.Due.{asserted_in, empty_in, fills}, specs.Covering.{uncovered_of}, specs.Ending.{has_record, is_open_ended, lacks_stop}, specs.Misread.{is_unmet, lacks_bytes}, specs.Summing.{asserts, empty_of, is_store, sums_of, upkeeps_of}, specs.Upkeep.{misread_of, upkeep_of}, specs.Warnings.{asserts_nothing, checks_nothing, warnings_by}, specs.Walking.{IsNext}, proofs.EmptyLemmas.{unmet_counted}, proofs.StoreNameLemmas.{sections_more}, proofs.UpkeepLemmas.{count_more}}

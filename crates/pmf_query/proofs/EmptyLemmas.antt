@@ -1,6 +1,6 @@
 -- The rows that count as EMPTY are those of assertions that have nothing to check.
-use Rattle.std.proofs.{Common.{◌≡◌, ℕ, zero, suc, ◌+◌, ◌-◌, Bool, true, false, cond, not, ◌&&◌, List, [], ◌∷◌, ◌++◌, Option, Some, None, is_some, is_none, length, map, refl, sym, ap, ◌∙◌, arith, count_by}, lemmas.List.Sums.{sum_by-append}, lemmas.Grind.{common_steps}}
-use Rattle.pmf_event.{specs.declared.event.Event.{Event}, specs.declared.event.Event.TheVariants.{Store, Flush, Fence, Persist, Ordered, Exclude, Include, TxBegin, TxAdd, TxEnd, CheckStart, CheckEnd}, specs.declared.finding.Finding.{Finding}, specs.declared.finding.Finding.TheVariants.{PersistEmpty, OrderedEmpty}, specs.declared.profile.Profile.{Profile}, specs.declared.profile.Profile.TheVariants.{One}, specs.declared.row.Row.{Row}, specs.Section.{Trace}, specs.Span.{Extent}, specs.Places.{count}, specs.Ranges.{first_byte}, specs.Store.{event_at}, specs.Persist.{is_checked, is_exposed, pass_unless, persist_finding}, specs.Order.{is_certified, is_unordered, least_pair, finding_of_pairs, ordered_finding}, specs.FlushWarnings.{if_any, flush_findings, lines_where, is_pending, is_clean, doubled_finding, needless_finding}, specs.Transactions.{store_finding, add_finding, end_finding, start_finding, check_finding, close_finding}, proofs.PlacesLemmas.{count-zero}}
+use Rattle.std.proofs.{Common.{◌≡◌, ℕ, zero, suc, ◌+◌, ◌-◌, Bool, true, false, cond, not, ◌&&◌, List, [], ◌∷◌, ◌++◌, Option, Some, None, length, map, refl, sym, ap, ◌∙◌, arith, count_by}, lemmas.List.Sums.{sum_by-append}, lemmas.Grind.{common_steps}}
+use Rattle.pmf_event.{specs.declared.event.Event.{Event}, specs.declared.event.Event.TheVariants.{Store, Flush, Fence, Persist, Ordered, Exclude, Include, TxBegin, TxAdd, TxEnd, CheckStart, CheckEnd}, specs.declared.finding.Finding.{Finding}, specs.declared.profile.Profile.{Profile}, specs.declared.profile.Profile.TheVariants.{One}, specs.declared.row.Row.{Row}, specs.Section.{Trace}, specs.Span.{Extent}, specs.Places.{count}, specs.Store.{event_at}, specs.Persist.{persist_finding}, specs.Order.{ordered_finding}, specs.FlushWarnings.{if_any, flush_findings}, specs.Transactions.{store_finding, add_finding, end_finding, start_finding, check_finding, close_finding}, proofs.PlacesLemmas.{count-zero}}
 use Rattle.pmf_shadow.{specs.declared.shadow.Shadow.{Shadow}, specs.Shadow.{ForEachList, StandsFor}, specs.Laws.{is_unseen}, proofs.StandsLemmas.{follows-within, unseen-follows}}
 use Rattle.pmf_verdict.specs.{declared.outcome.Outcome.TheVariants.{Empty}, Outcome.{outcome_of, is_same}, Rows.{findings_of, row_at, rows_upto, rows_at_end, rows_of}}
 use Rattle.pmf_query.{specs.Misread.{is_met, is_unmet, lacks_bytes, misreads}, specs.Summing.{empty_of, is_empty_row}, proofs.UpkeepLemmas.{count_more}}

@@ -1,5 +1,5 @@
 -- Depth and scope after one more event.
-use Rattle.std.proofs.{Common.{◌≡◌, ℕ, zero, suc, ◌+◌, ◌-◌, ◌<◌, Bool, true, false, ◌&&◌, List, [], ◌∷◌, Some, length, get_or, refl, sym, ap, ◌∙◌, arith, nat_lt}, lemmas.Grind.{common_steps}}
+use Rattle.std.proofs.{Common.{◌≡◌, ℕ, suc, ◌+◌, ◌-◌, Bool, true, false, ◌&&◌, List, Some, refl, sym, ◌∙◌, arith, nat_lt}, lemmas.Grind.{common_steps}}
 use Rattle.pmf_event.{specs.declared.event.Event.{Event}, specs.Store.{event_at}, specs.Transactions.{begins, ends, opens_scope, closes_scope, depth_at, in_scope, in_transaction}, proofs.TransactionLemmas.{depth-start, scope-start, depth-begun, depth-ended, depth-kept, scope-stays, scope-opened, scope-kept, scope-closed, scoped-from, unscoped-from, in_scope-same}}
 use Rattle.pmf_query.specs.Covering.{is_inside}
 
@@ -32,13 +32,6 @@ starts_outside es = sym (depth-start es)
 
 pub starts_unscoped : (es : List Event) → false ≡ in_scope es 0
 starts_unscoped es = sym (unscoped-from es 0 (scope-start es))
-
--- the event at an index stands at the place behind it
-pub event_here : (es : List Event) (k : ℕ) (e : Event) → k < length es → e ≡ get_or es k e → event_at es (suc k) ≡ Some e
-unfolding event_at
-event_here [] k e within is = absurd (omega arith)
-event_here (x ∷ es) zero e within is = ap (λ (y : Event). Some y) (sym is)
-event_here (x ∷ es) (suc k) e within is = event_here es k e (omega arith) is
 
 pub inside_from : (es : List Event) (k depth : ℕ) (scope : Bool) → depth ≡ depth_at es (suc k) → scope ≡ in_scope es (suc k) → (nat_lt 0 depth && scope) ≡ is_inside es (suc k)
 unfolding is_inside in_transaction

@@ -1,6 +1,6 @@
 -- Counts over lists, and the sums of sections, with one more.
-use Rattle.std.proofs.{Common.{◌≡◌, ℕ, ◌+◌, ◌*◌, ◌^◌, ◌<◌, List, [], ◌∷◌, ◌++◌, length, take, get_or, map, sym, ap, subst, ◌∙◌, arith, count_by}, lemmas.List.{take_more, map-append}, lemmas.List.Sums.{sum_by-append}, lemmas.Grind.{common_steps}}
-use Rattle.pmf_event.specs.Section.{Trace}
+use Rattle.std.proofs.{Common.{◌≡◌, ℕ, Bool, cond, Some, slice_get, ◌+◌, ◌*◌, ◌^◌, ◌<◌, List, [], ◌∷◌, ◌++◌, length, take, get_or, map, sym, ap, subst, ◌∙◌, arith, count_by}, lemmas.List.{take_more, map-append}, lemmas.List.Sums.{sum_by-append}, lemmas.Option.{get_or_from_slice_get, slice_get_within}, lemmas.Grind.{common_steps}}
+use Rattle.pmf_event.specs.{declared.event.Event.{Event}, Section.{Trace}}
 use Rattle.pmf_query.specs.{declared.summing.Sums.{Sums}, declared.upkeep.Upkeep.{Upkeep}, Covering.{uncovered_of}, Summing.{IsWithin, asserts, both, empty_of, is_store, kept_both, sums_of, upkeeps_of}, Upkeep.{IsUpkeepWithin, misread_of, upkeep_of}}
 
 upkeeps_both : (xs ys : List Trace) → upkeeps_of (xs ++ ys) ≡ kept_both (upkeeps_of xs) (upkeeps_of ys)
@@ -69,3 +69,12 @@ pub sums_one : (t : Trace) (events assertions empty misread stores unasserted : 
     misread ≡ misread_of t.events → stores ≡ count_by (λ e. is_store e) t.events → unasserted ≡ uncovered_of t.events → upkeep ≡ upkeep_of t.events → made events assertions empty misread stores unasserted upkeep ≡ sums_of (t ∷ [])
 unfolding sums_of
 sums_one t events assertions empty misread stores unasserted upkeep p q r m s u k = grind (arith, common_steps, upkeep_one)
+
+-- one more event is counted
+pub counted_more : (test : Event → Bool) (es : List Event) (i : ℕ) (e : Event) (n one : ℕ) → slice_get es i ≡ Some e → n ≡ count_by test (take i es) → one ≡ cond (test e) 1 0 →
+    n + one ≡ count_by test (take (i + 1) es)
+counted_more test es i e n one here so is =
+    let longer = take_more es i e (slice_get_within es i e here) ∙ ap (λ x. take i es ++ x ∷ []) (get_or_from_slice_get es i e e here) in
+    let more : count_by test (take i es ++ e ∷ []) ≡ count_by test (take i es) + cond (test e) 1 0 = omega (arith, sum_by-append (λ x. cond (test x) 1 0) (take i es) (e ∷ [])) in
+    let all : n + one ≡ count_by test (take i es ++ e ∷ []) = omega (arith, so, is, more) in
+    all ∙ ap (λ fs. count_by test fs) (sym longer)

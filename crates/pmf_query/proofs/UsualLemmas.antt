@@ -1,5 +1,5 @@
 -- What is counted of a record whose name is known by how it begins.
-use Rattle.std.{proofs.Common.{◌≡◌, ℕ, zero, suc, ◌+◌, ◌-◌, ◌<◌, Bool, true, false, not, ◌&&◌, ◌||◌, cond, List, [], ◌∷◌, ◌++◌, length, map, take, drop, codes, bytes_eq, get_or, slice_set, Result, Ok, Err, Option, Some, None, slice_index_or, length-append, inl, inr, nat_lt, refl, sym, ap, subst, ◌∙◌, arith, rules, append_assoc}, specs.List.{starts_with}, specs.Prelude.{nat_eq}, proofs.lemmas.Bool.{cases_lt, false≢true}, proofs.lemmas.List.{take_all}, proofs.lemmas.Grind.{common_steps}}
+use Rattle.std.{proofs.Common.{◌≡◌, ℕ, zero, suc, ◌+◌, ◌-◌, ◌<◌, Bool, true, false, not, ◌&&◌, ◌||◌, cond, List, [], ◌∷◌, ◌++◌, length, map, take, drop, codes, bytes_eq, get_or, slice_set, Result, Ok, Err, Option, Some, None, slice_index_or, length-append, inl, inr, nat_lt, refl, sym, ap, ◌∙◌, arith, append_assoc}, specs.List.{starts_with}, specs.Prelude.{nat_eq}, proofs.lemmas.Bool.{cases_lt, false≢true}, proofs.lemmas.List.{take_all}, proofs.lemmas.Grind.{common_steps}}
 use Rattle.pmf_event.specs.{declared.event.Event.{Event}, Span.{Extent}}
 use Rattle.pmf_storelog.{specs.declared.fault.Cause.{Cause}, specs.declared.record.Saying.{Saying}, specs.declared.record.Saying.TheVariants.{Happens, Enters, Skipped}, specs.declared.fault.Cause.TheVariants.{TooLong}, specs.declared.fault.LogFault.{LogFault}, specs.declared.fault.TheConstants.{LOG_LIMIT}, specs.Separators.{ended_records, records_of}, specs.LogText.{cause_after, current_of, entered_of, events_in, fault_at, fault_of, fault_within, first_fault, first_fault_among, is_skipped, or_else, reading_at, refusal_after, refusal_at, says_nothing, shown_within, too_long}, specs.Records.{event_over, fields_of, record_of, saying_of, saying_of_fields}, proofs.CanonicalLemmas.{NoFieldEnd, fields_of-last, fields_of-more}, proofs.QuickLemmas.{begins_with}}
 use Rattle.pmf_query.{specs.declared.naming.Named.{Named}, specs.declared.noting.Notes.{Notes}, specs.Counting.{AreNotes}, specs.Ending.{asserts_decimal}, specs.Walking.{IsNext}, specs.Naming.{counting, first_field, known_names, name_of, names_in}, specs.Usual.{IsUsual, says_event}, proofs.NotingLemmas.{notes_more}}

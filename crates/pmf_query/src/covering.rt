@@ -6,14 +6,14 @@ ghost use Rattle.pmf_runs.specs.Runs.{state_at};
 ghost use Rattle.pmf_query.specs.{Covering.{is_in, is_inside, is_uncovered, names, stored_by, StandsAfter}, Marks.{Marks}};
 
 use crate::inside::{closes, places_inside};
-use pmf_event::{Event, Span};
+use pmf_event::{Event, Events, Span};
 use pmf_runs::{IsIn, PutIn, RunMap};
 use std::alloc::{AllocError, Global};
 
 /// Of each event, by its index: whether it is a store that no later assertion covers. One walk from the last event to the first, with
 /// a set of the bytes that later assertions name: each step takes O(log n) for n runs of such bytes. Takes memory for them, and a byte
 /// for each event.
-pub(crate) fn mark_uncovered(alloc: Global, events: &[Event]) -> Result<Vec<bool>, AllocError>
+pub(crate) fn mark_uncovered(alloc: Global, events: &Events) -> Result<Vec<bool>, AllocError>
     requires { length events.now < 2 ^ 63 }
     ensures { IfOk result (λ marks. Marks (is_uncovered events.now) (length events.now) marks.items) }
 {
@@ -22,9 +22,10 @@ pub(crate) fn mark_uncovered(alloc: Global, events: &[Event]) -> Result<Vec<bool
     let mut left = events.len();
     while left > 0 {
         left -= 1;
-        let missed = later.misses(&events[left], marks[left]);
+        let event = events.at(left);
+        let missed = later.misses(&event, marks[left]);
         marks[left] = missed;
-        later.follow(&events[left])?;
+        later.follow(&event)?;
     }
     Ok(marks)
 }

@@ -13,7 +13,7 @@ use crate::noting::Notes;
 use crate::summing::{asserts, count_assertions, look_through};
 use crate::walking::next_record;
 use crate::warnings::Warnings;
-use pmf_event::{Event, Section};
+use pmf_event::{Events, Section};
 use pmf_shadow::Shadow;
 use pmf_storelog::Log;
 use std::alloc::{AllocError, Global};
@@ -73,14 +73,14 @@ fn look_for_assertions(alloc: Global, sections: &[Arc<Section>]) -> Result<(bool
     Ok((asserted, filled))
 }
 
-fn asserts_any(events: &[Event]) -> bool
+fn asserts_any(events: &Events) -> bool
     ensures { result ≡ not (count_by (λ e. asserts e) events.now == 0) }
 {
     count_assertions(events) != 0
 }
 
 // Whether an assertion of these events has something to check, or one of others does.
-fn fills_or(alloc: Global, events: &[Event], filled: bool) -> Result<bool, AllocError>
+fn fills_or(alloc: Global, events: &Events, filled: bool) -> Result<bool, AllocError>
     requires { length events.now ≤ EVENT_LIMIT }
     ensures { IfOk result (λ any. any ≡ (filled || fills events.now)) }
 {
@@ -92,20 +92,21 @@ fn fills_or(alloc: Global, events: &[Event], filled: bool) -> Result<bool, Alloc
 }
 
 // Whether an assertion of these events has something to check. One walk up to the first.
-fn fills_one(alloc: Global, events: &[Event]) -> Result<bool, AllocError>
+fn fills_one(alloc: Global, events: &Events) -> Result<bool, AllocError>
     requires { length events.now ≤ EVENT_LIMIT }
     ensures { IfOk result (λ any. any ≡ fills events.now) }
 {
     let mut shadow = Shadow::for_walk(alloc, events);
     let mut place: u32 = 0;
-    for event in events {
+    for index in 0..events.len() {
+        let event = events.at(index);
         place += 1;
-        shadow.settle_for(event)?;
-        let unmet = lacks_bytes(&shadow, event);
-        if both(asserts(event), !unmet) {
+        shadow.settle_for(&event)?;
+        let unmet = lacks_bytes(&shadow, &event);
+        if both(asserts(&event), !unmet) {
             return Ok(true);
         }
-        shadow.follow(place, *event)?;
+        shadow.follow(place, event)?;
     }
     Ok(false)
 }

@@ -8,7 +8,7 @@ ghost use Rattle.pmf_query.specs.{Asking.{text_of_shown}, Explanation.{ExplainsP
 use crate::query::{Answer, Query};
 use crate::refusal::{EventFault, EventRefusal};
 use crate::section::section_with;
-use pmf_event::{Event, Finding, Profile, Row, line_of};
+use pmf_event::{Events, Finding, Profile, Row, line_of};
 use pmf_image::{Certificate, cut, last_store, shows};
 use pmf_images::Shown;
 use pmf_request::{Question, Sought};
@@ -100,7 +100,7 @@ fn explain_place(alloc: Global, verdict: &Verdict, place: u32) -> Result<Vec<u8>
 #[tactic(auto, unfolding(crate::specs::Explanation::text_of_certificate))]
 fn image_text(
     alloc: Global,
-    events: &[Event],
+    events: &Events,
     rows: &[Row],
     place: u32,
     certificate: Certificate,
@@ -143,7 +143,7 @@ fn push_line(text: &mut String, line: Option<u64>) -> Result<(), AllocError>
 #[tactic(auto, unfolding(crate::specs::Explanation::text_of_bytes))]
 pub(crate) fn push_bytes(
     text: &mut String,
-    events: &[Event],
+    events: &Events,
     certificate: Certificate,
     place: u32,
     row: &Row,
@@ -167,7 +167,7 @@ pub(crate) fn push_bytes(
 #[tactic(auto, unfolding(crate::specs::Explanation::text_of_byte, crate::specs::Asking::text_of_shown))]
 fn push_byte(
     text: &mut String,
-    events: &[Event],
+    events: &Events,
     certificate: Certificate,
     place: u32,
     byte: u64,

@@ -5,21 +5,22 @@ ghost use Rattle.pmf_event.specs.{declared.event.Event.{Event}, Store.{event_at}
 ghost use Rattle.pmf_query.specs.Covering.{AreInside};
 
 use crate::covering::both;
-use pmf_event::Event;
+use pmf_event::{Event, Events};
 use std::alloc::{AllocError, Global};
 
 /// For each event, whether a transaction runs there, inside a scope. Takes a byte for each.
 #[tactic(auto, using(crate::proofs::InsideLemmas::starts_outside, crate::proofs::InsideLemmas::starts_unscoped))]
-pub(crate) fn places_inside(alloc: Global, events: &[Event]) -> Result<Vec<bool>, AllocError>
+pub(crate) fn places_inside(alloc: Global, events: &Events) -> Result<Vec<bool>, AllocError>
     requires { length events.now < 2 ^ 63 }
     ensures { IfOk result (λ inside. AreInside events.now inside.items) }
 {
     let mut inside = Vec::new(alloc);
     let mut depth: u64 = 0;
     let mut scope = false;
-    for event in events {
-        depth = depth_after(depth, event);
-        scope = scope_after(scope, event);
+    for index in 0..events.len() {
+        let event = events.at(index);
+        depth = depth_after(depth, &event);
+        scope = scope_after(scope, &event);
         inside.push(both(depth > 0, scope))?;
     }
     Ok(inside)

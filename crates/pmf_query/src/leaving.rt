@@ -6,7 +6,7 @@ ghost use Rattle.pmf_shadow.specs.{Shadow.{StandsFor}, Standing.{AllLeaveOpen}};
 ghost use Rattle.pmf_query.specs.{Leaving.{AreLeft, AreLeftBelow, is_hit, is_left, is_left_unwritten, leaves_unfenced, leaves_unwritten, some_below}, Marks.{Marks}};
 
 use crate::covering::{both, either, one_if, stored};
-use pmf_event::{ADDRESS_LIMIT, Event, Span};
+use pmf_event::{ADDRESS_LIMIT, Event, Events, Span};
 use pmf_shadow::{Shadow, Standing};
 use std::alloc::{AllocError, Global};
 
@@ -25,7 +25,7 @@ pub(crate) struct Left {
 impl Left {
     /// What the events leave for which the shadow stands, each told at its place. Where each store has a few bytes, these are looked at,
     /// and else each run of bytes that is not durable. Takes two bytes for each event.
-    pub(crate) fn of(alloc: Global, shadow: &Shadow, events: &[Event]) -> Result<Left, AllocError>
+    pub(crate) fn of(alloc: Global, shadow: &Shadow, events: &Events) -> Result<Left, AllocError>
         requires { length events.now ≤ EVENT_LIMIT }
         ensures { IfOk result (λ left. StandsFor shadow.now (λ k. k) events.now (length events.now) → AreLeft events.now left) }
     {
@@ -38,16 +38,16 @@ impl Left {
     }
 
     // By the bytes of each store: a step or two for each.
-    fn by_stores(alloc: Global, shadow: &Shadow, events: &[Event]) -> Result<Left, AllocError>
+    fn by_stores(alloc: Global, shadow: &Shadow, events: &Events) -> Result<Left, AllocError>
         requires { length events.now ≤ EVENT_LIMIT }
         ensures { IfOk result (λ left. StandsFor shadow.now (λ k. k) events.now (length events.now) → AreLeft events.now left) }
     {
         let mut all = Vec::with_capacity(alloc, events.len())?;
         let mut unwritten = Vec::with_capacity(alloc, events.len())?;
         let mut place: u32 = 0;
-        for event in events {
+        for index in 0..events.len() {
             place += 1;
-            let (one, other) = left_by(shadow, place, event);
+            let (one, other) = left_by(shadow, place, &events.at(index));
             all.push(one)?;
             unwritten.push(other)?;
         }
@@ -137,9 +137,9 @@ impl Left {
 }
 
 /// Whether each store has a few bytes. For speed alone: these may be looked at again for each store of them.
-pub(crate) fn are_narrow(events: &[Event]) -> bool {
-    for event in events {
-        if let Some(span) = stored(event) {
+pub(crate) fn are_narrow(events: &Events) -> bool {
+    for index in 0..events.len() {
+        if let Some(span) = stored(&events.at(index)) {
             if span.size() > FEW {
                 return false;
             }

@@ -6,7 +6,7 @@ ghost use Rattle.pmf_query.specs.Summing.{IsWithin, asserts, both, is_store, sum
 use crate::covering::{count_marked, one_if};
 use crate::looking::Looked;
 use crate::upkeep::{Upkeep, Walk, upkeep_of};
-use pmf_event::{Event, Section};
+use pmf_event::{Event, Events, Section};
 use std::alloc::{AllocError, Global};
 use std::sync::Arc;
 
@@ -101,22 +101,22 @@ pub(crate) fn look_through(
     Ok((sums, all))
 }
 
-pub(crate) fn count_assertions(events: &[Event]) -> u64
+pub(crate) fn count_assertions(events: &Events) -> u64
     ensures { result ≡ count_by (λ e. asserts e) events.now }
 {
     let mut count: u64 = 0;
-    for event in events {
-        count += one_if(asserts(event));
+    for index in 0..events.len() {
+        count += one_if(asserts(&events.at(index)));
     }
     count
 }
 
-fn count_stores(events: &[Event]) -> u64
+fn count_stores(events: &Events) -> u64
     ensures { result ≡ count_by (λ e. is_store e) events.now }
 {
     let mut count: u64 = 0;
-    for event in events {
-        count += one_if(is_store(event));
+    for index in 0..events.len() {
+        count += one_if(is_store(&events.at(index)));
     }
     count
 }

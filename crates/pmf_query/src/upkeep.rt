@@ -8,7 +8,7 @@ ghost use Rattle.pmf_query.specs.{Upkeep.{HasWalkedOver, flushed_after, IsUpkeep
 use crate::covering::{both, one_if};
 use crate::leaving::{Left, are_narrow};
 use crate::misread::{lacks_bytes, misreads};
-use pmf_event::Event;
+use pmf_event::{Event, Events};
 use pmf_shadow::Shadow;
 use std::alloc::{AllocError, Global};
 
@@ -91,23 +91,24 @@ pub(crate) struct Walk {
 
 impl Walk {
     /// Over all of the events. Takes memory for their shadow.
-    pub(crate) fn over(alloc: Global, events: &[Event]) -> Result<Walk, AllocError>
+    pub(crate) fn over(alloc: Global, events: &Events) -> Result<Walk, AllocError>
         requires { length events.now ≤ EVENT_LIMIT }
         ensures { IfOk result (λ walk. HasWalkedOver walk events.now (length events.now)) }
     {
         let mut walk = Walk::new(alloc, events);
         let mut place: u32 = 0;
-        for event in events {
+        for index in 0..events.len() {
+            let event = events.at(index);
             place += 1;
-            walk.settle_for(event)?;
-            walk.follow(place, event)?;
+            walk.settle_for(&event)?;
+            walk.follow(place, &event)?;
         }
         walk.settle(events)?;
         Ok(walk)
     }
 
     #[tactic(auto, using(crate::proofs::UpkeepLemmas::walked_none))]
-    fn new(alloc: Global, events: &[Event]) -> Walk
+    fn new(alloc: Global, events: &Events) -> Walk
         ensures { (es : List Event) → HasWalkedOver result es 0 }
     {
         Walk {
@@ -131,7 +132,7 @@ impl Walk {
     }
 
     /// Makes the shadow ready for what is asked at the end of wide spans. The walk stands where it stood.
-    fn settle(&mut self, events: &[Event]) -> Result<(), AllocError>
+    fn settle(&mut self, events: &Events) -> Result<(), AllocError>
         ensures { OnOk result ((es : List Event) (p : ℕ) → HasWalkedOver self.old es p → HasWalkedOver self.new es p) }
     {
         if are_narrow(events) {

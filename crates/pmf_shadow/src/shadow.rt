@@ -12,7 +12,7 @@ use crate::byte::{
 use crate::front::ByteMap;
 use crate::stretches::lines_of;
 use crate::wide::{WIDE, asked_at, lines_for, stores_widely};
-use pmf_event::{Event, Interval, LINE_SIZE, Lines, Span};
+use pmf_event::{Event, Events, Interval, LINE_SIZE, Lines, Span};
 use pmf_runs::Test;
 use std::alloc::{AllocError, Global};
 
@@ -53,7 +53,7 @@ impl Shadow {
     /// The same for a walk over these events. Where few of them ask of wide spans, it has lines in front of the map of runs, on which a
     /// change of a few words takes few steps, and a question one for each line of its span, unless they are in order: so call
     /// [`Shadow::settle_for`] before each event, and [`Shadow::settle`] before any other question of a wide span. Takes no memory.
-    pub fn for_walk(alloc: Global, events: &[Event]) -> Shadow
+    pub fn for_walk(alloc: Global, events: &Events) -> Shadow
         ensures { (told : ℕ → ℕ) (es : List Event) → StandsFor result told es 0 }
     {
         Shadow::with_front(alloc, lines_for(events))

@@ -1,6 +1,6 @@
 //! Which events ask of so many bytes that lines in front are made ready before. For speed alone.
 
-use pmf_event::{Event, Span};
+use pmf_event::{Event, Events};
 
 /// How many bytes a span has at least that is wide.
 pub(crate) const WIDE: u64 = 1024;
@@ -36,10 +36,10 @@ pub(crate) fn stores_widely(event: Event) -> bool {
 }
 
 /// How many lines may be in front while these events are followed: none where many of them ask of a wide span, and few where several do.
-pub(crate) fn lines_for(events: &[Event]) -> usize {
+pub(crate) fn lines_for(events: &Events) -> usize {
     let mut wide = 0_usize;
-    for event in events {
-        if asked_at(*event, false) >= WIDE {
+    for index in 0..events.len() {
+        if asked_at(events.at(index), false) >= WIDE {
             wide = wide.wrapping_add(1);
         }
     }

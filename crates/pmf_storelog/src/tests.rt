@@ -17,7 +17,10 @@ PMT.SECTION;1|\tFLUSH;0x1000;0x40|PMT.SECTION;2|FENCE ";
 // The section has this name and these events.
 fn has_events(rt: &impl Abort, section: &Section, name: Name, events: &[Event]) {
     assert_eq!(rt; section.name(), name);
-    assert!(rt; section.events() == events);
+    assert_eq!(rt; section.events().len(), events.len());
+    for (index, event) in events.iter().enumerate() {
+        assert_eq!(rt; section.events().at(index), *event);
+    }
 }
 
 // The log is that of the text.
@@ -55,18 +58,18 @@ fn a_log_is_read_whole_and_byte_by_byte(rt: HostRuntime) -> Result<(), Fail> {
     is_of_text(&rt, &reader.finish()?)
 }
 
-// The events of the log's one section, or none where it has no section.
-fn events_of(log: &Log) -> &[Event] {
+// How many events the log's one section has, or 0 where it has no section.
+fn count_events(log: &Log) -> usize {
     match log.sections() {
-        [section] => section.events(),
-        _ => &[],
+        [section] => section.events().len(),
+        _ => 0,
     }
 }
 
 // How many events and skipped records the text has, or its first fault.
 fn answer(alloc: Global, text: &[u8]) -> Result<(usize, u64), LogFault> {
     let log = read_log(alloc, text, 7)?;
-    Ok((events_of(&log).len(), log.skipped()))
+    Ok((count_events(&log), log.skipped()))
 }
 
 fn refused(at: u64, cause: Cause) -> Result<(usize, u64), LogFault> {

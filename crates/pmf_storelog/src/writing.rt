@@ -105,8 +105,9 @@ pub fn write_section(alloc: Global, section: &Section) -> Result<Vec<u8>, AllocE
 {
     let mut text = String::new(alloc);
     push_marker(&mut text, section.name().number)?;
-    for event in section.events() {
-        push_event(&mut text, event)?;
+    let events = section.events();
+    for index in 0..events.len() {
+        push_event(&mut text, &events.at(index))?;
     }
     Ok(text.into_bytes())
 }

@@ -6,7 +6,7 @@ ghost use Rattle.pmf_verdict.specs.{Walks.{Walks, Follows}, Rows.{row_at, rows_o
 
 use crate::verdict::Verdict;
 use pmf_asserts::{check_flush, check_ordered, check_persist};
-use pmf_event::{EVENT_LIMIT, Event, Finding, Profile, Row, Rows, Section, Span};
+use pmf_event::{EVENT_LIMIT, Event, Events, Finding, Profile, Row, Rows, Section, Span};
 use pmf_shadow::Shadow;
 use pmf_txcheck::TxState;
 use std::alloc::{AllocError, Global};
@@ -31,7 +31,7 @@ struct Walk {
 }
 
 impl Walk {
-    fn new(alloc: Global, profile: Profile, events: &[Event]) -> Walk
+    fn new(alloc: Global, profile: Profile, events: &Events) -> Walk
         ensures walks { (es : List Event) → Walks result es 0 }
         ensures profile { result.profile ≡ profile }
     {
@@ -142,14 +142,15 @@ impl Walk {
     }
 }
 
-fn rows_for(alloc: Global, events: &[Event], profile: Profile) -> Result<Rows, AllocError>
+fn rows_for(alloc: Global, events: &Events, profile: Profile) -> Result<Rows, AllocError>
     requires { length events.now ≤ EVENT_LIMIT }
     ensures { IfOk result (λ rows. rows ≡ rows_of profile events.now) }
 {
     let mut walk = Walk::new(alloc, profile, events);
-    for (index, event) in events.iter().enumerate() {
-        walk.settle_for(event)?;
-        walk.follow(index as u32 + 1, *event)?;
+    for index in 0..events.len() {
+        let event = events.at(index);
+        walk.settle_for(&event)?;
+        walk.follow(index as u32 + 1, event)?;
     }
     let found = walk.transactions.close_section();
     walk.push_if_any(events.len() as u32 + 1, found)?;

@@ -1,12 +1,12 @@
 //! Of which kind a row is: what is found, its cause, and where in the source.
 
-ghost use Rattle.std.specs.Prelude.{◌≡◌, option_copied};
+ghost use Rattle.std.specs.Prelude.{◌≡◌};
 ghost use Rattle.pmf_event.specs.Store.{event_at};
 ghost use Rattle.pmf_why.specs.{Kinds.{IsKindOf, is_one_kind}, Reasons.{Bad, cause_number, distance_of, fields_read, finding_number, frame_behind, frame_of, lack_number, place_told, stands_at}, Rows.{bad_of}};
 
 use crate::row::BadRow;
 use pmf_cause::{Cause, Lack};
-use pmf_event::{Event, Finding, Row};
+use pmf_event::{Event, Events, Finding, Row};
 use pmf_query::{Located, field};
 
 /// Of which kind a row is.
@@ -139,12 +139,12 @@ fn frame_of<'a>(bad: &BadRow<'a, '_>) -> &'a [u8]
     let Some(located) = stands_at(bad.taken.stands, place) else {
         return &[];
     };
-    field(located.text, fields_read(event))
+    field(located.text, fields_read(&event))
 }
 
 #[tactic(auto, unfolding(pmf_event::specs::Store::event_at))]
-fn event_at(events: &[Event], place: u32) -> Option<&Event>
-    ensures { option_copied result ≡ event_at events.now place }
+fn event_at(events: &Events, place: u32) -> Option<Event>
+    ensures { result ≡ event_at events.now place }
 {
     let index = (place as usize).checked_sub(1)?;
     events.get(index)

@@ -5,7 +5,7 @@ ghost use Rattle.pmf_image.specs.Certificate.{Fits};
 use super::random::event_of;
 use super::verdict_of;
 use crate::{Verdict, explain};
-use pmf_event::{Event, Finding, Profile, Row, Span, SpanFault};
+use pmf_event::{Event, Events, Finding, Profile, Row, Span, SpanFault};
 use pmf_fixtures::plain::{byte_at, depth, first, is_scoped, is_unordered, scope};
 use pmf_fixtures::{BYTES, Image, Numbers, images_after};
 use pmf_image::{Certificate, contradicts, shows};
@@ -158,13 +158,13 @@ fn finding_at(rows: &[Row], place: u32) -> Option<Finding> {
 }
 
 /// Whether the image after a crash behind these events shows what the certificate's does, and nothing in it is torn.
-fn is_image_of(events: &[Event], image: &Image, certificate: Certificate) -> bool
-    requires { Fits events.now certificate }
+fn is_image_of(events: &[Event], kept: &Events, image: &Image, certificate: Certificate) -> bool
+    requires { Fits kept.now certificate }
 {
     let past = first(events, certificate.crash);
     for byte in BYTES {
         let shown = image.shows(past, byte);
-        if image.is_torn(byte) || shown != shows(events, certificate, byte) {
+        if image.is_torn(byte) || shown != shows(kept, certificate, byte) {
             return false;
         }
     }
@@ -172,17 +172,17 @@ fn is_image_of(events: &[Event], image: &Image, certificate: Certificate) -> boo
 }
 
 /// Whether the failure at the place has a certificate that contradicts it, whose image is one of those listed.
-fn is_explained(verdict: &Verdict, images: &Images, place: u32) -> bool {
-    let events = verdict.section().events();
+fn is_explained(events: &[Event], verdict: &Verdict, images: &Images, place: u32) -> bool {
+    let kept = verdict.section().events();
     let Some(certificate) = explain(verdict, place) else {
         return false;
     };
-    if place == 0 || place as usize > events.len() || !contradicts(events, place, certificate) {
+    if place == 0 || place as usize > kept.len() || !contradicts(kept, place, certificate) {
         return false;
     }
     if let Some(all) = images.get(certificate.crash as usize) {
         for image in all {
-            if is_image_of(events, image, certificate) {
+            if is_image_of(events, kept, image, certificate) {
                 return true;
             }
         }
@@ -218,7 +218,7 @@ fn an_assertion_is_shown_as_it_holds_in_every_image(rt: HostRuntime) -> Result<(
         for profile in [Profile::One, Profile::Two] {
             let verdict = verdict_of(rt.alloc(), events.as_slice(), profile)?;
             for index in 0..EVENTS {
-                compare(&rt, rt.alloc(), &verdict, &images, index, &mut met)?;
+                compare(&rt, rt.alloc(), &events, &verdict, &images, index, &mut met)?;
             }
         }
     }
@@ -230,12 +230,12 @@ fn an_assertion_is_shown_as_it_holds_in_every_image(rt: HostRuntime) -> Result<(
 fn compare(
     rt: &impl Abort,
     alloc: Global,
+    events: &[Event],
     verdict: &Verdict,
     images: &Images,
     index: u32,
     met: &mut [bool; 10],
 ) -> Result<(), Fail> {
-    let events = verdict.section().events();
     let past = first(events, index);
     let place = index.saturating_add(1);
     let Some(event) = events.get(index as usize) else {
@@ -255,7 +255,7 @@ fn compare(
         assert_eq!(rt; holds, exact, "at {place} of {events:?}");
     }
     let fails = matches!(outcome, 1 | 4 | 9);
-    let explained = is_explained(verdict, images, place);
+    let explained = is_explained(events, verdict, images, place);
     assert_eq!(rt; explained, fails, "at {place} of {events:?}");
     if outcome < 10 {
         met[outcome] = true;

@@ -1,21 +1,21 @@
 use Rattle.std.proofs.{Common.{◌≡◌, ◌-◌, ◌<◌, suc, if◌then◌else◌, length, get_or, [], ◌∷◌, ◌++◌, ◌+◌, sym, ◌∙◌, ap, arith}, lemmas.List.{length_push}}
 use Rattle.pmf_event.specs.Store.{is_fence}
-use Rattle.pmf_places.proofs.PlaceLemmas.{event_here}
 use Rattle.pmf_cause.{specs.Cause.{fence_after}, proofs.LaterLemmas.{fence-last, fence-step}, proofs.ListLemmas.{one_more}}
 use Rattle.pmf_cause.proofs.later.fences_behind.Goals as goal
 
 pub loop-left-init : goal.loop-left-init
 loop-left-init c =
     let es = c.args.events.now in
+    let len = c.len-left.ensures.value in
     let items = c.in_ok-push.ensures.items in
     let none = c.in_ok-fences.ensures.items in
     record {
       within = omega arith;
-      fence = sym (fence-last es);
-      long = ap length items ∙ ap (λ xs. length (xs ++ 0 ∷ [])) none ∙ (let first : 1 ≡ suc (length es - length es) = omega arith in first);
+      fence = sym (fence-last es) ∙ ap (fence_after es) (sym len);
+      long = ap length items ∙ ap (λ xs. length (xs ++ 0 ∷ [])) none ∙ (let first : 1 ≡ suc (length es - c.len-left.result) = omega (arith, len) in first);
       each = λ k d low high.
-          let last : k ≡ length es = omega arith in
-          let first : length es - k ≡ 0 = omega arith in
+          let last : k ≡ length es = omega (arith, len, low, high) in
+          let first : length es - k ≡ 0 = omega (arith, len, low, high) in
           ap (λ xs. get_or xs (length es - k) d) items ∙ ap (λ xs. get_or (xs ++ 0 ∷ []) (length es - k) d) none ∙ ap (λ i. get_or (0 ∷ []) i d) first
           ∙ sym (fence-last es) ∙ ap (fence_after es) (sym last);
     }
@@ -30,8 +30,8 @@ loop-left-preserved c =
     let long = c.loop-left.invariant.long in
     let less : p < n = omega arith in
     let next : c.loop-left.left ≡ suc p = omega arith in
-    let here = event_here es p c.index-events-left.result less c.index-events-left.is in
-    let e = c.index-events-left.result in
+    let here = c.at.ensures.place in
+    let e = c.at.result in
     let now : c.place_if-fence.result ≡ fence_after es p =
     c.place_if-fence.ensures
     ∙ ap (λ b. if b then c.loop-left.left else c.loop-left.fence) c.is_fence.ensures

@@ -4,9 +4,9 @@ use Rattle.pmf_shadow.specs.Shadow.{StandsFor}
 use Rattle.pmf_query.specs.{Misread.{is_unmet}, Summing.{asserts}}
 use Rattle.pmf_query.proofs.due.fills_one.Given as goal
 
-abbrev pub invariant-loop-event : goal.invariant-loop-event
-invariant-loop-event l = record {
-  place : l.place ≡ l.event-index;
-  stands : StandsFor l.shadow (λ k. k) l.events l.event-index;
-  none : count (is_unmet l.events) l.event-index ≡ count (at asserts l.events) l.event-index;
+abbrev pub invariant-loop-index : goal.invariant-loop-index
+invariant-loop-index l = record {
+  place : l.place ≡ l.index;
+  stands : StandsFor l.shadow (λ k. k) l.events l.index;
+  none : count (is_unmet l.events) l.index ≡ count (at asserts l.events) l.index;
 }

@@ -1,4 +1,4 @@
-use Rattle.std.proofs.Common.{◌∙◌, ◌==◌, ◌&&◌, not, sym, ap}
+use Rattle.std.proofs.Common.{◌∙◌, ◌==◌, not, ap}
 use Rattle.pmf_storelog.specs.Separators.{records_of}
 use Rattle.pmf_query.{specs.Due.{asserted_in, empty_in}, specs.Summing.{sums_of}, specs.Warnings.{warnings_by}, proofs.DueLemmas.{due_so, sums_run}, proofs.NumberFoundLemmas.{read_so}}
 use Rattle.pmf_query.proofs.due.warnings_due.Goals as goal

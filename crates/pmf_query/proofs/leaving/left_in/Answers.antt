@@ -1,4 +1,4 @@
-use Rattle.std.proofs.Common.{◌≡◌, ◌≤◌, ◌+◌, ◌∙◌, ◌||◌, sym, ap, arith}
+use Rattle.std.proofs.Common.{◌∙◌, ◌||◌, sym, ap, arith}
 use Rattle.pmf_query.{specs.Leaving.{is_left, is_left_unwritten, some_below}, proofs.LeavingLemmas.{all_there, hit_more, none_before, some_place}}
 use Rattle.pmf_query.proofs.leaving.left_in.Goals as goal
 

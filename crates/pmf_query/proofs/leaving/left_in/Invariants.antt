@@ -1,4 +1,4 @@
-use Rattle.std.proofs.Common.{◌≡◌, ◌≤◌, ◌+◌, ◌-◌, List, Some, length}
+use Rattle.std.proofs.Common.{◌≡◌, ◌≤◌, ◌-◌, List, Some, length}
 use Rattle.pmf_event.specs.{declared.event.Event.{Event}, declared.event.Event.TheVariants.{Store}, Store.{event_at}}
 use Rattle.pmf_shadow.specs.Shadow.{StandsFor}
 use Rattle.pmf_query.specs.Leaving.{is_left, is_left_unwritten, some_below}

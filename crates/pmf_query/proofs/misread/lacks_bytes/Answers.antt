@@ -1,4 +1,4 @@
-use Rattle.std.proofs.Common.{◌∙◌, ◌&&◌, Some, ap, sym, not}
+use Rattle.std.proofs.Common.{◌∙◌, Some, ap, sym, not}
 use Rattle.pmf_query.specs.Misread.{is_met, lacks_bytes}
 use Rattle.pmf_query.proofs.CoverLemmas.{both_are}
 use Rattle.pmf_query.proofs.misread.lacks_bytes.Goals as goal

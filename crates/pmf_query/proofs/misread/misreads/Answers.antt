@@ -1,5 +1,5 @@
-use Rattle.std.proofs.Common.{◌∙◌, ◌&&◌, Bool, Some, ap, refl, sym, not}
-use Rattle.pmf_query.specs.Misread.{is_met, lacks_bytes, may_be_met, misreads}
+use Rattle.std.proofs.Common.{◌∙◌, ◌&&◌, Some, ap, sym}
+use Rattle.pmf_query.specs.Misread.{lacks_bytes, may_be_met, misreads}
 use Rattle.pmf_query.proofs.{CoverLemmas.{both_are}, EmptyLemmas.{none_misread}}
 use Rattle.pmf_query.proofs.misread.misreads.Goals as goal
 

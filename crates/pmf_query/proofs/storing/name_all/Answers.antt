@@ -1,4 +1,4 @@
-use Rattle.std.proofs.Common.{List, length, sym, ap, subst, arith, ◌∙◌}
+use Rattle.std.proofs.Common.{List, sym, ap, subst, arith, ◌∙◌}
 use Rattle.pmf_event.specs.{declared.name.Name.{Name}, Section.{Trace}}
 use Rattle.pmf_query.{specs.declared.looking.Looked.{Looked}, specs.Standing.{located_in}, specs.StoreNames.{AreNamed}, proofs.StoreNameLemmas.{events_more, sections_more}}
 use Rattle.pmf_query.proofs.storing.name_all.Goals as goal

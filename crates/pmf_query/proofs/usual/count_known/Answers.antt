@@ -1,5 +1,5 @@
 use Rattle.std.proofs.{Common.{◌≡◌, true, length, get_or, slice_set, List, [], ap, ◌∙◌, ℕ, subst, sym, arith}, lemmas.List.{length-map}}
-use Rattle.pmf_query.{specs.Naming.{known_names, names_in}, proofs.UsualLemmas.{known_once, one_counted, one_more, only_is}}
+use Rattle.pmf_query.{specs.Naming.{known_names}, proofs.UsualLemmas.{known_once, one_counted, one_more, only_is}}
 use Rattle.pmf_query.proofs.usual.count_known.Goals as goal
 
 pub returns : goal.returns

@@ -1,4 +1,4 @@
-use Rattle.std.proofs.{Common.{◌≡◌, suc, ◌+◌, length, ◌++◌, map, refl, ◌∙◌, ap, arith, add-one, Some}, lemmas.Option.{slice_get_read}}
+use Rattle.std.proofs.Common.{◌≡◌, suc, ◌+◌, length, ◌++◌, map, ◌∙◌, ap, arith, add-one}
 use Rattle.pmf_event.specs.{FlushWarnings.{if_any}, Store.{event_at}, Transactions.{close_finding}}
 use Rattle.pmf_verdict.{specs.declared.checking.Walk.{Walk}, specs.Rows.{row_at, rows_upto, rows_at_end, rows_of}, proofs.WalkLemmas.{if_any-as_told-same}}
 use Rattle.pmf_verdict.proofs.checking.rows_for.Goals as goal
@@ -11,8 +11,7 @@ unfolding event_at
 loop-index-preserved c =
     let es = c.args.events.now in
     let i = c.loop-index.index in
-    let here : event_at es (suc i) ≡ Some c.index-events-index.result = slice_get_read es (length es) i c.index-events-index.result refl (omega arith) c.index-events-index.is in
-    rw add-one (c.in_ok-follow.ensures.walks es i (c.in_ok-settle_for.ensures.walks es i c.loop-index.invariant.0) here (add-one i), c.in_ok-follow.ensures.profile ∙ c.in_ok-settle_for.ensures.profile ∙ c.loop-index.invariant.1)
+    rw add-one (c.in_ok-follow.ensures.walks es i (c.in_ok-settle_for.ensures.walks es i c.loop-index.invariant.0) c.at-event.ensures.place (add-one i), c.in_ok-follow.ensures.profile ∙ c.in_ok-settle_for.ensures.profile ∙ c.loop-index.invariant.1)
 
 pub returns : goal.returns
 unfolding rows_of rows_at_end
@@ -25,8 +24,9 @@ returns c =
     let all : i ≡ length es = omega arith in
     c.shrink_to_fit.ensures
     ∙ ap (λ (w : Walk). w.rows) c.in_ok-push_if_any.ensures
-    ∙ ap (λ rs. rs ++ map (row_at (length es + 1)) (if_any found))
+    ∙ ap (λ rs. rs ++ map (row_at (c.len.result + 1)) (if_any found))
     (walks.rows_are ∙ ap (λ q. rows_upto q es i) c.loop-index.invariant.1 ∙ ap (rows_upto profile es) all)
+    ∙ ap (λ q. rows_upto profile es (length es) ++ map (row_at (q + 1)) (if_any found)) c.len.ensures.value
     ∙ ap (λ q. rows_upto profile es (length es) ++ map (row_at q) (if_any found)) (add-one (length es))
     ∙ ap (λ f. rows_upto profile es (length es) ++ map (row_at (suc (length es))) (if_any f))
     (c.close_section-found.ensures (λ k. k) es i walks.tracks ∙ if_any-as_told-same _ ∙ ap (close_finding es) all)

@@ -1,5 +1,4 @@
 use Rattle.std.proofs.Common.{◌-◌, arith}
-use Rattle.pmf_places.proofs.PlaceLemmas.{event_here}
 use Rattle.pmf_cause.proofs.later.Later.go_to.Goals as goal
 
 pub loop-self-preserved : goal.loop-self-preserved
@@ -9,7 +8,7 @@ loop-self-preserved c =
     let within = c.loop-self.invariant.within in
     let next = c.in_ok-follow.ensures.place in
     record {
-      later = c.in_ok-follow.ensures.later es p (omega arith) (event_here es p c.index-events-self.result (omega arith) c.index-events-self.is) (omega arith) c.loop-self.invariant.later;
+      later = c.in_ok-follow.ensures.later es p (omega arith) c.at.ensures.place (omega arith) c.loop-self.invariant.later;
       behind = omega arith;
       within = omega arith;
     }

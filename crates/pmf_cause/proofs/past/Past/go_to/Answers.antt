@@ -1,6 +1,5 @@
 use Rattle.std.proofs.Common.{◌∙◌, arith}
 use Rattle.pmf_event.proofs.TransactionLemmas.{depth-bound}
-use Rattle.pmf_places.proofs.PlaceLemmas.{event_here}
 use Rattle.pmf_cause.proofs.past.Past.go_to.Goals as goal
 
 pub follow-requires-clause-shallow : goal.follow-requires-clause-shallow
@@ -11,7 +10,7 @@ follow-requires-clause-shallow c =
 
 pub loop-self-preserved : goal.loop-self-preserved
 loop-self-preserved c = record {
-  past = c.in_ok-follow.ensures.past c.args.events.now (event_here c.args.events.now c.loop-self.self.place c.index-events-self.result (omega arith) c.index-events-self.is) c.loop-self.invariant.past;
+  past = c.in_ok-follow.ensures.past c.args.events.now c.at.ensures.place c.loop-self.invariant.past;
   watch = c.in_ok-follow.ensures.watch ∙ c.loop-self.invariant.watch;
   before = let next = c.in_ok-follow.ensures.place in omega arith;
 }

@@ -3,11 +3,11 @@ use Rattle.pmf_shadow.specs.Shadow.{StandsFor}
 use Rattle.pmf_query.specs.Leaving.{is_left, is_left_unwritten, some_below}
 use Rattle.pmf_query.proofs.leaving.Left.by_stores.Given as goal
 
-abbrev pub invariant-loop-event : goal.invariant-loop-event
-invariant-loop-event l = record {
-  place : l.place ≡ l.event-index;
-  long : length l.all.items ≡ l.event-index;
-  long_too : length l.unwritten.items ≡ l.event-index;
-  each : StandsFor l.shadow (λ k. k) l.events (length l.events) → (k : ℕ) (d : Bool) → k < l.event-index → slice_index_or l.all.items k d ≡ some_below (is_left l.events (suc k)) 9223372036854775808;
-  each_too : StandsFor l.shadow (λ k. k) l.events (length l.events) → (k : ℕ) (d : Bool) → k < l.event-index → slice_index_or l.unwritten.items k d ≡ some_below (is_left_unwritten l.events (suc k)) 9223372036854775808;
+abbrev pub invariant-loop-index : goal.invariant-loop-index
+invariant-loop-index l = record {
+  place : l.place ≡ l.index;
+  long : length l.all.items ≡ l.index;
+  long_too : length l.unwritten.items ≡ l.index;
+  each : StandsFor l.shadow (λ k. k) l.events (length l.events) → (k : ℕ) (d : Bool) → k < l.index → slice_index_or l.all.items k d ≡ some_below (is_left l.events (suc k)) 9223372036854775808;
+  each_too : StandsFor l.shadow (λ k. k) l.events (length l.events) → (k : ℕ) (d : Bool) → k < l.index → slice_index_or l.unwritten.items k d ≡ some_below (is_left_unwritten l.events (suc k)) 9223372036854775808;
 }

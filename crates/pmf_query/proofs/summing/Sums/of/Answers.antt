@@ -12,6 +12,6 @@ returns-clause-value c =
     let same = ap (λ (t : Trace). t.events) c.in_ok-looked.ensures in
     let counted : c.count_marked.result ≡ uncovered_of looked.section.value.events = c.count_marked.ensures (is_uncovered looked.section.value.events) (length looked.section.value.events)
     (subst (Marks (is_uncovered looked.section.value.events) (length looked.section.value.events)) (sym c.deref-2.ensures.value) looked.are_uncovered) in
-    sums_one c.args.section.now.value _ _ _ _ _ _ _ (ap (λ fs. length fs) value) (c.from.ensures ∙ c.count_assertions.ensures ∙ ap (λ fs. count_by (λ e. asserts e) fs) value) (c.from-2.ensures ∙ c.in_ok-walk.ensures.empty ∙ ap (λ fs. count (is_unmet fs) (length fs)) value ∙ unmet_counted c.args.section.now.value)
+    sums_one c.args.section.now.value _ _ _ _ _ _ _ (c.len.ensures.value ∙ ap (λ fs. length fs) value) (c.from.ensures ∙ c.count_assertions.ensures ∙ ap (λ fs. count_by (λ e. asserts e) fs) value) (c.from-2.ensures ∙ c.in_ok-walk.ensures.empty ∙ ap (λ fs. count (is_unmet fs) (length fs)) value ∙ unmet_counted c.args.section.now.value)
     (c.from-3.ensures ∙ c.in_ok-walk.ensures.misread ∙ ap misread_of value) (c.from-4.ensures ∙ c.count_stores.ensures ∙ ap (λ fs. count_by (λ e. is_store e) fs) value)
     (c.from-5.ensures ∙ counted ∙ ap uncovered_of same) (c.upkeep_of.ensures.value es c.in_ok-walk.ensures (subst (λ fs. AreLeft fs looked.left) (same ∙ sym value) looked.are_left) ∙ ap upkeep_of value)
