@@ -8,6 +8,7 @@ pub mod SameLemmas
 pub mod StandsLemmas
 pub mod StretchLemmas
 pub mod QuestionLemmas
+pub mod TotalsLemmas
 pub mod StandingLemmas
 pub mod PairLemmas
 pub mod PieceLemmas

@@ -1,7 +1,7 @@
 -- The lemmas that functions of src/ name in their attributes.
 use Rattle.std.proofs.lemmas.{Bool.{cases_eq}, Bool.Decides.{nat_tests}}
 use Rattle.pmf_event.proofs.{LineLemmas.{line-bounds}, RangeLemmas.{first-passes}}
-use Rattle.pmf_shadow.proofs.{BoundsLemmas.{joined-left, joined-right}, PieceLemmas.{least-off, least-on, piece-before, piece-within, piece-after, least-of_span}, QuestionLemmas.{lacks-late, late-alone, interval-same-some, interval-same-none}, StretchLemmas.{lacks-here, none_before-all, none_before-more, lacks-not, but-found, but-more, but-end, but-never_end, stretch-none, stretch-bounds, stretch-some, line_has-is, least_with-none, least_with-some, found-below, alone-none, alone-from, lines-none, lines-some, count-but, count-lacks, lines_by-is, one-but, one-lacks}, UnorderedLemmas.{lines-none as pairs-none, epochs-none, never-lost}}
+use Rattle.pmf_shadow.proofs.{BoundsLemmas.{joined-left, joined-right}, PieceLemmas.{least-off, least-on, piece-before, piece-within, piece-after, least-of_span}, QuestionLemmas.{lacks-late, late-alone, interval-same-some, interval-same-none}, StretchLemmas.{lacks-here, none_before-all, none_before-more, lacks-not, but-found, but-more, but-end, but-never_end, stretch-none, stretch-bounds, stretch-some, line_has-is, least_with-none, least_with-some, found-below, alone-none, alone-from, lines-none, lines-some, count-but, count-lacks, lines_by-is, one-but, one-lacks}, TotalsLemmas.{lacks_beyond}, UnorderedLemmas.{lines-none as pairs-none, epochs-none, never-lost}}
 
 pub ruleset joined = (joined-left, joined-right)
 
@@ -14,6 +14,8 @@ pub ruleset least_line_but = (found-below, but-found, but-more, but-end, but-nev
 pub ruleset least_line_alone = (alone-none, found-below, alone-from)
 
 pub ruleset lines_with_but = (lines-none, found-below, lines-some, count-but)
+
+pub ruleset least_line_beyond = (lacks_beyond)
 
 pub ruleset lines_without = (lines-none, found-below, lines-some, count-lacks)
 

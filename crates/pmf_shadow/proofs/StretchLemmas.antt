@@ -12,7 +12,7 @@ stretch-bounds fails first end b ordered found = grind (arith, first-passes)
 -- ---- one line
 
 module _ (test : ℕ → Bool) where
-  line_has-from : (n b : ℕ) → n * 64 ≤ b → b < n * 64 + 64 → test b ≡ true → line_has test n ≡ true
+  pub line_has-from : (n b : ℕ) → n * 64 ≤ b → b < n * 64 + 64 → test b ≡ true → line_has test n ≡ true
   unfolding line_has
   line_has-from n b low high is = true_from_ne_false (is_some (first_from test (n * 64) 64)) (λ none.
       let fails = none-passes test (n * 64) 64 (none-from (first_from test (n * 64) 64) none) b low high in
@@ -22,11 +22,11 @@ module _ (test : ℕ → Bool) where
   unfolding line_has
   line_has-none n none = ap (λ (o : Option ℕ). is_some o) (first_from-none test (n * 64) 64 none)
 
-  line_has-some : (n : ℕ) → line_has test n ≡ true → (b : ℕ) × (n * 64 ≤ b) × (b < n * 64 + 64) × (test b ≡ true)
+  pub line_has-some : (n : ℕ) → line_has test n ≡ true → (b : ℕ) × (n * 64 ≤ b) × (b < n * 64 + 64) × (test b ≡ true)
   unfolding line_has
   line_has-some n has = grind (arith, some-from, first-passes)
 
-  line_has-not : (n : ℕ) → line_has test n ≡ false → NonePass test (n * 64) 64
+  pub line_has-not : (n : ℕ) → line_has test n ≡ false → NonePass test (n * 64) 64
   unfolding line_has
   line_has-not n lacks = none-passes test (n * 64) 64 (none-from (first_from test (n * 64) 64) lacks)
 

@@ -1,7 +1,7 @@
 -- The pairs that an order assertion speaks of, by what the shadow keeps of their bytes.
 use Rattle.std.specs.Prelude.{◌≡◌, ℕ, ◌+◌, ◌<◌, ◌≤◌, Bool, true, false, ◌==◌, List, Option, None, Some, if◌then◌else◌}
 use Rattle.pmf_event.specs.{declared.event.Event.{Event}, declared.profile.Profile.{Profile}, Line.{line_of_byte}, Order.{share_line, is_unordered, is_certified}}
-use Rattle.pmf_shadow.specs.{declared.byte.ByteState.{ByteState}, declared.byte.Stored.{Stored}, declared.byte.bounds.Bounds.{Bounds}, States.{checked_store, comes_after, stored_by}}
+use Rattle.pmf_shadow.specs.{declared.byte.Stored.{Stored}, States.{checked_store, comes_after, stored_by}}
 use Rattle.pmf_shadow.specs.{declared.front.ByteMap.{ByteMap}, Bytes.{state_at}}
 
 -- the pairs that are asked for: those that are certified, or all that are unordered

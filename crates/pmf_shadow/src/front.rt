@@ -532,6 +532,11 @@ impl ByteMap {
         Ok(())
     }
 
+    /// Whether a walk passes over what lies between two lines in front in one step.
+    pub(crate) fn is_ready(&self) -> bool {
+        self.is_ordered || self.front.is_empty()
+    }
+
     /// Puts all lines behind. No state is changed.
     pub(crate) fn settle(&mut self) -> Result<(), AllocError>
         ensures same { KeepsStates self.old self.new }

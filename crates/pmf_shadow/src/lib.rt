@@ -17,6 +17,7 @@ mod pairs;
 mod shadow;
 mod standing;
 mod stretches;
+mod totals;
 mod wide;
 
 pub use byte::{Bounds, ByteState, Stored};

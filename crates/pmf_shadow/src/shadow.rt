@@ -3,7 +3,7 @@
 ghost use Rattle.std.specs.Prelude.{◌≡◌, ℕ, ◌+◌, List, OnOk, OnErr, is_some};
 ghost use Rattle.pmf_event.specs.{declared.event.Event.{Event}, Span.{IsValidExtent}, Ranges.{first_byte}, Interval.{interval_at}, Exclusion.{is_included}, Persist.{is_checked, is_exposed}, FlushWarnings.{is_clean, is_pending, lines_where}};
 ghost use Rattle.pmf_shadow.specs.Bytes.{passing};
-ghost use Rattle.pmf_shadow.specs.{Shadow.{StandsFor, ForEachList, HasRoom, FollowsAt, Follows, Keeps, closing}, Told.{interval_as_told}};
+ghost use Rattle.pmf_shadow.specs.{Told.{interval_as_told}, Totals.{AreCounted}};
 
 use crate::byte::{
     ByteState, IsChecked, IsIncluded, IsLate, IsPending, IsUndurable, IsUnwritten, Marked,
@@ -11,6 +11,7 @@ use crate::byte::{
 };
 use crate::front::ByteMap;
 use crate::stretches::lines_of;
+use crate::totals::Totals;
 use crate::wide::{WIDE, asked_at, lines_for, stores_widely};
 use pmf_event::{Event, Events, Interval, LINE_SIZE, Lines, Span};
 use pmf_runs::Test;
@@ -25,12 +26,21 @@ use std::alloc::{AllocError, Global};
 /// words takes a few steps and a question one for each line that it meets, or for each of those in front.
 /// Memory follows the lines, too; a change of other bytes takes the runs of the lines that it meets, or of all where
 /// these were walked over often.
+///
+/// From the second write-back of a very wide span on ([`Shadow::settle_for`]) it counts the lines that are not durable at each change, as
+/// totals over all lines. Then such a write-back and its question walk over no line for being one that was written back before, and
+/// over few runs but those that are not written back.
 #[derive(Debug, Drop)]
 pub struct Shadow {
     pub(crate) bytes: ByteMap,
     pub(crate) fences: u32,
     /// Whether a wide span was stored to. For speed alone.
     has_wide: bool,
+    /// Whether a span that is wide enough for totals was written back. For speed alone.
+    pub(crate) has_flushed: bool,
+    /// How many of all lines are not durable, and how many not written back, while this is kept.
+    pub(crate) totals: Option<Totals>,
+    ghost counted: { AreCounted bytes fences totals },
 }
 
 /// Of the lines that a span meets, those of which a write-back warns.
@@ -43,6 +53,8 @@ pub struct FlushLines {
 }
 
 impl Shadow {
+    ghost use Rattle.pmf_shadow.specs.Shadow.{StandsFor, ForEachList, HasRoom, FollowsAt, Follows, Keeps, closing};
+
     /// The shadow of no events. Takes no memory.
     pub fn new(alloc: Global) -> Shadow
         ensures { (told : ℕ → ℕ) (es : List Event) → StandsFor result told es 0 }
@@ -67,6 +79,8 @@ impl Shadow {
             bytes: ByteMap::new(alloc, UNTOUCHED, most),
             fences: 0,
             has_wide: false,
+            has_flushed: false,
+            totals: None,
         }
     }
 
@@ -90,6 +104,7 @@ impl Shadow {
             return Ok(());
         }
         self.bytes.make_ready_for(asked / LINE_SIZE)?;
+        self.count_for(event);
         Ok(())
     }
 
@@ -99,6 +114,9 @@ impl Shadow {
         ensures follows { OnOk result (FollowsAt place self.old self.new (Event.Store span)) }
         ensures unchanged { OnErr result (Keeps self.old self.new) }
     {
+        if self.totals.is_some() {
+            return self.store_counted(place, span);
+        }
         let change = StoredAt {
             place,
             epoch: self.fences,
@@ -113,6 +131,9 @@ impl Shadow {
         ensures follows { OnOk result (Follows self.old self.new (Event.Flush span)) }
         ensures unchanged { OnErr result (Keeps self.old self.new) }
     {
+        if self.totals.is_some() {
+            return self.flush_counted(span);
+        }
         let (first, end) = lines_of(&span);
         let change = WrittenBackIn { epoch: self.fences };
         self.bytes
@@ -125,6 +146,9 @@ impl Shadow {
         requires { HasRoom self.old }
         ensures { Follows self.old self.new Event.Fence }
     {
+        if self.totals.is_some() {
+            return self.fence_counted();
+        }
         self.fences += 1;
     }
 
@@ -180,7 +204,7 @@ impl Shadow {
             Some(stored) => Some(Interval {
                 last: stored.last,
                 opens: stored.opens,
-                closes: closing(self.fences, stored.written_back),
+                closes: Shadow::closing(self.fences, stored.written_back),
             }),
         }
     }
@@ -230,8 +254,22 @@ impl Shadow {
     {
         let undurable = IsUndurable { epoch: self.fences };
         let alone = IsPending { epoch: self.fences };
-        let (pending, clean) = self.lines_apart(&span, &undurable, &IsUnwritten, &alone);
-        FlushLines { pending, clean }
+        match self.totals_of(&span) {
+            None => {
+                let (pending, clean) = self.lines_apart(&span, &undurable, &IsUnwritten, &alone);
+                FlushLines { pending, clean }
+            }
+            Some(totals) => {
+                let (pending, clean) = self.lines_counted(
+                    &span,
+                    &totals,
+                    &undurable,
+                    &IsUnwritten,
+                    &alone,
+                );
+                FlushLines { pending, clean }
+            }
+        }
     }
 
     pub(crate) fn first_in<T: Test<ByteState>>(&self, span: &Span, test: &T) -> Option<u64>
@@ -239,19 +277,19 @@ impl Shadow {
     {
         self.bytes.first_where(span.first(), span.end(), test)
     }
-}
 
-// The epoch that a first write-back in this one closes the interval with, if it was fenced.
-fn closing(fences: u32, written_back: Option<u32>) -> Option<u32>
-    ensures { result ≡ closing fences written_back }
-{
-    match written_back {
-        None => None,
-        Some(epoch) => {
-            if epoch < fences {
-                Some(epoch + 1)
-            } else {
-                None
+    // The epoch that a first write-back in this one closes the interval with, if it was fenced.
+    fn closing(fences: u32, written_back: Option<u32>) -> Option<u32>
+        ensures { result ≡ closing fences written_back }
+    {
+        match written_back {
+            None => None,
+            Some(epoch) => {
+                if epoch < fences {
+                    Some(epoch + 1)
+                } else {
+                    None
+                }
             }
         }
     }

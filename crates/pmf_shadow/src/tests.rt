@@ -14,6 +14,7 @@ use std::test::Fail;
 mod memory;
 mod places;
 mod random;
+mod totals;
 mod wide;
 
 /// The bytes of four lines, from this one on.

@@ -5,6 +5,9 @@ use pmf_event::{Event, Events};
 /// How many bytes a span has at least that is wide.
 pub(crate) const WIDE: u64 = 1024;
 
+/// How many bytes a span has at least that totals are asked of.
+pub(crate) const WIDEST: u64 = 1 << 20;
+
 /// One of so many events may ask of a wide span where lines in front are to pay.
 const RARELY: usize = 256;
 
@@ -31,6 +34,14 @@ pub(crate) fn asked_at(event: Event, has_wide: bool) -> u64 {
 pub(crate) fn stores_widely(event: Event) -> bool {
     match event {
         Event::Store(span) => span.size() >= WIDE,
+        _ => false,
+    }
+}
+
+/// Whether the event writes back so many bytes that totals over all lines may pay.
+pub(crate) fn flushes_widely(event: Event) -> bool {
+    match event {
+        Event::Flush(span) => span.size() >= WIDEST,
         _ => false,
     }
 }
