@@ -49,7 +49,7 @@ promises: docs/PROMISES.md: $claim: no clause ok
 promises: docs/PROMISES.md: $claim: no clause too_many
 promises: docs/PROMISES.md: $claim: no clause unchanged" &&
         refused_by_promises docs/PROMISES.md 's/`too_many`/`too_few`/' "$claim: no clause too_few" &&
-        refused_by_promises docs/PROMISES.md 's/`push.drops_the_event`/`push.drops_nothing`/' "$claim: no mutant push.drops_nothing" &&
+        refused_by_promises docs/PROMISES.md 's/`push.keeps_another_event`/`push.drops_nothing`/' "$claim: no mutant push.drops_nothing" &&
         refused_by_promises README.md 's/`gathers`/`gather`/' '`Ledger::join`: no clause gather' &&
         refused_by_promises docs/TRUST.md 's/^- `pmf_words`: `Words`$//' 'pmf_words.specs.Words is missing' &&
         refused_by_promises docs/TRUST.md 's/`Span`, `Line`, `Address`/`Line`, `Span`, `Address`/' \
