@@ -46,6 +46,24 @@ sweep_readers() {
     sweep "$scratch/readers.log" check --workers 2
 }
 
+# The same of a log of 2.5 MB, whose only section is checked while the second piece is read: 10,000 records between two runs of events are skipped.
+sweep_beside() {
+    awk '
+        function run(from, to,     event, at) {
+            for (event = from; event < to; event++) {
+                at = 4096 + event % 4096 * 64
+                printf "STORE;0x%x;0x1;0x8\nFLUSH;0x%x;0x40\nFENCE\n", at, at
+            }
+        }
+        BEGIN {
+            run(0, 3000)
+            for (i = 0; i < 10000; i++) printf "%250s\n", "x"
+            run(3000, 3100)
+            print "PMT.PERSIST;0x1000;0x40000"
+        }' >"$scratch/beside.log"
+    sweep "$scratch/beside.log" check --workers 2
+}
+
 # Threads that the system refuses, one or all, leave the report as it is.
 threads_refused() {
     printf '%s' "$interleaved" >"$scratch/interleaved.log"
@@ -54,6 +72,7 @@ threads_refused() {
 }
 
 # A log of 6 MB, so that several workers read it: long sections and short ones in turns, records of all spellings, and one of 300,000 bytes.
+# The same of one section, which is checked meanwhile; and with another one that begins late, or late and before all of it.
 # Whatever the number of workers, the report and what is said are those of one; and so is the fault of a record put into it, and that of
 # a section that is full.
 read_by_workers() {
@@ -74,11 +93,15 @@ def write(name, records):
         for record in records:
             out.write(record + pick.choice(["\n", "\n", "|", "\r\n", "||"]))
 write("wide", records)
+only = [record for record in records if not record.startswith("PMT.SECTION")]
+write("only", only)
+write("another", only[:-2000] + ["PMT.SECTION;5"] + only[-2000:])
+write("another_again", ["PMT.SECTION;9", *only[:-2000], "PMT.SECTION;5", *only[-2000:-1000], "PMT.SECTION;9", *only[-1000:]])
 for name, place in (("faulty_early", 900), ("faulty", len(records) * 2 // 3), ("faulty_late", len(records) - 2)):
     write(name, records[:place] + ["STORE;1"] + records[place:])
 write("full", ["FENCE"] * ((1 << 20) + 3))
 END
-    for log in wide full faulty_early faulty faulty_late; do
+    for log in wide only another another_again full faulty_early faulty faulty_late; do
         for workers in 1 2 3 7 64; do
             "$program" check --workers "$workers" "$scratch/$log.log" >"$scratch/report.$workers" 2>"$scratch/diagnostics.$workers"
             printf '%s\n' "$?" >>"$scratch/diagnostics.$workers"
@@ -152,6 +175,7 @@ try_check() {
     check 'as many workers as the machine has check them' told 1 "$interleaved" "$interleaved_report" '' check --workers 0
     check 'each request for memory of check --workers 2 refused in turn' sweep_workers
     check 'each request for memory of two workers that read refused in turn' sweep_readers
+    check 'each request for memory of a check beside the reading refused in turn' sweep_beside
     check 'a log that several workers read is reported, or refused, as by one' read_by_workers
     check 'threads that are refused, one or all, change nothing' threads_refused
     check 'a run is the name of its sections' told 0 FENCE "$one_fence" '' check --run 7

@@ -170,11 +170,34 @@ fn gather<G: Gate>(
     Ok(ledger)
 }
 
+// The roll with a verdict that was made before, if there is one.
+#[tactic(auto, using(crate::proofs::lemmas::RollLemmas::stays_itself))]
+fn keep_known(mut roll: Vec<Slot>, known: Option<Verdict>) -> Vec<Slot>
+    requires { RollRises roll.items }
+    ensures { AllZip Stays roll.items result.items }
+{
+    if let Some(verdict) = known {
+        keep(roll.as_mut_slice(), verdict);
+    }
+    roll
+}
+
+// Whether each slot has its verdict, so that there is nothing for workers. Where it isn't so, what is missing is checked all the same.
+fn are_filled(roll: &[Slot]) -> bool {
+    for slot in roll {
+        if !slot.is_filled() {
+            return false;
+        }
+    }
+    true
+}
+
 // The ledger of the sections, by workers whose number fits.
 fn check_all<R: Threads + Wait + Sync, G: Gate + Sync>(
     rt: &R,
     alloc: Global,
     sections: &[Arc<Section>],
+    known: Option<Verdict>,
     workers: u32,
     profile: Profile,
     gate: &G,
@@ -187,8 +210,13 @@ fn check_all<R: Threads + Wait + Sync, G: Gate + Sync>(
     if sections.is_empty() {
         return Ok(Ledger::new(alloc, profile));
     }
-    let roll = call(alloc, sections, profile)?;
-    let queue = Queue::new(alloc, roll.as_slice(), profile)?;
+    let called = call(alloc, sections, profile)?;
+    let queue = Queue::new(alloc, called.as_slice(), profile)?;
+    let roll = keep_known(called, known);
+    if are_filled(&roll) {
+        let ledger = gather(alloc, roll, profile, gate)?;
+        return Ok(ledger);
+    }
     let count = sections.len() as u32;
     let Ok((board, mut first)) = Board::new(alloc, count) else {
         return Err(FarmFault::OutOfMemory);
@@ -207,6 +235,9 @@ fn check_all<R: Threads + Wait + Sync, G: Gate + Sync>(
 /// a ledger by the caller's own thread, which then checks what no worker's verdict arrived of. So it is the ledger of all
 /// sections handed in, whichever workers were lost, never started or refused memory, whatever arrived twice or didn't.
 ///
+/// One verdict may be known already, as of a section that was checked while its log was read: it is kept if it is one of these sections by this
+/// profile, and where it is that of the only section, no worker is started.
+///
 /// It waits until each worker has ended. No more workers are started than there are sections, and they take long sections
 /// first. Takes memory for a list of the sections, the
 /// board and the ledger, besides that of the workers; [`FarmFault::OutOfMemory`] tells that memory was refused to the
@@ -215,6 +246,7 @@ pub fn run<R: Threads + Wait + Sync, G: Gate + Sync>(
     rt: &R,
     alloc: Global,
     sections: &[Arc<Section>],
+    known: Option<Verdict>,
     workers: u32,
     profile: Profile,
     gate: &G,
@@ -236,7 +268,7 @@ pub fn run<R: Threads + Wait + Sync, G: Gate + Sync>(
     if sections.len() > MOST_SECTIONS as usize {
         return Err(FarmFault::TooManySections);
     }
-    match check_all(rt, alloc, sections, workers, profile, gate) {
+    match check_all(rt, alloc, sections, known, workers, profile, gate) {
         Ok(ledger) => Ok(ledger),
         Err(fault) => Err(fault),
     }

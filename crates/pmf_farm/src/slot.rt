@@ -60,6 +60,13 @@ impl Slot {
         self.place
     }
 
+    /// Whether its verdict is there.
+    pub(crate) fn is_filled(&self) -> bool
+        ensures { result ≡ self.now.filled }
+    {
+        self.verdict.is_some()
+    }
+
     /// Keeps the verdict, if it is one of this section by this profile.
     pub(crate) fn keep(&mut self, verdict: Verdict)
         ensures { Keeps verdict self.old self.new }

@@ -67,7 +67,15 @@ fn assert_both<R: Threads + Wait + Sync + Abort, G: Gate + Sync>(
     gate: &G,
 ) -> Result<(), Fail> {
     let sections = both(alloc)?;
-    let ledger = run(rt, alloc, sections.as_slice(), workers, Profile::One, gate)?;
+    let ledger = run(
+        rt,
+        alloc,
+        sections.as_slice(),
+        None,
+        workers,
+        Profile::One,
+        gate,
+    )?;
     let report = ledger.write_report(alloc)?;
     assert!(rt; report.as_slice() == REPORT, "{workers} workers");
     Ok(())
@@ -100,7 +108,15 @@ fn no_section_and_as_many_as_a_farm_takes_are_gathered(rt: HostRuntime) -> Resul
         for number in 0..count {
             sections.push(fences(alloc, name(0, number), 1)?)?;
         }
-        let ledger = run(&rt, alloc, sections.as_slice(), 2, Profile::One, &OpenGate)?;
+        let ledger = run(
+            &rt,
+            alloc,
+            sections.as_slice(),
+            None,
+            2,
+            Profile::One,
+            &OpenGate,
+        )?;
         assert_eq!(rt; ledger.len(), sections.len());
     }
     Ok(())

@@ -1,5 +1,5 @@
 -- The open sections with one more event, and with another current one.
-use Rattle.std.{proofs.Common.{◌≡◌, ◌≢◌, ℕ, suc, ◌+◌, ◌<◌, ◌≤◌, Bool, false, cond, map, List, [], ◌∷◌, ◌++◌, Option, Some, None, length, set, get_or, length-append, Result, Ok, Err, OnOk, IfOk, IfErr, refl, sym, ap, ◌∙◌, arith, ⊎_elim, nat_cmp, Ordering, eq-eqb, ne_eqb, append_assoc, append-nil, get_or-set_same, get_or-set_other, length-set}, specs.Cmp.{nat_cmp_total}, proofs.lemmas.Bool.{cases_eq}, proofs.lemmas.List.{get_or_append_left, get_or_push, length_push}, specs.declared.cmp.Ordering.TheVariants.{Less, Equal, Greater}, specs.Map.{lookup, keys_of}, specs.BTreeMap.{get, is_at, insert_entry}, specs.BTreeSet.{insert_key}, specs.List.Sorted.{IsStrictlySortedBy}, proofs.lemmas.Map.{lookup-none}, proofs.lemmas.Map.Entries.{none_below_head}, proofs.lemmas.Map.Views.{All-found}, proofs.lemmas.Map.Keys.{sorted_tail}, proofs.lemmas.Grind.{common_steps}}
+use Rattle.std.{proofs.Common.{◌≡◌, ◌≢◌, ℕ, suc, ◌+◌, ◌<◌, ◌≤◌, Bool, false, cond, map, List, [], ◌∷◌, ◌++◌, Option, Some, None, MatchOption, length, set, get_or, length-append, Result, Ok, Err, OnOk, IfOk, IfErr, refl, sym, ap, ◌∙◌, arith, ⊎_elim, nat_cmp, Ordering, eq-eqb, ne_eqb, append_assoc, append-nil, get_or-set_same, get_or-set_other, length-set}, specs.Cmp.{nat_cmp_total}, proofs.lemmas.Bool.{cases_eq}, proofs.lemmas.List.{length-map, get_or_append_left, get_or_push, length_push}, specs.declared.cmp.Ordering.TheVariants.{Less, Equal, Greater}, specs.Map.{lookup, keys_of}, specs.BTreeMap.{get, is_at, insert_entry}, specs.BTreeSet.{insert_key}, specs.List.Sorted.{IsStrictlySortedBy}, proofs.lemmas.Map.{lookup-none}, proofs.lemmas.Map.Entries.{none_below_head}, proofs.lemmas.Map.Views.{All-found}, proofs.lemmas.Map.Keys.{sorted_tail}, proofs.lemmas.Grind.{common_steps}}
 use Rattle.pmf_event.specs.{declared.event.Event.{Event}, Section.{Trace}}
 use Rattle.pmf_storelog.specs.{declared.fault.Cause.{Cause}, declared.fault.Cause.TheVariants.{OutOfMemory, TooManySections}, declared.fault.TheConstants.{SECTION_LIMIT}, declared.sections.OpenSections.{OpenSections}, LogText.{section_named}, Rising.{with_number}, Sections.{HasSections, Opens, StandsAt, current_place, with_events}}
 
@@ -198,6 +198,37 @@ listed run numbers events current opened has list shared same is =
     is ∙ by_number opened.places.entries (λ e. get_or shared e.1 blank) (λ number. section_named run number (events number))
     (λ k d within. ap (λ l. get_or l (get_or opened.places.entries k d).1 blank) same ∙ (has.found _ _ (All-found nat_cmp_total opened.places has.ordered k d within)).1 blank)
     ∙ ap (map (λ number. section_named run number (events number))) has.numbers_are
+
+-- a list of one
+pub one_item : (list : List Trace) (item : Trace) → length list ≡ 1 → item ≡ get_or list 0 item → list ≡ item ∷ []
+one_item [] item one is = absurd (omega (arith, one))
+one_item (x ∷ []) item one is = ap (λ y. y ∷ []) (sym is)
+one_item (x ∷ y ∷ more) item one is = absurd (omega (arith, one))
+
+-- the same said of a list of numbers, and of what it gives
+pub counted_as : {R : Type 0} (P : R → Type 0) (numbers : List ℕ) (f : ℕ → Trace) (result : Option R) → MatchOption result (length numbers ≢ 1) P → MatchOption result (length (map f numbers) ≢ 1) P
+counted_as P numbers f None many = λ one. many (sym (length-map numbers f) ∙ one)
+counted_as P numbers f (Some section) is = is
+
+-- the only section, where there is just one
+pub only_one : (run : ℕ) (numbers : List ℕ) (events : ℕ → List Event) (current : ℕ) (opened : OpenSections) → HasSections run numbers events current opened → (section : Trace) →
+    opened.sections.items ≡ section ∷ [] → map (λ number. section_named run number (events number)) numbers ≡ section ∷ []
+only_one run numbers events current opened has section is = sym (listed run numbers events current opened has _ opened.sections.items refl refl) ∙ of_entries opened.places.entries refl
+  where
+    at : ℕ × ℕ → Trace
+    at e = get_or opened.sections.items e.1 blank
+
+    alone : length (keys_of opened.places.entries) ≡ 1
+    alone = ap length has.numbers_are ∙ sym has.count ∙ ap length is
+
+    of_entries : (entries : List (ℕ × ℕ)) → opened.places.entries ≡ entries → map at entries ≡ section ∷ []
+    of_entries [] same = absurd (let none = ap (λ es. length (keys_of es)) same in omega (arith, alone, none))
+    of_entries (e ∷ []) same =
+        let stands = has.found _ _ (All-found nat_cmp_total opened.places has.ordered 0 e (let one = ap length same in omega (arith, one))) in
+        let here : (get_or opened.places.entries 0 e) ≡ e = ap (λ es. get_or es 0 e) same in
+        let first : e.1 ≡ 0 = let below = stands.0 in let count = ap length is in let own = ap (λ x. x.1) here in omega (arith, below, count, own) in
+        ap (λ k. get_or opened.sections.items k blank ∷ []) first ∙ ap (λ list. get_or list 0 blank ∷ []) is
+    of_entries (e ∷ f ∷ more) same = absurd (let many = ap (λ es. length (keys_of es)) same in omega (arith, alone, many))
 
 pub listed_ok : {V E : Type 0} (value : V → List Trace) (r : Result V E) (run : ℕ) (numbers : List ℕ) (events : ℕ → List Event) (current : ℕ) (opened : OpenSections) → HasSections run numbers events current opened → (shared : List Trace) →
     shared ≡ opened.sections.items → IfOk r (λ list. (d : Trace) → value list ≡ map (λ e. get_or shared e.1 d) opened.places.entries) →

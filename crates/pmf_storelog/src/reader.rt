@@ -1,12 +1,13 @@
 //! The reader of a log in pieces.
 
-ghost use Rattle.std.specs.Prelude.{◌≡◌, ◌≢◌, ◌≤◌, ℕ, List, [], ◌++◌, None, All, OnOk, OnErr, IfErr};
+ghost use Rattle.std.specs.Prelude.{◌≡◌, ◌≢◌, ◌≤◌, ℕ, List, [], ◌∷◌, ◌++◌, None, All, OnOk, OnErr, IfErr, MatchOption, length};
 ghost use Rattle.pmf_storelog.specs.declared.fault.TheConstants.{LOG_LIMIT};
 
 use crate::ahead::Ahead;
 use crate::fault::{Cause, LOG_LIMIT, LogFault};
 use crate::log::Log;
 use crate::progress::Progress;
+use pmf_event::Section;
 use std::alloc::Global;
 
 /// A reader of a log that comes in pieces, cut anywhere.
@@ -26,7 +27,7 @@ pub struct LogReader {
 }
 
 impl LogReader {
-    ghost use Rattle.pmf_storelog.specs.{Ahead.{IsAheadOf}, LogText.{IsFaultOfAll, log_of, out_of_memory, shown_fault, spent}, Answers.{Answers, IsShown}, Reader.{Feeds, HasRead, IsSpent}};
+    ghost use Rattle.pmf_storelog.specs.{Ahead.{IsAheadOf}, LogText.{IsFaultOfAll, log_of, out_of_memory, sections_of, shown_fault, spent}, Answers.{Answers, IsShown}, Reader.{Feeds, HasRead, IsSpent}, Separators.{ended_records}};
 
     /// A reader of the run's log, of which nothing is fed yet. Takes no memory.
     pub fn new(alloc: Global, run: u64) -> LogReader
@@ -90,6 +91,15 @@ impl LogReader {
         self.progress.keep(rest)?;
         self.spent = false;
         Ok(())
+    }
+
+    /// The section of the records that a separator ended, if they are of just one. Of a reader that refused a piece it says nothing.
+    pub fn only_section(&self) -> Option<&Section>
+        ensures { (run : ℕ) (bytes : List ℕ) → HasRead run bytes self.now
+            → MatchOption result (length (sections_of run (ended_records bytes)) ≢ 1)
+            (λ section. sections_of run (ended_records bytes) ≡ section.now ∷ []) }
+    {
+        self.progress.tally.only_section()
     }
 
     /// The log of all pieces, or its first fault; the record after the last separator is read now.

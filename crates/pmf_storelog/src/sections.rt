@@ -1,6 +1,6 @@
 //! The sections of a run that have begun.
 
-ghost use Rattle.std.specs.{Prelude.{◌≡◌, ◌≢◌, ◌+◌, ◌<◌, ◌≤◌, ℕ, true, List, [], ◌∷◌, ◌++◌, length, map, slice_index_or, None, OnOk, IfOk, IfErr}, Option.{ForSome}, Ordering.{nat_cmp}, BTreeMap.{get, IsOrdered}};
+ghost use Rattle.std.specs.{Prelude.{◌≡◌, ◌≢◌, ◌+◌, ◌<◌, ◌≤◌, ℕ, true, List, [], ◌∷◌, ◌++◌, length, map, slice_index_or, None, OnOk, IfOk, IfErr, MatchOption}, Option.{ForSome}, Ordering.{nat_cmp}, BTreeMap.{get, IsOrdered}};
 ghost use Rattle.pmf_event.specs.{declared.section.TheConstants.{EVENT_LIMIT}, Section.{Trace}};
 ghost use Rattle.pmf_storelog.specs.declared.fault.TheConstants.{SECTION_LIMIT};
 
@@ -122,6 +122,20 @@ impl OpenSections {
             Ok(()) => Ok(()),
             Err(SectionFault::TooManyEvents) => Err(Cause::TooManyEvents),
             Err(SectionFault::OutOfMemory) => Err(Cause::OutOfMemory),
+        }
+    }
+
+    /// The section, if just one has begun.
+    pub(crate) fn only(&self) -> Option<&Section>
+        ensures { (run : ℕ) (numbers : List ℕ) (events : ℕ → List Event) (current : ℕ)
+            → HasSections run numbers events current self.now
+            → MatchOption result (length numbers ≢ 1)
+            (λ section. map (λ number. section_named run number (events number)) numbers ≡ section.now ∷ []) }
+    {
+        if self.sections.len() == 1 {
+            Some(&self.sections[0])
+        } else {
+            None
         }
     }
 

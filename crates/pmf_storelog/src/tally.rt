@@ -1,6 +1,6 @@
 //! What the ended records of a log gave so far.
 
-ghost use Rattle.std.specs.Prelude.{◌≡◌, ◌≢◌, ◌+◌, ◌<◌, ◌≤◌, ◌^◌, ℕ, false, if◌then◌else◌, List, [], ◌∷◌, ◌++◌, Ok, OnOk, OnErr, IfOk, IfErr, IfSome, IsOk};
+ghost use Rattle.std.specs.Prelude.{◌≡◌, ◌≢◌, ◌+◌, ◌<◌, ◌≤◌, ◌^◌, ℕ, false, if◌then◌else◌, List, [], ◌∷◌, ◌++◌, Ok, OnOk, OnErr, IfOk, IfErr, IfSome, IsOk, MatchOption, length};
 
 use crate::fault::{Cause, LogFault};
 use crate::log::Log;
@@ -8,7 +8,7 @@ use crate::plain::Plain;
 use crate::record::{Saying, read_record};
 use crate::sections::OpenSections;
 use crate::trimming::trim;
-use pmf_event::Event;
+use pmf_event::{Event, Section};
 use std::alloc::Global;
 
 /// What the ended records of a log gave so far.
@@ -175,6 +175,15 @@ impl Tally {
             at: self.records + 1,
             cause,
         }
+    }
+
+    /// The section of the records that were taken, if they are of just one.
+    pub(crate) fn only_section(&self) -> Option<&Section>
+        ensures { (run : ℕ) (records : List (List ℕ)) → HasTaken run records self.now
+            → MatchOption result (length (sections_of run records) ≢ 1)
+            (λ section. sections_of run records ≡ section.now ∷ []) }
+    {
+        self.sections.only()
     }
 
     /// The log of the records that were taken.

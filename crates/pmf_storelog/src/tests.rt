@@ -77,6 +77,27 @@ fn refused(at: u64, cause: Cause) -> Result<(usize, u64), LogFault> {
 }
 
 #[test]
+fn the_only_section_is_told_while_a_log_is_read(rt: HostRuntime) -> Result<(), Fail> {
+    let mut reader = LogReader::new(rt.alloc(), 5);
+    // After each piece the number of the only section, if there is just one, and how many events it has.
+    for (piece, want) in [
+        ("", None),
+        ("x|FENCE", None),
+        ("|", Some((0, 1))),
+        ("STORE;1;2;3", Some((0, 1))),
+        ("|x|PMT.SECTION;0|", Some((0, 2))),
+        ("PMT.SECTION;7|", None),
+    ] {
+        reader.feed(piece.as_bytes())?;
+        let told = reader
+            .only_section()
+            .map(|section| (section.name().number, section.events().len()));
+        assert_eq!(rt; told, want, "after {piece}");
+    }
+    Ok(())
+}
+
+#[test]
 fn each_record_is_read_as_the_table_says(rt: HostRuntime) {
     let few = Cause::TooFewFields;
     let bad = Cause::BadNumber;

@@ -4,3 +4,4 @@ pub mod StreamLemmas
 pub mod AnsweringLemmas
 pub mod TakenLemmas
 pub mod FilesLemmas
+pub mod BesideLemmas

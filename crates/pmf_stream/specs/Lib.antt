@@ -10,6 +10,7 @@ pub use Rattle.pmf_farm.specs.Running
 pub use Rattle.pmf_world.specs.Simulation
 pub mod Reading
 pub mod Pieces
+pub mod Beside
 pub mod Answering
 pub mod Checking
 pub mod Asked

@@ -1,13 +1,16 @@
 //! The parts of a piece of a log, read side by side.
 
-ghost use Rattle.std.specs.Prelude.{◌≡◌, ◌<◌, All, IfOk};
+ghost use Rattle.std.specs.Prelude.{◌≡◌, ◌<◌, All, IfOk, Some, option_map};
+ghost use denote.Param.Send.{IsSync};
 ghost use Rattle.pmf_storelog.specs.Ahead.{IsAheadOf};
-ghost use Rattle.pmf_stream.specs.Checking.{most_in_piece};
+ghost use Rattle.pmf_stream.specs.{Beside.{GoesOn}, Checking.{most_in_piece}};
 
+use crate::beside::Beside;
 use crate::reading::PIECE;
+use pmf_event::{Profile, Section};
 use pmf_storelog::{Ahead, next_part};
 use std::alloc::{AllocError, Global};
-use std::thread::{Threads, for_each_mut};
+use std::thread::{Threads, for_each_mut, join};
 
 /// How many bytes a piece has for each worker, where there are several.
 const PART: usize = 1 << 20;
@@ -33,7 +36,8 @@ pub(crate) fn most_in_piece(workers: u32) -> usize
 /// How many pieces are read plainly behind one whose stretches were short.
 const PLAIN: u32 = 15;
 
-/// The parts of a piece, each read by a worker of its own before their turn. None where the piece is short, memory for their list is refused, or
+/// The parts of a piece, each read by a worker of its own before their turn, while the check goes on of the only section of what was read before. No
+/// parts, and no step of the check, where the piece is short, memory for their list is refused, or
 /// as many pieces more are to be read plainly as is told: behind one whose stretches were short.
 pub(crate) fn read_ahead<T: Threads + Sync>(
     rt: &T,
@@ -41,20 +45,99 @@ pub(crate) fn read_ahead<T: Threads + Sync>(
     workers: u32,
     plain: &mut u32,
     piece: &[u8],
-) -> Vec<Ahead>
-    ensures { All (IsAheadOf piece.now) result.items }
+    beside: Beside,
+    profile: Profile,
+    only: Option<&Section>,
+) -> (Vec<Ahead>, Beside)
+    ensures parts { All (IsAheadOf piece.now) result.0.items }
+    ensures goes { GoesOn profile (option_map (λ section. section.now) only.entry) beside result.1 }
 {
     let count = (workers as usize).min(piece.len() / LEAST);
     if count <= 1 {
-        return Vec::new(alloc);
+        return (Vec::new(alloc), beside);
     }
     if *plain > 0 {
         *plain -= 1;
-        return Vec::new(alloc);
+        return (Vec::new(alloc), beside);
     }
-    let Ok(mut parts) = parts_of(alloc, piece, count) else {
-        return Vec::new(alloc);
+    let readers = readers_of(count, only);
+    let Ok(parts) = parts_of(alloc, piece, readers) else {
+        return (Vec::new(alloc), beside);
     };
+    let (parts, beside) = side_by_side(rt, alloc, parts, readers, piece, beside, profile, only);
+    if are_short(&parts) {
+        *plain = PLAIN;
+    }
+    (parts, beside)
+}
+
+// How many of so many threads read parts: one checks, where there is an only section.
+fn readers_of(count: usize, only: Option<&Section>) -> usize
+    requires { 1 < count }
+    ensures { 0 < result }
+{
+    match only {
+        Some(_) => count - 1,
+        None => count,
+    }
+}
+
+// Reads the parts of the piece, and goes on with the check of the only section, if there is one.
+fn side_by_side<T: Threads + Sync>(
+    rt: &T,
+    alloc: Global,
+    parts: Vec<Ahead>,
+    count: usize,
+    piece: &[u8],
+    beside: Beside,
+    profile: Profile,
+    only: Option<&Section>,
+) -> (Vec<Ahead>, Beside)
+    requires some { 0 < count }
+    requires parts { All (IsAheadOf piece.now) parts.items }
+    ensures parts { All (IsAheadOf piece.now) result.0.items }
+    ensures goes { GoesOn profile (option_map (λ section. section.now) only.entry) beside result.1 }
+{
+    let Some(section) = only else {
+        let parts = read_parts(rt, alloc, parts, count, piece);
+        return (parts, beside.without_section());
+    };
+    join(
+        rt,
+        move || -> Vec<Ahead>
+            requires sync { IsSync T.row }
+            requires some { 0 < count }
+            requires parts { All (IsAheadOf piece.now) parts.items }
+            ensures { All (IsAheadOf piece.entry.now) result.items }
+        { read_parts(rt, alloc, parts, count, piece) },
+        move || -> Beside
+            ensures { GoesOn profile (Some section.entry.now) beside result }
+        { beside.go_on(alloc, profile, section) },
+    )
+}
+
+// Whether reading one of them stopped at short stretches.
+fn are_short(parts: &[Ahead]) -> bool {
+    for part in parts {
+        if part.is_short() {
+            return true;
+        }
+    }
+    false
+}
+
+// Reads the parts of the piece, by so many threads.
+fn read_parts<T: Threads + Sync>(
+    rt: &T,
+    alloc: Global,
+    mut parts: Vec<Ahead>,
+    count: usize,
+    piece: &[u8],
+) -> Vec<Ahead>
+    requires some { 0 < count }
+    requires parts { All (IsAheadOf piece.now) parts.items }
+    ensures { All (IsAheadOf piece.now) result.items }
+{
     for_each_mut(
         rt,
         &mut parts,
@@ -64,11 +147,6 @@ pub(crate) fn read_ahead<T: Threads + Sync>(
             ensures { IsAheadOf piece.entry.now part.exit.now }
         { part.read(alloc, piece) },
     );
-    for part in &parts {
-        if part.is_short() {
-            *plain = PLAIN;
-        }
-    }
     parts
 }
 

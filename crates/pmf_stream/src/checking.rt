@@ -8,21 +8,24 @@ ghost use Rattle.pmf_device.specs.Failures.{CanCountOneMore};
 ghost use Rattle.pmf_stream.specs.{Answering.{Answers, RefusesReading, TellsFaults, failed_reads}, Checking.{AreWarnings, HasKept, IsCheckFaultOf, IsLogOf, IsReportOf, IsTooLong, IsWrittenOf, Reports, form_of}, Reading.{ReadsWithin}};
 
 use crate::ahead::{most_in_piece, read_ahead};
+use crate::beside::Beside;
 use crate::excerpt::Excerpt;
 use crate::fault::StreamFault;
 use crate::reading::{Intake, read_into};
 use crate::writing::write_answer;
 use pmf_device::{Failed, Sink, Source};
+use pmf_event::Profile;
 use pmf_farm::{FarmFault, Gate, run};
 use pmf_ledger::{Form, LEDGER_LIMIT, Ledger, Totals};
 use pmf_query::{Warnings, warnings_due};
 use pmf_request::Settings;
 use pmf_storelog::{LOG_LIMIT, Log, LogFault, LogReader};
+use pmf_verdict::Verdict;
 use std::alloc::{AllocError, Global};
 use std::error::Error;
-use std::fmt;
 use std::sync::Wait;
 use std::thread::Threads;
+use std::{fmt, mem};
 
 /// What [`check_stream`] tells of a log that it has reported.
 #[derive(Clone, Copy, Debug, PartialEq, Eq)]
@@ -78,16 +81,19 @@ struct Watched<'a, T: Threads + Sync> {
     excerpt: Excerpt,
     keeps: bool,
     kept: Vec<u8>,
+    profile: Profile,
+    beside: Beside,
 }
 
 impl<'a, T: Threads + Sync> Intake for Watched<'a, T> {
     type Fault = LogFault;
 
     ghost use Rattle.std.proofs.{Common.{append_assoc, refl, sym, ap, subst, ◌∙◌}, lemmas.List.{append-nil}};
-    ghost use Rattle.pmf_stream.specs.Pieces.{Keeps, Refuses, StandsFor, Takes};
+    ghost use Rattle.pmf_stream.specs.{Beside.{GoesOnBeside, IsBeside}, Pieces.{Keeps, Refuses, StandsFor, Takes}};
     ghost use denote.Param.Send.{IsSync};
 
-    ghost Takes = { λ a xs b. Takes a.log xs b.log × Keeps a.keeps b.keeps a.kept.items xs b.kept.items };
+    ghost Takes = { λ a xs b. Takes a.log xs b.log × Keeps a.keeps b.keeps a.kept.items xs b.kept.items
+        × GoesOnBeside a.profile b.profile a.log a.beside xs b.beside };
 
     ghost Refuses = { λ a xs fault. Refuses a.log xs fault };
 
@@ -96,6 +102,7 @@ impl<'a, T: Threads + Sync> Intake for Watched<'a, T> {
     ghost takes_none = { λ a. (
       λ run bytes stands. subst (λ xs. StandsFor run xs a.log) (sym (append-nil bytes)) stands,
       record { same = refl; all = λ is. sym (append-nil a.kept.items) },
+      record { same = refl; goes = λ run bytes stands is. subst (λ xs. IsBeside a.profile xs a.beside) (sym (append-nil bytes)) is },
     ) };
 
     ghost takes_more = { λ a b c xs ys first then. (
@@ -104,10 +111,27 @@ impl<'a, T: Threads + Sync> Intake for Watched<'a, T> {
         same = then.1.same ∙ first.1.same;
         all = λ is. then.1.all (first.1.same ∙ is) ∙ ap (λ zs. zs ++ ys) (first.1.all is) ∙ append_assoc a.kept.items xs ys;
       },
+      record {
+        same = then.2.same ∙ first.2.same;
+        goes = λ run bytes stands is. subst (λ zs. IsBeside a.profile zs c.beside) (append_assoc bytes xs ys)
+            (subst (λ q. IsBeside q ((bytes ++ xs) ++ ys) c.beside) first.2.same (then.2.goes run (bytes ++ xs) (first.0 run bytes stands)
+            (subst (λ q. IsBeside q (bytes ++ xs) b.beside) (sym first.2.same) (first.2.goes run bytes stands is))));
+      },
     ) };
 
     fn take(&mut self, piece: &[u8]) -> Result<(), LogFault> {
-        let ahead = read_ahead(self.rt, self.alloc, self.workers, &mut self.plain, piece);
+        let before = mem::replace(&mut self.beside, Beside::Over);
+        let (ahead, beside) = read_ahead(
+            self.rt,
+            self.alloc,
+            self.workers,
+            &mut self.plain,
+            piece,
+            before,
+            self.profile,
+            self.log.only_section(),
+        );
+        self.beside = beside;
         match self.log.feed_ahead(piece, ahead) {
             Ok(()) => {
                 self.excerpt.pass(piece);
@@ -131,7 +155,7 @@ fn read_log<T: Threads + Sync, R: Source>(
     reader: &mut R,
     settings: Settings,
     refused: &mut Excerpt,
-) -> Result<(Log, Vec<u8>), StreamFault<CheckLogFault>>
+) -> Result<(Log, Vec<u8>, Option<Verdict>), StreamFault<CheckLogFault>>
     requires { CanCountOneMore (R.failed_calls reader.old) }
     ensures ok { IfOk result (λ read. HasKept settings.strict read.1.items (IsLogOf settings.run (R.left reader.old) (R.left reader.new) read.0) (λ log. log.bytes)) }
     ensures faults { IfErr result
@@ -151,6 +175,8 @@ fn read_log<T: Threads + Sync, R: Source>(
         excerpt: Excerpt::none(),
         keeps: settings.strict,
         kept: Vec::new(alloc),
+        profile: settings.profile,
+        beside: Beside::Waiting,
     };
     match read_into(reader, &mut piece, &mut watched, LOG_LIMIT) {
         Ok(Ok(())) => {}
@@ -165,11 +191,15 @@ fn read_log<T: Threads + Sync, R: Source>(
         log,
         excerpt,
         kept,
+        beside,
         ..
     } = watched;
     *refused = excerpt;
     match log.finish() {
-        Ok(log) => Ok((log, kept)),
+        Ok(log) => {
+            let known = beside.finish(log.sections());
+            Ok((log, kept, known))
+        }
         Err(fault) => Err(StreamFault::Refused(CheckLogFault::Log(fault))),
     }
 }
@@ -310,7 +340,7 @@ pub fn check_stream<H: Threads + Wait + Sync, R: Source, W: Sink, G: Gate + Sync
     // Whatever the answer is, at most one byte more than a log may have was read.
     ensures within { ReadsWithin LOG_LIMIT (R.left reader.old) (R.left reader.new) }
 {
-    let (log, kept) = match read_log(rt, alloc, reader, settings, refused) {
+    let (log, kept, known) = match read_log(rt, alloc, reader, settings, refused) {
         Ok(read) => read,
         Err(fault) => return Err(fault),
     };
@@ -318,6 +348,7 @@ pub fn check_stream<H: Threads + Wait + Sync, R: Source, W: Sink, G: Gate + Sync
         rt,
         alloc,
         log.sections(),
+        known,
         settings.workers,
         settings.profile,
         gate,

@@ -11,6 +11,7 @@
 
 mod ahead;
 mod answering;
+mod beside;
 mod checking;
 mod cutting;
 mod excerpt;

@@ -12,6 +12,7 @@ pub use Rattle.pmf_image.specs.Contradiction
 pub mod Rows
 pub mod Checked
 pub mod Walks
+pub mod Partly
 pub mod Sound
 pub mod Exact
 pub mod Explained

@@ -2,7 +2,7 @@
 
 ghost use Rattle.std.specs.Prelude.{◌≡◌, ℕ, suc, ◌≤◌, ◌<◌, [], ◌∷◌, ◌++◌, List, Some, length, map, OnOk, IfOk, IfErr};
 ghost use Rattle.pmf_event.specs.{declared.event.Event.{Event}, FlushWarnings.{if_any}};
-ghost use Rattle.pmf_verdict.specs.{Walks.{Walks, Follows}, Rows.{row_at, rows_of}};
+ghost use Rattle.pmf_verdict.specs.{Walks.{HasWalked, Walks, Follows}, Rows.{row_at, rows_of}};
 
 use crate::verdict::Verdict;
 use pmf_asserts::{check_flush, check_ordered, check_persist};
@@ -104,8 +104,8 @@ impl Walk {
 
     // Walks over the event at this place.
     fn follow(&mut self, place: u32, event: Event) -> Result<(), AllocError>
-        requires { (es : List Event) × (p : ℕ) × Walks self.old es p
-            × (p < EVENT_LIMIT) }
+        requires { ∥ ((es : List Event) × (p : ℕ) × Walks self.old es p
+            × (p < EVENT_LIMIT)) ∥₁ }
         ensures walks { OnOk result (Follows self.old self.new place event) }
         ensures profile { OnOk result (self.new.profile ≡ self.old.profile) }
     {
@@ -142,21 +142,81 @@ impl Walk {
     }
 }
 
-fn rows_for(alloc: Global, events: &Events, profile: Profile) -> Result<Rows, AllocError>
-    requires { length events.now ≤ EVENT_LIMIT }
-    ensures { IfOk result (λ rows. rows ≡ rows_of profile events.now) }
-{
-    let mut walk = Walk::new(alloc, profile, events);
-    for index in 0..events.len() {
-        let event = events.at(index);
-        walk.settle_for(&event)?;
-        walk.follow(index as u32 + 1, event)?;
+/// The check of a section whose events come one part after another, as where its log is read meanwhile. It walks over each event once.
+#[derive(Drop)]
+pub struct Checker {
+    walk: Walk,
+    /// How many events were walked over.
+    walked: usize,
+    ghost of_some: { ∥ ((es : List Event) × HasWalked walk es walked) ∥₁ },
+}
+
+impl Checker {
+    ghost use Rattle.pmf_verdict.specs.Partly.{HasChecked, IsFrontOf};
+
+    /// The check of no event. How the events that are there, which it doesn't walk over, are spread decides how it keeps the states of bytes: a
+    /// choice of speed. Takes no memory.
+    pub fn new(alloc: Global, profile: Profile, events: &Events) -> Checker
+        ensures { HasChecked profile [] result }
+    {
+        Checker {
+            walk: Walk::new(alloc, profile, events),
+            walked: 0,
+        }
     }
-    let found = walk.transactions.close_section();
-    walk.push_if_any(events.len() as u32 + 1, found)?;
-    let mut rows = walk.rows;
-    rows.shrink_to_fit();
-    Ok(rows)
+
+    /// Walks over the events behind as many as were walked over: those are to be its first ones. Nothing is left of it after an `Err`, which is
+    /// want of memory.
+    ///
+    /// Takes memory as [`check`] does, but for what the end of a section wants.
+    pub fn advance(self, events: &Events) -> Result<Checker, AllocError>
+        requires { length events.now ≤ EVENT_LIMIT }
+        ensures { (profile : Profile) (es : List Event) → HasChecked profile es self → IsFrontOf es events.now
+            → IfOk result (HasChecked profile events.now) }
+    {
+        if events.len() <= self.walked {
+            return Ok(self);
+        }
+        let Checker { mut walk, walked } = self;
+        for index in walked..events.len() {
+            let event = events.at(index);
+            walk.settle_for(&event)?;
+            walk.follow(index as u32 + 1, event)?;
+        }
+        Ok(Checker {
+            walk,
+            walked: events.len(),
+        })
+    }
+
+    // The rows of a section with these events.
+    fn rows(self, events: &Events) -> Result<Rows, AllocError>
+        requires { length events.now ≤ EVENT_LIMIT }
+        ensures { (profile : Profile) (es : List Event) → HasChecked profile es self → IsFrontOf es events.now
+            → IfOk result (λ rows. rows ≡ rows_of profile events.now) }
+    {
+        let Checker { mut walk, .. } = self.advance(events)?;
+        let found = walk.transactions.close_section();
+        walk.push_if_any(events.len() as u32 + 1, found)?;
+        let mut rows = walk.rows;
+        rows.shrink_to_fit();
+        Ok(rows)
+    }
+
+    /// The verdict of a section of which the first events were walked over. The only refusal is [`CheckFault::OutOfMemory`], and the section
+    /// comes back with it.
+    pub fn finish(self, section: Arc<Section>) -> Result<Verdict, (CheckFault, Arc<Section>)>
+        requires { (profile : Profile) × (es : List Event) × HasChecked profile es self × IsFrontOf es section.value.events }
+        ensures checked { (profile : Profile) (es : List Event) → HasChecked profile es self
+            → IfOk result (λ verdict. verdict ≡ record { section = section.value; profile = profile }) }
+        ensures returned { IfErr result (λ refused. refused.1.value ≡ section.value) }
+    {
+        let profile = self.walk.profile;
+        match self.rows(section.events()) {
+            Ok(rows) => Ok(Verdict::of_rows(section, profile, rows)),
+            Err(AllocError) => Err((CheckFault::OutOfMemory, section)),
+        }
+    }
 }
 
 /// Checks the section by the profile. What the rows of the verdict say is told by [`Verdict::rows`]. The only refusal is
@@ -171,8 +231,5 @@ pub fn check(
         (λ verdict. verdict ≡ record { section = section.value; profile = profile }) }
     ensures returned { IfErr result (λ refused. refused.1.value ≡ section.value) }
 {
-    match rows_for(alloc, section.events(), profile) {
-        Ok(rows) => Ok(Verdict::of_rows(section, profile, rows)),
-        Err(AllocError) => Err((CheckFault::OutOfMemory, section)),
-    }
+    Checker::new(alloc, profile, section.events()).finish(section)
 }

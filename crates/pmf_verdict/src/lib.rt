@@ -19,7 +19,7 @@ mod outcome;
 mod text;
 mod verdict;
 
-pub use checking::{CheckFault, check};
+pub use checking::{CheckFault, Checker, check};
 pub use explaining::{certificate_of, explain};
 pub use laws::{later_events_change_no_row, pass_stays, rows_look_back};
 pub use outcome::{Outcome, outcome_of};

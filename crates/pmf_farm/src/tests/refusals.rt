@@ -39,6 +39,7 @@ fn workers_are_counted_before_sections_and_these_before_names(rt: HostRuntime) -
             &rt,
             alloc,
             sections.as_slice(),
+            None,
             workers,
             Profile::One,
             &OpenGate,

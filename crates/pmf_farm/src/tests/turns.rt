@@ -4,9 +4,10 @@ use super::gates::{Holds, Keeps, Meeting};
 use super::{assert_both, fences, name};
 use crate::{Gate, Turn, run};
 use pmf_event::Profile;
+use pmf_verdict::check;
 use std::alloc::{AllocError, Global};
 use std::process::Abort;
-use std::sync::Wait;
+use std::sync::{Arc, Wait};
 use std::test::Fail;
 use std::thread::Threads;
 
@@ -29,7 +30,7 @@ fn farm_out<R: Threads + Wait + Sync + Abort, G: Gate + Sync>(
     for (number, events) in [(3, 2), (1, 5), (4, 1), (2, 9)] {
         sections.push(fences(alloc, name(0, number), events)?)?;
     }
-    let ledger = run(rt, alloc, sections.as_slice(), 1, profile, gate)?;
+    let ledger = run(rt, alloc, sections.as_slice(), None, 1, profile, gate)?;
     assert_eq!(rt; ledger.len(), 4);
     Ok(())
 }
@@ -54,6 +55,45 @@ fn assert_all_kept<R: Threads + Wait + Sync + Abort>(
 fn long_sections_are_taken_first_and_told_by_their_place(rt: HostRuntime) -> Result<(), Fail> {
     assert_all_kept(&rt, rt.alloc(), Profile::One)?;
     assert_all_kept(&rt, rt.alloc(), Profile::Two)
+}
+
+// So many sections, of which the verdict of the first by a profile is known, give their ledger; no worker takes a turn where that is all that is asked for.
+fn turns_beside<R: Threads + Wait + Sync + Abort>(
+    rt: &R,
+    alloc: Global,
+    count: u64,
+    profile: Profile,
+) -> Result<(), Fail> {
+    let first = fences(alloc, name(0, 0), 3)?;
+    let Ok(known) = check(alloc, Arc::try_clone(&first)?, profile) else {
+        return Err(AllocError.into());
+    };
+    let mut sections = Vec::new(alloc);
+    sections.push(first)?;
+    for number in 1..count {
+        sections.push(fences(alloc, name(0, number), 3)?)?;
+    }
+    let gate = Keeps::answering(Turn::Go);
+    let ledger = run(
+        rt,
+        alloc,
+        sections.as_slice(),
+        Some(known),
+        2,
+        Profile::One,
+        &gate,
+    )?;
+    assert_eq!(rt; ledger.len(), sections.len());
+    let is_spared = count == 1 && profile == Profile::One;
+    assert_eq!(rt; gate.turns() == 0 && gate.missing_told() == 0, is_spared);
+    Ok(())
+}
+
+#[test]
+fn a_known_verdict_of_the_only_section_spares_the_workers(rt: HostRuntime) -> Result<(), Fail> {
+    turns_beside(&rt, rt.alloc(), 1, Profile::One)?;
+    turns_beside(&rt, rt.alloc(), 1, Profile::Two)?;
+    turns_beside(&rt, rt.alloc(), 2, Profile::One)
 }
 
 #[test]

@@ -18,7 +18,7 @@ unfolding shown_fault shown_within too_long
 fits-from_shown bytes none = ltb-false LOG_LIMIT (length bytes) (fits-unless (nat_lt LOG_LIMIT (length bytes)) _ (second-none _ _ none))
 
 -- a reader stands for no byte at first, and no byte shows no fault
-nothing-shown : shown_fault [] ≡ None
+pub nothing-shown : shown_fault [] ≡ None
 unfolding shown_fault shown_within too_long records_in ended_parts parts_of first_fault first_fault_among
 nothing-shown = refl
 

@@ -1,5 +1,5 @@
-use Rattle.std.proofs.Common.{◌≡◌, ◌++◌, ◌∙◌, ap, arith, length}
-use Rattle.pmf_stream.{specs.{Checking.{most_in_piece}, declared.checking.Watched.{Watched}}, proofs.lemmas.StreamLemmas.{IsLogOf-kept, IsLogFaultOf-shown, IsLogFaultOf-end}}
+use Rattle.std.proofs.Common.{◌≡◌, [], ◌++◌, ◌∙◌, ap, arith, length}
+use Rattle.pmf_stream.{specs.{Checking.{most_in_piece}, Pieces.{StandsFor}, declared.checking.Watched.{Watched}}, proofs.lemmas.StreamLemmas.{IsLogOf-kept, IsLogFaultOf-shown, IsLogFaultOf-end, nothing-shown}, proofs.lemmas.BesideLemmas.{sections_read}}
 use Rattle.pmf_stream.proofs.checking.read_log.Goals as goal
 
 pub returns-in-Ok-Err-clause-faults : goal.returns-in-Ok-Err-clause-faults
@@ -18,3 +18,11 @@ returns-clause-faults g c =
     let taken = rw c.in-Ok-Ok.field-0-is at c.in-Ok-Ok.ensures.taken in
     IsLogFaultOf-end c.args.settings.run _ _ _ c.new.result c.read_into.new.intake.log taken.0 c.in-Err-finish.fault taken.1 taken.2.0 c.new.ensures
     (c.in-Err-finish.ensures.answers c.args.settings.run taken.0)
+
+pub finish-known-requires : goal.finish-known-requires
+finish-known-requires g c =
+    let run = c.args.settings.run in
+    let taken = rw c.in-Ok-Ok.field-0-is at c.in-Ok-Ok.ensures.taken in
+    let fresh : StandsFor run [] c.new.result = (c.new.ensures, nothing-shown) in
+    let read = c.in-Ok.ensures.answers run taken.0 (taken.2.0 run [] fresh).0 in
+    (c.args.settings.profile, run, taken.0, taken.2.2.goes run [] fresh tt, c.sections.ensures ∙ sections_read run taken.0 c.in-Ok.log read)

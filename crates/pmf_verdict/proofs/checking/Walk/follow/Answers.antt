@@ -1,4 +1,7 @@
-use Rattle.std.proofs.Common.{suc, [], ◌∷◌, refl, sym, ◌∙◌, ap, arith, Some}
+use Rattle.std.proofs.lemmas.{Bool.{cases_lt}, Grind.{not_there}}
+use Rattle.pmf_event.specs.declared.section.TheConstants.{EVENT_LIMIT}
+use Rattle.pmf_txcheck.specs.Tracking.{depth_of}
+use Rattle.std.proofs.Common.{suc, ⊎_elim, [], ◌∷◌, refl, sym, ◌∙◌, ap, arith, Some}
 use Rattle.pmf_event.{specs.declared.event.Event.TheVariants.{Fence, TxBegin, TxEnd, CheckStart, CheckEnd}, specs.FlushWarnings.{if_any}, proofs.TransactionLemmas.{depth-bound}}
 use Rattle.pmf_shadow.{specs.Laws.{is_unseen}, proofs.StandsLemmas.{stands-fences}}
 use Rattle.pmf_txcheck.{specs.Laws.{is_untracked}, proofs.TrackLemmas.{one-list}}
@@ -6,14 +9,14 @@ use Rattle.pmf_verdict.{specs.Rows.{findings_of}, proofs.WalkLemmas.{walks-said,
 use Rattle.pmf_verdict.proofs.checking.Walk.follow.Goals as goal
 
 pub fence-requires : goal.fence-requires
-fence-requires c = let few = stands-fences c.args.self.now.shadow (λ k. k) c.requires.0 c.requires.1 c.requires.2.stands in let below = c.requires.3 in omega arith
+fence-requires c = ⊎_elim (λ few. few)
+    (λ many. absurd (not_there c.requires (λ (es, p, walks, below). let few = stands-fences c.args.self.now.shadow (λ k. k) es p walks.stands in omega (arith, few, below, many))))
+    (cases_lt c.args.self.now.shadow.fences EVENT_LIMIT)
 
 pub begin-requires : goal.begin-requires
-begin-requires c =
-    let depth = c.requires.2.tracks.depth in
-    let bound = depth-bound c.requires.0 c.requires.1 in
-    let below = c.requires.3 in
-    omega arith
+begin-requires c = ⊎_elim (λ few. few)
+    (λ many. absurd (not_there c.requires (λ (es, p, walks, below). let depth = walks.tracks.depth in let bound = depth-bound es p in omega (arith, depth, bound, below, many))))
+    (cases_lt (depth_of c.args.self.now.transactions) 4294967295)
 
 pub returns-in-Fence-clause-walks : goal.returns-in-Fence-clause-walks
 unfolding findings_of is_untracked
