@@ -28,6 +28,30 @@ check() {
     fi
 }
 
+# begin NAME COMMAND..: starts a check beside others: of a command that writes nothing to the folder of the checks.
+begun=()
+begin() {
+    local number=${#begun[@]}
+    begun+=("$1")
+    shift
+    ("$@" </dev/null >"$scratch/begun.$number" 2>&1 && : >"$scratch/begun.$number.well") &
+}
+
+# await: counts the checks that were started, once all of them have ended.
+await() {
+    local number
+    wait
+    for number in "${!begun[@]}"; do
+        if [ -e "$scratch/begun.$number.well" ]; then
+            pass "${begun[number]}"
+        else
+            fail "${begun[number]}" "$scratch/begun.$number"
+        fi
+        rm -f "$scratch/begun.$number" "$scratch/begun.$number.well"
+    done
+    begun=()
+}
+
 # has ENGINE: whether it is installed.
 has() {
     case $1 in

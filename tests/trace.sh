@@ -12,6 +12,7 @@ compile_for_traces() {
     gcc "${words[@]}" -Wl,--defsym=to_clwb=0x10001e00,--defsym=to_clflushopt=0x10001e80,--defsym=to_clflush=0x10001f00 \
         -o "$room/forms" tests/trace/forms.c && gcc "${words[@]}" -o "$room/stores" tests/trace/stores.c &&
         gcc "${words[@]}" -pthread -o "$room/lives" tests/trace/lives.c &&
+        gcc "${words[@]}" -pthread -o "$room/crowds" tests/trace/crowds.c &&
         gcc "${words[@]}" -o "$room/append_log" examples/c/append_log.c &&
         gcc "${words[@]}" -DMISSING_FENCE -o "$room/append_log.missing_fence" examples/c/append_log.c
 }
@@ -225,6 +226,55 @@ killed_midway() {
     durable 0x10000000 0x10000040 | same - "$room/killed.log"
 }
 
+# turns COUNT: the records of so many stores to the lines of a page in turn, each of which is durable.
+turns() {
+    local i
+    for ((i = 0; i < $1; i++)); do
+        durable $((0x10000000 + 64 * (i % 64)))
+    done
+}
+
+# crowded CASE COUNT [LOG]: a case of crowds.c has the log of so many turns, or this one, and nothing is said of it.
+crowded() {
+    trace "$room/crowds" "$room/pool" "$1" "$2"
+    ended 0 $? && same /dev/null "$scratch/diagnostics" && if [ $# -gt 2 ]; then said "$3" "$scratch/log"; else turns "$2" | cmp - "$scratch/log"; fi
+}
+
+# Each of 200 threads that run at once has a section with its three records; the first thread has none.
+crowd_of_threads() {
+    trace "$room/crowds" "$room/pool" threads 200
+    ended 0 $? && same /dev/null "$scratch/diagnostics" || return
+    grep -c '^PMT.SECTION;' "$scratch/log" >"$scratch/counts"
+    "$program" check "$scratch/log" 2>/dev/null | grep '^section' | cut -d ' ' -f 3 | sort | uniq -c >>"$scratch/counts"
+    said $'200\n    200 events=3' "$scratch/counts"
+}
+
+# killed_at COUNT: a program that kills itself behind so many records, of which the log has the first ones, up to the last fence at least.
+killed_at() {
+    local lines
+    { trace "$room/crowds" "$room/pool" records "$1"; } 2>/dev/null
+    ended 137 $? || return
+    lines=$(wc -l <"$scratch/log")
+    [ "$lines" -le "$1" ] && [ "$lines" -ge $(($1 / 3 * 3)) ] && turns 12 | head -n "$lines" | same - "$scratch/log"
+}
+
+killed_at_each_record() {
+    local records
+    for records in {0..30}; do
+        killed_at "$records" || return
+    done
+}
+
+# A log that is not read stops the program; once its reader is gone, the program ends and tells it. One that is read slowly is whole.
+a_log_that_no_one_reads() {
+    rm -f "$room/pool"
+    timeout 60 tools/trace --pmem "$room/pool" "$room/crowds" "$room/pool" stores 20000 2>"$scratch/diagnostics" | sleep 2
+    ended 4 "${PIPESTATUS[0]}" && grep -Eqx "trace: the log can't be written: write failed after [0-9]+ bytes" "$scratch/diagnostics" || return
+    rm -f "$room/pool"
+    timeout 60 tools/trace --pmem "$room/pool" "$room/crowds" "$room/pool" stores 5000 2>/dev/null | { sleep 2 && cat; } >"$scratch/log"
+    ended 0 "${PIPESTATUS[0]}" && turns 5000 | cmp - "$scratch/log"
+}
+
 a_log_that_is_not_written() {
     tools/trace --pmem "$room/pool" "$room/lives" "$room/pool" neighbours 2>"$scratch/diagnostics" >/dev/full
     ended 4 $? && said "trace: the log can't be written: write failed after 0 bytes" "$scratch/diagnostics" || return
@@ -403,6 +453,11 @@ try_trace() {
     check_by "$tracer" 'traced: forks and exec' forks_and_exec
     check_by "$tracer" 'traced: what a program writes, its status, its signals' programs_end
     check_by "$tracer" 'traced: a program that is killed midway' killed_midway
+    check_by "$tracer" 'traced: a program that kills itself at each of its first 30 records' killed_at_each_record
+    check_by "$tracer" 'traced: a thousand forks' crowded forks 1000
+    check_by "$tracer" 'traced: ten thousand ranges, each mapped and unmapped' crowded mappings 10000
+    check_by "$tracer" 'traced: 200 threads at once' crowd_of_threads
+    check_by "$tracer" 'traced: a log that no reader drains' a_log_that_no_one_reads
     check_by "$tracer" 'traced: a full disk, and a log that is not opened' a_log_that_is_not_written
     check_by "$tracer" 'traced: ranges that are told by hand' one_by_hand
     check_by "$tracer" 'traced: the example in C, with the fence and without' examples_traced

@@ -190,6 +190,7 @@ rows=1 told=1 untold=0; with all cures: pass=9 fail=0" '' why --event 12 "$appen
     check 'why --patch writes a log with nothing to cure as it is' patched ' FENCE |\r\n||x\\|y;\xff\n' ' FENCE |\r\n||x\\|y;\xff\n'
     check 'and one of which no cure is known' patched "$one_store" "$one_store"
     check 'and an empty one' patched '' ''
+    check 'why --patch keeps a section that it leaves no event' patched 'PMT.TXEND|PMT.SECTION;1|FENCE' 'PMT.SECTION;0\n|PMT.SECTION;1|FENCE'
     check 'why --patch takes a profile' patched 'STORE;0;1;8|STORE;8;1;8|PMT.ORDERED;0;8;8;8' 'STORE;0;1;8|STORE;8;1;8|PMT.ORDERED;0;8;8;8' --profile 2
     check 'why --patch takes no event' refused why --patch --event 1
     check 'why --patch takes no count of rows' refused why --patch --first 5

@@ -10,8 +10,8 @@ use pmf_device::{Device, Failed, Sink};
 use pmf_stream::{NoFile, Outlet, write_whole};
 use std::alloc::Global;
 use std::fs::{Files, OpenOptions};
-use std::io;
 use std::io::{Eprint, ErrorKind, Write};
+use std::{fs, io};
 
 /// Files whose names begin alike: behind that a file's number, from 1 on, and `.log`. One is open at a time. A file that was there before
 /// is refused, so that no piece of another log stands among them.
@@ -52,11 +52,7 @@ impl<'a, R: Files + Eprint> NumberedFiles<'a, R> {
             return Err(NoFile::OutOfMemory);
         };
         let is_new = file >= self.count;
-        match OpenOptions::new()
-            .append(true)
-            .create_new(is_new)
-            .open(self.rt, name.as_str())
-        {
+        match open_apart(self.rt, name.as_str(), is_new) {
             Ok(opened) => Ok(opened),
             Err(error) if error.kind() == ErrorKind::OutOfMemory => Err(NoFile::OutOfMemory),
             Err(error) if error.kind() == ErrorKind::AlreadyExists => {
@@ -103,6 +99,18 @@ impl<'a, R: Files + Eprint> NumberedFiles<'a, R> {
             }
         }
     }
+}
+
+// Opens a file at its end, a new one if so. A standard stream that is closed does not become this file, so that nothing is written to it
+// but what is meant for it: all three are open, or folders in their places, meanwhile.
+fn open_apart<R: Files>(rt: &R, name: &str, is_new: bool) -> io::Result<R::File> {
+    let _first = fs::open(rt, "/")?;
+    let _second = fs::open(rt, "/")?;
+    let _third = fs::open(rt, "/")?;
+    OpenOptions::new()
+        .append(true)
+        .create_new(is_new)
+        .open(rt, name)
 }
 
 impl<R: Files + Eprint> Device for NumberedFiles<'_, R> {

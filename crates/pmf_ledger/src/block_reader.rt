@@ -9,6 +9,7 @@ use crate::loading::{LedgerFault, is_over};
 use crate::lone_block::LoneBlock;
 use memchr::memchr;
 use pmf_event::Profile;
+use pmf_storelog::LOG_LIMIT;
 use pmf_verdict::Verdict;
 use std::alloc::{AllocFailed, Global};
 
@@ -76,7 +77,8 @@ impl BlockReader {
     }
 
     /// Takes the bytes up to the end of the next block, or all. The block's section was checked again, as
-    /// [`load_ledger`](crate::load_ledger) does it. Takes memory for the section, and for a text line that goes on in the next piece.
+    /// [`load_ledger`](crate::load_ledger) does it. Takes memory for the section, and for a text line that goes on in the next piece; none that has
+    /// more than [`LOG_LIMIT`] bytes is a ledger's, and such a one is given up as for want of memory.
     pub fn feed(&mut self, alloc: Global, piece: &[u8]) -> Result<Fed, BlockFault>
         requires { (text : List ℕ) × (r : Reading) × HasTaken text r self.old }
         ensures takes { (text : List ℕ) (r : Reading) → HasTaken text r self.old → MatchResult result
@@ -141,13 +143,16 @@ impl BlockReader {
         given
     }
 
-    // Keeps more of a text line that is not ended.
+    // Keeps more of a text line that is not ended. One that is longer than any may be is given up.
     fn keep(&mut self, more: &[u8]) -> Result<(), BlockFault>
         requires { HasNoLineEnd more.now }
         ensures { (text : List ℕ) (r : Reading) → HasTaken text r self.old → MatchResult result
             (λ _. HasTaken (text ++ more.now) r self.new)
             (RefusesFront (text ++ more.now)) }
     {
+        if self.front.len().saturating_add(more.len()) > LOG_LIMIT {
+            return Err(BlockFault::Text(LedgerFault::OutOfMemory));
+        }
         match self.front.extend_from_slice(more) {
             Ok(()) => Ok(()),
             Err(_) => Err(BlockFault::Text(LedgerFault::OutOfMemory)),

@@ -1,8 +1,8 @@
 -- Where an event of a section stands in its log: the record that gave it, and where that record begins. Defined here.
-use Rattle.std.specs.Prelude.{◌≡◌, ℕ, ◌+◌, ◌<◌, List, [], ◌∷◌, ◌++◌, length, take, drop, slice_get, None, Some, codes, decimal}
+use Rattle.std.specs.Prelude.{◌≡◌, ℕ, ◌+◌, ◌<◌, List, [], ◌∷◌, ◌++◌, length, take, drop, slice_get, None, Some, codes, decimal, flat_map}
 use Rattle.pmf_event.specs.declared.event.Event.{Event}
 use Rattle.pmf_storelog.specs.{Separators.{records_of}, LogText.{reading_at, current_at, numbered, events_in, fault_of}}
-use Rattle.pmf_query.specs.declared.locate.Located.{Located}
+use Rattle.pmf_query.specs.{LintText.{shown_byte}, declared.locate.Located.{Located}}
 
 -- record k, counted from 0, gave event number `place` of the section: it happened there, behind `place` - 1 others
 pub record Gives (records : List (List ℕ)) (section place : ℕ) (event : Event) (k : ℕ) : Type 0 where
@@ -38,10 +38,11 @@ pub record IsLocated (bytes : List ℕ) (section place number offset : ℕ) (tex
   pub faultless : IsFaultless bytes
   pub located : IsLocation bytes section place number offset text
 
--- `record=N offset=O length=L` and the record itself, each with the end of its text line
+-- `record=N offset=O length=L` and the record in ASCII, each with the end of its text line
 unfoldable pub text_of_location : ℕ → ℕ → List ℕ → List ℕ
 text_of_location number offset text =
-    codes "record=" ++ decimal number ++ codes " offset=" ++ decimal offset ++ codes " length=" ++ decimal (length text) ++ codes "\n" ++ text ++ codes "\n"
+    codes "record=" ++ decimal number ++ codes " offset=" ++ decimal offset ++ codes " length=" ++ decimal (length text) ++ codes "\n"
+    ++ flat_map (λ b. shown_byte b) text ++ codes "\n"
 
 -- the text of the event's location
 abbrev pub IsLocationText : ℕ → ℕ → List ℕ → List ℕ → Type 0

@@ -8,6 +8,7 @@ use crate::passing::Passed;
 use crate::query::{Answer, Query};
 use crate::refusal::{EventFault, EventRefusal};
 use crate::section::section_with;
+use crate::telling::push_bytes;
 use crate::walking::next_record;
 use pmf_request::Sought;
 use pmf_storelog::read_log;
@@ -72,8 +73,8 @@ pub fn locate_event<'a>(
     }
 }
 
-/// The same as text: `record=N offset=O length=L` and an end of line, then the record's own bytes and an end
-/// of line.
+/// The same as text: `record=N offset=O length=L` and an end of line, then the record in ASCII as [`crate::push_ascii`] writes it, whole, and
+/// an end of line. L is the number of the record's own bytes.
 ///
 /// Takes memory for the events of the log, and for the text.
 pub fn locate_text(
@@ -106,11 +107,10 @@ fn write_location(
     ensures { IfOk result (λ written. written.items ≡ text_of_location number offset text.now) }
 {
     let length = text.len();
-    let head = format!(in alloc; "record={number} offset={offset} length={length}\n")?;
-    let mut written = head.into_bytes();
-    written.extend_from_slice(text)?;
-    written.push(b'\n')?;
-    Ok(written)
+    let mut written = format!(in alloc; "record={number} offset={offset} length={length}\n")?;
+    push_bytes(&mut written, text)?;
+    written.push_str("\n")?;
+    Ok(written.into_bytes())
 }
 
 // The record that gives the event of this number of the section.

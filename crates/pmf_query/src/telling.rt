@@ -301,7 +301,8 @@ pub fn push_ascii(text: &mut String, bytes: &[u8], most: usize) -> Result<(), Al
     text.push_str("..")
 }
 
-fn push_bytes(text: &mut String, bytes: &[u8]) -> Result<(), AllocError>
+/// Writes all bytes so.
+pub(crate) fn push_bytes(text: &mut String, bytes: &[u8]) -> Result<(), AllocError>
     ensures { OnOk result (string_bytes text.new
         ≡ string_bytes text.old ++ flat_map (λ b. shown_byte b) bytes.now) }
 {

@@ -41,7 +41,7 @@ impl Query for Patch {
 
 /// The log with the changes put in by which [`crate::tell_why`] counts what passes and fails with all cures: an event that is put in stands
 /// as a text line of its own in front of its record, or behind the last record of its section, and of one that is left out the record is
-/// gone. All else of the log stays, byte for byte.
+/// gone. Where each event of section 0 is, its marker stands in front of the log. All else of the log stays, byte for byte.
 ///
 /// Reads the log twice, as `tell_why` does, checks each section that is asked for, and once more with all changes; then reads what was
 /// made, and answers it only where its sections are those with the changes. Takes memory for the events of the log, where each stands, the

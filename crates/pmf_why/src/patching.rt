@@ -10,6 +10,9 @@ use std::alloc::{AllocError, Global};
 /// More bytes than the text line of an event that is put in has.
 const ROOM: usize = 64;
 
+/// The marker of section 0, which needs none as long as it has an event.
+const FIRST_SECTION: &[u8] = b"PMT.SECTION;0\n";
+
 // A change, and where in the log it is made.
 #[derive(Clone, Copy)]
 struct Piece {
@@ -35,12 +38,20 @@ pub(crate) fn text_with(
         line: String::new(alloc),
         text: Vec::with_capacity(alloc, room)?,
     };
+    if cures.iter().any(|cure| loses_all(cure)) {
+        writing.text.extend_from_slice(FIRST_SECTION)?;
+    }
     for piece in &pieces {
         writing.go_to(piece.offset)?;
         writing.make(*piece)?;
     }
     writing.go_to(log.len())?;
     Ok(writing.text)
+}
+
+// Whether it is section 0, of which each event is left out.
+fn loses_all(cure: &Patched) -> bool {
+    cure.section.name().number == 0 && cure.section.events().is_empty() && !cure.edits.is_empty()
 }
 
 // The changes by their offsets, those at one offset in the order in which they are made.

@@ -63,6 +63,14 @@ fn the_text_is_a_line_of_numbers_and_the_record(rt: HostRuntime) -> Result<(), F
 }
 
 #[test]
+fn what_acts_on_a_terminal_is_written_in_ascii(rt: HostRuntime) -> Result<(), Fail> {
+    let text = locate_text(rt.alloc(), b"FENCE;\x1b[2J\\\xff", 0, 0, 1)?;
+    let want = b"record=1 offset=0 length=12\nFENCE;\\x1b[2J\\\\\\xff\n";
+    assert!(rt; text.as_slice() == want.as_slice());
+    Ok(())
+}
+
+#[test]
 fn all_events_stand_where_each_does(rt: HostRuntime) -> Result<(), Fail> {
     let standing = Standing::of(rt.alloc(), TURNS)?;
     for (section, events) in [(0, 3), (3, 2), (2, 0)] {

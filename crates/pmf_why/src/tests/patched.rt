@@ -58,6 +58,24 @@ fn a_log_with_nothing_to_cure_stays(rt: HostRuntime) -> Result<(), Fail> {
 }
 
 #[test]
+fn a_section_of_which_each_event_is_left_out_stays_one(rt: HostRuntime) -> Result<(), Fail> {
+    let cases: [(&[u8], &[u8]); 4] = [
+        (b"PMT.TXEND", b"PMT.SECTION;0\n"),
+        (b"x|FLUSH;0;64|FLUSH;0;64", b"PMT.SECTION;0\nx||"),
+        (
+            b"PMT.TXEND|PMT.SECTION;1|FENCE",
+            b"PMT.SECTION;0\n|PMT.SECTION;1|FENCE",
+        ),
+        (b"PMT.SECTION;1|PMT.TXEND", b"PMT.SECTION;1|"),
+    ];
+    for (log, want) in cases {
+        let text = patch_text(rt.alloc(), log, asked_for(None))?;
+        assert!(rt; text.as_slice() == want, "{log:?}");
+    }
+    Ok(())
+}
+
+#[test]
 fn a_log_is_refused_as_by_why(rt: HostRuntime) {
     let missing = EventRefusal {
         sought: Sought {
