@@ -3,7 +3,7 @@
 ghost use Rattle.std.specs.Prelude.{◌≡◌, vec_len, IfOk};
 
 use super::{Gate, OpenGate, Turn, run};
-use gates::{Keeps, LosesFirst};
+use gates::{Keeps, Loses};
 use pmf_event::{Event, Name, Profile, Section, Span};
 use std::alloc::Global;
 use std::process::Abort;
@@ -95,7 +95,38 @@ fn workers_give_the_ledger_and_so_does_the_caller_where_all_are_lost(
 #[test]
 fn a_worker_lost_at_any_of_its_turns_leaves_the_same_ledger(rt: HostRuntime) -> Result<(), Fail> {
     for turn in 1..17 {
-        assert_both(&rt, rt.alloc(), 2, &LosesFirst::at(turn))?;
+        assert_both(&rt, rt.alloc(), 2, &Loses::worker(0, turn))?;
+    }
+    Ok(())
+}
+
+// What 64 workers and this gate report of some sections.
+fn report_of<R: Threads + Wait + Sync + Abort, G: Gate + Sync>(
+    rt: &R,
+    alloc: Global,
+    sections: &[Arc<Section>],
+    gate: &G,
+) -> Result<Vec<u8>, Fail> {
+    let ledger = run(rt, alloc, sections, None, 64, Profile::One, gate)?;
+    Ok(ledger.write_report(alloc)?)
+}
+
+#[test]
+fn each_of_64_workers_lost_at_each_of_its_first_turns_leaves_the_same_ledger(
+    rt: HostRuntime,
+) -> Result<(), Fail> {
+    let alloc = rt.alloc();
+    let mut sections = Vec::new(alloc);
+    for number in 0..128 {
+        sections.push(fences(alloc, name(0, number), 1)?)?;
+    }
+    let want = report_of(&rt, alloc, sections.as_slice(), &OpenGate)?;
+    for worker in 0..64 {
+        for turn in 1..4 {
+            let gate = Loses::worker(worker, turn);
+            let report = report_of(&rt, alloc, sections.as_slice(), &gate)?;
+            assert!(rt; report.as_slice() == want.as_slice(), "{worker} at {turn}");
+        }
     }
     Ok(())
 }

@@ -145,8 +145,13 @@ fn random_asked(numbers: &mut Numbers, events: u64) -> Asked {
         1 => Some(line_of(numbers.below(BYTES))),
         _ => None,
     };
-    let crash = numbers.below(events + 1) as u32;
-    of(byte, crash, full_line, numbers.below(events + 1) as u32)
+    let crash = random_place(numbers, events);
+    of(byte, crash, full_line, random_place(numbers, events))
+}
+
+// A place up to that of the last one of so many events, which are 60 at most.
+fn random_place(numbers: &mut Numbers, events: u64) -> u32 {
+    numbers.below(events.saturating_add(1)).min(60) as u32
 }
 
 // Whether the certificate speaks of these events.

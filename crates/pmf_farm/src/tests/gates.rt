@@ -4,27 +4,31 @@ use crate::{Gate, Turn};
 use std::sync::atomic::{AtomicU64, Ordering};
 use std::thread;
 
-/// Loses worker 0 at one of its turns, counted from 1.
+/// Loses a worker at one of its turns, counted from 1.
 #[derive(Drop)]
-pub(super) struct LosesFirst {
+pub(super) struct Loses {
+    worker: u32,
     at: u64,
     turns: AtomicU64,
 }
 
-impl LosesFirst {
-    pub(super) fn at(at: u64) -> LosesFirst {
-        LosesFirst {
+impl Loses {
+    pub(super) fn worker(worker: u32, at: u64) -> Loses {
+        Loses {
+            worker,
             at,
             turns: AtomicU64::new(0),
         }
     }
 }
 
-impl Gate for LosesFirst {
+impl Gate for Loses {
     ghost answers = { λ _ _ _ _. Unit {0} };
 
     fn turn(&self, worker: u32, _section: u32) -> Turn {
-        if worker == 0 && self.turns.fetch_add(1, Ordering::SeqCst).wrapping_add(1) == self.at {
+        if worker == self.worker
+            && self.turns.fetch_add(1, Ordering::SeqCst).wrapping_add(1) == self.at
+        {
             return Turn::Lost;
         }
         Turn::Go

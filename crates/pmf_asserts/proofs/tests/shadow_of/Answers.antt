@@ -1,10 +1,13 @@
 use Rattle.std.proofs.{Common.{◌≡◌, suc, ◌+◌, length, refl, sym, add-one, arith, Some}, lemmas.Option.{slice_get_read}}
 use Rattle.pmf_event.specs.Store.{event_at}
-use Rattle.pmf_shadow.proofs.StandsLemmas.{follows-within}
+use Rattle.pmf_shadow.proofs.StandsLemmas.{follows-within, stands-fences}
 use Rattle.pmf_asserts.proofs.tests.shadow_of.Goals as goal
 
 pub loop-index-init : goal.loop-index-init
 loop-index-init c = c.new-shadow.ensures (λ k. k) c.args.events.now
+
+pub follow-requires : goal.follow-requires
+follow-requires c = let few = stands-fences _ (λ k. k) c.args.events.now c.loop-index.index c.loop-index.invariant in omega arith
 
 pub loop-index-preserved : goal.loop-index-preserved
 unfolding event_at

@@ -1,6 +1,6 @@
 use Rattle.std.proofs.{Common.{◌≡◌, suc, ◌+◌, length, refl, sym, add-one, arith, Some}, lemmas.Option.{slice_get_read}}
 use Rattle.pmf_event.specs.Store.{event_at}
-use Rattle.pmf_shadow.proofs.StandsLemmas.{follows-within}
+use Rattle.pmf_shadow.proofs.StandsLemmas.{follows-within, stands-fences}
 use Rattle.pmf_txcheck.proofs.TrackLemmas.{follows-within as tracks-within}
 use Rattle.pmf_txcheck.proofs.tests.found_of.Goals as goal
 
@@ -9,6 +9,9 @@ loop-index-init g c = record {
   stands = c.new-shadow.ensures (λ k. k) c.args.events.now;
   tracks = c.new-state.ensures (λ k. k) c.args.events.now;
 }
+
+pub follow-requires : goal.follow-requires
+follow-requires g c = let few = stands-fences _ (λ k. k) c.args.events.now c.loop-index.index c.loop-index.invariant.stands in omega arith
 
 pub loop-index-preserved : goal.loop-index-preserved
 unfolding event_at
