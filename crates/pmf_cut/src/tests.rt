@@ -178,6 +178,6 @@ fn numbers_that_meet_and_a_faulty_log_are_refused(rt: HostRuntime) {
         ("FENCE||FLUSH;0", CutFault::Log(few)),
     ] {
         let found = cut(rt.alloc(), log.as_bytes(), 2, 2, 64, None).err();
-        assert!(rt; found == Some(want), "{log}");
+        assert_eq!(rt; found, Some(want));
     }
 }
