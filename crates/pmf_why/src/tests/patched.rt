@@ -85,7 +85,8 @@ fn a_log_is_refused_as_by_why(rt: HostRuntime) {
         },
         fault: EventFault::NoSection,
     };
-    assert!(rt; patch_text(rt.alloc(), LOG, asked_for(Some(7))) == Err(PatchRefusal::Why(missing)));
+    let refused = patch_text(rt.alloc(), LOG, asked_for(Some(7))).err();
+    assert_eq!(rt; refused, Some(PatchRefusal::Why(missing)));
     let faulty = patch_text(rt.alloc(), b"FLUSH;1", asked_for(Some(7)));
     assert!(rt;
         matches!(
