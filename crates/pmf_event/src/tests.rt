@@ -35,11 +35,11 @@ fn a_section_holds_its_events_in_order(rt: HostRuntime) -> Result<(), Fail> {
 fn a_section_takes_the_events_of_another_behind_its_own(rt: HostRuntime) -> Result<(), Fail> {
     let mut all = Section::new(rt.alloc(), FIRST);
     let mut section = Section::new(rt.alloc(), FIRST);
-    let mut first = 0;
+    let mut first: u64 = 0;
     for count in [2, 0, 3, 1] {
         let mut more = Section::new(rt.alloc(), Name { run: 7, number: 7 });
         for _ in 0..count {
-            first += 16;
+            first = first.wrapping_add(16);
             let event = Event::Ordered(Span::make(first, 1)?, Span::make(first + 8, 2)?);
             for event in [Event::Fence, event] {
                 all.push(event)?;
