@@ -308,6 +308,7 @@ try_join() {
     check 'a full device as standard output of join' full_output /dev/null join examples/shared_a.ledger
     check 'a full device as standard output of a merge' full_output /dev/null join --stream examples/shared_a.ledger
     check 'a full device as standard output of a merge on trust' full_output /dev/null join --stream --trust examples/shared_a.ledger
+    check 'a text line without an end is given up by join --stream' told 3 '' '' 'pmfarm: out of memory' join --stream /dev/zero
     check 'each request for memory of join --stream refused in turn' sweep examples/first.log join --stream examples/shared_{a,b}.ledger
     check 'each request for memory of join --stream --summary refused in turn' sweep examples/first.log join --stream --summary examples/shared_{a,b}.ledger
     check 'each request for memory of join --stream --workers 2 refused in turn' sweep_merge_by_workers
