@@ -22,6 +22,8 @@ import time
 PARTS = ("src", "specs", "proofs")
 # (as tools/sources passes over them)
 TESTS = re.compile(r"(^|/)(tests(/|\.rt$)|\w*_tests\.rt$)")
+# Lines that are a comment alone. Nothing is proved by them, and no string of the sources has such a line.
+COMMENTS = {".rt": re.compile(rb"(?m)^[ \t]*//.*\n?"), ".antt": re.compile(rb"(?m)^[ \t]*--(?!\S).*\n?")}
 TARGET = "x86_64-unknown-linux-gnu"
 GIGABYTE = 1_000_000_000
 # How much faster a proof is on so many processors.
@@ -90,7 +92,7 @@ def digest(*texts):
 
 
 class Sums:
-    """For each crate a sum of all that its proof rests on: the kit, its files, and all below."""
+    """For each crate a sum of all that its proof rests on: the kit, its files but for comments, and all below."""
 
     def __init__(self, crates, kit):
         self.crates, self.kit, self.known = crates, kit, {}
@@ -106,10 +108,15 @@ class Sums:
 
 
 def files(folder, *parts):
-    """The names and the bytes of the files in some parts of a folder, but for tests."""
+    """The names and the bytes of the files in some parts of a folder, but for tests and lines of comments."""
     found = [it for part in parts for it in sorted((folder / part).rglob("*")) if it.is_file()]
     named = [(str(it.relative_to(folder)), it) for it in found]
-    return [text for name, it in named if not TESTS.search(name) for text in (name, it.read_bytes())]
+    return [text for name, it in named if not TESTS.search(name) for text in (name, without_comments(it))]
+
+
+def without_comments(file):
+    data = file.read_bytes()
+    return COMMENTS[file.suffix].sub(b"", data) if file.suffix in COMMENTS else data
 
 
 class Kit:
