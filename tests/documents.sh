@@ -22,16 +22,16 @@ version_of_changelog() {
 
 # read_by_promises FOLDER: a copy of what tools/promises reads.
 read_by_promises() {
-    mkdir -p "$1/docs" && cp -r tools "$1" && cp docs/TRUST.md docs/DEFINITIONS.md docs/PROMISES.md "$1/docs" && cp crates.txt README.md "$1" &&
+    mkdir -p "$1/docs" && cp -r tools "$1" && cp docs/TRUST.md docs/PROMISES.md "$1/docs" && cp crates.txt README.md "$1" &&
         ln -sfn "$top/crates" "$1/crates"
 }
 
-# refused_by_promises FILE COMMAND TEXT: docs/PERSIST_PASS.md is not written where sed makes FILE so; in a copy.
+# refused_by_promises FILE COMMAND TEXT: docs/DEFINITIONS.md is not written where sed makes FILE so; in a copy.
 refused_by_promises() {
     local repo=$scratch/promises
     read_by_promises "$repo" && sed -i "$2" "$repo/$1" || return
     "$repo/tools/promises" >"$scratch/report" 2>"$scratch/diagnostics"
-    ended 1 $? && said "promises: $1: $3" "$scratch/diagnostics" && [ ! -e "$repo/docs/PERSIST_PASS.md" ]
+    ended 1 $? && said "promises: $1: $3" "$scratch/diagnostics" && [ ! -e "$repo/docs/DEFINITIONS.md" ]
 }
 
 # Each entry has a number one above that of the entry before, and its status below its title.
@@ -43,7 +43,7 @@ decisions_have_a_status() {
 
 # What a claim names has to be in the sources, and each file of definitions in the list.
 claims_are_of_the_sources() {
-    local claim='A section takes each event up to the 2^20th, and is unchanged by a refusal'
+    local claim='A section takes each event up to the 2^20th; a refusal leaves it unchanged'
     refused_by_promises docs/PROMISES.md 's/`Section::push`/`Section::pull`/' "$claim: no function Section::pull
 promises: docs/PROMISES.md: $claim: no clause ok
 promises: docs/PROMISES.md: $claim: no clause too_many
@@ -56,22 +56,21 @@ promises: docs/PROMISES.md: $claim: no clause unchanged" &&
             'pmf_event.specs.Line stands before pmf_event.specs.Span'
 }
 
-# What docs/PERSIST_PASS.md uses it names: each clause, each sign and name of std in a table, each definition that subtracts.
+# What docs/DEFINITIONS.md uses it names: each clause, each sign and name of std in a table, each definition that subtracts.
 the_page_is_whole() {
-    local page=tools/persist_pass.md
+    local page=tools/definitions.md
     refused_by_promises $page 's/clause sound of/clause sounds of/' 'no clause sounds of Verdict::rows in pmf_verdict' &&
         refused_by_promises $page 's/`unwrap_or o d`/`or o d`/' 'cut_of: `unwrap_or` is in no table of notation' &&
-        refused_by_promises $page 's/`pair.0`/`pair`/' 'value_of: `.0` is in no table of notation
-promises: tools/persist_pass.md: Ledger::report: `.0` is in no table of notation' &&
+        refused_by_promises $page 's/`pair.0`/`pair`/' 'value_of: `.0` is in no table of notation' &&
         refused_by_promises $page '/^| `-` in `floor_of`/d' 'floor_of: it is in no row of `-`'
 }
 
 # What tools/promises has written is fresh, and stale once it is another.
 a_stale_file_is_told() {
     local repo=$scratch/stale
-    read_by_promises "$repo" && "$repo/tools/promises" && "$repo/tools/promises" --check && echo >>"$repo/docs/PERSIST_PASS.md" || return
+    read_by_promises "$repo" && "$repo/tools/promises" && "$repo/tools/promises" --check && echo >>"$repo/docs/DEFINITIONS.md" || return
     "$repo/tools/promises" --check 2>"$scratch/diagnostics"
-    ended 1 $? && said 'promises: docs/PERSIST_PASS.md is stale; run tools/promises' "$scratch/diagnostics"
+    ended 1 $? && said 'promises: docs/DEFINITIONS.md is stale; run tools/promises' "$scratch/diagnostics"
 }
 
 # needs ENGINE: what has to be installed for it. Slurm and Grid Engine are played.
@@ -131,11 +130,16 @@ try_farms() {
 }
 
 try_documents() {
-    check 'the sessions of README.md and docs/GUIDE.md' tests/try-sessions "$program" README.md docs/GUIDE.md
+    check 'the sessions of README.md, docs/GUIDE.md and docs/FORMATS.md' tests/try-sessions "$program" README.md docs/GUIDE.md docs/FORMATS.md
+    check 'the rows of docs/FORMATS.md are those of the program and of tools/rows' tests/documented "$program" rows
+    check 'the fault lines of docs/FORMATS.md are those of the program' tests/documented "$program" faults
+    check 'the links of documents lead somewhere' tests/documented "$program" links
+    check 'the commands and tools that documents name are there, with their options' tests/documented "$program" commands
+    check 'what people have written has at most 30,000 words, and no turn that is ruled out' tests/documented "$program" words
     check 'each entry of docs/DECISIONS.md has a status' decisions_have_a_status
-    check 'docs/PROMISES.md names what is in the sources, and docs/PERSIST_PASS.md is fresh' tools/promises --check
+    check 'docs/PROMISES.md names what is in the sources, and docs/DEFINITIONS.md is fresh' tools/promises --check
     check 'tools/promises tells where it is stale' a_stale_file_is_told
-    check 'docs/PERSIST_PASS.md names all its notation' the_page_is_whole
+    check 'docs/DEFINITIONS.md names all its notation' the_page_is_whole
     check 'a claim names what is in the sources, and docs/TRUST.md each file of definitions' claims_are_of_the_sources
     check 'the man page and the completions have the options of help, and the program does what they tell' tests/flags
     check 'the version is that at the head of CHANGELOG.md' version_of_changelog

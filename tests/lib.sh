@@ -58,7 +58,8 @@ has() {
         'GNU parallel') parallel --version 2>/dev/null </dev/null | grep -q '^GNU parallel' ;;
         'Slurm with munge') has slurmctld && has slurmd && has munged && has sbatch ;;
         'a static C library') has cc && [[ $(cc -print-file-name=libc.a) = */* ]] ;;
-        'a static C library and a root by unshare') has 'a static C library' && unshare -r chroot / true 2>/dev/null ;;
+        'a root by unshare') unshare -r chroot / true 2>/dev/null ;;
+        'a static C library and a root by unshare') has 'a static C library' && has 'a root by unshare' ;;
         'buildah with a static busybox and C library')
             has buildah && has 'a static C library' && ! ldd "$(type -P busybox)" >/dev/null 2>&1 && has busybox
             ;;

@@ -9,9 +9,9 @@ sys.dont_write_bytecode = True
 HERE = pathlib.Path(__file__).resolve().parent
 
 
-def load(name):
-    """A script, whose name has no ending."""
-    loader = importlib.machinery.SourceFileLoader(name.replace("-", "_"), str(HERE / name))
+def load(name, folder=HERE):
+    """A script of this folder or another, whose name has no ending."""
+    loader = importlib.machinery.SourceFileLoader(name.replace("-", "_"), str(folder / name))
     made = importlib.util.module_from_spec(importlib.util.spec_from_loader(loader.name, loader))
     loader.exec_module(made)
     return made

@@ -342,6 +342,38 @@ static_alone() {
     ended 1 $? && same examples/two_sections.report "$scratch/report" && same /dev/null "$scratch/diagnostics"
 }
 
+# release_of WORD..: tools/release makes one file, which is unpacked as docs/GUIDE.md tells it, in an empty folder.
+release_of() {
+    local room=$scratch/release
+    rm -rf "$room" && mkdir "$room" && tools/release --no-build "$@" "$room" >"$scratch/report" 2>"$scratch/diagnostics" || return
+    [ "$(ls "$room")" = "$(sed 's|.*/||' "$scratch/report")" ] && sed -n '/pmfarm-\*/s/^    //p' docs/GUIDE.md >"$scratch/steps" &&
+        ended 2 "$(wc -l <"$scratch/steps")" && (cd "$room" && bash -e "$scratch/steps") >"$scratch/told" 2>"$scratch/diagnostics" &&
+        same /dev/null "$scratch/diagnostics" && tail -n 1 "$scratch/told" | same <("$program" --version) - || return
+    (cd "$room"/pmfarm-*/ && find . ! -type d | sed 's|^\./||' | grep -Ev '^(share/doc/|LICENSE|README.md$|SHA256SUMS$)') | are_installed &&
+        cmp LICENSE "$room"/pmfarm-*/LICENSE && cmp trace/LICENSE "$room"/pmfarm-*/LICENSE.tracer
+}
+
+# The same files give the same bytes, and a program that tells no commit is not released.
+releases() {
+    local first
+    is_built_from_sources || return 0
+    release_of && first=$(sha256sum <"$scratch"/release/*.gz) && release_of && [ "$(sha256sum <"$scratch"/release/*.gz)" = "$first" ] || return
+    tools/release --no-such "$scratch" >"$scratch/report" 2>"$scratch/diagnostics"
+    ended 2 $?
+}
+
+# In a root that has the C library and no other file: what is unpacked there checks a log.
+release_alone() {
+    local root=$scratch/unpacked file
+    is_built_from_sources || return 0
+    release_of && mkdir -p "$root" && cp -r "$scratch"/release/pmfarm-*/bin "$root" || return
+    while read -r file; do
+        mkdir -p "$root${file%/*}" && cp -L "$file" "$root$file" || return
+    done < <(ldd "$program" | grep -Eo '/[^ ]+')
+    unshare -r chroot "$root" /bin/pmfarm check --workers 4 <examples/two_sections.log >"$scratch/report" 2>"$scratch/diagnostics"
+    ended 1 $? && same examples/two_sections.report "$scratch/report" && same /dev/null "$scratch/diagnostics"
+}
+
 # The tools are installed below a prefix, which is then moved. `alone` calls one from an empty folder, with next to no environment.
 installs_tools() {
     mkdir "$scratch/empty" && tools/install --no-build "$scratch/first prefix" >"$scratch/report" 2>"$scratch/diagnostics" &&
@@ -465,6 +497,8 @@ try_tools() {
     check 'tools/install builds the program first' installs_what_it_builds
     check_by 'a static C library' 'tools/install --static installs a program that needs no C library, and answers the same' installs_static
     check_by 'a static C library and a root by unshare' 'the static program alone in an empty root' static_alone
+    check 'tools/release makes a file that is unpacked as told, the same each time' releases
+    check_by 'a root by unshare' 'what is released checks a log in a root that has the C library alone' release_alone
     check 'tools/install installs the tools, below a prefix that is then moved' installs_tools
     check 'the installed pmfarm-rows finds the installed program' installed_rows
     check 'the installed pmfarm-page writes a page' installed_page

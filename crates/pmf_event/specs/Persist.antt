@@ -1,8 +1,10 @@
 -- What a persist assertion finds (PMTest, ASPLOS 2019: isPersist). EMPTY and the least byte are defined here.
+-- (E and T of the examples: docs/DEFINITIONS.md)
 use Rattle.std.specs.Prelude.{ℕ, Bool, not, ◌&&◌, nat_lt, List, Option, None, Some, is_none, if◌then◌else◌}
 use Rattle.pmf_event.specs.{declared.event.Event.{Event}, declared.finding.Finding.{Finding}, declared.finding.Finding.TheVariants.{PersistPass, PersistFail, PersistEmpty}, Span.{Extent}, Ranges.{first_byte}, Store.{last_store}, Interval.{interval_at, is_open}, Exclusion.{is_excluded}}
 
 -- whether byte b is checked at p: a store up to p covers it, and it is not excluded
+-- on E: at 6 0x1000 is, and 0x1010 is not
 unfoldable pub is_checked : List Event → ℕ → ℕ → Bool
 is_checked es p b = nat_lt 0 (last_store es p b) && not (is_excluded es p b)
 

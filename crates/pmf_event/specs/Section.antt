@@ -3,6 +3,7 @@ use Rattle.std.specs.Prelude.{List}
 use Rattle.pmf_event.specs.{declared.name.Name.{Name}, declared.event.Event.{Event}, declared.event.Event.TheVariants.{Store, Flush, Persist, Ordered, Exclude, Include, TxAdd}, Span.{IsValidExtent}}
 
 -- the name of a section, and its events by their places
+-- example: section 0.0 with the events of E
 pub record Trace : Type 0 where
   pub name : Name
   pub events : List Event

@@ -1,8 +1,10 @@
 -- Spans of bytes: the first address and how many bytes. The limits are the project's own.
+-- (E and T of the examples: docs/DEFINITIONS.md)
 use Rattle.std.specs.Prelude.{ℕ, ◌≡◌, length, get_or, ◌+◌, ◌<◌, ◌≤◌, Bool, nat_lt, nat_le, ◌&&◌, ◌==◌, List, codes, Result, Ok, Err, if◌then◌else◌}
 use Rattle.pmf_event.specs.declared.span.{TheConstants.{SPAN_LIMIT, ADDRESS_LIMIT}, SpanFault.{SpanFault}, SpanFault.TheVariants.{ZeroSize, TooLarge, PastEnd}}
 
 -- a span as a value: the address of its first byte, and how many bytes it has
+-- on E: that of event 1 is from 0x1000 on, 8 bytes
 pub record Extent : Type 0 where
   pub first : ℕ
   pub size : ℕ
@@ -33,5 +35,6 @@ words_of_fault TooLarge = codes "size is too large"
 words_of_fault PastEnd = codes "range ends past 2^63"
 
 -- whether the byte is one of the span's
+-- on E: the span of event 1 covers 0x1007, and not 0x1008
 abbrev pub covers_byte : Extent → ℕ → Bool
 covers_byte s b = nat_le s.first b && nat_lt b (s.first + s.size)

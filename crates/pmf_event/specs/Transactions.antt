@@ -2,30 +2,36 @@
 -- transactions, TX_CHECKER_START to TX_CHECKER_END). Nesting, the order of the findings and misplaced
 -- markers are defined here. "At p" means after the first p events; what is found of an event is said of
 -- the place p before it.
+-- (E and T of the examples: docs/DEFINITIONS.md)
 use Rattle.std.specs.Prelude.{ℕ, suc, ◌-◌, Bool, false, true, not, ◌&&◌, nat_lt, List, Option, None, Some, if◌then◌else◌}
 use Rattle.pmf_event.specs.{declared.event.Event.{Event}, declared.event.Event.TheVariants.{TxBegin, TxAdd, TxEnd, CheckStart, CheckEnd}, declared.finding.Finding.{Finding}, declared.finding.Finding.TheVariants.{NoBackup, DupLog, CheckPass, CheckFail, TxStillOpen, Unmatched, Outside, Nested, Unopened, Unclosed}, declared.span.TheConstants.{ADDRESS_LIMIT}, Span.{Extent, covers_byte}, Places.{greatest, least, count, highest}, Ranges.{first_from, first_byte}, Store.{at, stores, last}, Interval.{interval_at, is_open}, Exclusion.{is_included}}
 
 -- ---- depth
 
 -- whether the event begins a transaction
+-- on T: event 2 does
 unfoldable pub begins : Event → Bool
 begins TxBegin = true
 begins _ = false
 
 -- whether the event ends a transaction
+-- on T: event 5 does
 unfoldable pub ends : Event → Bool
 ends TxEnd = true
 ends _ = false
 
 -- by how many the begins exceed the ends after place q, up to p; 0 where they don't
+-- on T: from 1 to 4 it is 1, from 4 to 5 it is 0
 unfoldable pub rise : List Event → ℕ → ℕ → ℕ
 rise es p q = (count (at begins es) p - count (at begins es) q) - (count (at ends es) p - count (at ends es) q)
 
 -- the depth at p, how many transactions run: the highest rise from any place up to p
+-- on T: at 1 it is 0, from 2 to 4 it is 1, at 5 it is 0
 unfoldable pub depth_at : List Event → ℕ → ℕ
 depth_at es p = highest (rise es p) p
 
 -- whether a transaction runs at p
+-- on T: from 2 to 4
 unfoldable pub in_transaction : List Event → ℕ → Bool
 in_transaction es p = nat_lt 0 (depth_at es p)
 
@@ -48,33 +54,40 @@ is_backed es p b = nat_lt (greatest (is_outside es) p) (last (adds b) es p - 1)
 -- ---- the scope
 
 -- whether the event is a CHECKSTART
+-- on T: event 1 is
 unfoldable pub opens_scope : Event → Bool
 opens_scope CheckStart = true
 opens_scope _ = false
 
 -- whether the event is a CHECKEND
+-- on T: event 6 is
 unfoldable pub closes_scope : Event → Bool
 closes_scope CheckEnd = true
 closes_scope _ = false
 
 -- whether place j is a CHECKSTART, after place k
+-- on T: place 1 is, after place 0
 unfoldable pub opens_after : List Event → ℕ → ℕ → Bool
 opens_after es k j = nat_lt k j && at opens_scope es j
 
 -- the place that opened the scope at p, the first CHECKSTART after the last CHECKEND, or 0 without a
 -- scope
+-- on T: from 1 to 5 it is 1, at 6 it is 0
 unfoldable pub scope_at : List Event → ℕ → ℕ
 scope_at es p = least (opens_after es (last closes_scope es p)) p
 
 -- whether there is a scope at p
+-- on T: from 1 to 5
 unfoldable pub in_scope : List Event → ℕ → Bool
 in_scope es p = nat_lt 0 (scope_at es p)
 
 -- whether place j is a store of byte b, in a transaction
+-- on T: place 4 is, of 0x1000 to 0x100f
 unfoldable pub stores_inside : List Event → ℕ → ℕ → Bool
 stores_inside es b j = at (stores b) es j && in_transaction es j
 
 -- whether byte b is one of the scope's at p: such a store of it follows the place that opened the scope
+-- on T: 0x1000 to 0x100f are at 4 and 5
 unfoldable pub is_scoped : List Event → ℕ → ℕ → Bool
 is_scoped es p b = in_scope es p && nat_lt (scope_at es p) (greatest (stores_inside es b) p)
 

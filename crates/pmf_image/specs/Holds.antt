@@ -1,12 +1,14 @@
 -- When an assertion holds: in every crash image that the rules allow, at every crash that it speaks of.
 -- The premises: the events are all of one thread's stores, write-backs and fences on its lines, from
 -- durable memory on, no other thread writes those lines meanwhile, and the hardware keeps the rules.
+-- (E and T of the examples: docs/DEFINITIONS.md)
 use Rattle.std.specs.Prelude.{◌≡◌, ℕ, ◌-◌, ◌<◌, ◌≤◌, true, List, length, Option, Some}
 use Rattle.pmf_event.specs.{declared.event.Event.{Event}, declared.event.Event.TheVariants.{Persist, Ordered, CheckEnd}, declared.span.TheConstants.{ADDRESS_LIMIT}, Span.{Extent, covers_byte}, Store.{event_at, last_store}, Persist.{is_checked}, Exclusion.{is_included}, Transactions.{is_scoped}}
 use Rattle.pmf_image.specs.Image.{Image, IsAllowed, shows}
 
 -- a persist assertion over the span holds at p: wherever a crash comes from p to the end of the section,
 -- whatever image is allowed there, each checked byte shows its last store at p or a later one
+-- on E: at 5 that over 0x1000 holds, and at 6 that over 0x1008 does not
 abbrev pub PersistHolds : List Event → ℕ → Extent → Type 0
 PersistHolds es p s =
     (n : ℕ) → p ≤ n → n ≤ length es → (image : Image) → IsAllowed es n image →
@@ -15,6 +17,7 @@ PersistHolds es p s =
 -- an order assertion over the two spans holds at p: wherever a crash comes up to p, whatever image is
 -- allowed there, where a checked byte of the second span shows its last store at p, so does each checked
 -- byte of the first
+-- on E: at 6 that over 0x1000 and 0x1008, 8 bytes each, holds; with the spans exchanged it does not
 abbrev pub OrderedHolds : List Event → ℕ → Extent → Extent → Type 0
 OrderedHolds es p a b =
     (n : ℕ) → n ≤ p → (image : Image) → IsAllowed es n image →
@@ -23,6 +26,7 @@ OrderedHolds es p a b =
 
 -- a CHECKEND at p holds: as a persist assertion over the included bytes of the scope that it closes. No
 -- span, and so no byte of a scope, lies at or above the limit of addresses
+-- on T: that at 6 does not, since nothing is written back
 abbrev pub ScopeHolds : List Event → ℕ → Type 0
 ScopeHolds es p =
     (n : ℕ) → p ≤ n → n ≤ length es → (image : Image) → IsAllowed es n image →

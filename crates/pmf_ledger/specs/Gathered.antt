@@ -5,14 +5,17 @@ use Rattle.pmf_verdict.specs.Checked.{Checked, checked_by}
 use Rattle.pmf_ledger.specs.{LedgerValue.{LedgerValue}, Names.{IsBefore, Rises}}
 
 -- the section is among those of the ledger
+-- example: profile One with section 0.0 holds that section
 abbrev pub Holds : LedgerValue → Trace → Type 0
 Holds ledger s = Contains ledger.sections (checked_by ledger.profile s)
 
 -- the section's name is held with other events
+-- example: a ledger with section 0.0 of the events of E does, of a section 0.0 with those of T
 abbrev pub HoldsOther : LedgerValue → Trace → Type 0
 HoldsOther ledger s = (t : Trace) × Holds ledger t × (t.name ≡ s.name) × (t ≢ s)
 
 -- the ledger of a set by a profile: each of its sections once, checked by the profile, in the order of their names
+-- example: the ledger with section 0.0 is that of the set with 0.0, also if the set has it twice
 pub record IsLedgerOf (profile : Profile) (set : List Trace) (ledger : LedgerValue) : Type 0 where
   pub profile_is : ledger.profile ≡ profile
   pub checked : All (λ (c : Checked). c.profile ≡ profile) ledger.sections
@@ -30,14 +33,17 @@ pub record Unites (a b new : LedgerValue) : Type 0 where
   pub holds : (s : Trace) → Holds new s ↔ (Holds a s ⊎ Holds b s)
 
 -- of whatever set the old ledger is, the new one is the ledger of that set with the section
+-- example: a ledger of 0.0 becomes with 0.1 the ledger of both, and stays with 0.0 once more
 abbrev pub Gathers : LedgerValue → Trace → LedgerValue → Type 0
 Gathers old section new = (set : List Trace) → IsLedgerOf old.profile set old → IsLedgerOf old.profile (section ∷ set) new
 
 -- of whatever sets the two are, by one profile, the new one is the ledger of their union
+-- example: those of 0.0 and 0.1, and of 0.1 and 1.0, become that of the three
 abbrev pub GathersBoth : LedgerValue → LedgerValue → LedgerValue → Type 0
 GathersBoth a b new = (xs ys : List Trace) → IsLedgerOf a.profile xs a → IsLedgerOf a.profile ys b → IsLedgerOf a.profile (xs ++ ys) new
 
 -- the name is held by both, with other events
+-- example: two ledgers whose sections 0.0 differ do at 0.0
 abbrev pub ClashesAt : LedgerValue → LedgerValue → Name → Type 0
 ClashesAt a b name = (s : Trace) × (t : Trace) × Holds a s × Holds b t × (s.name ≡ name) × (t.name ≡ name) × (s ≢ t)
 

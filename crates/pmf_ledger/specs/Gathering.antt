@@ -5,6 +5,7 @@ use Rattle.pmf_verdict.specs.Checked.{Checked}
 use Rattle.pmf_ledger.specs.{Gathered.{ClashesAt, Gathers, GathersBoth, HoldsOther, IsLedgerOf}, LedgerValue.{LedgerValue}}
 
 -- a set of sections agrees: equal names have equal events
+-- example: one with two different sections 0.0 does not
 abbrev pub Agrees : List Trace → Type 0
 Agrees set = (s t : Trace) → Contains set s → Contains set t → s.name ≡ t.name → s ≡ t
 
@@ -13,32 +14,38 @@ abbrev pub HaveSameMembers : List Trace → List Trace → Type 0
 HaveSameMembers xs ys = (s : Trace) → Contains xs s ↔ Contains ys s
 
 -- a gathering: begun by a profile, one with a verdict more, or two joined. A repeat is taken like any other
+-- example: `Joined (Begun One) (WithVerdict (Begun One) c)`
 pub data Gathering : Type 0 where
   Begun : Profile → Gathering
   WithVerdict : Gathering → Checked → Gathering
   Joined : Gathering → Gathering → Gathering
 
 -- the sections that were gathered, repeats and all
+-- example: of that gathering it is the section of c
 unfoldable pub set_of : Gathering → List Trace
 set_of (Begun profile) = []
 set_of (WithVerdict gathering verdict) = verdict.section ∷ set_of gathering
 set_of (Joined first second) = set_of first ++ set_of second
 
 -- each profile that occurs is this one
+-- example: that gathering is by One if c is
 unfoldable pub IsBy : Profile → Gathering → Type 0
 IsBy profile (Begun own) = own ≡ profile
 IsBy profile (WithVerdict gathering verdict) = IsBy profile gathering × (verdict.profile ≡ profile)
 IsBy profile (Joined first second) = IsBy profile first × IsBy profile second
 
 -- why a ledger refuses a verdict, want of memory aside
+-- example: a verdict by Two is refused by a ledger by One
 abbrev pub RefusesVerdict : LedgerValue → Checked → Type 0
 RefusesVerdict ledger verdict = (verdict.profile ≢ ledger.profile) ⊎ HoldsOther ledger verdict.section
 
 -- why two ledgers are not joined, want of memory aside
+-- example: a ledger by One and one by Two are not joined
 abbrev pub RefusesJoin : LedgerValue → LedgerValue → Type 0
 RefusesJoin a b = (a.profile ≢ b.profile) ⊎ ((name : Name) × ClashesAt a b name)
 
 -- the gathering can give this ledger, each step being what `new`, `take` and `join` say of an Ok
+-- example: that gathering gives the ledger with the section of c alone
 unfoldable pub Gives : Gathering → LedgerValue → Type 0
 Gives (Begun profile) ledger = ledger ≡ record { profile = profile; sections = [] }
 Gives (WithVerdict gathering verdict) ledger =
@@ -54,6 +61,7 @@ IsRefused (Joined first second) =
     (IsRefused first ⊎ IsRefused second) ⊎ ((a : LedgerValue) × (b : LedgerValue) × Gives first a × Gives second b × RefusesJoin a b)
 
 -- what every gathering gives is the ledger of its set, and then the set agrees and there is one profile
+-- example: and this is the ledger of its set
 abbrev pub GivesItsLedger : Type 0
 GivesItsLedger = (gathering : Gathering) (ledger : LedgerValue) → Gives gathering ledger →
     IsLedgerOf ledger.profile (set_of gathering) ledger × Agrees (set_of gathering) × IsBy ledger.profile gathering

@@ -1,5 +1,6 @@
 -- The rows of a section: what the checker says of each event, in the order of the events, and then of the
 -- section's end.
+-- (E and T of the examples: docs/DEFINITIONS.md)
 use Rattle.std.specs.Prelude.{ℕ, zero, suc, ◌-◌, List, [], ◌∷◌, ◌++◌, map, length, Option, Some}
 use Rattle.pmf_event.specs.{declared.event.Event.{Event}, declared.event.Event.TheVariants.{Store, Flush, Persist, Ordered, TxAdd, TxEnd, CheckStart, CheckEnd}, declared.finding.Finding.{Finding}, declared.profile.Profile.{Profile}, declared.row.Row.{Row}, Store.{event_at}, Persist.{persist_finding}, Order.{ordered_finding}, FlushWarnings.{flush_findings, if_any}, Transactions.{store_finding, add_finding, end_finding, start_finding, check_finding, close_finding}}
 
@@ -17,6 +18,7 @@ findings_of profile es p (Some CheckEnd) = check_finding es (p - 1) ∷ []
 findings_of profile es p _ = []
 
 -- the row that says a finding at place p
+-- on E: `5 PERSIST PASS` is `row_at 5 PersistPass`
 abbrev pub row_at : ℕ → Finding → Row
 row_at p finding = record { place = p; finding = finding }
 
