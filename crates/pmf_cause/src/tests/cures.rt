@@ -18,8 +18,10 @@ fn cure_of(alloc: Global, steps: &[Step]) -> Result<(Vec<Edit>, bool), Fail> {
     let events = events_of(alloc, steps)?;
     let verdict = verdict_of(alloc, &events, Profile::One)?;
     let mut index = 0;
-    while index + 1 < verdict.rows().len() && !is_bad(verdict.rows()[index].finding) {
-        index += 1;
+    for at in (0..verdict.rows().len()).rev() {
+        if is_bad(verdict.rows()[at].finding) {
+            index = at;
+        }
     }
     let place = match verdict.rows().get(index) {
         Some(row) => row.place,
@@ -181,7 +183,7 @@ fn event_of(numbers: &mut Numbers) -> Result<Event, SpanFault> {
 fn what_is_proposed_for_random_rows_cures_them(rt: HostRuntime) -> Result<(), Fail> {
     let alloc = rt.alloc();
     let mut numbers = Numbers::of(36);
-    let (mut tried, mut cured) = (0u32, 0u32);
+    let (mut tried, mut cured) = (0u64, 0u64);
     for _section in 0..300 {
         let mut events = Vec::new(alloc);
         for _event in 0..4 + numbers.below(30) {
@@ -205,9 +207,9 @@ fn what_is_proposed_for_random_rows_cures_them(rt: HostRuntime) -> Result<(), Fa
             if edits.is_empty() {
                 continue;
             }
-            tried += 1;
+            tried = tried.wrapping_add(1);
             match try_edits(alloc, &verdict, &edits)? {
-                Some(trial) if trial.is_cured(row.place) => cured += 1,
+                Some(trial) if trial.is_cured(row.place) => cured = cured.wrapping_add(1),
                 _ => assert!(rt; false, "{events:?}: {row:?} by {edits:?}"),
             }
         }

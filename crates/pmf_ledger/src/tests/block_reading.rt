@@ -23,7 +23,11 @@ fn read_all(alloc: Global, text: &[u8], most: usize) -> Result<Read, Fail> {
     let mut names = Vec::new(alloc);
     let mut refused = None;
     let mut rest = text;
-    while !rest.is_empty() {
+    // Each turn takes a byte or hands out a block.
+    for _turn in 0..text.len().saturating_mul(2) {
+        if rest.is_empty() {
+            break;
+        }
         let piece = &rest[..most.min(rest.len())];
         match reader.feed(alloc, piece) {
             Ok(fed) => {
