@@ -21,14 +21,14 @@ pub data Gathering : Type 0 where
   Joined : Gathering → Gathering → Gathering
 
 -- the sections that were gathered, repeats and all
--- example: of that gathering it is the section of c
+-- example: of `WithVerdict (Begun One) c` it is the section of c
 unfoldable pub set_of : Gathering → List Trace
 set_of (Begun profile) = []
 set_of (WithVerdict gathering verdict) = verdict.section ∷ set_of gathering
 set_of (Joined first second) = set_of first ++ set_of second
 
 -- each profile that occurs is this one
--- example: that gathering is by One if c is
+-- example: `WithVerdict (Begun One) c` is by One if c is
 unfoldable pub IsBy : Profile → Gathering → Type 0
 IsBy profile (Begun own) = own ≡ profile
 IsBy profile (WithVerdict gathering verdict) = IsBy profile gathering × (verdict.profile ≡ profile)
@@ -45,7 +45,7 @@ abbrev pub RefusesJoin : LedgerValue → LedgerValue → Type 0
 RefusesJoin a b = (a.profile ≢ b.profile) ⊎ ((name : Name) × ClashesAt a b name)
 
 -- the gathering can give this ledger, each step being what `new`, `take` and `join` say of an Ok
--- example: that gathering gives the ledger with the section of c alone
+-- example: if c is by One, `Joined (Begun One) (WithVerdict (Begun One) c)` gives the ledger by One with the section of c alone
 unfoldable pub Gives : Gathering → LedgerValue → Type 0
 Gives (Begun profile) ledger = ledger ≡ record { profile = profile; sections = [] }
 Gives (WithVerdict gathering verdict) ledger =
@@ -61,7 +61,7 @@ IsRefused (Joined first second) =
     (IsRefused first ⊎ IsRefused second) ⊎ ((a : LedgerValue) × (b : LedgerValue) × Gives first a × Gives second b × RefusesJoin a b)
 
 -- what every gathering gives is the ledger of its set, and then the set agrees and there is one profile
--- example: and this is the ledger of its set
+-- example: that ledger is the one of the set with the section of c
 abbrev pub GivesItsLedger : Type 0
 GivesItsLedger = (gathering : Gathering) (ledger : LedgerValue) → Gives gathering ledger →
     IsLedgerOf ledger.profile (set_of gathering) ledger × Agrees (set_of gathering) × IsBy ledger.profile gathering
