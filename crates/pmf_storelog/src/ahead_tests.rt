@@ -1,4 +1,4 @@
-//! Parts of a piece that are read before their turn.
+//! Parts of a piece that are read before their turn. Where memory is refused, less of them is read.
 
 use super::*;
 use std::test::Fail;
@@ -6,7 +6,7 @@ use std::test::Fail;
 const PIECE: &[u8] = b"FLUSH;64;64\r\n x |\tFENCE|PMT.SECTION;2|FENCE|FENCE|PMT.SECTION;0|FENCE";
 
 #[test]
-fn stretches_end_at_markers_and_faults(rt: HostRuntime) {
+fn stretches_end_at_markers_and_faults_with_ample_memory(rt: HostRuntime) {
     let mut part = Ahead::new(rt.alloc(), 0, PIECE.len());
     part.read(rt.alloc(), PIECE);
     assert_eq!(rt; part.stretches.len(), 3);
@@ -16,7 +16,7 @@ fn stretches_end_at_markers_and_faults(rt: HostRuntime) {
 }
 
 #[test]
-fn short_stretches_are_given_up(rt: HostRuntime) -> Result<(), Fail> {
+fn short_stretches_are_given_up_with_ample_memory(rt: HostRuntime) -> Result<(), Fail> {
     for (count, want) in [(60, false), (70, true)] {
         let mut piece = Vec::new(rt.alloc());
         for _ in 0..count {
