@@ -275,6 +275,7 @@ installed() {
             "share/man/man1/$name.1" "share/pmfarm/${name/pmfarm-/tools/}" "share/zsh/site-functions/_$name"
     done
     find tools/pictures.py trace -type f | sed 's|^|share/pmfarm/|'
+    echo share/pmfarm/include/pmfarm_markers.h
 }
 
 # are_installed: standard input names these, in any order.
@@ -451,7 +452,7 @@ well_formed() {
 # The program is built by ./pmfarm, here a script that plays it; words that are wrong are refused, and so is a build that fails.
 installs_what_it_builds() {
     local repo=$scratch/repo words
-    mkdir -p "$repo" && cp -r tools man completions trace "$repo" && cat >"$repo/pmfarm" <<'SH' || return
+    mkdir -p "$repo" && cp -r tools man completions trace examples "$repo" && cat >"$repo/pmfarm" <<'SH' || return
 #!/bin/sh
 top=${0%/*} && mkdir -p "$top/crates/pmfarm/out" && echo built >"$top/crates/pmfarm/out/pmfarm" && chmod +x "$top/crates/pmfarm/out/pmfarm"
 SH

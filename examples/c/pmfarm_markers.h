@@ -1,7 +1,7 @@
 /* Markers of pmfarm for a program in C or C++. docs/GUIDE.md tells how to use them.
  *
- * Under pmemcheck (where <valgrind/pmemcheck.h> is there, or by -DPMFARM_VALGRIND=1) a marker is a record of pmemcheck's store
- * log; stores, write-backs and fences are seen by pmemcheck itself. Else (or by -DPMFARM_VALGRIND=0) the program tells these too,
+ * Under tools/trace or pmemcheck (where <valgrind/pmemcheck.h> is there, as in trace/include, or by -DPMFARM_VALGRIND=1) a marker is a
+ * record of that tool's log, which sees stores, write-backs and fences by itself. Else (or by -DPMFARM_VALGRIND=0) the program tells these too,
  * and all records go to the FILE * that PMFARM_FILE names, standard output if nothing does.
  *
  * Define before the include, where wanted:
@@ -9,7 +9,7 @@
  *   PMFARM_ADDRESS(p)   the number that stands for a pointer in the records, so that each run has the same
  *   PMFARM_OF_THREAD    the number of this thread's section, told before each record, so that threads may share the file;
  *                       PMFARM_SECTION, which the next record would undo, is refused then by the compiler
- * PMFARM_ADDRESS and PMFARM_OF_THREAD are not for pmemcheck: it writes true addresses, and does not tell its threads apart. */
+ * PMFARM_ADDRESS and PMFARM_OF_THREAD are not for these tools, which write true addresses; pmemcheck does not tell its threads apart. */
 #ifndef PMFARM_MARKERS_H
 #define PMFARM_MARKERS_H
 
