@@ -5,7 +5,8 @@
 #
 # Ends with 0 where all ledgers were joined, whatever their rows are, and where there is none: each run had its own verdict.
 set -u
-[ -e "$1" ] || exit 0
+rm -f day.report
+[ -e "${1-}" ] || exit 0
 pmfarm join "$@" >day.report
 status=$?
 [ "$status" -le 1 ] || exit "$status"
