@@ -66,6 +66,16 @@ ci_warns_and_refuses() {
         said 'rows: known.json: No such file or directory' "$scratch/diagnostics"
 }
 
+# Where another test runs, or was killed, there is no verdict; a child whose log fails has the test fail.
+ci_is_alone_and_sees_children() {
+    local running='ci.sh: another ci.sh runs here, or was killed and left pmfarm.out/running'
+    ci_project && mkdir -p "$project/pmfarm.out/running" && in_ci 4 "$top/examples/traced_append.log" ./ci.sh 7 true &&
+        said "$running" "$scratch/diagnostics" && rmdir "$project/pmfarm.out/running" && in_ci 2 '' ./ci.sh 7 || return
+    in_ci 1 "$top/examples/traced_append.log" ./ci.sh 7 cp "$missing_fence.log" pmfarm.out/store.log.436 &&
+        cut -d ' ' -f 1-4 "$scratch/rows" | said $'7.0 5 ORDERED FAIL\n7.0 14 ORDERED FAIL\n7.0 23 ORDERED FAIL' - &&
+        [ ! -e "$project/pmfarm.out/running" ] && in_ci 0 "$top/examples/traced_append.log" ./ci.sh 7 true
+}
+
 day='total sections=2 pass=17 fail=3 warn=0 empty=0
 7.0 5 ORDERED FAIL byte=0x10040 after=0x10000 crash=4
 7.0 14 ORDERED FAIL byte=0x10058 after=0x10000 crash=13
@@ -172,6 +182,7 @@ try_ci() {
     check 'ci.sh leaves what a CI system shows and keeps' ci_passes
     check 'ci.sh fails where a failure is new' ci_fails_but_for_what_is_known
     check 'ci.sh fails where check warns, and where there is no verdict' ci_warns_and_refuses
+    check 'ci.sh runs alone, and checks the logs of child processes' ci_is_alone_and_sees_children
     check 'ci-day.sh joins the ledgers of a day' ci_joins_a_day
     check_by 'a YAML parser for Python' 'the night of GitHub, played' ci_night_of_github
     check_by jq 'the night of GitLab, played' ci_night_of_gitlab
