@@ -85,13 +85,13 @@ fn all_rows_are_explained_as_each_alone(rt: HostRuntime) -> Result<(), Fail> {
     }
     let log = log.as_bytes();
     let mut want = Vec::new(rt.alloc());
-    let mut images = 0;
+    let mut images: u64 = 0;
     for place in 1..=120 {
         let alone = explain_text(rt.alloc(), log, 9, 0, place, Profile::Two)?;
         if !alone.as_slice().ends_with(b"no image\n") {
             want.extend_from_slice(b"section 9.0\n")?;
             want.extend_from_slice(alone.as_slice())?;
-            images += 1;
+            images = images.wrapping_add(1);
         }
     }
     let mut all = ByteSink::new(rt.alloc());
