@@ -37,8 +37,9 @@ fn an_event_stands_where_its_record_does(rt: HostRuntime) {
         (2, 0, no_section),
     ];
     for (section, event, want) in cases {
-        assert!(rt;
-            place_of(rt.alloc(), TURNS, section, event) == want,
+        assert_eq!(rt;
+            place_of(rt.alloc(), TURNS, section, event),
+            want,
             "at {section} {event}"
         );
     }
@@ -51,7 +52,7 @@ fn a_fault_of_the_log_comes_first(rt: HostRuntime) {
         cause: Cause::TooFewFields,
     };
     let want = Err(EventFault::Log(fault));
-    assert!(rt; place_of(rt.alloc(), b"FENCE|FLUSH;1", 0, 1) == want);
+    assert_eq!(rt; place_of(rt.alloc(), b"FENCE|FLUSH;1", 0, 1), want);
 }
 
 #[test]
@@ -79,8 +80,9 @@ fn all_events_stand_where_each_does(rt: HostRuntime) -> Result<(), Fail> {
         for (index, located) in found.iter().enumerate() {
             let event = index as u32 + 1;
             let want = place_of(rt.alloc(), TURNS, section, event);
-            assert!(rt;
-                want == Ok((located.record, located.offset, located.text)),
+            assert_eq!(rt;
+                want,
+                Ok((located.record, located.offset, located.text)),
                 "at {section} {event}"
             );
         }
