@@ -73,7 +73,7 @@ ci_is_alone_and_sees_children() {
         said "$running" "$scratch/diagnostics" && rmdir "$project/pmfarm.out/running" && in_ci 2 '' ./ci.sh 7 || return
     in_ci 1 "$top/examples/traced_append.log" ./ci.sh 7 cp "$missing_fence.log" pmfarm.out/store.log.436 &&
         cut -d ' ' -f 1-4 "$scratch/rows" | said $'7.0 5 ORDERED FAIL\n7.0 14 ORDERED FAIL\n7.0 23 ORDERED FAIL' - &&
-        [ ! -e "$project/pmfarm.out/running" ] && in_ci 0 "$top/examples/traced_append.log" ./ci.sh 7 true
+        [ ! -e "$project/pmfarm.out/running" ] && in_ci 1 "$missing_fence.log" ./ci.sh 7 cp "$top/examples/traced_append.log" pmfarm.out/store.log.436 && in_ci 0 "$top/examples/traced_append.log" ./ci.sh 7 true
 }
 
 day='total sections=2 pass=17 fail=3 warn=0 empty=0

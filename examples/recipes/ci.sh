@@ -8,11 +8,11 @@
 # a log of its own, which is checked, too. Ends with 1 where a failure is new or `check` warns, with the status of the program where that
 # fails, with 2 and above where there is no verdict, and else with 0.
 set -u
-[ $# -ge 2 ] || { echo 'usage: ci.sh RUN PROGRAM [ARG..]' >&2 && exit 2; }
+[ $# -ge 2 ] || { echo 'usage: ci.sh RUN PROGRAM [ARG..]' >&2; exit 2; }
 run=$1 out=pmfarm.out
 shift
 mkdir -p "$out" || exit 4
-mkdir "$out/running" 2>/dev/null || { echo "ci.sh: another ci.sh runs here, or was killed and left $out/running" >&2 && exit 4; }
+mkdir "$out/running" 2>/dev/null || { echo "ci.sh: another ci.sh runs here, or was killed and left $out/running" >&2; exit 4; }
 trap 'rmdir "$out/running"' EXIT
 rm -f "$out"/*.ledger "$out"/store.* || exit 4
 
@@ -21,17 +21,16 @@ rows() {
     pmfarm-rows --log "$out/store.log" --source-root . --baseline known.json --format "$@" "$out/store.report"
 }
 
-# children: checks the logs of child processes, and writes the rows that fail. The status is the greatest of them.
+# children: checks the logs of child processes, and writes the rows that fail. `worst` is the greatest of their statuses.
 children() {
     worst=0
     for log in "$out"/store.log.*; do
         [ -e "$log" ] || continue
         pmfarm check --run "$run" "$log" >"$log.report"
-        status=$?
-        [ "$status" -gt 1 ] || pmfarm-rows --fail "$log.report"
-        [ "$status" -le "$worst" ] || worst=$status
+        child=$?
+        [ "$child" -gt 1 ] || pmfarm-rows --fail "$log.report"
+        [ "$child" -le "$worst" ] || worst=$child
     done
-    return "$worst"
 }
 
 # (a machine of CI has no persistent memory: files here stand for it)
@@ -53,6 +52,7 @@ else
 fi
 status=$?
 [ "$status" -ne 1 ] || pmfarm why --run "$run" "$out/store.log" >&2
-children || { forked=$? && [ "$forked" -le "$status" ] || status=$forked; }
+children
+[ "$worst" -le "$status" ] || status=$worst
 [ "$status" -ne 0 ] || ! grep -q '^pmfarm: warning: ' "$out/store.warnings" || status=1
 exit "$status"
