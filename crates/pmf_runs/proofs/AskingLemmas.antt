@@ -1,4 +1,5 @@
 -- Walks over the elements of a range, and what a question has found so far.
+use Rattle.std.proofs.lemmas.Bool.Decides.{nat_tests}
 use Rattle.std.proofs.Common.{◌≡◌, ℕ, zero, suc, ◌+◌, ◌-◌, ◌<◌, ◌≤◌, min, max, Bool, true, false, if◌then◌else◌, List, length, get_or, refl, sym, ◌∙◌, ap, arith, Option, Some, None, is_some}
 use Rattle.pmf_event.{specs.Ranges.{first_from, lesser, least_from}, proofs.RangeLemmas.{first_from-none, first_from-some, first_from-same, least_from-same, least_from-split, least_from-alike, lesser-none, lesser-assoc}}
 use Rattle.pmf_runs.{specs.declared.leaf.Leaf.{Leaf}, specs.declared.walk.Counted.{Counted}, specs.Ranks.{rank, at_rank, Rises}, specs.Walks.{end_of}, specs.Leaves.{leaf_state}, proofs.RankLemmas.{IsRank, rank-is, rank-unique, rank-above, rises-le, lt-true, lt-false}, proofs.LeafLemmas.{state-read}, specs.Lines.{counted_from}, proofs.LineCountLemmas.{counted-same, counted-split, counted-none}}
@@ -94,6 +95,19 @@ module _ {V A X : Type 0} {ask : (ℕ → V) → ℕ → ℕ → A} {join : X �
   pub asked-end : (start index : ℕ) (so_far : X) → end ≤ start → Asked (λ d. ask (value d)) join before keys first end start index so_far → (d : S) → so_far ≡ join before (ask (value d) first (end - first))
   asked-end start index so_far past asked d = grind arith
 
+  -- a range without numbers adds nothing
+  pub asked-none : end ≤ first → (d : S) → before ≡ join before (ask (value d) first (end - first))
+  asked-none empty d = let none : end - first ≡ 0 = omega arith in sym (ap (λ n. join before (ask (value d) first n)) none ∙ law.none before (value d) first)
+
+  -- the numbers behind the walk are asked by another one
+  pub asked-rest : (start index : ℕ) (so_far result : X) → ((d : S) → result ≡ join so_far (ask (value d) start (end - start))) →
+      Asked (λ d. ask (value d)) join before keys first end start index so_far → (d : S) → result ≡ join before (ask (value d) first (end - first))
+  asked-rest start index so_far result rest asked d =
+      let from = asked.walk.from in
+      let upto = asked.walk.upto in
+      rest d ∙ ap (λ x. join x (ask (value d) start (end - start))) (asked.is d)
+      ∙ sym (law.split before (value d) first (start - first) (end - start) (end - first) start (omega arith) (omega arith))
+
 -- what a run of a leaf answers is what the leaf answers for its numbers
 pub run-asked : {V A X : Type 0} {ask : (ℕ → V) → ℕ → ℕ → A} {join : X → A → X} (law : Question ask join) {S : Type 0} (value : S → V) (leaf : Leaf S) (state : S) (v : V) (first end start index until : ℕ) →
     state ≡ get_or leaf.states.items index state → v ≡ value state → start < end → until ≡ end_of leaf.keys.items index end → Walks leaf.keys.items first end start index →
@@ -160,6 +174,29 @@ lines-past test start until so_far fails =
 pub least-law : Question least_from lesser
 unfolding least_from
 least-law = grind (arith, lesser-none, least_from-same, least_from-split, lesser-assoc)
+
+-- what two values have least lowers neither
+lesser-behind : (x y : Option ℕ) → lesser y (lesser x y) ≡ lesser x y
+lesser-behind x y = grind (arith, nat_tests)
+
+-- an element that is asked before the whole range changes nothing of what the range answers
+pub asked-before : {S : Type 0} (value : S → ℕ → Option ℕ) (keys : List ℕ) (first end at index until : ℕ) (least found : Option ℕ) → Rises keys → first ≤ at → at < end → index ≡ rank keys at → until ≡ end_of keys index end →
+    ((d : S) → found ≡ lesser least (least_from (value d) at (until - at))) →
+    (d : S) → lesser found (least_from (value d) first (end - first)) ≡ lesser least (least_from (value d) first (end - first))
+asked-before value keys first end at index until least found rises from some here is more d =
+    let p = piece keys at end at index until rises some is (walks-start keys at end index here) in
+    let after = p.more in
+    let within = p.within in
+    let before = least_from (value d) first (at - first) in
+    let own = least_from (value d) at (until - at) in
+    let behind = least_from (value d) until (end - until) in
+    let upto = least_from-split (value d) first (at - first) (until - at) (until - first) at (omega arith) (omega arith) in
+    let whole : least_from (value d) first (end - first) ≡ lesser (lesser before own) behind =
+    least_from-split (value d) first (until - first) (end - until) (end - first) until (omega arith) (omega arith) ∙ ap (λ x. lesser x behind) upto in
+    let lowers : lesser own (lesser (lesser before own) behind) ≡ lesser (lesser before own) behind =
+    sym (lesser-assoc own (lesser before own) behind) ∙ ap (λ x. lesser x behind) (lesser-behind before own) in
+    ap (lesser found) whole ∙ ap (λ x. lesser x (lesser (lesser before own) behind)) (more d)
+    ∙ lesser-assoc least own (lesser (lesser before own) behind) ∙ ap (lesser least) lowers ∙ ap (lesser least) (sym whole)
 
 -- ---- a run whose states all answer alike
 

@@ -1,7 +1,7 @@
 -- What the parts of a level answer about their numbers.
-use Rattle.std.proofs.Common.{◌≡◌, ℕ, ◌+◌, ◌-◌, ◌<◌, ◌≤◌, min, max, Bool, false, List, length, get_or, refl, sym, ◌∙◌, ap, subst, arith, None}
-use Rattle.pmf_event.specs.Ranges.{first_from}
-use Rattle.pmf_runs.{specs.declared.level.Level.{Level}, specs.Ranks.{rank, Rises}, specs.Walks.{end_of}, specs.Levels.{level_state}, proofs.LevelLemmas.{level-read}, proofs.AskingLemmas.{Question, Walks, Asked, walks-start, walks-at, first-law, first_found, asked-start, asked-more, asked-end, end-key, end-last}, proofs.RankLemmas.{rank-unique}, proofs.SkipLemmas.{first-none}}
+use Rattle.std.proofs.Common.{◌≡◌, ℕ, ◌+◌, ◌-◌, ◌<◌, ◌≤◌, min, max, Bool, false, List, length, get_or, refl, sym, ◌∙◌, ap, subst, arith, Option, None}
+use Rattle.pmf_event.specs.Ranges.{first_from, least_from, lesser}
+use Rattle.pmf_runs.{specs.declared.level.Level.{Level}, specs.Ranks.{rank, Rises}, specs.Walks.{end_of}, specs.Levels.{level_state}, proofs.LevelLemmas.{level-read}, proofs.AskingLemmas.{Question, Walks, Asked, walks-start, walks-at, first-law, first_found, least-law, asked-before, asked-start, asked-more, asked-end, end-key, end-last}, proofs.RankLemmas.{rank-unique}, proofs.SkipLemmas.{first-none}}
 
 -- what a part answers is what the level answers for the numbers of the part
 pub part-asked : {V A X : Type 0} {ask : (ℕ → V) → ℕ → ℕ → A} {join : X → A → X} (law : Question ask join) {P S : Type 0} (state : P → S → ℕ → S) (value : S → V) (level : Level P) (part : P) (first end start index until : ℕ) →
@@ -10,6 +10,26 @@ pub part-asked : {V A X : Type 0} {ask : (ℕ → V) → ℕ → ℕ → A} {joi
 part-asked law state value level part first end start index until read some is walk d =
     law.same (λ b. value (state part d b)) (λ b. value (level_state state level d b)) start (until - start) (λ k low high.
     ap value (level-read state level part k index (walks-at level.keys.items first end start index until level.ordered some is walk k low (omega arith)) read d))
+
+-- the first part of a range was asked
+pub part-begun : {V A X : Type 0} {ask : (ℕ → V) → ℕ → ℕ → A} {join : X → A → X} (law : Question ask join) {P S : Type 0} (state : P → S → ℕ → S) (value : S → V) (level : Level P) (part : P) (first end index until : ℕ) (before new : X) →
+    part ≡ get_or level.parts.items index part → first < end → index ≡ rank level.keys.items first → until ≡ end_of level.keys.items index end →
+    ((d : S) → new ≡ join before (ask (λ b. value (state part d b)) first (until - first))) →
+    Asked (λ d. ask (λ b. value (level_state state level d b))) join before level.keys.items first end until (index + 1) new
+part-begun {ask = ask} {join = join} law state value level part first end index until before new read some at is more =
+    let value_at : _ → ℕ → _ = λ d b. value (level_state state level d b) in
+    let began = asked-start law value_at before level.keys.items first end index at in
+    asked-more law value_at before level.keys.items first end first index until before new level.ordered some is
+    (λ d. more d ∙ ap (join before) (part-asked law state value level part first end first index until read some is began.walk d)) began
+
+-- a part that is asked before the whole range changes nothing of what the range answers
+pub part-before : {P S : Type 0} (state : P → S → ℕ → S) (value : S → Option ℕ) (level : Level P) (part : P) (first end at index until : ℕ) (least found : Option ℕ) →
+    part ≡ get_or level.parts.items index part → first ≤ at → at < end → index ≡ rank level.keys.items at → until ≡ end_of level.keys.items index end →
+    ((d : S) → found ≡ lesser least (least_from (λ b. value (state part d b)) at (until - at))) →
+    (d : S) → lesser found (least_from (λ b. value (level_state state level d b)) first (end - first)) ≡ lesser least (least_from (λ b. value (level_state state level d b)) first (end - first))
+part-before state value level part first end at index until least found read from some here is more =
+    asked-before (λ d b. value (level_state state level d b)) level.keys.items first end at index until least found level.ordered from some here is
+    (λ d. more d ∙ ap (lesser least) (part-asked least-law state value level part at end at index until read some is (walks-start level.keys.items at end index here) d))
 
 -- the part of the start answers for its own numbers, as the walk that begins there has it
 pub start-asked : {P S : Type 0} (state : P → S → ℕ → S) (value : S → Bool) (level : Level P) (part : P) (end start index : ℕ) →

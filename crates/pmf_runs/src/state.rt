@@ -114,4 +114,8 @@ pub trait Key<S: State> {
     /// Whether a state that the summary covers may have a lesser key than the least so far.
     fn may_lower(&self, summary: S::Summary, least: Option<u32>) -> bool
         ensures { result ≡ false → (s : S) → S.covers summary s ≡ true → lesser least (key self.now s) ≡ least };
+
+    /// A number that the key of no covered state is likely to lie below, or none if no state has a key. It bears on
+    /// speed alone.
+    fn bound(&self, summary: S::Summary) -> Option<u32>;
 }

@@ -10,6 +10,7 @@ use std::process::Abort;
 use std::test::Fail;
 
 mod colour;
+mod falling;
 mod plain;
 
 use colour::{Colour, Is, Next, Number, To};

@@ -125,8 +125,84 @@ impl<P> Level<P> {
     }
 
     /// The lesser of the least so far and the least key that a state of the numbers from `first` up to
-    /// `end` has.
+    /// `end` has. If the range goes on behind its first part, the part that likely has the least key is
+    /// asked before the rest, so that the walk passes over most other parts.
     pub(crate) fn find_least<S: State, K: Key<S>>(
+        &self,
+        first: u64,
+        end: u64,
+        key: &K,
+        least: Option<u32>,
+    ) -> Option<u32>
+    where
+        P: Part<S>,
+        ensures { (d : S) → result ≡ lesser least (least_from (λ b. K.key key.now (level_state P.state self.now d b)) first (end - first)) }
+    {
+        if first >= end {
+            return least;
+        }
+        let index = start_of(&self.keys, first, self.hint);
+        let until = end_of(&self.keys, index, end);
+        let lowest = self.parts[index].least_key(first, until, key, least);
+        if until >= end {
+            return lowest;
+        }
+        let lowered = self.lowered(index, until, end, key, lowest);
+        self.least_onward(until, end, key, lowered)
+    }
+
+    /// The lesser of the least so far and the least key of one part within the range, the one that likely has the
+    /// least of all. The lesser of it and of the range's least key stays what it was.
+    fn lowered<S: State, K: Key<S>>(
+        &self,
+        from: usize,
+        first: u64,
+        end: u64,
+        key: &K,
+        least: Option<u32>,
+    ) -> Option<u32>
+    where
+        P: Part<S>,
+        ensures { (d : S) → lesser result (least_from (λ b. K.key key.now (level_state P.state self.now d b)) first (end - first)) ≡ lesser least (least_from (λ b. K.key key.now (level_state P.state self.now d b)) first (end - first)) }
+    {
+        let at = self.likely(from, end, key, least);
+        if at < first {
+            return least;
+        }
+        if at >= end {
+            return least;
+        }
+        let index = start_of(&self.keys, at, self.hint);
+        let until = end_of(&self.keys, index, end);
+        self.parts[index].least_key(at, until, key, least)
+    }
+
+    /// Where the part with the least bound begins, of those behind the part of the index whose numbers all lie below
+    /// the end: at the end if none may lower the least so far. It bears on speed alone.
+    fn likely<S: State, K: Key<S>>(&self, from: usize, end: u64, key: &K, least: Option<u32>) -> u64
+    where
+        P: Part<S>,
+    {
+        let mut at = end;
+        let mut bound = u32::MAX;
+        for i in from..self.keys.len() {
+            let next = i + 1;
+            if next == self.keys.len() || self.keys[next] > end {
+                return at;
+            }
+            let summary = self.parts[next].summary();
+            let own = key.bound(summary).unwrap_or(u32::MAX);
+            if own < bound && key.may_lower(summary, least) {
+                at = self.keys[i];
+                bound = own;
+            }
+        }
+        at
+    }
+
+    /// The lesser of the least so far and the least key that a state of the numbers from `first` up to
+    /// `end` has, by a walk over the parts from the front.
+    fn least_onward<S: State, K: Key<S>>(
         &self,
         first: u64,
         end: u64,

@@ -49,7 +49,9 @@ impl<S: State> RunMap<S> {
     }
 
     /// The least key that a state of the numbers from `first` up to `end` has, if one of them has any.
-    /// The key of a run is asked once.
+    /// Of the groups that the range reaches the first is asked, then the one with the least bound,
+    /// and then those whose summaries may have a lesser key than was found; and so of the leaves of a group. If bounds
+    /// are those of a summary's states, at most three of each are asked, in whatever order the keys lie.
     pub fn least_key<K: Key<S>>(&self, first: u64, end: u64, key: &K) -> Option<u32>
         ensures { result ≡ least_from (keyed (K.key key.now) self.now) first (end - first) }
     {

@@ -206,4 +206,14 @@ impl Key<Colour> for Number {
             Some(so_far) => (colours.green && so_far > 5) || (colours.blue && so_far > 3),
         }
     }
+
+    fn bound(&self, colours: Colours) -> Option<u32> {
+        if colours.blue {
+            Some(3)
+        } else if colours.green {
+            Some(5)
+        } else {
+            None
+        }
+    }
 }

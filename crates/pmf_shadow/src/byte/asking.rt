@@ -300,6 +300,14 @@ impl Key<ByteState> for Place {
     fn may_lower(&self, summary: Bounds, least: Option<u32>) -> bool {
         summary.may_be_checked(may_be_less(summary.least_last, least))
     }
+
+    fn bound(&self, summary: Bounds) -> Option<u32> {
+        if summary.may_be_checked(true) {
+            Some(summary.least_last)
+        } else {
+            None
+        }
+    }
 }
 
 /// The epoch of the last store, if the byte is checked.
@@ -318,6 +326,14 @@ impl Key<ByteState> for Opening {
 
     fn may_lower(&self, summary: Bounds, least: Option<u32>) -> bool {
         summary.may_be_checked(may_be_less(summary.least_opening, least))
+    }
+
+    fn bound(&self, summary: Bounds) -> Option<u32> {
+        if summary.may_be_checked(true) {
+            Some(summary.least_opening)
+        } else {
+            None
+        }
     }
 }
 
