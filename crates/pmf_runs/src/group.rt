@@ -107,7 +107,7 @@ fn renewed<S: State>(
                 (S::settled(wide), effect)
             }
         }
-        Effect::Narrows => {
+        Effect::Narrows | Effect::Remakes => {
             let summary = level.summary();
             if S::are_alike(summary, wide) {
                 (wide, Effect::Widens)

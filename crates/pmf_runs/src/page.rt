@@ -86,8 +86,8 @@ impl<S: State> Page<S> {
         }
         let effect = change.effect(self.summary, self.leaf.first_state());
         self.leaf.change_all(from, end, change);
-        let effect = if self.leaf.runs() < NARROWED {
-            Effect::Narrows
+        let effect = if from.is_some() || end.is_some() || self.leaf.runs() < NARROWED {
+            Effect::Remakes
         } else {
             effect
         };
@@ -139,7 +139,7 @@ fn renewed<S: State>(leaf: &Leaf<S>, wide: S::Summary, effect: Effect) -> (S::Su
                 (S::settled(wide), effect)
             }
         }
-        Effect::Narrows => {
+        Effect::Narrows | Effect::Remakes => {
             let summary = leaf.summary();
             if S::are_alike(summary, wide) {
                 (wide, Effect::Widens)

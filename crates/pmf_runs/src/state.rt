@@ -51,14 +51,18 @@ pub enum Effect {
     Widens,
     /// It is a good one too, unless no unsettled state is left.
     Settles,
-    /// A new summary is worth its time.
+    /// A new summary is worth its time, once for several such changes.
     Narrows,
+    /// A new summary is worth its time at once.
+    Remakes,
 }
 
 impl Effect {
     /// The greater effect of the two.
     pub(crate) fn or(self, other: Effect) -> Effect {
         match (self, other) {
+            (Effect::Remakes, _) => Effect::Remakes,
+            (_, Effect::Remakes) => Effect::Remakes,
             (Effect::Narrows, _) => Effect::Narrows,
             (_, Effect::Narrows) => Effect::Narrows,
             (Effect::Settles, _) => Effect::Settles,

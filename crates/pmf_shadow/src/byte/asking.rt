@@ -72,7 +72,7 @@ impl Test<ByteState> for IsLate {
     }
 
     fn may_pass(&self, summary: Bounds) -> bool {
-        summary.may_be_checked(summary.may_be_late(self.epoch))
+        summary.may_be_checked(summary.may_be_checked_late(self.epoch))
     }
 }
 

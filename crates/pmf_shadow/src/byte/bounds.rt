@@ -1,7 +1,7 @@
 //! Bounds of the states of some bytes, which tell whether a change or a question may meet any of them.
 
-ghost use Rattle.std.specs.Prelude.{◌≡◌, true, ◌&&◌, Some};
-ghost use Rattle.pmf_shadow.specs.{EqualStates.{equal_states}, States.{is_unsettled}, Bounds.{covers, covers_mark, covers_store, joined, may_be_checked, may_be_late, may_be_late_for_any, may_be_less, with_mark, with_store, with_write_back, without_unsettled}};
+ghost use Rattle.std.specs.Prelude.{◌≡◌, true, false, ◌&&◌, Some};
+ghost use Rattle.pmf_shadow.specs.{EqualStates.{equal_states}, States.{is_unsettled}, Bounds.{covers, covers_checked, covers_mark, covers_store, joined, may_be_checked, may_be_checked_late, may_be_late, may_be_late_for_any, may_be_less, with_mark, with_store, with_write_back, without_unsettled}};
 
 use crate::byte::{ByteState, Stored};
 use pmf_runs::State;
@@ -26,6 +26,10 @@ pub struct Bounds {
     pub greatest_last: u32,
     /// No first write-back has a greater epoch.
     pub latest: u32,
+    /// Whether a byte in the checks may have been stored to and not written back.
+    pub checked_unsettled: bool,
+    /// No first write-back of a byte in the checks has a greater epoch.
+    pub checked_latest: u32,
 }
 
 impl State for ByteState {
@@ -83,6 +87,8 @@ impl Bounds {
             least_last: u32::MAX,
             greatest_last: 0,
             latest: 0,
+            checked_unsettled: false,
+            checked_latest: 0,
         }
     }
 
@@ -90,6 +96,7 @@ impl Bounds {
     fn of_store(excluded: bool, stored: Stored) -> Bounds
         ensures mark { covers_mark result excluded ≡ true }
         ensures store { covers_store result (Some stored) ≡ true }
+        ensures checked { excluded ≡ false → covers_checked result (Some stored) ≡ true }
     {
         Bounds {
             excluded,
@@ -100,6 +107,12 @@ impl Bounds {
             least_last: stored.last,
             greatest_last: stored.last,
             latest: stored.written_back.unwrap_or(0),
+            checked_unsettled: !excluded && stored.written_back.is_none(),
+            checked_latest: if excluded {
+                0
+            } else {
+                stored.written_back.unwrap_or(0)
+            },
         }
     }
 
@@ -115,6 +128,8 @@ impl Bounds {
             least_last: self.least_last.min(other.least_last),
             greatest_last: self.greatest_last.max(other.greatest_last),
             latest: self.latest.max(other.latest),
+            checked_unsettled: self.checked_unsettled | other.checked_unsettled,
+            checked_latest: self.checked_latest.max(other.checked_latest),
         }
     }
 
@@ -130,6 +145,8 @@ impl Bounds {
             least_last: self.least_last.min(place),
             greatest_last: self.greatest_last.max(place),
             latest: self.latest,
+            checked_unsettled: self.checked_unsettled || self.included,
+            checked_latest: self.checked_latest,
         }
     }
 
@@ -145,6 +162,12 @@ impl Bounds {
             least_last: self.least_last,
             greatest_last: self.greatest_last,
             latest: self.latest.max(epoch),
+            checked_unsettled: self.checked_unsettled,
+            checked_latest: if self.checked_unsettled {
+                self.checked_latest.max(epoch)
+            } else {
+                self.checked_latest
+            },
         }
     }
 
@@ -160,6 +183,16 @@ impl Bounds {
             least_last: self.least_last,
             greatest_last: self.greatest_last,
             latest: self.latest,
+            checked_unsettled: if excluded {
+                self.checked_unsettled
+            } else {
+                self.checked_unsettled || self.unsettled
+            },
+            checked_latest: if excluded {
+                self.checked_latest
+            } else {
+                self.checked_latest.max(self.latest)
+            },
         }
     }
 
@@ -175,6 +208,8 @@ impl Bounds {
             least_last: self.least_last,
             greatest_last: self.greatest_last,
             latest: self.latest,
+            checked_unsettled: false,
+            checked_latest: self.checked_latest,
         }
     }
 
@@ -210,13 +245,20 @@ impl Bounds {
         self.unsettled || epoch <= self.latest
     }
 
+    /// Whether a covered store of a byte in the checks may have been written back in no epoch before this one.
+    pub(crate) fn may_be_checked_late(self, epoch: u32) -> bool
+        ensures { result ≡ may_be_checked_late epoch self }
+    {
+        self.checked_unsettled || epoch <= self.checked_latest
+    }
+
     /// The same of an epoch that may be missing: then it was in time.
     pub(crate) fn may_be_late_for_any(self, epoch: Option<u32>) -> bool
         ensures { result ≡ may_be_late_for_any epoch self }
     {
         match epoch {
             None => false,
-            Some(epoch) => self.may_be_late(epoch),
+            Some(epoch) => self.may_be_checked_late(epoch),
         }
     }
 }

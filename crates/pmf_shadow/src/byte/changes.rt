@@ -3,7 +3,7 @@
 ghost use Rattle.pmf_shadow.specs.States.{after_mark, after_store, after_write_back};
 
 use crate::byte::{Bounds, ByteState, Stored};
-use pmf_runs::{Change, Effect};
+use pmf_runs::{Change, Effect, State};
 
 /// A store at this place, in this epoch.
 #[derive(Clone, Copy, Debug, Drop)]
@@ -45,6 +45,9 @@ impl Change<ByteState> for StoredAt {
     }
 
     fn effect(&self, summary: Bounds, state: ByteState) -> Effect {
+        if state.excluded && summary.included && !summary.checked_unsettled {
+            return Effect::Remakes;
+        }
         match state.stored() {
             Some(stored) if self.frees_a_bound(summary, stored) => Effect::Narrows,
             _ => Effect::Widens,
@@ -84,8 +87,12 @@ impl Change<ByteState> for WrittenBackIn {
         summary.with_write_back(self.epoch)
     }
 
-    fn effect(&self, _summary: Bounds, _state: ByteState) -> Effect {
-        Effect::Settles
+    fn effect(&self, summary: Bounds, state: ByteState) -> Effect {
+        if summary.excluded && !state.excluded {
+            Effect::Remakes
+        } else {
+            Effect::Settles
+        }
     }
 }
 
@@ -93,6 +100,20 @@ impl Change<ByteState> for WrittenBackIn {
 #[derive(Clone, Copy, Debug, Drop)]
 pub(crate) struct Marked {
     pub(crate) excluded: bool,
+}
+
+impl Marked {
+    // Whether the widened bounds of checked bytes are wider than need be, now that this byte is marked.
+    fn widens_too_far(&self, bounds: Bounds, state: ByteState) -> bool {
+        if self.excluded {
+            return state.is_unsettled()
+                || (state.is_written_back && state.written_back == bounds.checked_latest);
+        }
+        let wide = self.widened(bounds);
+        let exact = ByteState::joined(bounds, self.changed(state).summary());
+        wide.checked_unsettled != exact.checked_unsettled
+            || wide.checked_latest != exact.checked_latest
+    }
 }
 
 impl Change<ByteState> for Marked {
@@ -117,7 +138,11 @@ impl Change<ByteState> for Marked {
         summary.with_mark(self.excluded)
     }
 
-    fn effect(&self, _summary: Bounds, _state: ByteState) -> Effect {
-        Effect::Narrows
+    fn effect(&self, summary: Bounds, state: ByteState) -> Effect {
+        if self.widens_too_far(summary, state) {
+            Effect::Remakes
+        } else {
+            Effect::Narrows
+        }
     }
 }

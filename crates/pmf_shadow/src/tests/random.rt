@@ -68,3 +68,43 @@ fn a_shadow_answers_as_a_plain_checker_does(rt: HostRuntime) -> Result<(), Fail>
     }
     Ok(())
 }
+
+/// Of one to four bytes.
+fn small_event(numbers: &mut Numbers) -> Result<Event, SpanFault> {
+    let offset = numbers.below(BYTES - 4);
+    let small = Span::make(BASE + offset, numbers.below(4) + 1)?;
+    match numbers.below(12) {
+        0 | 1 | 2 | 3 => Ok(Event::Store(small)),
+        4 | 5 | 6 => Ok(Event::Flush(small)),
+        7 => Ok(Event::Fence),
+        8 | 9 => Ok(Event::Exclude(small)),
+        _ => Ok(Event::Include(small)),
+    }
+}
+
+/// Lists of 300 events of a few bytes each. No line is in front, and the map of runs has several leaves.
+#[test]
+fn many_runs_are_answered_alike_beside_excluded_ones(rt: HostRuntime) -> Result<(), Fail> {
+    let alloc = rt.alloc();
+    let mut numbers = Numbers::of(3);
+    let (low, high) = (
+        Span::make(BASE, BYTES / 2)?,
+        Span::make(BASE + BYTES / 2, BYTES / 2)?,
+    );
+    for _list in 0..4 {
+        let mut events = Vec::new(alloc);
+        for _event in 0..300 {
+            events.push(small_event(&mut numbers)?)?;
+        }
+        for tenth in 1..11 {
+            let past = &events.as_slice()[..tenth * 30];
+            let shadow = shadow_of(&rt, alloc, 0, past)?;
+            assert_answers(&rt, &shadow, past);
+            assert_of_span(&rt, &shadow, past, low);
+            assert_of_span(&rt, &shadow, past, high);
+            assert_of_pair(&rt, alloc, &shadow, past, low, high)?;
+            assert_of_pair(&rt, alloc, &shadow, past, high, low)?;
+        }
+    }
+    Ok(())
+}
