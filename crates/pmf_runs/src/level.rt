@@ -4,8 +4,8 @@ ghost use Rattle.std.specs.Prelude.{◌≡◌, false, Option, None, Some, ◌≤
 ghost use Rattle.pmf_runs.specs.Ranks.{Rises, rank, SameStates, IsFresh, CoversAll, IsTail, AllSettled};
 
 use crate::keys::{
-    bound_at, high_rank, inner_bound, is_before, is_key, is_rank, low_rank, parting, rank_near,
-    rank_of,
+    bound_at, high_rank, inner_bound, is_before, is_key, is_key_at, is_rank, low_rank, parting,
+    rank_near, rank_of,
 };
 use crate::part::Part;
 use crate::room::make_room;
@@ -393,7 +393,8 @@ impl<P> Level<P> {
         self.change_at(index, first, end, change)
     }
 
-    /// The same where the part of the first number has room.
+    /// The same where the part of the first number has room. A range that reaches a border of its part is not handed to the
+    /// part: a run that is cut there would leave its old state beyond the border, where the part's summary takes it in.
     #[inline(always)]
     #[tactic(auto, using(crate::proofs::RunRules::level_changes))]
     fn change_at<S: State, C: Change<S>>(
@@ -412,6 +413,9 @@ impl<P> Level<P> {
         ensures unchanged { OnErr result (SameStates (level_state P.state self.old) (level_state P.state self.new)) }
     {
         if !is_before(&self.keys, index, end) {
+            return self.change_across(first, end, change);
+        }
+        if is_key(&self.keys, index, first) || is_key_at(&self.keys, index, end) {
             return self.change_across(first, end, change);
         }
         self.hint = index;

@@ -95,7 +95,7 @@ fn written_back_bytes_beside_excluded_ones_are_passed_over(rt: HostRuntime) -> R
         bytes.change(pair * 512, pair * 512 + 8, &SECOND)?;
     }
     for pair in 0..PAIRS {
-        bytes.change(pair * 512, pair * 512 + 64, &WrittenBackIn { epoch: 1 })?;
+        bytes.change(pair * 512, pair * 512 + 8, &WrittenBackIn { epoch: 1 })?;
     }
     assert_none_is_late(&rt, &bytes, 2);
     Ok(())
