@@ -1,6 +1,9 @@
 //! What a ledger takes, refuses and tells.
 
-use super::{JoinFault, Ledger, TakeFault, Taken, least_repeat};
+ghost use Rattle.std.specs.Prelude.{◌≤◌, ℕ, List, OnOk, IfOk, length};
+ghost use Rattle.pmf_ledger.specs.{BlockReading.{HasTaken}, Loading.{Reading}};
+
+use super::{BlockFault, BlockReader, Fed, JoinFault, Ledger, TakeFault, Taken, least_repeat};
 use pmf_event::{Name, Profile, Section};
 use pmf_fixtures::{FENCE, FLUSH, STORE, Step};
 use pmf_verdict::{Verdict, check};
@@ -76,6 +79,16 @@ fn assert_text(
     let text = ledger.write_ledger(alloc)?;
     assert!(rt; text.as_slice() == want);
     Ok(())
+}
+
+// A reader that has taken some bytes is fed more.
+fn feed(alloc: Global, reader: &mut BlockReader, bytes: &[u8]) -> Result<Fed, BlockFault>
+    requires { (text : List ℕ) × (r : Reading) × HasTaken text r reader.old }
+    ensures taken { OnOk result ((text : List ℕ) × (r : Reading) × HasTaken text r reader.new) }
+    ensures within { IfOk result (λ fed. fed.taken ≤ length bytes.now) }
+{
+    let fed = reader.feed(alloc, bytes)?;
+    Ok(fed)
 }
 
 #[test]

@@ -1,7 +1,7 @@
 //! A ledger text that is read piece by piece, and each of its blocks.
 
 use super::texts::TEXT_OF_TWO;
-use super::{assert_told, name};
+use super::{assert_told, feed, name};
 use crate::{BlockFault, BlockReader, LedgerFault};
 use pmf_event::{Name, Profile};
 use pmf_fixtures::LEDGER;
@@ -21,37 +21,32 @@ struct Read {
 fn read_all(alloc: Global, text: &[u8], most: usize) -> Result<Read, Fail> {
     let mut reader = BlockReader::new(alloc);
     let mut names = Vec::new(alloc);
-    let mut refused = None;
     let mut rest = text;
     // Each turn takes a byte or hands out a block.
     for _turn in 0..text.len().saturating_mul(2) {
         if rest.is_empty() {
             break;
         }
-        let piece = &rest[..most.min(rest.len())];
-        match reader.feed(alloc, piece) {
+        match feed(alloc, &mut reader, &rest[..most.min(rest.len())]) {
             Ok(fed) => {
                 rest = &rest[fed.taken..];
                 if let Some(verdict) = fed.block {
                     names.push(verdict.name())?;
                 }
             }
-            Err(fault) => {
-                refused = Some(fault);
-                rest = &[];
-            }
+            Err(fault) => return Ok(found(names, &reader, Some(fault))),
         }
     }
-    if refused.is_none() {
-        if let Err(fault) = reader.finish() {
-            refused = Some(BlockFault::Text(fault));
-        }
-    }
-    Ok(Read {
+    let refused = reader.finish().err().map(BlockFault::Text);
+    Ok(found(names, &reader, refused))
+}
+
+fn found(names: Vec<Name>, reader: &BlockReader, refused: Option<BlockFault>) -> Read {
+    Read {
         names,
         profile: reader.profile(),
         refused,
-    })
+    }
 }
 
 const MOST: [usize; 4] = [1, 2, 13, usize::MAX];
@@ -164,7 +159,7 @@ fn a_piece_is_taken_up_to_the_end_of_a_block(rt: HostRuntime) -> Result<(), Fail
         (15, None),
         (0, None),
     ] {
-        let fed = reader.feed(alloc, rest)?;
+        let fed = feed(alloc, &mut reader, rest)?;
         assert_eq!(rt; fed.taken, taken);
         assert_eq!(rt; fed.block.map(|it| it.name()), block);
         rest = &rest[fed.taken..];
@@ -175,15 +170,15 @@ fn a_piece_is_taken_up_to_the_end_of_a_block(rt: HostRuntime) -> Result<(), Fail
 
 #[test]
 fn the_first_line_tells_a_reader_the_profile(rt: HostRuntime) -> Result<(), Fail> {
-    for (text, profile) in [
-        (LEDGER, Profile::One),
-        (TEXT_OF_TWO, Profile::Two),
-        ("PMFARM-LEDGER 2\n", Profile::Two),
-        ("PMFARM-LEDGER 2", Profile::One),
+    for (text, profile, refused) in [
+        (LEDGER, Profile::One, None),
+        (TEXT_OF_TWO, Profile::Two, None),
+        ("PMFARM-LEDGER 2\n", Profile::Two, not_a_ledger(2)),
+        ("PMFARM-LEDGER 2", Profile::One, not_a_ledger(1)),
     ] {
         for most in MOST {
             let found = read_all(rt.alloc(), text.as_bytes(), most)?;
-            assert_eq!(rt; found.profile, profile);
+            assert_eq!(rt; (found.refused, found.profile), (refused, profile));
         }
     }
     Ok(())

@@ -44,6 +44,17 @@ fn assert_refused(rt: &impl Abort, alloc: Global, text: &[u8], want: LedgerFault
     assert_eq!(rt; found, Err(want), "{text:?}");
 }
 
+// The text is loaded as these sections.
+fn assert_loaded(
+    rt: &impl Abort,
+    alloc: Global,
+    text: &str,
+    sections: &[Given<'_>],
+) -> Result<(), Fail> {
+    assert_holds(rt, &load_ledger(alloc, text.as_bytes())?, sections);
+    Ok(())
+}
+
 // The text with the first of these words changed is refused so.
 fn assert_changed(
     rt: &impl Abort,
@@ -161,12 +172,17 @@ fn a_text_need_not_be_the_one_that_would_be_written(rt: HostRuntime) -> Result<(
     let alloc = rt.alloc();
     let ledger = load_ledger(alloc, LEDGER.as_bytes())?;
     assert_text(&rt, alloc, &ledger, LEDGER.as_bytes())?;
-    let none: &[Given<'_>] = &[];
-    for (text, sections) in [
-        (REPEATED, [(name(0, 0), ONE)].as_slice()),
-        ("PMFARM-LEDGER 2\nend verdicts=00000000000000000000\n", none),
-        (
-            "PMFARM-LEDGER 1
+    assert_loaded(&rt, alloc, REPEATED, &[(name(0, 0), ONE)])?;
+    assert_loaded(
+        &rt,
+        alloc,
+        "PMFARM-LEDGER 2\nend verdicts=00000000000000000000\n",
+        &[],
+    )?;
+    assert_loaded(
+        &rt,
+        alloc,
+        "PMFARM-LEDGER 1
 section 2.0 events=1 rows=0
  FENCE;more
 section 00.5 events=01 rows=00
@@ -175,12 +191,8 @@ section 2.0 events=1 rows=0
 FENCE
 end verdicts=03
 ",
-            &[(name(0, 5), ONE), (name(2, 0), ONE)],
-        ),
-    ] {
-        assert_holds(&rt, &load_ledger(alloc, text.as_bytes())?, sections);
-    }
-    Ok(())
+        &[(name(0, 5), ONE), (name(2, 0), ONE)],
+    )
 }
 
 #[test]

@@ -1,6 +1,10 @@
 //! Blocks that are read apart from their text.
 
-use super::name;
+ghost use Rattle.std.specs.Prelude.{◌≡◌, ℕ, List};
+ghost use Rattle.pmf_event.specs.declared.profile.Profile.{Profile};
+ghost use Rattle.pmf_ledger.specs.{BlockReading.{HasTaken}, Loading.{Reading}, LoneBlock.{IsLone}};
+
+use super::{feed, name};
 use crate::{BlockReader, FirstBlock, LoneBlock, first_block};
 use pmf_event::Profile;
 use std::process::Abort;
@@ -44,7 +48,7 @@ fn the_first_block_is_as_long_as_its_head_tells(rt: HostRuntime) -> Result<(), F
 }
 
 #[test]
-fn a_block_is_read_where_it_is_whole_and_right(rt: HostRuntime) -> Result<(), Fail> {
+fn a_block_that_is_whole_and_right_is_read_with_ample_memory(rt: HostRuntime) -> Result<(), Fail> {
     let alloc = rt.alloc();
     for bytes in [FENCE, NONE, PASS] {
         assert!(rt; LoneBlock::read(alloc, Profile::One, bytes).is_some());
@@ -63,22 +67,43 @@ fn a_block_is_read_where_it_is_whole_and_right(rt: HostRuntime) -> Result<(), Fa
     Ok(())
 }
 
+// The block is not taken.
+fn refuse(rt: &impl Abort, reader: &mut BlockReader, lone: &LoneBlock)
+    ensures { reader.new ≡ reader.old }
+{
+    assert!(rt; !reader.take(lone));
+}
+
+// The block is taken.
+fn take(rt: &impl Abort, reader: &mut BlockReader, lone: &LoneBlock)
+    requires taken { (text : List ℕ) × (r : Reading) × HasTaken text r reader.old }
+    requires lone { (profile : Profile) × (bytes : List ℕ) × IsLone profile bytes lone.now }
+    ensures { (text : List ℕ) × (r : Reading) × HasTaken text r reader.new }
+{
+    assert!(rt; reader.take(lone));
+}
+
 #[test]
-fn a_text_takes_a_block_at_its_turn(rt: HostRuntime) -> Result<(), Fail> {
+fn a_text_takes_a_block_at_its_turn_with_ample_memory(rt: HostRuntime) -> Result<(), Fail> {
     let alloc = rt.alloc();
     let fence = LoneBlock::read(alloc, Profile::One, FENCE).expect(&rt, "a block");
     let none = LoneBlock::read(alloc, Profile::One, NONE).expect(&rt, "a block");
     let by_two = LoneBlock::read(alloc, Profile::Two, NONE).expect(&rt, "a block");
     let mut reader = BlockReader::new(alloc);
-    assert!(rt; !reader.is_between() && !reader.take(&fence));
-    reader.feed(alloc, b"PMFARM-LEDGER 1\n")?;
-    assert!(rt; reader.is_between() && !reader.take(&by_two));
-    assert!(rt; reader.take(&fence) && !reader.take(&fence));
-    assert!(rt; reader.take(&none) && !reader.take(&fence));
+    assert!(rt; !reader.is_between());
+    refuse(&rt, &mut reader, &fence);
+    feed(alloc, &mut reader, b"PMFARM-LEDGER 1\n")?;
+    assert!(rt; reader.is_between());
+    refuse(&rt, &mut reader, &by_two);
+    take(&rt, &mut reader, &fence);
+    refuse(&rt, &mut reader, &fence);
+    take(&rt, &mut reader, &none);
+    refuse(&rt, &mut reader, &fence);
     assert_eq!(rt; none.verdict.name(), name(0, 1));
-    reader.feed(alloc, b"end ver")?;
-    assert!(rt; !reader.is_between() && !reader.take(&none));
-    reader.feed(alloc, b"dicts=2\n")?;
+    feed(alloc, &mut reader, b"end ver")?;
+    assert!(rt; !reader.is_between());
+    refuse(&rt, &mut reader, &none);
+    feed(alloc, &mut reader, b"dicts=2\n")?;
     assert!(rt; reader.finish().is_ok());
     Ok(())
 }

@@ -1,5 +1,7 @@
 //! Ledger texts that are merged as they stand.
 
+ghost use Rattle.std.specs.Prelude.{◌≡◌};
+
 use super::{
     BOTH, BY_TWO, EMPTY, EMPTY_TWO, FAILING, Giving, MOST, OTHER, WHOLE, long_fence, sources_of,
 };
@@ -194,7 +196,7 @@ fn a_fault_of_a_device_ends_it(rt: HostRuntime) -> Result<(), Fail> {
             WHOLE,
             sink,
             Err(fault),
-            &text[..written],
+            &text[..written.min(text.len())],
         )?;
     }
     Ok(())
@@ -238,6 +240,7 @@ fn what_is_garbled_is_not_read_to_its_end(rt: HostRuntime) -> Result<(), Fail> {
         trust_to(alloc, &mut sources, &mut sink),
         Err(MergeFault::Text { index: 0, fault })
     );
-    assert!(rt; sources[0].left() > 40_000);
+    let is_left = sources.first().map(|it| it.left() > 40_000);
+    assert_eq!(rt; is_left, Some(true));
     Ok(())
 }
