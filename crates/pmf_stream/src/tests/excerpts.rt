@@ -61,7 +61,7 @@ fn keeps(
 }
 
 #[test]
-fn the_record_for_which_a_log_is_refused_is_kept_wherever_it_is_cut(rt: HostRuntime) {
+fn the_record_for_which_a_log_is_refused_is_kept_with_ample_memory(rt: HostRuntime) {
     for most in [1, 3, 64, 65_536] {
         for (log, text) in [
             (
