@@ -1,14 +1,11 @@
 /* Feeds mutated inputs to the program, and judges how each run ends. `tests/mutate` builds and calls it:
  *
- *     mutate PROGRAM SERVED SEED FIRST RUNS SECONDS FOLDER KIND:FILE..
+ *     mutate PROGRAM SEED FIRST RUNS SECONDS FOLDER KIND:FILE..
  *
- * SERVED is the library of `tests/served.c`: the program is loaded once, and each run is a process of its own that begins at its `main`.
  * A run is named by SEED and its number, from FIRST on, and nothing else changes what it does. RUNS or SECONDS may be 0: no limit.
  * A KIND is `log`, `ledger`, `list`, `schedule` or `right-ledger` (one that `join` takes). What is written: `run ..` for each command, and
  * `wrong ..` for each run that is not right. Where FOLDER is not empty, it gets the inputs of each run, and `words ..` is written, too. */
 #define _GNU_SOURCE
-#include "served.h"
-
 #include <ctype.h>
 #include <errno.h>
 #include <fcntl.h>
@@ -21,7 +18,6 @@
 #include <string.h>
 #include <sys/mman.h>
 #include <sys/resource.h>
-#include <sys/socket.h>
 #include <sys/time.h>
 #include <sys/wait.h>
 #include <time.h>
@@ -1003,7 +999,16 @@ struct ended {
 };
 
 static const char *program;
-static int server;
+static volatile pid_t child;
+static volatile sig_atomic_t is_late;
+
+static void kill_late(int signal)
+{
+    (void)signal;
+    is_late = 1;
+    if (child > 0)
+        kill(child, SIGKILL);
+}
 
 static void limit(int resource, rlim_t most)
 {
@@ -1022,27 +1027,8 @@ static void open_files(void)
     limit(RLIMIT_AS, MOST_MEMORY);
     limit(RLIMIT_FSIZE, MOST_OUTPUT);
     limit(RLIMIT_CORE, 0);
-}
-
-/* Starts the program that serves all runs. */
-static void start_server(const char *served)
-{
-    char preload[4096];
-    char *const words[] = {(char *)program, NULL}, *const environment[] = {"PATH=/usr/bin:/bin", preload, NULL};
-    int pair[2];
-    snprintf(preload, sizeof preload, "LD_PRELOAD=%s", served);
-    if (socketpair(AF_UNIX, SOCK_SEQPACKET | SOCK_CLOEXEC, 0, pair))
-        stop("socketpair");
-    pid_t child = vfork();
-    if (child == 0) {
-        if (dup2(pair[1], SERVED) == SERVED)
-            execve(program, words, environment);
-        _exit(127);
-    }
-    if (child < 0)
-        stop("vfork");
-    close(pair[1]);
-    server = pair[0];
+    struct sigaction action = {.sa_handler = kill_late};
+    sigaction(SIGALRM, &action, NULL);
 }
 
 static void fill(int file, const struct text *text)
@@ -1062,22 +1048,39 @@ static void read_back(int file, struct text *text)
         stop("an output");
 }
 
-/* Runs the program with these words, and the file of a number as standard input. */
+/* Asks for an alarm, and for one more each second behind it. */
+static void set_alarm(int seconds)
+{
+    struct itimerval timer = {{seconds > 0, 0}, {seconds, 0}};
+    setitimer(ITIMER_REAL, &timer, NULL);
+}
+
+/* Runs the program with these words, and the file of a number as standard input. The system counts what this process has in memory as
+ * the program's, too, until the program is loaded: so no run has less than that. */
 static void run_program(char *const *words, int input, struct ended *ended)
 {
-    struct request request = {.files = {input, OUT, ERR}, .seconds = HANG_SECONDS};
-    struct answer answer;
-    char *to = request.words;
-    for (; words[request.count]; request.count++)
-        to = stpcpy(to, words[request.count]) + 1;
+    static char *const environment[] = {"PATH=/usr/bin:/bin", NULL};
+    struct rusage usage;
+    int status;
+    is_late = 0;
     lseek(input, 0, SEEK_SET);
-    if (send(server, &request, sizeof request, MSG_NOSIGNAL) != sizeof request || recv(server, &answer, sizeof answer, 0) != sizeof answer)
-        stop("the program is not served");
-    const struct rusage usage = answer.usage;
-    int status = answer.status;
+    set_alarm(HANG_SECONDS);
+    child = vfork();
+    if (child == 0) {
+        if (dup2(input, 0) == 0 && dup2(OUT, 1) == 1 && dup2(ERR, 2) == 2)
+            execve(program, words, environment);
+        _exit(127);
+    }
+    if (child < 0)
+        stop("vfork");
+    while (wait4(child, &status, 0, &usage) < 0)
+        if (errno != EINTR)
+            stop("wait4");
+    set_alarm(0);
+    child = 0;
     ended->status = WIFEXITED(status) ? WEXITSTATUS(status) : -1;
     ended->signal = WIFSIGNALED(status) ? WTERMSIG(status) : 0;
-    ended->is_hung = answer.is_late && ended->signal == SIGKILL;
+    ended->is_hung = is_late && ended->signal == SIGKILL;
     ended->cpu = (double)(usage.ru_utime.tv_sec + usage.ru_stime.tv_sec) + 1e-6 * (double)(usage.ru_utime.tv_usec + usage.ru_stime.tv_usec);
     ended->memory = (size_t)usage.ru_maxrss * 1024;
     read_back(OUT, &ended->out);
@@ -1087,7 +1090,6 @@ static void run_program(char *const *words, int input, struct ended *ended)
 /* ---- What is right ---- */
 
 enum { MOST_WORDS = 12, WORD = 48 };
-_Static_assert((MOST_WORDS + 2) * WORD <= sizeof((struct request *)0)->words, "the words of a request");
 
 struct command;
 
@@ -1825,7 +1827,7 @@ static void run_words(int input, ...)
     char *words[MOST_WORDS + 2];
     size_t count = 1;
     va_list rest;
-    words[0] = "pmfarm";
+    words[0] = (char *)program;
     va_start(rest, input);
     while ((words[count] = va_arg(rest, char *)) && count < MOST_WORDS)
         count++;
@@ -2028,7 +2030,7 @@ static void choose_words(struct run *run)
     char parts[160], *rest = NULL;
     size_t count = 0;
     snprintf(parts, sizeof parts, "%s", run->command->words);
-    run->words[0] = "pmfarm";
+    run->words[0] = (char *)program;
     run->stdin_file = INPUT;
     for (char *word = strtok_r(parts, " ", &rest); word; word = strtok_r(NULL, " ", &rest)) {
         if (strcmp(word, "IN?") == 0 && pick(2))
@@ -2156,15 +2158,14 @@ int main(int count, char **words)
 {
     static struct run run;
     int wrongs = 0;
-    if (count < 9)
-        stop("usage: mutate PROGRAM SERVED SEED FIRST RUNS SECONDS FOLDER KIND:FILE..");
+    if (count < 8)
+        stop("usage: mutate PROGRAM SEED FIRST RUNS SECONDS FOLDER KIND:FILE..");
     program = words[1];
-    u64 seed = strtoull(words[3], NULL, 10), first = strtoull(words[4], NULL, 10), runs = strtoull(words[5], NULL, 10);
-    double seconds = strtod(words[6], NULL), start = now();
-    const char *folder = words[7];
-    add_seeds(words + 8);
+    u64 seed = strtoull(words[2], NULL, 10), first = strtoull(words[3], NULL, 10), runs = strtoull(words[4], NULL, 10);
+    double seconds = strtod(words[5], NULL), start = now();
+    const char *folder = words[6];
+    add_seeds(words + 7);
     open_files();
-    start_server(words[2]);
     for (u64 i = 0; (!runs || i < runs) && (seconds == 0 || now() - start < seconds); i++) {
         const char *fault = one_run(&run, seed, first + i);
         if (*folder)
