@@ -1,11 +1,15 @@
 /* Feeds mutated inputs to the program, and judges how each run ends. `tests/mutate` builds and calls it:
  *
- *     mutate PROGRAM SEED FIRST RUNS SECONDS FOLDER KIND:FILE..
+ *     mutate PROGRAM WITHIN SEED FIRST RUNS SECONDS FOLDER KIND:FILE..
  *
+ * WITHIN is `tests/within.c` as a library: the runs are done in one process, and one that is not right there is done again alone. Where it is
+ * empty, each is done alone.
  * A run is named by SEED and its number, from FIRST on, and nothing else changes what it does. RUNS or SECONDS may be 0: no limit.
  * A KIND is `log`, `ledger`, `list`, `schedule` or `right-ledger` (one that `join` takes). What is written: `run ..` for each command, and
  * `wrong ..` for each run that is not right. Where FOLDER is not empty, it gets the inputs of each run, and `words ..` is written, too. */
 #define _GNU_SOURCE
+#include "within.h"
+
 #include <ctype.h>
 #include <errno.h>
 #include <fcntl.h>
@@ -18,6 +22,7 @@
 #include <string.h>
 #include <sys/mman.h>
 #include <sys/resource.h>
+#include <sys/socket.h>
 #include <sys/time.h>
 #include <sys/wait.h>
 #include <time.h>
@@ -1055,9 +1060,84 @@ static void set_alarm(int seconds)
     setitimer(ITIMER_REAL, &timer, NULL);
 }
 
+/* The process that does runs within, or 0, and the file on which it is asked. */
+static const char *within;
+static pid_t server;
+static int asking;
+
+static void stop_server(void)
+{
+    if (!server)
+        return;
+    kill(server, SIGKILL);
+    while (waitpid(server, NULL, 0) < 0 && errno == EINTR)
+        ;
+    close(asking);
+    server = 0;
+}
+
+/* Loads the program once. Its own words leave room for those of each run. */
+static void start_server(void)
+{
+    static char preload[4096];
+    static char *const environment[] = {"PATH=/usr/bin:/bin", preload, NULL};
+    char *words[MOST_WORDS + 2];
+    int both[2];
+    for (int at = 0; at <= MOST_WORDS; at++)
+        words[at] = (char *)program;
+    words[MOST_WORDS + 1] = NULL;
+    snprintf(preload, sizeof preload, "LD_PRELOAD=%s", within);
+    if (socketpair(AF_UNIX, SOCK_STREAM | SOCK_CLOEXEC, 0, both))
+        stop("socketpair");
+    server = vfork();
+    if (server == 0) {
+        if (dup2(both[1], ASKED) == ASKED && dup2(OUT, 1) == 1 && dup2(ERR, 2) == 2)
+            execve(program, words, environment);
+        _exit(127);
+    }
+    if (server < 0)
+        stop("vfork");
+    close(both[1]);
+    asking = both[0];
+}
+
+/* Runs the program as `run_alone` does, in the process that has it loaded. Tells whether the run came to an end there. */
+static int run_within(char *const *words, int input, struct ended *ended)
+{
+    static struct asked asked;
+    struct answered answered;
+    ssize_t got;
+    if (!server)
+        start_server();
+    asked.input = input;
+    for (asked.count = 0; words[asked.count + 1]; asked.count++)
+        snprintf(asked.words[asked.count], WORD, "%s", words[asked.count + 1]);
+    lseek(input, 0, SEEK_SET);
+    set_alarm(HANG_SECONDS);
+    child = server;
+    if (send(asking, &asked, sizeof asked, MSG_NOSIGNAL) != sizeof asked)
+        got = -1;
+    else
+        while ((got = recv(asking, &answered, sizeof answered, MSG_WAITALL)) < 0 && errno == EINTR)
+            ;
+    set_alarm(0);
+    child = 0;
+    read_back(OUT, &ended->out);
+    read_back(ERR, &ended->err);
+    if (got != sizeof answered) {
+        stop_server();
+        return 0;
+    }
+    ended->status = answered.status;
+    ended->signal = ended->is_hung = 0;
+    ended->cpu = answered.cpu;
+    ended->memory = answered.memory;
+    return 1;
+}
+
 /* Runs the program with these words, and the file of a number as standard input. The system counts what this process has in memory as
  * the program's, too, until the program is loaded: so no run has less than that. */
-static void run_program(char *const *words, int input, struct ended *ended)
+static void run_alone(char *const *words, int input, struct ended *ended)
 {
     static char *const environment[] = {"PATH=/usr/bin:/bin", NULL};
     struct rusage usage;
@@ -1087,9 +1167,15 @@ static void run_program(char *const *words, int input, struct ended *ended)
     read_back(ERR, &ended->err);
 }
 
-/* ---- What is right ---- */
+static int is_alone;
 
-enum { MOST_WORDS = 12, WORD = 48 };
+static void run_program(char *const *words, int input, struct ended *ended)
+{
+    if (is_alone || !run_within(words, input, ended))
+        run_alone(words, input, ended);
+}
+
+/* ---- What is right ---- */
 
 struct command;
 
@@ -2112,16 +2198,29 @@ static void run_in_time(struct run *run)
     }
 }
 
-/* Runs one number, and tells what is wrong with it, or NULL. */
-static const char *one_run(struct run *run, u64 seed, u64 number)
+/* Does the run of a number, and tells what is wrong with it, or NULL. */
+static const char *do_run(struct run *run, u64 seed, u64 number)
 {
     make_run(run, seed, number);
     int is_crossed = pick(CROSS_ONE_IN) == 0;
     run_in_time(run);
-    count_run(run);
     const char *fault = judge_run(run);
     if (!fault && is_crossed && run->command->cross && run->ended.status <= 1)
         fault = run->command->cross(run);
+    return fault;
+}
+
+/* The same: what is wrong within has to be wrong alone. */
+static const char *one_run(struct run *run, u64 seed, u64 number)
+{
+    is_alone = !*within;
+    const char *fault = do_run(run, seed, number);
+    if (fault && !is_alone) {
+        stop_server();
+        is_alone = 1;
+        fault = do_run(run, seed, number);
+    }
+    count_run(run);
     return fault;
 }
 
@@ -2158,13 +2257,14 @@ int main(int count, char **words)
 {
     static struct run run;
     int wrongs = 0;
-    if (count < 8)
-        stop("usage: mutate PROGRAM SEED FIRST RUNS SECONDS FOLDER KIND:FILE..");
+    if (count < 9)
+        stop("usage: mutate PROGRAM WITHIN SEED FIRST RUNS SECONDS FOLDER KIND:FILE..");
     program = words[1];
-    u64 seed = strtoull(words[2], NULL, 10), first = strtoull(words[3], NULL, 10), runs = strtoull(words[4], NULL, 10);
-    double seconds = strtod(words[5], NULL), start = now();
-    const char *folder = words[6];
-    add_seeds(words + 7);
+    within = words[2];
+    u64 seed = strtoull(words[3], NULL, 10), first = strtoull(words[4], NULL, 10), runs = strtoull(words[5], NULL, 10);
+    double seconds = strtod(words[6], NULL), start = now();
+    const char *folder = words[7];
+    add_seeds(words + 8);
     open_files();
     for (u64 i = 0; (!runs || i < runs) && (seconds == 0 || now() - start < seconds); i++) {
         const char *fault = one_run(&run, seed, first + i);
@@ -2175,6 +2275,7 @@ int main(int count, char **words)
             wrongs++;
         }
     }
+    stop_server();
     tell_counts();
     return wrongs > 0;
 }
