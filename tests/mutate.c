@@ -170,8 +170,9 @@ static int matches(struct span line, const char *pattern, u64 *numbers)
             const char *from = at;
             u64 value = 0;
             while (at < end && isdigit((unsigned char)*at))
-                value = value * 10 + (u64)(*at++ - '0');
-            if (at == from || at - from > 20 || (*from == '0' && at - from > 1))
+                if (__builtin_mul_overflow(value, 10, &value) || __builtin_add_overflow(value, (u64)(*at++ - '0'), &value))
+                    return 0;
+            if (at == from || (*from == '0' && at - from > 1))
                 return 0;
             if (numbers)
                 *numbers++ = value;
