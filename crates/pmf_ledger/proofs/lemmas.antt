@@ -13,6 +13,7 @@ pub mod ScanLemmas
 pub mod JoiningLemmas
 pub mod UniqueLemmas
 pub mod GatheringLemmas
+pub mod PileLemmas
 pub mod ReadingLemmas
 pub mod LinesLemmas
 pub mod GivingLemmas

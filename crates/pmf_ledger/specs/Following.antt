@@ -1,12 +1,12 @@
 -- What the loader keeps stands for a reading of the text lines so far. Defined here.
 use Rattle.std.specs.Prelude.{◌≡◌, ◌==◌, Bool, false, ℕ, ◌<◌, List, [], length, drop, Result, Ok, Err}
-use Rattle.pmf_ledger.specs.{declared.loading.LedgerFault.{LedgerFault}, declared.loading.LedgerFault.TheVariants.{Conflict}, declared.blocks.Blocks.{Blocks}, declared.blocks.Next.{Next}, Gathered.{IsLedgerOf}, Gathering.{Agrees}, Loading.{Reading, AtVersion, AtBlock, AtEvents, AtRows, AtEnd, AtFault, IsFirstOther, IsOfText}}
+use Rattle.pmf_ledger.specs.{declared.loading.LedgerFault.{LedgerFault}, declared.loading.LedgerFault.TheVariants.{Conflict}, declared.blocks.Blocks.{Blocks}, declared.blocks.Next.{Next}, Gathering.{Agrees}, Piles.{IsPileOf}, Loading.{Reading, AtVersion, AtBlock, AtEvents, AtRows, AtEnd, AtFault, IsFirstOther, IsOfText}}
 use Rattle.pmf_verdict.specs.Checked.{rows_in}
 use Rattle.pmf_ledger.specs.declared.blocks.Next.TheVariants as next
 
--- the ledger is that of the reading's blocks, and so many were read
+-- the pile is of the reading's blocks, and so many were read
 pub record HasRead (reading : Reading) (blocks : Blocks) : Type 0 where
-  pub ledger : IsLedgerOf reading.profile reading.blocks blocks.ledger
+  pub pile : IsPileOf reading.profile reading.blocks blocks.pile
   pub count : blocks.count ≡ length reading.blocks
 
 -- this comes next in the reading: of a section's events there are more, and of its rows some are left

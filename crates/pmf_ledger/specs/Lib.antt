@@ -25,6 +25,8 @@ pub mod Loading
 pub mod Ending
 pub mod ReportTold
 pub mod FaultText
+pub mod Together
+pub mod Piles
 pub mod Following
 pub mod BlockReading
 pub mod LoneBlock

@@ -142,7 +142,7 @@ impl BlockLines {
     pub(crate) fn profile(&self) -> Profile
         ensures { (r : Reading) (line : ℕ) → AreLinesOf r line self.now → result ≡ r.profile }
     {
-        self.blocks.ledger.profile()
+        self.blocks.pile.profile()
     }
 
     /// Whether the last text line was read.

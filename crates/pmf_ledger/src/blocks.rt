@@ -3,12 +3,12 @@
 ghost use Rattle.std.specs.Prelude.{◌≡◌, ◌≢◌, ◌+◌, ◌<◌, ◌^◌, ◌≤◌, [], ◌∷◌, ◌++◌, drop, length, codes, None, IfErr, IfOk, IsOk, MatchOption, bytes_eq};
 ghost use Rattle.pmf_event.specs.declared.section.TheConstants.{EVENT_LIMIT};
 ghost use Rattle.pmf_verdict.specs.{Checked.{rows_in}, Text.{text_of_row}};
-ghost use Rattle.pmf_ledger.specs.{BlockReading.{without_blocks}, Following.{HasRead, Reaches, StandsFor}, Gathered.{HoldsOther}, Loading.{IsWantOfMemory, Reading, LineTakesMemory, after_end, after_event, after_head, after_line, after_row, after_version, end_of, fault_at, head_of, profile_of, unread, with_events, with_rows, with_section}};
+ghost use Rattle.pmf_ledger.specs.{BlockReading.{without_blocks}, Following.{HasRead, Reaches, StandsFor}, Loading.{IsOther, IsWantOfMemory, Reading, LineTakesMemory, after_end, after_event, after_head, after_line, after_row, after_version, end_of, fault_at, head_of, profile_of, unread, with_events, with_rows, with_section}};
 ghost use Rattle.pmf_storelog.specs.Lines.{event_of_line};
 
 use crate::head::{read_end, read_head, read_version};
-use crate::ledger::Ledger;
 use crate::loading::LedgerFault;
+use crate::pile::Pile;
 use crate::taking::TakeFault;
 use pmf_event::{Profile, Row, Section, SectionFault};
 use pmf_storelog::{Cause, LineFault, LogFault, read_event};
@@ -44,10 +44,10 @@ pub(crate) enum Next {
     End,
 }
 
-/// The ledger of the blocks that were read, and how many they were, repeats counted.
+/// The sections of the blocks that were read, and how many blocks they were, repeats counted.
 #[derive(Drop)]
 pub(crate) struct Blocks {
-    pub(crate) ledger: Ledger,
+    pub(crate) pile: Pile,
     pub(crate) count: u64,
     spelled: String,
 }
@@ -85,7 +85,7 @@ impl Blocks {
         ensures { (r : Reading) → r.profile ≡ profile → r.blocks ≡ [] → HasRead r result }
     {
         Blocks {
-            ledger: Ledger::new(alloc, profile),
+            pile: Pile::new(alloc, profile),
             count: 0,
             spelled: String::new(alloc),
         }
@@ -127,7 +127,7 @@ impl Blocks {
     {
         match read_version(text) {
             Some(profile) => {
-                self.ledger = Ledger::new(alloc, profile);
+                self.pile = Pile::new(alloc, profile);
                 Ok(Next::Block)
             }
             None => Err(LedgerFault::NotALedger { line }),
@@ -225,7 +225,7 @@ impl Blocks {
     }
 
     // All events of the section have come: it is checked.
-    #[tactic(auto, using(std::proofs::lemmas::Grind::common_steps, crate::proofs::lemmas::ReadingLemmas::verdict_is, crate::proofs::lemmas::ReadingLemmas::rows_told))]
+    #[tactic(auto, using(std::proofs::lemmas::Grind::common_steps, crate::proofs::lemmas::ReadingLemmas::own_profile, crate::proofs::lemmas::ReadingLemmas::verdict_is, crate::proofs::lemmas::ReadingLemmas::rows_told))]
     fn with_section(
         &mut self,
         alloc: Global,
@@ -240,7 +240,7 @@ impl Blocks {
         let Ok(section) = Arc::new(alloc, section) else {
             return Err(LedgerFault::OutOfMemory);
         };
-        let Ok(verdict) = check(alloc, section, self.ledger.profile()) else {
+        let Ok(verdict) = check(alloc, section, self.pile.profile()) else {
             return Err(LedgerFault::OutOfMemory);
         };
         if verdict.rows().len() as u64 == told {
@@ -260,7 +260,7 @@ impl Blocks {
     ) -> Result<Next, LedgerFault>
         requires count { self.old.count < 2 ^ 63 }
         requires within { row < length (rows_in verdict) }
-        requires profile { verdict.profile ≡ self.old.ledger.profile }
+        requires profile { verdict.profile ≡ self.old.pile.last.profile }
         ensures { (r : Reading) → HasRead r self.old
             → Reaches (after_row r line text.now verdict.section (drop row (rows_in verdict)))
             result self.new }
@@ -279,7 +279,7 @@ impl Blocks {
     fn is_row(&mut self, row: &Row, text: &[u8]) -> Result<bool, AllocError>
         ensures same { IfOk result (λ same.
             same ≡ bytes_eq (text.now ++ codes "\n") (text_of_row row.now)) }
-        ensures ledger { self.new.ledger ≡ self.old.ledger }
+        ensures pile { self.new.pile ≡ self.old.pile }
         ensures count { self.new.count ≡ self.old.count }
     {
         self.spelled.clear();
@@ -288,10 +288,9 @@ impl Blocks {
     }
 
     // The rows of the verdict from this one on are still to come. With none left it is taken.
-    #[tactic(auto, using(std::proofs::lemmas::Grind::common_steps, crate::proofs::lemmas::ReadingLemmas::rows_more, crate::proofs::lemmas::ReadingLemmas::HasRead_at))]
     fn with_rows(&mut self, verdict: Verdict, row: usize) -> Result<Next, LedgerFault>
         requires count { self.old.count < 2 ^ 63 }
-        requires profile { verdict.profile ≡ self.old.ledger.profile }
+        requires profile { verdict.profile ≡ self.old.pile.last.profile }
         ensures { (r : Reading) → HasRead r self.old
             → Reaches (with_rows r verdict.section (drop row (rows_in verdict))) result self.new }
     {
@@ -307,7 +306,7 @@ impl Blocks {
             → HasRead (without_blocks r) self.new
             × MatchOption result (r.blocks ≡ []) (λ given. (r.blocks ≡ given.section ∷ []) × (given.profile ≡ r.profile)) }
     {
-        let last = self.ledger.pop()?;
+        let last = self.pile.pop()?;
         self.count = 0;
         Some(last)
     }
@@ -315,21 +314,21 @@ impl Blocks {
     // One block more.
     fn take(&mut self, verdict: Verdict) -> Result<Next, LedgerFault>
         requires count { self.old.count < 2 ^ 63 }
-        requires profile { verdict.profile ≡ self.old.ledger.profile }
+        requires profile { verdict.profile ≡ self.old.pile.last.profile }
         ensures reaches { (r : Reading) → HasRead r self.old
             → Reaches (with_rows r verdict.section []) result self.new }
-        ensures memory { IfErr result (λ found. IsWantOfMemory found
-            → HoldsOther self.old.ledger verdict.section → ⊥) }
+        ensures memory { (r : Reading) → HasRead r self.old → IfErr result (λ found. IsWantOfMemory found
+            → IsOther r.blocks verdict.section → ⊥) }
     {
         let name = verdict.name();
-        match self.ledger.take(verdict) {
-            Ok(_) => {
+        match self.pile.take(verdict) {
+            Ok(()) => {
                 self.count += 1;
                 Ok(Next::Block)
             }
-            Err((TakeFault::Conflict, _)) => Err(LedgerFault::Conflict { name }),
-            Err((TakeFault::OutOfMemory, _)) => Err(LedgerFault::OutOfMemory),
-            Err((TakeFault::ProfileMismatch, _)) => unreachable!(),
+            Err(TakeFault::Conflict) => Err(LedgerFault::Conflict { name }),
+            Err(TakeFault::OutOfMemory) => Err(LedgerFault::OutOfMemory),
+            Err(TakeFault::ProfileMismatch) => unreachable!(),
         }
     }
 }

@@ -26,6 +26,7 @@ mod laws;
 mod ledger;
 mod loading;
 mod lone_block;
+mod pile;
 mod raw_text;
 mod repeats;
 mod reporting;

@@ -82,8 +82,8 @@ pub(crate) fn words_of_conflict() -> &'static str
 /// profile that the first text line tells. Takes memory for the sections as they are read, and never
 /// by a number in the text.
 ///
-/// Blocks in the order of their names, as they are written, are loaded in the time that their checks take; a block before
-/// others costs what [`Ledger::take`] says.
+/// Blocks in the order of their names, as they are written, are loaded in the time that their checks take. In any other
+/// order each of N blocks costs some log N moves and as many searches more, and the text is loaded with room for twice its verdicts.
 pub fn load_ledger(alloc: Global, text: &[u8]) -> Result<Ledger, LedgerFault>
     ensures loads { MatchResult result (LoadsAs text.now)
         (λ found. IsOfText found → IsRefusedWith text.now found) }
@@ -106,11 +106,13 @@ pub fn load_ledger(alloc: Global, text: &[u8]) -> Result<Ledger, LedgerFault>
         rest = behind;
         line += 1;
     }
-    if is_over(&next, rest) {
-        Ok(blocks.ledger)
-    } else {
-        Err(LedgerFault::NotALedger { line })
+    if !is_over(&next, rest) {
+        return Err(LedgerFault::NotALedger { line });
     }
+    let Ok(ledger) = blocks.pile.into_ledger() else {
+        return Err(LedgerFault::OutOfMemory);
+    };
+    Ok(ledger)
 }
 
 // Whether the text may end here: nothing more is awaited, and nothing is left.

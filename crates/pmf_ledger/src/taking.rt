@@ -34,13 +34,13 @@ pub enum TakeFault {
     OutOfMemory,
 }
 
-// Where a section stands among those of a ledger.
-enum Standing {
-    // It is held.
+/// Where a section stands among those of a ledger.
+pub(crate) enum Standing {
+    /// It is held.
     Held,
-    // Its name is held with other events.
+    /// Its name is held with other events.
     Otherwise,
-    // Its name is not held, and would stand at this place.
+    /// Its name is not held, and would stand at this place.
     Absent(usize),
 }
 
@@ -96,8 +96,8 @@ impl Ledger {
         }
     }
 
-    // Where the section stands.
-    fn standing_of(&self, section: &Section) -> Standing
+    /// Where the section stands.
+    pub(crate) fn standing_of(&self, section: &Section) -> Standing
         ensures { IsStandingOf self.now section.now result }
     {
         match self.find(section.name()) {

@@ -243,9 +243,28 @@ impl<S: State> Leaf<S> {
         self.states.len()
     }
 
-    /// A state that there is. For speed alone.
-    pub(crate) fn first_state(&self) -> S {
-        self.states[0]
+    /// What becomes of the summary where the change alters states between two bounds: of the whole leaf, as the first
+    /// state tells. For speed alone.
+    pub(crate) fn effect_between<C: Change<S>>(
+        &self,
+        from: Option<u64>,
+        end: Option<u64>,
+        change: &C,
+        summary: S::Summary,
+    ) -> Effect {
+        let low = low_rank(&self.keys, from, self.hint);
+        let high = high_rank(&self.keys, end, self.hint).min(self.states.len());
+        if low == 0 && high == self.states.len() {
+            return change.effect(summary, self.states[0]);
+        }
+        let mut effect = Effect::None;
+        for i in low..high {
+            let state = self.states[i];
+            if !change.changed(state).is_same(state) {
+                effect = effect.or(change.effect(summary, state));
+            }
+        }
+        effect
     }
 
     /// Whether a state is unsettled. Most often none is, and all are asked without a branch for each.

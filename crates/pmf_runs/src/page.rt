@@ -84,12 +84,12 @@ impl<S: State> Page<S> {
         if from.is_none() && end.is_none() && !altered {
             return false;
         }
-        let effect = change.effect(self.summary, self.leaf.first_state());
+        let effect = self.leaf.effect_between(from, end, change, self.summary);
         self.leaf.change_all(from, end, change);
-        let effect = if from.is_some() || end.is_some() || self.leaf.runs() < NARROWED {
+        let effect = if effect == Effect::None || self.leaf.runs() < NARROWED {
             Effect::Remakes
         } else {
-            effect
+            put_off(&mut self.narrowed, self.leaf.runs(), effect)
         };
         let (summary, _) = renewed(&self.leaf, change.widened(self.summary), effect);
         self.summary = summary;

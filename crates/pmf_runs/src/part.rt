@@ -1,8 +1,8 @@
 //! What the levels of a map are made of.
 
 ghost use Rattle.std.specs.Prelude.{◌≡◌, ◌<◌, ◌≤◌, ◌-◌, ℕ, Bool, true, Option, None, Some, IfOk, OnOk, OnErr, IfSome};
-ghost use Rattle.pmf_event.specs.Ranges.{first_from, least_from, lesser};
-ghost use Rattle.pmf_runs.specs.{Lines.{counted_from}, Ranks.{SameStates, CoversAll, IsTail}, Joined.{InOrder, ChangesRange, ChangesCut, Halves}, Spaces.{IsHalved}};
+ghost use Rattle.pmf_event.specs.Ranges.{first_from};
+ghost use Rattle.pmf_runs.specs.{Lines.{counted_from}, Walks.{IsLowered}, Ranks.{SameStates, CoversAll, IsTail}, Joined.{InOrder, ChangesRange, ChangesCut, Halves}, Spaces.{IsHalved}};
 
 use crate::state::{Change, Effect, Key, State, Test};
 use crate::walk::Counted;
@@ -104,5 +104,5 @@ pub(crate) trait Part<S: State>: Drop {
     /// The lesser of the least so far and the least key that a state of the numbers from `first` up to
     /// `end` has.
     fn least_key<K: Key<S>>(&self, first: u64, end: u64, key: &K, least: Option<u32>) -> Option<u32>
-        ensures { (d : S) → result ≡ lesser least (least_from (λ b. K.key key.now (state self.now d b)) first (end - first)) };
+        ensures { IsLowered (λ d b. K.key key.now (state self.now d b)) first end least result };
 }

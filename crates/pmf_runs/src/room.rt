@@ -8,18 +8,18 @@ use std::alloc::AllocError;
 /// How many elements the lists of a full leaf or level have at most.
 const MOST: usize = 64;
 
-/// How many they have at least after a split at the middle.
-const HALF: usize = 30;
+/// How many elements a list has before it is given the room of a full one at once.
+const FEW: usize = 4;
 
-/// Makes room for so many more. A list that was split has just as much room as it has elements: its next room is
-/// that of a full one, in place of twice its own, which one more would outgrow.
+/// Makes room for so many more. A list of a few elements has next the room of a full one: most lists come to be full,
+/// those of rising keys each from its first few on, and one that was split has just as much room as it has elements.
 pub(crate) fn make_room<T>(list: &mut Vec<T>, more: usize) -> Result<(), AllocError>
     ensures items { list.new.items ≡ list.old.items }
     ensures len { vec_len list.new ≡ vec_len list.old }
     ensures ok { OnOk result (vec_len list.new + more ≤ vec_capacity list.new) }
 {
     let len = list.len();
-    if HALF <= len && len < MOST && more <= MOST - len {
+    if FEW <= len && len < MOST && more <= MOST - len {
         list.reserve_exact(MOST - len)
     } else {
         list.reserve(more)

@@ -1,8 +1,8 @@
 -- A reading whose blocks are handed out, one after another.
-use Rattle.std.proofs.{Common.{◌≡◌, ℕ, ◌≤◌, List, [], ◌∷◌, ◌++◌, length, get_or, Option, Some, None, refl, sym, ◌∙◌, ap, subst, arith, inl, inr, Contains, append-nil, length-append}, lemmas.List.Elements.{All-contains, Contains-append_left, Contains-get_or, Contains-push, Contains-push_cases}, lemmas.List.Quantifiers.{all_pairs_push}, lemmas.Grind.{common_steps}}
+use Rattle.std.proofs.{Common.{◌≡◌, ℕ, ◌≤◌, List, [], ◌∷◌, ◌++◌, length, get_or, Option, Some, None, MatchOption, IfNone, refl, sym, ◌∙◌, ap, subst, arith, inl, inr, Contains, append-nil, length-append}, lemmas.List.Elements.{All-contains, Contains-append_left, Contains-get_or, Contains-push, Contains-push_cases}, lemmas.List.Quantifiers.{all_pairs_push}, lemmas.Grind.{common_steps}}
 use Rattle.pmf_event.specs.{declared.name.Name.{Name}, declared.profile.Profile.{Profile}, Section.{Trace}}
 use Rattle.pmf_verdict.specs.Checked.{Checked, checked_by}
-use Rattle.pmf_ledger.{specs.declared.blocks.Next.{Next}, specs.declared.loading.LedgerFault.{LedgerFault}, specs.declared.loading.LedgerFault.TheVariants.{NotALedger, FalseRows, Conflict, Log, OutOfMemory}, specs.BlockReading.{IsLastName, NamesRise, behind, without_blocks}, specs.Following.{IsNext, IsStoppedBy}, specs.Gathered.{IsLedgerOf}, specs.LedgerValue.{LedgerValue}, specs.Loading.{Reading, AtVersion, AtBlock, AtEvents, AtEnd, AtFault, after_end, after_line, after_line_at, after_row, end_of, head_of, with_events, with_rows, with_section}, specs.Names.{ComesBefore, IsBefore, Rises}, proofs.lemmas.AddingLemmas.{Contains-cons, Contains-cons_cases}, proofs.lemmas.GatheringLemmas.{empty_ledger}, proofs.lemmas.JoiningLemmas.{AreBy, Holds-section}, proofs.lemmas.MergingLemmas.{AllPairs-last, none_of_empty}, proofs.lemmas.NameLemmas.{before-itself, before-trans}, proofs.lemmas.ReadingLemmas.{line-at}}
+use Rattle.pmf_ledger.{specs.declared.blocks.Next.{Next}, specs.declared.loading.LedgerFault.{LedgerFault}, specs.declared.loading.LedgerFault.TheVariants.{NotALedger, FalseRows, Conflict, Log, OutOfMemory}, specs.BlockReading.{IsLastName, NamesRise, behind, without_blocks}, specs.Following.{IsNext, IsStoppedBy}, specs.Gathered.{Holds, IsLedgerOf}, specs.Together.{AreLedgersOf}, specs.LedgerValue.{LedgerValue}, specs.Loading.{Reading, AtVersion, AtBlock, AtEvents, AtEnd, AtFault, after_end, after_line, after_line_at, after_row, end_of, head_of, with_events, with_rows, with_section}, specs.Names.{ComesBefore, IsBefore, Rises}, proofs.lemmas.AddingLemmas.{Contains-cons, Contains-cons_cases}, proofs.lemmas.GatheringLemmas.{empty_ledger}, proofs.lemmas.JoiningLemmas.{AreBy, Holds-section}, proofs.lemmas.MergingLemmas.{AllPairs-last, none_of_empty}, proofs.lemmas.NameLemmas.{before-itself, before-trans}, proofs.lemmas.PileLemmas.{alone-is, alone-of}, proofs.lemmas.ReadingLemmas.{line-at}}
 use Rattle.pmf_ledger.specs.declared.blocks.Next.TheVariants as next
 
 -- a text line does to a reading what it does to one without blocks, but for the last one, which counts them
@@ -76,6 +76,38 @@ module _ (profile : Profile) (set : List Trace) (ledger : LedgerValue) (few : le
         by : (cs : List Checked) → ((c : Checked) → Contains cs c → ⊥) → cs ≡ []
         by [] out = refl
         by (c ∷ cs) out = absurd (out c (Contains-cons c c cs (inl refl)))
+
+-- of ledgers of one section at most, the last with a section is that of the set
+pub last-is : (profile : Profile) (set : List Trace) (before : List LedgerValue) (last : LedgerValue) (c : Checked) → length set ≤ 1 → AreLedgersOf profile set (before ++ last ∷ []) → Contains last.sections c → IsLedgerOf profile set last
+last-is profile set before last c few are found =
+    let by = are.by last (Contains-push before last) in
+    let held : Holds last c.section = Holds-section last (subst (λ p. AreBy p last.sections) (sym by.profile_is) by.checked) c found in
+    let whole : set ≡ c.section ∷ [] = one_of set c.section few ((are.same c.section).0 (last, Contains-push before last, held)) in
+    record {
+      profile_is = by.profile_is;
+      checked = by.checked;
+      rises = by.rises;
+      same = λ s. (
+        λ has. (are.same s).0 (last, Contains-push before last, has),
+        λ has. elim (Contains-cons_cases s c.section [] (subst (λ ss. Contains ss s) whole has)) [ inl same ↦ subst (Holds last) (sym same) held | inr none ↦ absurd (none_of_empty [] s refl none) ],
+      );
+    }
+
+-- ledgers of no section
+pub emptied_pile : (profile : Profile) (before : List LedgerValue) (last : LedgerValue) → before ≡ [] → last.profile ≡ profile → last.sections ≡ [] → AreLedgersOf profile [] (before ++ last ∷ [])
+emptied_pile profile before last none by empty =
+    subst (λ ls. AreLedgersOf profile [] (ls ++ last ∷ [])) (sym none) (alone-of profile [] last (emptied profile last by empty) (λ s t has_s has_t same. absurd (none_of_empty [] s refl has_s)))
+
+-- the last of them without its last section
+pub popped : (profile : Profile) (set : List Trace) (before : List LedgerValue) (old new : LedgerValue) (result : Option Checked) → AreLedgersOf profile set (before ++ old ∷ []) → (old.sections ≡ [] → before ≡ []) → length set ≤ 1 →
+    new.profile ≡ old.profile → MatchOption result (old.sections ≡ []) (λ last. old.sections ≡ new.sections ++ last ∷ []) → IfNone result (new ≡ old) →
+    (new.profile ≡ profile) × (new.sections ≡ []) × MatchOption result (set ≡ []) (λ given. (set ≡ given.section ∷ []) × (given.profile ≡ profile))
+popped profile set before old new None are filled few stays none same =
+    let is = alone-is profile set old (subst (λ ls. AreLedgersOf profile set (ls ++ old ∷ [])) (filled none) are) in
+    (stays ∙ is.profile_is, subst (λ (l : LedgerValue). l.sections ≡ []) (sym same) none, none_held profile set old few is none)
+popped profile set before old new (Some v) are filled few stays whole same =
+    let is = last-is profile set before old v few are (subst (λ cs. Contains cs v) (sym whole) (Contains-push new.sections v)) in
+    (stays ∙ is.profile_is, no_front profile set old few is new.sections v whole, (set_is profile set old few is new.sections v whole, last_by profile set old few is new.sections v whole))
 
 -- with one block at most no two differ, so a reading stops with its stage
 pub stopped_stage : (e : Reading) (found : LedgerFault) → length e.blocks ≤ 1 → IsStoppedBy e found → e.stage ≡ AtFault found

@@ -1,9 +1,9 @@
 -- A ledger text read text line by text line: what is left of it, and where the reading ends.
-use Rattle.std.proofs.{Common.{◌≡◌, ℕ, suc, ◌+◌, ◌-◌, ◌<◌, ◌≤◌, true, false, List, [], ◌∷◌, ◌++◌, length, take, drop, Bool, Some, None, refl, sym, ◌∙◌, ap, subst, arith, if◌then◌else◌, le-ltb, lt-ltb, append_assoc, append-nil, length-drop, length-take-le, rules}, lemmas.Grind.{common_steps}, lemmas.List.{length_push}}
+use Rattle.std.proofs.{Common.{◌≡◌, ℕ, suc, ◌+◌, ◌-◌, ◌<◌, ◌≤◌, true, false, ◌==◌, List, [], ◌∷◌, ◌++◌, length, take, drop, Bool, Option, Some, None, refl, sym, ◌∙◌, ap, subst, arith, if◌then◌else◌, le-ltb, lt-ltb, append_assoc, append-nil, length-drop, length-take-le, rules}, lemmas.Grind.{common_steps}, lemmas.List.{length_push}}
 use Rattle.memchr.specs.Find.{IsFirstByte, is_byte}
-use Rattle.pmf_event.specs.{declared.name.Name.{Name}, Section.{Trace}}
+use Rattle.pmf_event.specs.{declared.name.Name.{Name}, declared.profile.Profile.{Profile}, Section.{Trace}}
 use Rattle.pmf_storelog.proofs.SplitLemmas.{split_none, split_some, split_filled}
-use Rattle.pmf_ledger.{specs.declared.blocks.Blocks.{Blocks}, specs.declared.blocks.Next.{Next}, specs.declared.loading.LedgerFault.{LedgerFault}, specs.declared.loading.LedgerFault.TheVariants.{NotALedger}, specs.declared.loading.TheConstants.{LEDGER_LIMIT}, specs.Following.{HasRead, IsNext, StandsFor, IsStoppedBy, is_over}, specs.Gathering.{Agrees}, specs.Loading.{Reading, AtFault, unread, after_row, after_line_at, with_rows, with_section, with_events, after_line, after_lines, is_line_end, parts_of, lines_of, left_of, reading_of, fault_at_end, fault_of, IsFirstOther, IsRefusedWith, LineTakesMemory, LoadsAs, MayWantMemory}, proofs.lemmas.ReadingLemmas.{line-at}, proofs.lemmas.UniqueLemmas.{Agrees-ledger}}
+use Rattle.pmf_ledger.{specs.declared.blocks.Blocks.{Blocks}, specs.declared.blocks.Next.{Next}, specs.declared.loading.LedgerFault.{LedgerFault}, specs.declared.loading.LedgerFault.TheVariants.{NotALedger}, specs.declared.loading.TheConstants.{LEDGER_LIMIT}, specs.Following.{HasRead, IsNext, StandsFor, IsStoppedBy, is_over}, specs.Gathered.{IsLedgerOf}, specs.Gathering.{Agrees}, specs.LedgerValue.{LedgerValue}, specs.declared.head.Head.{Head}, specs.Loading.{Reading, AtVersion, AtBlock, AtEnd, AtFault, at, unread, after_version, after_head, after_end, profile_of, head_of, end_of, after_row, after_line_at, with_rows, with_section, with_events, after_line, after_lines, is_line_end, parts_of, lines_of, left_of, reading_of, fault_at_end, fault_of, IsFirstOther, IsRefusedWith, LineTakesMemory, LoadsAs, MayWantMemory}, proofs.lemmas.MergingLemmas.{none_of_empty}, proofs.lemmas.ReadingLemmas.{line-at}}
 
 -- the first of some parts, with more behind it
 pub take_before : {X : Type 0} (x : X) (xs : List X) → 0 < length xs → take (length (x ∷ xs) - 1) (x ∷ xs) ≡ x ∷ take (length xs - 1) xs
@@ -156,9 +156,62 @@ wants-at text rest line end r blocks here read found fits takes =
       line = take end rest;
       rest = lines_of (drop (end + 1) rest);
       whole = behind.1 ∙ ap (λ lines. behind.0 ++ lines) (lines_more rest end found);
-      agrees = subst (λ (o : Reading). Agrees o.blocks) (sym behind.2) (Agrees-ledger r.profile r.blocks blocks.ledger read.ledger);
+      agrees = subst (λ (o : Reading). Agrees o.blocks) (sym behind.2) read.pile.agrees;
       takes = subst (λ (o : Reading). LineTakesMemory o.stage (take end rest)) (sym behind.2) takes;
     }
+
+-- ---- a text with a block takes memory at the head of its first
+
+-- behind the end nothing is read
+ended : (r : Reading) (n : ℕ) (texts : List (List ℕ)) → r.stage ≡ AtEnd → (after_lines r n texts).blocks ≡ r.blocks
+unfolding after_lines after_line_at
+ended r n [] is = refl
+ended r n (text ∷ texts) is =
+    let next = line-at r n text AtEnd is in
+    ap (λ e. (after_lines e (suc n) texts).blocks) next ∙ ap (λ (o : Reading). o.blocks) (stays (at r (AtFault (NotALedger n))) (NotALedger n) (suc n) texts refl)
+
+-- what is no head is followed by no block
+no_head : (r : Reading) (n : ℕ) (texts : List (List ℕ)) (told : Option ℕ) → (after_lines (after_end r n told) (suc n) texts).blocks ≡ r.blocks
+no_head r n texts None = ap (λ (o : Reading). o.blocks) (stays (at r (AtFault (NotALedger n))) (NotALedger n) (suc n) texts refl)
+no_head r n texts (Some told) = by (told == length r.blocks)
+  where
+    by : (here : Bool) → (after_lines (at r (if here then AtEnd else AtFault (NotALedger n))) (suc n) texts).blocks ≡ r.blocks
+    by true = ended (at r AtEnd) (suc n) texts refl
+    by false = ap (λ (o : Reading). o.blocks) (stays (at r (AtFault (NotALedger n))) (NotALedger n) (suc n) texts refl)
+
+-- behind the version
+abbrev at_block : Profile → Reading
+at_block profile = record { profile = profile; blocks = []; stage = AtBlock }
+
+wanted-head : (text first second : List ℕ) (rest : List (List ℕ)) (profile : Profile) → lines_of text ≡ first ∷ second ∷ rest → length text ≤ LEDGER_LIMIT → after_line unread 1 first ≡ at_block profile →
+    (head : Option Head) → head_of second ≡ head → ((after_lines (after_head (at_block profile) 2 second head) 3 rest).blocks ≡ [] → ⊥) → MayWantMemory text
+unfolding after_lines
+wanted-head text first second rest profile whole fits read None is some = absurd (some (no_head (at_block profile) 2 rest (end_of second)))
+wanted-head text first second rest profile whole fits read (Some head) is some = record {
+  fits = fits;
+  before = first ∷ [];
+  line = second;
+  rest = rest;
+  whole = whole;
+  agrees = subst (λ (o : Reading). Agrees o.blocks) (sym read) (λ s t has_s has_t same. absurd (none_of_empty [] s refl has_s));
+  takes = subst (λ (o : Reading). LineTakesMemory o.stage second) (sym read) (λ none. let wrong : None ≡ Some head = sym none ∙ is in cc);
+}
+
+wanted-version : (text first : List ℕ) (lines : List (List ℕ)) → lines_of text ≡ first ∷ lines → length text ≤ LEDGER_LIMIT → (told : Option Profile) → after_line unread 1 first ≡ after_version unread 1 told →
+    ((after_lines (after_version unread 1 told) 2 lines).blocks ≡ [] → ⊥) → MayWantMemory text
+unfolding after_lines after_line_at
+wanted-version text first lines whole fits None read some = absurd (some (ap (λ (o : Reading). o.blocks) (stays (at unread (AtFault (NotALedger 1))) (NotALedger 1) 2 lines refl)))
+wanted-version text first [] whole fits (Some profile) read some = absurd (some refl)
+wanted-version text first (second ∷ rest) whole fits (Some profile) read some =
+    let next = line-at (at_block profile) 2 second AtBlock refl in
+    wanted-head text first second rest profile whole fits read (head_of second) refl (λ none. some (ap (λ e. (after_lines e 3 rest).blocks) next ∙ none))
+
+wanted-lines : (text : List ℕ) (lines : List (List ℕ)) → lines_of text ≡ lines → length text ≤ LEDGER_LIMIT → ((after_lines unread 1 lines).blocks ≡ [] → ⊥) → MayWantMemory text
+unfolding after_lines after_line_at
+wanted-lines text [] whole fits some = absurd (some refl)
+wanted-lines text (first ∷ lines) whole fits some =
+    let version = line-at unread 1 first AtVersion refl in
+    wanted-version text first lines whole fits (profile_of first) version (λ none. some (ap (λ e. (after_lines e 2 lines).blocks) version ∙ none))
 
 -- where no text line is left, the reading is that of the text
 module _ (text rest : List ℕ) (line : ℕ) (r : Reading) (here : IsAt text rest line r) (none : IsFirstByte (is_byte 10) rest None) where
@@ -179,8 +232,22 @@ module _ (text rest : List ℕ) (line : ℕ) (r : Reading) (here : IsAt text res
   not_over : (blocks : Blocks) (awaited : Next) → IsNext r awaited → is_over awaited rest ≡ false → fault_at_end r.stage line (length rest) ≡ Some (NotALedger line)
   not_over blocks awaited comes is = grind (arith, common_steps)
 
-  pub loads-at : (blocks : Blocks) (awaited : Next) → StandsFor r blocks awaited → is_over awaited rest ≡ true → LoadsAs text blocks.ledger
-  loads-at blocks awaited stands is = grind (arith, common_steps, fault_is, over, reading_is)
+  pub loads-at : (blocks : Blocks) (awaited : Next) → StandsFor r blocks awaited → is_over awaited rest ≡ true → (ledger : LedgerValue) → IsLedgerOf r.profile r.blocks ledger → LoadsAs text ledger
+  loads-at blocks awaited stands is ledger gathered = record {
+    faultless = fault_is ∙ over blocks awaited stands.1 is;
+    gathered = subst (λ (o : Reading). IsLedgerOf o.profile o.blocks ledger) (sym reading_is) gathered;
+  }
 
   pub refused-end : (blocks : Blocks) (awaited : Next) → StandsFor r blocks awaited → is_over awaited rest ≡ false → IsRefusedWith text (NotALedger line)
-  refused-end blocks awaited stands is = search (rules, Agrees-ledger, reading_is, fault_is, not_over)
+  refused-end blocks awaited stands is = (
+    subst (λ (o : Reading). Agrees o.blocks) (sym reading_is) stands.0.pile.agrees,
+    fault_is ∙ not_over blocks awaited stands.1 is,
+  )
+
+  -- blocks that were read took memory
+  pub wants-some : length text ≤ LEDGER_LIMIT → (r.blocks ≡ [] → ⊥) → MayWantMemory text
+  unfolding IsBehind
+  wants-some fits some =
+      let behind = here.behind in
+      wanted-lines text behind.0 (behind.1 ∙ ap (λ more. behind.0 ++ more) (lines_none rest none) ∙ append-nil behind.0) fits
+      (λ empty. some (ap (λ (o : Reading). o.blocks) (sym behind.2) ∙ empty))

@@ -165,7 +165,7 @@ module _ (r : Reading) (line : ℕ) (bytes : List ℕ) (lone : LoneBlock) (is : 
       AreLinesOf (with_rows r lone.verdict.section []) (line + lone.lines) (record { blocks = lines.blocks; next = lines.next; line = next; count = count; last = Some name })
   unfolding with_rows
   lines_stand lines next count name are next_is count_is named after = record {
-    stands = (record { ledger = are.stands.0.ledger; count = are.stands.0.count }, subst (λ stage. IsNext (record { profile = r.profile; blocks = []; stage = stage }) lines.next) comes are.stands.1);
+    stands = (record { pile = are.stands.0.pile; count = are.stands.0.count }, subst (λ stage. IsNext (record { profile = r.profile; blocks = []; stage = stage }) lines.next) comes are.stands.1);
     line_is = next_is ∙ ap (λ n. n + lone.lines) are.line_is;
     count = let long = length_push r.blocks lone.verdict.section in let so = are.count in omega (arith, long, so, count_is);
     few = let few = are.few in let some = some_line in omega (arith, few, some, next_is, count_is);

@@ -3,7 +3,7 @@ use Rattle.std.proofs.{Common.{◌≡◌, ℕ, ◌+◌, ◌-◌, ◌<◌, ◌≤
 use Rattle.pmf_event.specs.{declared.event.Event.{Event}, declared.name.Name.{Name}, declared.profile.Profile.{Profile}, declared.row.Row.{Row}, declared.section.TheConstants.{EVENT_LIMIT}, Section.{Trace}}
 use Rattle.pmf_storelog.specs.{declared.fault.Cause.TheVariants.{TooManyEvents}, declared.line.LineFault.{LineFault}, declared.line.LineFault.TheVariants.{NoEvent, Refused}}
 use Rattle.pmf_verdict.specs.{Checked.{Checked, checked_by}, Rows.{rows_of}, Text.{text_of_row}}
-use Rattle.pmf_ledger.{specs.declared.blocks.Blocks.{Blocks}, specs.declared.loading.LedgerFault.{LedgerFault}, specs.declared.loading.LedgerFault.TheVariants.{NotALedger, FalseRows, Log}, specs.Following.{HasRead, IsStoppedBy}, specs.Gathered.{Gathers, HoldsOther, IsLedgerOf}, specs.Gathering.{Agrees, HaveSameMembers}, specs.LedgerValue.{LedgerValue}, specs.Loading.{Reading, Stage, AtBlock, AtEvents, AtRows, AtEnd, AtFault, at, after_end, fault_at, after_event, after_row, after_line, after_line_at, with_events, with_section, with_rows, IsFirstOther}, proofs.lemmas.AddingLemmas.{Contains-cons, Contains-cons_cases}, proofs.lemmas.UniqueLemmas.{Agrees-ledger}}
+use Rattle.pmf_ledger.{specs.declared.blocks.Blocks.{Blocks}, specs.declared.loading.LedgerFault.{LedgerFault}, specs.declared.loading.LedgerFault.TheVariants.{NotALedger, FalseRows, Log}, specs.Following.{HasRead, IsStoppedBy}, specs.Gathered.{IsLedgerOf}, specs.Gathering.{Agrees, HaveSameMembers}, specs.LedgerValue.{LedgerValue}, specs.Loading.{Reading, Stage, AtBlock, AtEvents, AtRows, AtEnd, AtFault, at, after_end, fault_at, after_event, after_row, after_line, after_line_at, with_events, with_section, with_rows, IsFirstOther, IsOther}, specs.Piles.{IsPileOf, ledgers_of}, proofs.lemmas.AddingLemmas.{Contains-cons, Contains-cons_cases}, proofs.lemmas.PileLemmas.{ledgers-members}}
 
 pub IsLedgerOf-members : (profile : Profile) (xs ys : List Trace) (ledger : LedgerValue) → IsLedgerOf profile xs ledger → HaveSameMembers xs ys → IsLedgerOf profile ys ledger
 IsLedgerOf-members profile xs ys ledger is alike = record {
@@ -24,15 +24,19 @@ cons-push x xs = λ s. (
 module _ (r : Reading) (blocks : Blocks) (read : HasRead r blocks) where
   pub stopped : (e : Reading) (found : LedgerFault) → e ≡ at r (AtFault found) → Agrees e.blocks × (e.stage ≡ AtFault found)
   stopped e found is = (
-    subst (λ (o : Reading). Agrees o.blocks) (sym is) (Agrees-ledger r.profile r.blocks blocks.ledger read.ledger),
+    subst (λ (o : Reading). Agrees o.blocks) (sym is) read.pile.agrees,
     ap (λ (o : Reading). o.stage) is,
   )
 
-  pub HasRead_same : (other : Blocks) → other.ledger ≡ blocks.ledger → other.count ≡ blocks.count → HasRead r other
-  HasRead_same other ledger count = grind (arith, common_steps)
+  pub HasRead_same : (other : Blocks) → other.pile ≡ blocks.pile → other.count ≡ blocks.count → HasRead r other
+  HasRead_same other pile count = record { pile = subst (IsPileOf r.profile r.blocks) (sym pile) read.pile; count = count ∙ read.count }
+
+  -- its ledgers are by the profile of the reading
+  pub own_profile : blocks.pile.last.profile ≡ r.profile
+  own_profile = (read.pile.by blocks.pile.last (Contains-push blocks.pile.full.items blocks.pile.last)).profile_is
 
 pub HasRead_at : (r : Reading) (stage : Stage) (blocks : Blocks) → HasRead r blocks → HasRead (at r stage) blocks
-HasRead_at r stage blocks read = record { ledger = read.ledger; count = read.count }
+HasRead_at r stage blocks read = record { pile = read.pile; count = read.count }
 
 -- one text line, at each stage
 module _ (r : Reading) (n : ℕ) (text : List ℕ) where
@@ -98,27 +102,22 @@ row-other r n text section rows k x d below is other = rw (drop_more rows k d be
 
 -- a block more
 module _ (r : Reading) (blocks : Blocks) (read : HasRead r blocks) (section : Trace) where
-  of_ledger : IsLedgerOf blocks.ledger.profile r.blocks blocks.ledger
-  of_ledger = subst (λ p. IsLedgerOf p r.blocks blocks.ledger) (sym read.ledger.profile_is) read.ledger
-
-  pub HasRead-taken : (new : Blocks) → Gathers blocks.ledger section new.ledger → new.count ≡ blocks.count + 1 → HasRead (with_rows r section []) new
+  pub HasRead-taken : (new : Blocks) → IsPileOf r.profile (section ∷ r.blocks) new.pile → new.count ≡ blocks.count + 1 → HasRead (with_rows r section []) new
   unfolding with_rows
-  HasRead-taken new gathers count = record {
-    ledger =
-        IsLedgerOf-members r.profile (section ∷ r.blocks) (r.blocks ++ section ∷ []) new.ledger
-        (subst (λ p. IsLedgerOf p (section ∷ r.blocks) new.ledger) read.ledger.profile_is (gathers r.blocks of_ledger)) (cons-push section r.blocks);
+  HasRead-taken new taken count = record {
+    pile = ledgers-members r.profile (section ∷ r.blocks) (r.blocks ++ section ∷ []) (ledgers_of new.pile) taken (cons-push section r.blocks);
     count = let long = length_push r.blocks section in let so = read.count in omega (arith, count, so, long);
   }
 
-  pub first_other : (name : Name) → name ≡ section.name → HoldsOther blocks.ledger section → IsFirstOther (with_rows r section []).blocks name
+  pub first_other : (name : Name) → name ≡ section.name → IsOther r.blocks section → IsFirstOther (with_rows r section []).blocks name
   unfolding with_rows
   first_other name is other = record {
     before = r.blocks;
     section = section;
     rest = [];
     whole = refl;
-    agrees = Agrees-ledger r.profile r.blocks blocks.ledger read.ledger;
-    other = (other.0, (read.ledger.same other.0).0 other.1, other.2, other.3);
+    agrees = read.pile.agrees;
+    other = other;
     named = sym is;
   }
 

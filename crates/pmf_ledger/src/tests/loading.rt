@@ -195,6 +195,41 @@ end verdicts=03
     )
 }
 
+// The text of 501 blocks: those of the runs 0 to 499, each a step from the one before it, and behind them that of run 250 with this event.
+fn text_in_steps(alloc: Global, start: u64, step: u64, last: &str) -> Result<String, Fail> {
+    let mut text = String::new(alloc);
+    text.push_str("PMFARM-LEDGER 1\n")?;
+    for at in 0..500 {
+        let run = (start + at * step) % 500;
+        text.push_str(&format!(in alloc; "section {run}.0 events=1 rows=0\nFENCE\n")?)?;
+    }
+    text.push_str(&format!(in alloc;
+        "section 250.0 events=1 rows=0\n{last}\nend verdicts=501\n"
+    )?)?;
+    Ok(text)
+}
+
+#[test]
+fn blocks_in_any_order_are_loaded_as_one_ledger(rt: HostRuntime) -> Result<(), Fail> {
+    for (start, step) in [(0, 1), (499, 499), (3, 187)] {
+        let text = text_in_steps(rt.alloc(), start, step, "FENCE")?;
+        let ledger = load_ledger(rt.alloc(), text.as_bytes())?;
+        assert_eq!(rt; ledger.len(), 500);
+        for run in 0..500 {
+            assert_eq!(rt; ledger.verdicts()[run as usize].name(), name(run, 0));
+        }
+        let other = text_in_steps(rt.alloc(), start, step, "STORE;64;0;8")?;
+        let name = name(250, 0);
+        assert_refused(
+            &rt,
+            rt.alloc(),
+            other.as_bytes(),
+            LedgerFault::Conflict { name },
+        );
+    }
+    Ok(())
+}
+
 #[test]
 fn the_first_line_tells_the_profile(rt: HostRuntime) -> Result<(), Fail> {
     let alloc = rt.alloc();

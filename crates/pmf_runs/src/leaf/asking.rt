@@ -9,8 +9,8 @@ use crate::state::{Key, State, Test};
 use crate::walk::{Counted, end_of, first_of_run, least_of_run, lesser, lines_of_run, start_of};
 
 impl<S: State> Leaf<S> {
-    ghost use Rattle.pmf_event.specs.Ranges.{first_from, least_from, lesser};
-    ghost use Rattle.pmf_runs.specs.{Leaves.{leaf_state}, Lines.{counted_from}};
+    ghost use Rattle.pmf_event.specs.Ranges.{first_from};
+    ghost use Rattle.pmf_runs.specs.{Leaves.{leaf_state}, Lines.{counted_from}, Walks.{IsLowered}};
 
     /// The least number from `first` up to `end` whose state passes.
     pub(crate) fn find_first<T: Test<S>>(&self, first: u64, end: u64, test: &T) -> Option<u64>
@@ -118,7 +118,7 @@ impl<S: State> Leaf<S> {
         key: &K,
         least: Option<u32>,
     ) -> Option<u32>
-        ensures { (d : S) → result ≡ lesser least (least_from (λ b. K.key key.now (leaf_state self.now d b)) first (end - first)) }
+        ensures { IsLowered (λ d b. K.key key.now (leaf_state self.now d b)) first end least result }
     {
         let mut index = start_of(&self.keys, first, self.hint);
         let mut start = first;

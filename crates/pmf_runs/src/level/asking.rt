@@ -10,7 +10,7 @@ use crate::walk::{Counted, end_of, start_of};
 
 impl<P> Level<P> {
     ghost use Rattle.pmf_event.specs.Ranges.{first_from, least_from, lesser};
-    ghost use Rattle.pmf_runs.specs.{Levels.{level_state}, Lines.{counted_from}};
+    ghost use Rattle.pmf_runs.specs.{Levels.{level_state}, Lines.{counted_from}, Walks.{IsLowered}};
 
     /// The least number from `first` up to `end` whose state passes.
     pub(crate) fn find_first<S: State, T: Test<S>>(
@@ -136,7 +136,7 @@ impl<P> Level<P> {
     ) -> Option<u32>
     where
         P: Part<S>,
-        ensures { (d : S) → result ≡ lesser least (least_from (λ b. K.key key.now (level_state P.state self.now d b)) first (end - first)) }
+        ensures { IsLowered (λ d b. K.key key.now (level_state P.state self.now d b)) first end least result }
     {
         if first >= end {
             return least;
@@ -178,7 +178,8 @@ impl<P> Level<P> {
     }
 
     /// Where the part with the least bound begins, of those behind the part of the index whose numbers all lie below
-    /// the end: at the end if none may lower the least so far. It bears on speed alone.
+    /// the end: at the end if the first of them may not lower the least so far, as where keys rise. It bears on speed
+    /// alone.
     fn likely<S: State, K: Key<S>>(&self, from: usize, end: u64, key: &K, least: Option<u32>) -> u64
     where
         P: Part<S>,
@@ -191,8 +192,11 @@ impl<P> Level<P> {
                 return at;
             }
             let summary = self.parts[next].summary();
+            if i == from && !key.may_lower(summary, least) {
+                return at;
+            }
             let own = key.bound(summary).unwrap_or(u32::MAX);
-            if own < bound && key.may_lower(summary, least) {
+            if own < bound {
                 at = self.keys[i];
                 bound = own;
             }
@@ -211,7 +215,7 @@ impl<P> Level<P> {
     ) -> Option<u32>
     where
         P: Part<S>,
-        ensures { (d : S) → result ≡ lesser least (least_from (λ b. K.key key.now (level_state P.state self.now d b)) first (end - first)) }
+        ensures { IsLowered (λ d b. K.key key.now (level_state P.state self.now d b)) first end least result }
     {
         let mut index = start_of(&self.keys, first, self.hint);
         let mut start = first;

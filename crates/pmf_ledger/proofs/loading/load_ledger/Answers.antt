@@ -1,6 +1,6 @@
 use Rattle.std.proofs.Common.{take, drop, ◌+◌, sym, ◌∙◌, subst, rules, arith, IfErr}
 use Rattle.memchr.specs.Find.{IsFirstByte, is_byte}
-use Rattle.pmf_ledger.{specs.Following.{Reaches}, specs.Loading.{IsWantOfMemory, LineTakesMemory, after_line}, proofs.lemmas.LinesLemmas.{IsAt, IsAt-start, IsAt-next, refused-long, refused-at, wants-at, loads-at, refused-end}}
+use Rattle.pmf_ledger.{specs.Following.{Reaches}, specs.Loading.{IsWantOfMemory, LineTakesMemory, after_line}, proofs.lemmas.LinesLemmas.{IsAt, IsAt-start, IsAt-next, refused-long, refused-at, wants-at, loads-at, refused-end, wants-some}}
 use Rattle.pmf_ledger.proofs.loading.load_ledger.Goals as goal
 
 pub returns-then-text-gt-LEDGER_LIMIT-clause-loads : goal.returns-then-text-gt-LEDGER_LIMIT-clause-loads
@@ -32,14 +32,20 @@ returns-in-Err-clause-memory c =
     subst (λ result. IfErr result (λ found. IsWantOfMemory found → LineTakesMemory r.stage (take end rest))) c.in-Err.is (c.follow.ensures.memory r stands (omega (arith, few))) in
     λ wants. wants-at text rest line end r _ here stands.0 (subst (IsFirstByte (is_byte 10) rest) c.in-Some.is c.memchr.ensures) (omega (arith, out)) (takes wants)
 
-pub returns-then-is_over-clause-loads : goal.returns-then-is_over-clause-loads
-returns-then-is_over-clause-loads c =
-    let none = subst (IsFirstByte (is_byte 10) c.loop-end.rest.now) c.in_default.is c.memchr.ensures in
-    loads-at c.args.text.now c.loop-end.rest.now c.loop-end.line c.loop-end.invariant.0 c.loop-end.invariant.2 none
-    c.loop-end.blocks c.loop-end.next c.loop-end.invariant.1 (sym c.is_over.ensures ∙ c.if-is_over.true)
+pub returns-clause-loads : goal.returns-clause-loads
+returns-clause-loads c =
+    let none = subst (IsFirstByte (is_byte 10) c.loop-end.rest.now) c.in_default.is c.memchr.ensures in let r = c.loop-end.invariant.0 in let stands = c.loop-end.invariant.1 in
+    loads-at c.args.text.now c.loop-end.rest.now c.loop-end.line r c.loop-end.invariant.2 none
+    c.loop-end.blocks c.loop-end.next stands (sym c.is_over.ensures ∙ c.if-not-is_over.false) c.in-Ok-into_ledger.ledger (c.in-Ok-into_ledger.ensures.ledger r.profile r.blocks stands.0.pile)
 
-pub returns-else-is_over-clause-loads : goal.returns-else-is_over-clause-loads
-returns-else-is_over-clause-loads c = λ of_text.
+pub returns-then-not-is_over-clause-loads : goal.returns-then-not-is_over-clause-loads
+returns-then-not-is_over-clause-loads c = λ of_text.
     let none = subst (IsFirstByte (is_byte 10) c.loop-end.rest.now) c.in_default.is c.memchr.ensures in
     refused-end c.args.text.now c.loop-end.rest.now c.loop-end.line c.loop-end.invariant.0 c.loop-end.invariant.2 none
-    c.loop-end.blocks c.loop-end.next c.loop-end.invariant.1 (sym c.is_over.ensures ∙ c.if-is_over.false)
+    c.loop-end.blocks c.loop-end.next c.loop-end.invariant.1 (sym c.is_over.ensures ∙ c.if-not-is_over.true)
+
+pub returns-in_default-into_ledger-clause-memory : goal.returns-in_default-into_ledger-clause-memory
+returns-in_default-into_ledger-clause-memory c = λ wants.
+    let none = subst (IsFirstByte (is_byte 10) c.loop-end.rest.now) c.in_default.is c.memchr.ensures in let r = c.loop-end.invariant.0 in let stands = c.loop-end.invariant.1 in
+    let out = c.if-text-gt-LEDGER_LIMIT.false in
+    wants-some c.args.text.now c.loop-end.rest.now c.loop-end.line r c.loop-end.invariant.2 none (omega (arith, out)) (c.in_default-into_ledger.ensures.some r.profile r.blocks stands.0.pile)

@@ -1,6 +1,6 @@
-use Rattle.std.proofs.{Common.{◌≡◌, ◌++◌, List, length, Some, sym, ap, subst, arith}, lemmas.List.{length_push}}
+use Rattle.std.proofs.{Common.{◌≡◌, ◌++◌, List, length, Some, refl, sym, ap, subst, arith, Contains}, lemmas.List.{length_push}, lemmas.List.Elements.{Contains-push}}
 use Rattle.pmf_event.specs.{declared.name.Name.{Name}, Section.{Trace}}
-use Rattle.pmf_ledger.{specs.BlockReading.{NamesRise}, specs.Names.{IsBefore}, proofs.lemmas.BlockReadingLemmas.{next_without, rises_more}}
+use Rattle.pmf_ledger.{specs.BlockReading.{IsLastName, NamesRise}, specs.Names.{IsBefore}, proofs.lemmas.BlockReadingLemmas.{next_without, rises_more}}
 use Rattle.pmf_ledger.proofs.block_lines.BlockLines.hand_out.Goals as goal
 
 pub returns : goal.returns
@@ -18,4 +18,17 @@ returns c = λ r e line before.
         last = (r.blocks, s, whole, sym c.name-name.ensures);
       },
       (whole, given.1.1),
+    )
+
+pub returns-then-not-comes_next : goal.returns-then-not-comes_next
+returns-then-not-comes_next c = λ r e line before.
+    let given = c.in-Some.ensures e before.stands.0 before.one in
+    let not = c.if-not-comes_next.ensures.not refl in
+    let is = subst (IsLastName r.blocks) not.1 before.last in (
+      is.1,
+      c.in-Some.verdict.section,
+      subst (λ ss. Contains ss is.1) (sym is.2) (Contains-push is.0 is.1),
+      ap (λ ss. r.blocks ++ ss) given.1.0,
+      sym c.name-name.ensures,
+      λ less. not.2 (subst (λ n. IsBefore n c.name-name.result) is.3 (subst (IsBefore is.1.name) (sym c.name-name.ensures) less)),
     )

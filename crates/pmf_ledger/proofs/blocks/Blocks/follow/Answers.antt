@@ -1,5 +1,5 @@
-use Rattle.std.proofs.Common.{sym, subst}
-use Rattle.pmf_ledger.{specs.Following.{Reaches, StandsFor}, specs.Loading.{after_line_at}, proofs.lemmas.ReadingLemmas.{stopped, line-at}}
+use Rattle.std.proofs.Common.{sym, ◌∙◌, subst}
+use Rattle.pmf_ledger.{specs.Following.{Reaches, StandsFor}, specs.Loading.{after_line_at}, proofs.lemmas.ReadingLemmas.{own_profile, stopped, line-at}}
 use Rattle.pmf_ledger.proofs.blocks.Blocks.follow.Goals as goal
 
 pub returns-in-Version-clause-reaches : goal.returns-in-Version-clause-reaches
@@ -30,3 +30,8 @@ pub returns-in-End-clause-reaches : goal.returns-in-End-clause-reaches
 unfolding after_line_at
 returns-in-End-clause-reaches c = λ r here of_text.
     let stands = subst (StandsFor r c.args.self.now) c.in-End.is here in stopped r c.args.self.now stands.0 _ _ (line-at r c.args.line c.args.text.now _ stands.1)
+
+pub row-requires-clause-profile : goal.row-requires-clause-profile
+row-requires-clause-profile c =
+    let r = c.requires.stands.0 in
+    let stands = subst (StandsFor r c.args.self.now) c.in-Rows.is c.requires.stands.1 in stands.1.1 ∙ sym (own_profile r c.args.self.now stands.0)
