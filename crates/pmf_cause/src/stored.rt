@@ -1,5 +1,6 @@
 //! What is kept of a byte: its last store, and the first write-back behind that.
 
+ghost use Rattle.std.specs.Prelude.{refl};
 ghost use Rattle.pmf_cause.specs.States.{is_open, is_other, lacks_write_back, may_be, stored_at, written_back_at};
 
 use pmf_runs::{Change, Effect, State, Test};
@@ -34,6 +35,10 @@ impl State for Stored {
     ghost covers = { may_be };
 
     ghost unsettled = { lacks_write_back };
+
+    ghost flagged = { λ flag s. s };
+
+    ghost forgets = { λ first last s. refl };
 
     fn summary(&self) -> Behind {
         Behind {
@@ -73,6 +78,14 @@ impl State for Stored {
 
     fn are_alike(one: Behind, other: Behind) -> bool {
         one == other
+    }
+
+    fn flagged(self, _flag: bool) -> Stored {
+        self
+    }
+
+    fn summary_flagged(summary: Behind, _flag: bool) -> Behind {
+        summary
     }
 }
 

@@ -1,6 +1,6 @@
 //! Places that are kept for bytes and for cache lines.
 
-ghost use Rattle.std.specs.Prelude.{◌≡◌, ℕ, true, if◌then◌else◌, OnOk};
+ghost use Rattle.std.specs.Prelude.{◌≡◌, ℕ, true, if◌then◌else◌, OnOk, refl};
 ghost use Rattle.pmf_event.specs.{Line.{line_of_byte, meets_line}, Store.{flushes, stores}, Transactions.{adds}};
 ghost use Rattle.pmf_runs.specs.Runs.{is_between, state_at};
 
@@ -26,6 +26,10 @@ impl State for Place {
 
     ghost unsettled = { λ state. true };
 
+    ghost flagged = { λ flag s. s };
+
+    ghost forgets = { λ first last s. refl };
+
     fn summary(&self) {}
 
     fn joined(_one: (), _other: ()) {}
@@ -46,6 +50,14 @@ impl State for Place {
 
     fn are_alike(_one: (), _other: ()) -> bool {
         true
+    }
+
+    fn flagged(self, _flag: bool) -> Place {
+        self
+    }
+
+    fn summary_flagged(summary: (), _flag: bool) -> () {
+        summary
     }
 }
 

@@ -15,4 +15,5 @@ pub mod TwoLemmas
 pub mod JoinedLevelLemmas
 pub mod RunJoinedLemmas
 pub mod SpaceLemmas
+pub mod FlagLemmas
 pub mod RunRules

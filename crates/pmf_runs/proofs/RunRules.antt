@@ -1,5 +1,5 @@
 -- The lemmas that functions of src/ name in their attributes.
-use Rattle.pmf_runs.proofs.{AskingLemmas.{rank-front}, ChangingLemmas.{alters-none, on-ok, level-changed, on-error, changes-none, changes-altered}, CutLemmas.{rank-beyond, fresh-beyond, rank-put, next-put, cut-none, cut-end, cut-first, joined-more, joined-other}, TwoLemmas.{two-put, two-rises, two-bounds, two-same, two-joined}, JoinedLemmas.{joined-low, joined-high, beside-taken, joined-swap, joined-put}, JoinedLevelLemmas.{parts-kept, order-bound, parts-low as low-parts, parts-high as high-parts, parts-begun, parts-begun_too, parts-cut, parts-cut_too}, LeafLemmas.{same-both, parted-last, parted-middle, rest-copied, middle-is, parts-low, parts-high, same-joined, rank-bound, begins-kept, same-items, begins-put, begins-put_kept, same-put, begins-is, state-read, state-single, same-none}, LevelLemmas.{level-bound, level-set, begins-bound, inner-begins, level-joined, level-middle-is, level-low, level-high, level-tail, level-same, level-split, level-has, level-kept, level-begun, level-read, level-single}, LineCountLemmas.{counted-none}, RankLemmas.{bound_at-same, bound_at-other, rank-is, key-found, key-missing, remove-rises, insert-fresh, inner-within, at-low, at-high, high_rank-bound, none-is-any, high-some}, RunLemmas.{changes-empty, gap-is}, SkipLemmas.{least-none, first-none}, SpaceLemmas.{leaf-halved, level-halved, space-kept, space-other, size-is, size-halved, space-made}}
+use Rattle.pmf_runs.proofs.{AskingLemmas.{rank-front}, ChangingLemmas.{alters-none, on-ok, level-changed, on-error, changes-none, changes-altered}, CutLemmas.{rank-beyond, fresh-beyond, rank-put, next-put, cut-none, cut-end, cut-first, joined-more, joined-other}, TwoLemmas.{two-put, two-rises, two-bounds, two-same, two-joined}, JoinedLemmas.{joined-low, joined-high, beside-taken, joined-swap, joined-put}, JoinedLevelLemmas.{parts-kept, order-bound, parts-low as low-parts, parts-high as high-parts, parts-begun, parts-begun_too, parts-cut, parts-cut_too}, LeafLemmas.{same-both, parted-last, parted-middle, rest-copied, middle-is, parts-low, parts-high, same-joined, rank-bound, begins-kept, same-items, begins-put, begins-put_kept, same-put, begins-is, state-read, state-single, same-none}, FlagLemmas.{same-made, joined-plain as plain-joined}, LevelLemmas.{level-bound, level-set, begins-bound, inner-begins, level-joined, level-middle-is, level-low, level-high, level-tail, level-same, level-split, level-has, level-kept, level-begun, level-read, level-single}, LineCountLemmas.{counted-none}, RankLemmas.{bound_at-same, bound_at-other, rank-is, key-found, key-missing, remove-rises, insert-fresh, inner-within, at-low, at-high, high_rank-bound, none-is-any, high-some}, RunLemmas.{changes-empty, gap-is}, SkipLemmas.{least-none, first-none}, SpaceLemmas.{leaf-halved, level-halved, space-kept, space-other, size-is, size-halved, space-made}}
 use Rattle.std.proofs.{Common.{vec_len}, lemmas.Bool.Decides.{nat_tests}, lemmas.List.{get_or_read}}
 
 pub ruleset skipped = (least-none, counted-none, first-none)
@@ -59,6 +59,8 @@ pub ruleset level_begun = (level-has, level-bound, level-kept, level-set, level-
 pub ruleset level_read = (level-bound, level-read)
 
 pub ruleset level_new = (level-single)
+
+pub ruleset flagged_plain = (same-made, plain-joined)
 
 pub ruleset page_changes = (changes-none, same-none, changes-altered)
 

@@ -5,6 +5,7 @@ pub mod Lines
 pub mod Levels
 pub mod Joined
 pub mod Spaces
+pub mod Flags
 pub mod Pages
 pub mod Runs
 pub mod Members

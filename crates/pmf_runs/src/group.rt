@@ -3,6 +3,7 @@
 ghost use Rattle.std.specs.Prelude.{◌≡◌, ◌≤◌, ℕ, true, false, None, Some, OnOk, OnErr, IfOk, IfSome};
 ghost use Rattle.pmf_runs.specs.{Ranks.{SameStates, CoversAll}, Joined.{InOrder, ChangesRange, ChangesCut, Halves}, Levels.{level_full, level_size, level_middle}, Spaces.{IsHalved}, Pages.{pages_state, pages_begins, pages_joined, pages_space}};
 
+use crate::flagged::Flagged;
 use crate::level::Level;
 use crate::page::Page;
 use crate::part::Part;
@@ -16,14 +17,14 @@ mod counting;
 /// A level of pages, and a summary that covers their states.
 #[derive(Drop)]
 pub(crate) struct Group<S: State> {
-    level: Level<Page<S>>,
+    level: Level<Flagged<Page<S>>>,
     summary: S::Summary,
     ghost covered: { CoversAll S.covers summary (pages_state level) },
 }
 
 impl<S: State> Group<S> {
     /// The group around this level.
-    pub(crate) fn around(level: Level<Page<S>>) -> Group<S>
+    pub(crate) fn around(level: Level<Flagged<Page<S>>>) -> Group<S>
         ensures same { SameStates (pages_state level) (pages_state result.level) }
         ensures level { result.level ≡ level }
     {
@@ -90,7 +91,7 @@ impl<S: State> Group<S> {
 /// The summary of the level after a change that the wide one covers, and what becomes of the one above.
 #[inline(always)]
 fn renewed<S: State>(
-    level: &Level<Page<S>>,
+    level: &Level<Flagged<Page<S>>>,
     wide: S::Summary,
     effect: Effect,
 ) -> (S::Summary, Effect)

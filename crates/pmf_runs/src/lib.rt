@@ -5,9 +5,10 @@
 //! `specs/Ranges` over the states. What a summary tells of some states bears on time alone.
 //!
 //! Not promised here: how much memory a map takes, how long a change or a question takes, and that two
-//! leaves differ at their border.
+//! leaves differ at their border, or two runs that are yet to be given a flag.
 #![tactic(auto)]
 
+mod flagged;
 mod group;
 mod keys;
 mod leaf;

@@ -1,6 +1,6 @@
 //! Sets of numbers: maps whose states say whether a number is a member.
 
-ghost use Rattle.std.specs.Prelude.{◌≡◌, true, false, not};
+ghost use Rattle.std.specs.Prelude.{◌≡◌, true, false, not, refl};
 ghost use Rattle.pmf_runs.specs.Members.{both, has_either};
 
 use crate::state::{Change, Effect, State, Test};
@@ -20,6 +20,10 @@ impl State for bool {
     ghost covers = { has_either };
 
     ghost unsettled = { λ member. false };
+
+    ghost flagged = { λ flag s. s };
+
+    ghost forgets = { λ first last s. refl };
 
     fn summary(&self) -> Members {
         let member = *self;
@@ -51,6 +55,14 @@ impl State for bool {
 
     fn are_alike(one: Members, other: Members) -> bool {
         one == other
+    }
+
+    fn flagged(self, _flag: bool) -> bool {
+        self
+    }
+
+    fn summary_flagged(summary: Members, _flag: bool) -> Members {
+        summary
     }
 }
 

@@ -2,6 +2,7 @@
 
 ghost use Rattle.std.specs.Prelude.{◌≡◌, ◌≤◌, ℕ, None, true, is_some, IfOk, OnOk, OnErr};
 
+use crate::flagged::Flagged;
 use crate::group::Group;
 use crate::leaf::Leaf;
 use crate::level::Level;
@@ -21,7 +22,7 @@ pub struct RunMap<S: State> {
     /// The state of each number before the first change.
     gap: S,
     /// The groups of leaves, from the first change on.
-    root: Option<Level<Group<S>>>,
+    root: Option<Level<Flagged<Group<S>>>>,
 }
 
 impl<S: State> RunMap<S> {
@@ -51,7 +52,7 @@ impl<S: State> RunMap<S> {
     }
 
     /// Changes the states of the numbers from `first` up to `end`, which is not one of them. Where
-    /// neighbouring runs differ, they do so after it. An empty range takes no memory. After an `Err`,
+    /// neighbouring runs differ as they are kept, they do so after it. An empty range takes no memory. After an `Err`,
     /// which is want of memory, each number has the state that it had.
     #[inline(always)]
     #[tactic(auto, using(crate::proofs::RunRules::none_changed))]
@@ -89,13 +90,13 @@ impl<S: State> RunMap<S> {
     }
 
     /// A root in which each number has the gap's state.
-    fn first_root(&self) -> Result<Level<Group<S>>, AllocError>
+    fn first_root(&self) -> Result<Level<Flagged<Group<S>>>, AllocError>
         ensures states { IfOk result (λ root. (d : S) (b : ℕ) → root_state root d b ≡ self.now.gap) }
         ensures joined { IfOk result (λ root. root_joined root None None) }
     {
         let leaf = Leaf::new(self.alloc, self.gap)?;
-        let level = Level::new(self.alloc, Page::around(leaf))?;
-        let root = Level::new(self.alloc, Group::around(level))?;
+        let level = Level::new(self.alloc, Flagged::plain(Page::around(leaf)))?;
+        let root = Level::new(self.alloc, Flagged::plain(Group::around(level)))?;
         Ok(root)
     }
 

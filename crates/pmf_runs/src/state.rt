@@ -1,6 +1,6 @@
 //! The states that a map holds, and what is done to them and asked of them.
 
-ghost use Rattle.std.specs.Prelude.{◌≡◌, ◌↔◌, IsTrue, ℕ, Bool, true, false, Option};
+ghost use Rattle.std.specs.Prelude.{◌≡◌, ◌↔◌, IsTrue, ℕ, Bool, true, false, Option, IfSome};
 ghost use Rattle.pmf_event.specs.Ranges.{lesser};
 
 /// A small state that a map may hold, with summaries, each of which covers some states.
@@ -11,6 +11,8 @@ pub trait State: Copy + Drop {
     ghost covers: { Self.Summary → Self → Bool };
 
     ghost unsettled: { Self → Bool };
+
+    ghost flagged: { Bool → Self → Self };
 
     /// The summary of this state alone.
     fn summary(&self) -> Self::Summary
@@ -34,12 +36,23 @@ pub trait State: Copy + Drop {
     fn settled(summary: Self::Summary) -> Self::Summary
         ensures { (s : Self) → covers summary s ≡ true → unsettled s ≡ false → covers result s ≡ true };
 
+    /// The state with its flag set so, as it says of a byte whether it is excluded. A state without a flag stays as it is.
+    fn flagged(self, flag: bool) -> Self
+        ensures { result ≡ flagged flag self };
+
+    /// A summary of the covered states with their flags set so.
+    fn summary_flagged(summary: Self::Summary, flag: bool) -> Self::Summary
+        ensures { (s : Self) → covers summary s ≡ true → covers result (flagged flag s) ≡ true };
+
     /// Whether the two are the same state.
     fn is_same(&self, other: Self) -> bool
         ensures { IsTrue result ↔ (self.now ≡ other) };
 
     /// Whether two summaries are alike. It bears on speed alone.
     fn are_alike(one: Self::Summary, other: Self::Summary) -> bool;
+
+    // A flag that is set makes the one before it forgotten.
+    ghost forgets: { (first last : Bool) (s : Self) → flagged last (flagged first s) ≡ flagged last s };
 }
 
 /// What becomes of a summary where a change takes a state away. It bears on speed alone.
@@ -92,6 +105,13 @@ pub trait Change<S: State> {
 
     /// What becomes of the summary where the change alters this state. It bears on speed alone.
     fn effect(&self, summary: S::Summary, state: S) -> Effect;
+
+    /// The flag that the change sets in each state, if that is all it does.
+    fn flag(&self) -> Option<bool>
+        ensures { IfSome result (λ flag. (s : S) → changed self.now s ≡ S.flagged flag s) }
+    {
+        None
+    }
 }
 
 /// What a question asks of a state.

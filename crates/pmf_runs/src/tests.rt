@@ -13,7 +13,7 @@ mod colour;
 mod falling;
 mod plain;
 
-use colour::{Colour, Is, Next, Number, To};
+use colour::{Colour, Is, Next, Number, Set, To};
 use plain::Plain;
 
 /// How many places the small array has: four lines.
@@ -23,6 +23,7 @@ const PLACES: u64 = 256;
 #[derive(Clone, Copy, Debug)]
 enum Brush {
     To(Colour),
+    Set(bool),
     Next,
 }
 
@@ -92,11 +93,15 @@ fn some_colour(numbers: &mut Numbers) -> Colour {
 }
 
 fn some_brush(numbers: &mut Numbers) -> Brush {
-    if numbers.below(3) == 0 {
-        Brush::Next
-    } else {
-        Brush::To(some_colour(numbers))
+    match numbers.below(4) {
+        0 => Brush::Next,
+        1 => some_flag(numbers),
+        _ => Brush::To(some_colour(numbers)),
     }
+}
+
+fn some_flag(numbers: &mut Numbers) -> Brush {
+    Brush::Set(numbers.below(2) == 0)
 }
 
 /// Two of so many places, the lesser first.
@@ -149,6 +154,7 @@ fn paint_both(
 ) -> Result<(), AllocError> {
     let painted = match brush {
         Brush::To(colour) => map.change(first, end, &To(colour)),
+        Brush::Set(flag) => map.change(first, end, &Set(flag)),
         Brush::Next => map.change(first, end, &Next),
     };
     if painted.is_err() {
@@ -157,6 +163,7 @@ fn paint_both(
     painted?;
     match brush {
         Brush::To(colour) => plain.change(first, end, &To(colour)),
+        Brush::Set(flag) => plain.change(first, end, &Set(flag)),
         Brush::Next => plain.change(first, end, &Next),
     }
     Ok(())
@@ -183,6 +190,45 @@ fn a_map_answers_as_an_array_does(rt: HostRuntime) -> Result<(), Fail> {
     Ok(())
 }
 
+/// Paints so many short ranges of both.
+fn paint_small(
+    rt: &impl Abort,
+    map: &mut RunMap<Colour>,
+    plain: &mut Plain,
+    numbers: &mut Numbers,
+    count: u64,
+) -> Result<(), AllocError> {
+    let places = plain.places();
+    for _small in 0..count {
+        let first = up_to(numbers, places);
+        let end = first.saturating_add(numbers.below(5)).min(places);
+        let brush = some_brush(numbers);
+        paint_both(rt, map, plain, brush, first, end)?;
+    }
+    Ok(())
+}
+
+/// A flag of all states of a leaf or of a group is given to them when something below is changed, and asked for before.
+#[test]
+fn a_map_whose_flags_are_set_answers_as_an_array_does(rt: HostRuntime) -> Result<(), Fail> {
+    let mut numbers = Numbers::of(3);
+    let mut map = RunMap::new(rt.alloc(), Colour::Red);
+    let mut plain = Plain::new(rt.alloc(), 20_000)?;
+    for _turn in 0..30 {
+        paint_small(&rt, &mut map, &mut plain, &mut numbers, 1_000)?;
+        for _flag in 0..4 {
+            let (first, end) = some_range(&mut numbers, 20_000);
+            let flag = some_flag(&mut numbers);
+            paint_both(&rt, &mut map, &mut plain, flag, first, end)?;
+            assert_answers(&rt, &map, &plain, &mut numbers);
+        }
+        let (first, end) = some_range(&mut numbers, 20_000);
+        paint_both(&rt, &mut map, &mut plain, Brush::Next, first, end)?;
+        assert_states(&rt, &map, &plain);
+    }
+    Ok(())
+}
+
 #[test]
 fn a_map_of_many_groups_answers_as_an_array_does_and_takes_out_emptied_parts(
     rt: HostRuntime,
@@ -190,12 +236,7 @@ fn a_map_of_many_groups_answers_as_an_array_does_and_takes_out_emptied_parts(
     let mut numbers = Numbers::of(2);
     let mut map = RunMap::new(rt.alloc(), Colour::Red);
     let mut plain = Plain::new(rt.alloc(), 20_000)?;
-    for _small in 0..20_000 {
-        let first = up_to(&mut numbers, 20_000);
-        let end = first.saturating_add(numbers.below(5)).min(20_000);
-        let brush = some_brush(&mut numbers);
-        paint_both(&rt, &mut map, &mut plain, brush, first, end)?;
-    }
+    paint_small(&rt, &mut map, &mut plain, &mut numbers, 20_000)?;
     assert!(rt; map.leaf_count() > 100);
     assert!(rt; map.group_count() > 2);
     assert_states(&rt, &map, &plain);

@@ -68,13 +68,13 @@ with_write_back epoch b = record b {
   checked_latest = if b.checked_unsettled then max b.checked_latest epoch else b.checked_latest;
 }
 
--- with bytes that are excluded, or such that are not
-abbrev pub with_mark : Bool → Bounds → Bounds
-with_mark out b = record b {
-  excluded = b.excluded || out;
-  included = b.included || not out;
-  checked_unsettled = if out then b.checked_unsettled else b.checked_unsettled || b.unsettled;
-  checked_latest = if out then b.checked_latest else max b.checked_latest b.latest;
+-- of the same bytes once all are excluded, or once none is
+abbrev pub all_marked : Bool → Bounds → Bounds
+all_marked out b = record b {
+  excluded = out;
+  included = not out;
+  checked_unsettled = not out && b.unsettled;
+  checked_latest = if out then 0 else b.latest;
 }
 
 -- without what is unsettled

@@ -1,12 +1,13 @@
 //! What tests count in a group.
 
+use crate::flagged::Flagged;
 use crate::group::Group;
 use crate::page::Page;
 use crate::state::State;
 
 impl<S: State> Group<S> {
     /// Its pages.
-    pub(crate) fn pages(&self) -> &[Page<S>] {
+    pub(crate) fn pages(&self) -> &[Flagged<Page<S>>] {
         self.level.parts()
     }
 

@@ -18,7 +18,7 @@ impl<S: State> RunMap<S> {
         let mut count = 0usize;
         if let Some(root) = &self.root {
             for group in root.parts() {
-                count = count.wrapping_add(group.pages().len());
+                count = count.wrapping_add(group.part().pages().len());
             }
         }
         count
@@ -29,9 +29,9 @@ impl<S: State> RunMap<S> {
         let mut most = 0usize;
         if let Some(root) = &self.root {
             for group in root.parts() {
-                most = most.max(group.room());
-                for page in group.pages() {
-                    most = most.max(page.room());
+                most = most.max(group.part().room());
+                for page in group.part().pages() {
+                    most = most.max(page.part().room());
                 }
             }
         }
@@ -43,8 +43,8 @@ impl<S: State> RunMap<S> {
         let mut count = 0usize;
         if let Some(root) = &self.root {
             for group in root.parts() {
-                for page in group.pages() {
-                    count = count.wrapping_add(page.key_count());
+                for page in group.part().pages() {
+                    count = count.wrapping_add(page.part().key_count());
                 }
             }
         }

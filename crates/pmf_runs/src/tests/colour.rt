@@ -1,6 +1,6 @@
 //! A state that is one of three colours, with its changes and questions.
 
-ghost use Rattle.std.specs.Prelude.{None, Some, true, false};
+ghost use Rattle.std.specs.Prelude.{None, Some, true, false, refl, if◌then◌else◌};
 ghost use Rattle.pmf_runs.specs.declared.tests.colour.Colour.TheVariants.{Red, Green, Blue};
 
 use crate::state::{Change, Effect, Key, State, Test};
@@ -20,13 +20,17 @@ pub(super) struct Colours {
     blue: bool,
 }
 
-/// Blue is unsettled.
+/// Blue is unsettled. The flag is whether a state is blue, or red.
 impl State for Colour {
     type Summary = Colours;
 
     ghost covers = { λ colours. elim [ Red ↦ colours.red | Green ↦ colours.green | Blue ↦ colours.blue ] };
 
     ghost unsettled = { elim [ Red ↦ false | Green ↦ false | Blue ↦ true ] };
+
+    ghost flagged = { λ flag s. if flag then Blue else Red };
+
+    ghost forgets = { λ first last s. refl };
 
     fn summary(&self) -> Colours {
         match self {
@@ -83,6 +87,18 @@ impl State for Colour {
     fn are_alike(one: Colours, other: Colours) -> bool {
         one == other
     }
+
+    fn flagged(self, flag: bool) -> Colour {
+        if flag { Colour::Blue } else { Colour::Red }
+    }
+
+    fn summary_flagged(_colours: Colours, flag: bool) -> Colours {
+        Colours {
+            red: !flag,
+            green: false,
+            blue: flag,
+        }
+    }
 }
 
 /// Gives one colour to all.
@@ -114,6 +130,35 @@ impl Change<Colour> for To {
             Colour::Green => Effect::Narrows,
             Colour::Blue => Effect::Settles,
         }
+    }
+}
+
+/// Sets the flag of all.
+#[derive(Clone, Copy, Debug)]
+pub(super) struct Set(pub(super) bool);
+
+impl Change<Colour> for Set {
+    ghost changed = { λ set _colour. if set.0 then Blue else Red };
+
+    fn changed(&self, state: Colour) -> Colour {
+        state.flagged(self.0)
+    }
+
+    fn may_alter(&self, colours: Colours) -> bool {
+        let other = if self.0 { colours.red } else { colours.blue };
+        colours.green || other
+    }
+
+    fn widened(&self, colours: Colours) -> Colours {
+        Colour::joined(colours, Colour::summary_flagged(colours, self.0))
+    }
+
+    fn effect(&self, _colours: Colours, _state: Colour) -> Effect {
+        Effect::Remakes
+    }
+
+    fn flag(&self) -> Option<bool> {
+        Some(self.0)
     }
 }
 

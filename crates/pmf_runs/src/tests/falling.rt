@@ -1,6 +1,6 @@
 //! How many keys a question for the least one asks, where keys fall along a range.
 
-ghost use Rattle.std.specs.Prelude.{Some, false, nat_le};
+ghost use Rattle.std.specs.Prelude.{Some, false, nat_le, refl};
 
 use crate::RunMap;
 use crate::state::{Change, Effect, Key, State};
@@ -23,6 +23,10 @@ impl State for Height {
     ghost covers = { λ least s. nat_le least s.height };
 
     ghost unsettled = { λ s. false };
+
+    ghost flagged = { λ flag s. s };
+
+    ghost forgets = { λ first last s. refl };
 
     fn summary(&self) -> u32 {
         self.height
@@ -50,6 +54,14 @@ impl State for Height {
 
     fn are_alike(one: u32, other: u32) -> bool {
         one == other
+    }
+
+    fn flagged(self, _flag: bool) -> Height {
+        self
+    }
+
+    fn summary_flagged(summary: u32, _flag: bool) -> u32 {
+        summary
     }
 }
 

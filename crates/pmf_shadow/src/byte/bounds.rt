@@ -1,7 +1,7 @@
 //! Bounds of the states of some bytes, which tell whether a change or a question may meet any of them.
 
-ghost use Rattle.std.specs.Prelude.{◌≡◌, true, false, ◌&&◌, Some};
-ghost use Rattle.pmf_shadow.specs.{EqualStates.{equal_states}, States.{is_unsettled}, Bounds.{covers, covers_checked, covers_mark, covers_store, joined, may_be_checked, may_be_checked_late, may_be_late, may_be_late_for_any, may_be_less, with_mark, with_store, with_write_back, without_unsettled}};
+ghost use Rattle.std.specs.Prelude.{◌≡◌, true, false, ◌&&◌, Some, refl};
+ghost use Rattle.pmf_shadow.specs.{EqualStates.{equal_states}, States.{after_mark, is_unsettled}, Bounds.{all_marked, covers, covers_checked, covers_mark, covers_store, joined, may_be_checked, may_be_checked_late, may_be_late, may_be_late_for_any, may_be_less, with_store, with_write_back, without_unsettled}};
 
 use crate::byte::{ByteState, Stored};
 use pmf_runs::State;
@@ -39,6 +39,10 @@ impl State for ByteState {
 
     ghost unsettled = { is_unsettled };
 
+    ghost flagged = { after_mark };
+
+    ghost forgets = { λ first last s. refl };
+
     fn summary(&self) -> Bounds {
         let state = *self;
         match state.stored() {
@@ -62,6 +66,21 @@ impl State for ByteState {
 
     fn settled(summary: Bounds) -> Bounds {
         summary.without_unsettled()
+    }
+
+    fn flagged(self, flag: bool) -> ByteState {
+        ByteState {
+            last: self.last,
+            opens: self.opens,
+            written_back: self.written_back,
+            is_stored: self.is_stored,
+            is_written_back: self.is_written_back,
+            excluded: flag,
+        }
+    }
+
+    fn summary_flagged(summary: Bounds, flag: bool) -> Bounds {
+        summary.all_marked(flag)
     }
 
     fn is_same(&self, other: ByteState) -> bool {
@@ -172,27 +191,26 @@ impl Bounds {
     }
 
     pub(crate) fn with_mark(self, excluded: bool) -> Bounds
-        ensures { result ≡ with_mark excluded self }
+        ensures { result ≡ joined self (all_marked excluded self) }
+    {
+        self.joined(self.all_marked(excluded))
+    }
+
+    // The bounds of the same bytes once all are marked so.
+    fn all_marked(self, excluded: bool) -> Bounds
+        ensures { result ≡ all_marked excluded self }
     {
         Bounds {
-            excluded: self.excluded || excluded,
-            included: self.included || !excluded,
+            excluded,
+            included: !excluded,
             stored: self.stored,
             unsettled: self.unsettled,
             least_opening: self.least_opening,
             least_last: self.least_last,
             greatest_last: self.greatest_last,
             latest: self.latest,
-            checked_unsettled: if excluded {
-                self.checked_unsettled
-            } else {
-                self.checked_unsettled || self.unsettled
-            },
-            checked_latest: if excluded {
-                self.checked_latest
-            } else {
-                self.checked_latest.max(self.latest)
-            },
+            checked_unsettled: !excluded && self.unsettled,
+            checked_latest: if excluded { 0 } else { self.latest },
         }
     }
 

@@ -120,14 +120,7 @@ impl Change<ByteState> for Marked {
     ghost changed = { λ c s. after_mark c.excluded s };
 
     fn changed(&self, state: ByteState) -> ByteState {
-        ByteState {
-            last: state.last,
-            opens: state.opens,
-            written_back: state.written_back,
-            is_stored: state.is_stored,
-            is_written_back: state.is_written_back,
-            excluded: self.excluded,
-        }
+        state.flagged(self.excluded)
     }
 
     fn may_alter(&self, summary: Bounds) -> bool {
@@ -144,5 +137,9 @@ impl Change<ByteState> for Marked {
         } else {
             Effect::Narrows
         }
+    }
+
+    fn flag(&self) -> Option<bool> {
+        Some(self.excluded)
     }
 }
