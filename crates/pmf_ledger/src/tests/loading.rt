@@ -200,7 +200,7 @@ fn text_in_steps(alloc: Global, start: u64, step: u64, last: &str) -> Result<Str
     let mut text = String::new(alloc);
     text.push_str("PMFARM-LEDGER 1\n")?;
     for at in 0..500 {
-        let run = (start + at * step) % 500;
+        let run = start.wrapping_add(step.wrapping_mul(at)) % 500;
         text.push_str(&format!(in alloc; "section {run}.0 events=1 rows=0\nFENCE\n")?)?;
     }
     text.push_str(&format!(in alloc;
