@@ -15,7 +15,7 @@ version_of_changelog() {
     for word in -V --version; do
         "$program" "$word" >"$scratch/whole" 2>"$scratch/diagnostics"
         ended 0 $? && same /dev/null "$scratch/diagnostics" || return
-        sed 's/ (commit .*) *$//' "$scratch/whole" >"$scratch/report"
+        sed 's/ (commit .*//' "$scratch/whole" >"$scratch/report"
         same "$scratch/wanted" "$scratch/report" || return
     done
 }
@@ -54,6 +54,18 @@ promises: docs/PROMISES.md: $claim: no clause unchanged" &&
         refused_by_promises docs/TRUST.md 's/^- `pmf_words`: `Words`$//' 'pmf_words.specs.Words is missing' &&
         refused_by_promises docs/TRUST.md 's/`Span`, `Line`, `Address`/`Line`, `Span`, `Address`/' \
             'pmf_event.specs.Line stands before pmf_event.specs.Span'
+}
+
+# A mutant that no row names has to be the only one of a public function, and to change its code.
+mutants_keep_the_rule() {
+    local repo=$scratch/rule folder=crates/pmf_asserts/must-fail
+    read_by_promises "$repo" && rm "$repo/crates" && cp -r crates "$repo/crates" && sed -i 's/, `check_persist.empties_every_assertion`//' "$repo/docs/PROMISES.md" || return
+    printf '# x; refused by the law\nfile: specs/Lib.antt\n' >"$repo/$folder/check_flush.a_definition.edit"
+    printf '# x; refused by the clause\nfile: src/lib.rt\n' >"$repo/$folder/no_such_function.x.edit"
+    "$repo/tools/promises" >"$scratch/report" 2>"$scratch/diagnostics"
+    ended 1 $? && sort "$scratch/diagnostics" | said "promises: $folder: check_flush.a_definition.edit: it is in no row, and changes no code
+promises: $folder: check_persist.empties_every_assertion.edit: it is in no row, and check_persist has another one
+promises: $folder: no_such_function.x.edit: it is in no row, and names no public function" -
 }
 
 # What docs/DEFINITIONS.md uses it names: each clause, each sign and name of std in a table, each definition that subtracts.
@@ -141,6 +153,7 @@ try_documents() {
     check 'tools/promises tells where it is stale' a_stale_file_is_told
     check 'docs/DEFINITIONS.md names all its notation' the_page_is_whole
     check 'a claim names what is in the sources, and docs/TRUST.md each file of definitions' claims_are_of_the_sources
+    check 'tools/promises refuses mutants that break the rule' mutants_keep_the_rule
     check 'the man page and the completions have the options of help, and the program does what they tell' tests/flags
     check 'the version is that at the head of CHANGELOG.md' version_of_changelog
     try_farms

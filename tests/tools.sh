@@ -209,62 +209,35 @@ C
     awk -F ';' '/^PMT/ { print $1, $3, $5 }' examples/c/append_log.log >"$scratch/wanted" && sed 1d "$scratch/log" | same "$scratch/wanted" -
 }
 
-# version_as_stamped LIST: what a program tells that is stamped by this list of sources, as an expression. Without a repository of
-# git, or the toolchain of the list, the program may tell any commit or kit, or none.
-version_as_stamped() {
-    local commit='([0-9a-f]{40}[+]?|unknown)' kit='[^)]+' rt changed
-    if [ "$(git rev-parse --show-toplevel 2>/dev/null)" = "$top" ]; then
-        changed=$(git status --porcelain -- crates crates.txt HANDLES)
-        commit=$(git rev-parse HEAD)${changed:+[+]}
-    fi
-    if rt=$(type -P rt) && is_built_by "$rt" "$1"; then
-        kit=$("$rt" version </dev/null | cut -d ' ' -f 1)
-    fi
-    printf '^pmfarm [0-9.]+ [(]commit %s, %s[)] *$' "$commit" "$kit"
-}
-
-# tells_version PROGRAM EXPRESSION
+# tells_version PROGRAM: it tells a commit that has these sources, where there is one, and that it was not proved here where it is the
+# quick one.
 tells_version() {
-    "$1" --version >"$scratch/version"
-    ended 0 $? && grep -Eq "$2" "$scratch/version" || {
-        printf '%s\nin place of %s\n' "$(cat "$scratch/version")" "$2"
-        return 1
-    }
-}
-
-# A stamped copy tells the commit and the kit, and differs from the program in the 96 bytes of the version alone. By the list of
-# other sources nothing is stamped.
-stamped() {
-    local first last rt
-    rt=$(type -P rt) && sources "$rt" >"$scratch/list" || { echo 'no toolchain' && sources; } >"$scratch/list"
-    cp "$program" "$scratch/stamped" && tools/stamp "$scratch/stamped" "$scratch/list" || return
-    tells_version "$scratch/stamped" "$(version_as_stamped "$scratch/list")" &&
-        ended "$(wc -c <"$program")" "$(wc -c <"$scratch/stamped")" || return
-    cmp -l "$program" "$scratch/stamped" >"$scratch/bytes"
-    first=$(head -n 1 "$scratch/bytes" | awk '{print $1}')
-    last=$(tail -n 1 "$scratch/bytes" | awk '{print $1}')
-    [ -z "$first" ] || [ $((last - first)) -lt 96 ] || {
-        printf 'bytes %s to %s differ\n' "$first" "$last"
-        return 1
-    }
-    sed '$d' "$scratch/list" >"$scratch/others" && cp "$program" "$scratch/stamped" || return
-    tools/stamp "$scratch/stamped" "$scratch/others" 2>"$scratch/diagnostics"
-    ended 1 $? && cmp "$program" "$scratch/stamped" && said "stamp: $not_from_sources" "$scratch/diagnostics" || return
-    tools/stamp /bin/true "$scratch/list" 2>"$scratch/diagnostics"
-    ended 1 $? && said "stamp: the program has no room for its version$it_told" "$scratch/diagnostics" || return
-    printf x >>"$scratch/stamped"
-    tools/stamp "$scratch/stamped" "$scratch/list" 2>"$scratch/diagnostics"
-    ended 1 $? && said "stamp: the program is not the one that is built here$it_told" "$scratch/diagnostics"
-}
-
-it_told='; --version tells what it told'
-not_from_sources="the program is not built from the sources as they are$it_told"
-
-# What tools/build and `gate` leave is stamped: with some commit that has these sources, where there is one.
-built_with_its_commit() {
-    local commit='([0-9a-f]{40}[+]?|unknown)'
+    local commit='([0-9a-f]{40}[+]?|unknown)' end=
     [ "$(git rev-parse --show-toplevel 2>/dev/null)" != "$top" ] || commit='[0-9a-f]{40}[+]?'
-    ! is_built_from_sources || tells_version "$program" "^pmfarm [0-9.]+ [(]commit $commit, [^)]+[)] *\$"
+    [ "$kind" = proved ] || end=' not proved here'
+    "$1" --version >"$scratch/version"
+    ended 0 $? && grep -Eq "^pmfarm [0-9.]+ [(]commit $commit, [^)]+[)]$end *\$" "$scratch/version" || {
+        printf '%s\nis not told as %s\n' "$(cat "$scratch/version")" "$kind"
+        return 1
+    }
+}
+
+# A stamped copy differs from the program in no byte, and what is no program of here is not stamped.
+stamped() {
+    local it
+    cp "$program" "$scratch/stamped" && tools/stamp "$scratch/stamped" && cmp "$program" "$scratch/stamped" && tells_version "$program" || return
+    printf x >>"$scratch/stamped"
+    for it in '/bin/true:the program has no room for its version' "$scratch/stamped:the program is not one that is built here"; do
+        tools/stamp "${it%%:*}" 2>"$scratch/diagnostics"
+        ended 1 $? && said "stamp: ${it#*:}; --version tells what it told" "$scratch/diagnostics" || return
+    done
+}
+
+# install_built WORD..: installs the program of these tests.
+install_built() {
+    local quick=
+    [ "$kind" = proved ] || quick=--quick
+    tools/install --no-build $quick "$@"
 }
 
 # The files and links that tools/install makes, below a prefix: of the program, of each tool, and of the tracer.
@@ -292,14 +265,8 @@ files() {
 installs() {
     local root=$scratch/root
     mkdir -p "$root/usr/bin" && echo other >"$root/usr/bin/other" || return
-    DESTDIR=$root tools/install --no-build /usr/ >"$scratch/report" 2>"$scratch/diagnostics"
-    ended 0 $? || return
-    if is_built_from_sources; then
-        same /dev/null "$scratch/diagnostics" &&
-            tells_version "$root/usr/bin/pmfarm" "$(version_as_stamped out/pmfarm.built)" || return
-    else
-        said "install: the program is not stamped: $not_from_sources" "$scratch/diagnostics" || return
-    fi
+    DESTDIR=$root install_built /usr/ >"$scratch/report" 2>"$scratch/diagnostics"
+    ended 0 $? && same /dev/null "$scratch/diagnostics" && tells_version "$root/usr/bin/pmfarm" || return
     files "$root/usr" | grep -v '^bin/other$' | are_installed && sed "s|^installed $root/usr/||" "$scratch/report" | are_installed &&
         cmp "$program" "$root/usr/bin/pmfarm" && cmp man/pmfarm.1 "$root/usr/share/man/man1/pmfarm.1" &&
         [ "$(stat -c %a "$root"/usr/{bin/pmfarm,share/man/man1/pmfarm.1,share/pmfarm/trace/{build,main.c}} | paste -s -d ' ')" = '755 644 755 644' ] ||
@@ -325,10 +292,10 @@ answers() {
 # The static program has no loader and no library, tells its commit, and answers as the built one does; where memory is wanted, too.
 installs_static() {
     local root=$scratch/static
-    tools/install --no-build --static "$root" >"$scratch/report" 2>"$scratch/diagnostics"
+    install_built --static "$root" >"$scratch/report" 2>"$scratch/diagnostics"
     ended 0 $? || { cat "$scratch/diagnostics" && return 1; }
     files "$root" | are_installed && readelf -ld "$root/bin/pmfarm" >"$scratch/report" && ! grep -E 'INTERP|NEEDED' "$scratch/report" || return
-    ! is_built_from_sources || tells_version "$root/bin/pmfarm" "$(version_as_stamped out/pmfarm.built)" || return
+    tells_version "$root/bin/pmfarm" || return
     answers "$program" >"$scratch/wanted" && answers "$root/bin/pmfarm" | same "$scratch/wanted" - || return
     awk 'BEGIN { for (i = 0; i < 100000; i++) print "STORE;" 64 * i ";1;8" }' >"$scratch/log"
     (ulimit -v 16384 && exec "$root/bin/pmfarm" check) <"$scratch/log" >"$scratch/report" 2>"$scratch/diagnostics"
@@ -338,7 +305,7 @@ installs_static() {
 # In a root that has no other file.
 static_alone() {
     local root=$scratch/alone
-    tools/install --no-build --static "$scratch/static" >"$scratch/report" 2>&1 && mkdir "$root" && cp "$scratch/static/bin/pmfarm" "$root" || return
+    install_built --static "$scratch/static" >"$scratch/report" 2>&1 && mkdir "$root" && cp "$scratch/static/bin/pmfarm" "$root" || return
     unshare -r chroot "$root" /pmfarm check --workers 4 <examples/two_sections.log >"$scratch/report" 2>"$scratch/diagnostics"
     ended 1 $? && same examples/two_sections.report "$scratch/report" && same /dev/null "$scratch/diagnostics"
 }
@@ -346,7 +313,8 @@ static_alone() {
 # release_of WORD..: tools/release makes one file, which is unpacked as docs/GUIDE.md tells it, in an empty folder.
 release_of() {
     local room=$scratch/release
-    rm -rf "$room" && mkdir "$room" && tools/release --no-build "$@" "$room" >"$scratch/report" 2>"$scratch/diagnostics" || return
+    [ "$kind" = proved ] || local quick=yes
+    rm -rf "$room" && mkdir "$room" && tools/release --no-build ${quick+--quick} "$@" "$room" >"$scratch/report" 2>"$scratch/diagnostics" || return
     [ "$(ls "$room")" = "$(sed 's|.*/||' "$scratch/report")" ] && sed -n '/pmfarm-\*/s/^    //p' docs/GUIDE.md >"$scratch/steps" &&
         ended 2 "$(wc -l <"$scratch/steps")" && (cd "$room" && bash -e "$scratch/steps") >"$scratch/told" 2>"$scratch/diagnostics" &&
         same /dev/null "$scratch/diagnostics" && tail -n 1 "$scratch/told" | same <("$program" --version) - || return
@@ -357,7 +325,6 @@ release_of() {
 # The same files give the same bytes, and a program that tells no commit is not released.
 releases() {
     local first
-    is_built_from_sources || return 0
     release_of && first=$(sha256sum <"$scratch"/release/*.gz) && release_of && [ "$(sha256sum <"$scratch"/release/*.gz)" = "$first" ] || return
     tools/release --no-such "$scratch" >"$scratch/report" 2>"$scratch/diagnostics"
     ended 2 $?
@@ -366,7 +333,6 @@ releases() {
 # In a root that has the C library and no other file: what is unpacked there checks a log.
 release_alone() {
     local root=$scratch/unpacked file
-    is_built_from_sources || return 0
     release_of && mkdir -p "$root" && cp -r "$scratch"/release/pmfarm-*/bin "$root" || return
     while read -r file; do
         mkdir -p "$root${file%/*}" && cp -L "$file" "$root$file" || return
@@ -377,7 +343,7 @@ release_alone() {
 
 # The tools are installed below a prefix, which is then moved. `alone` calls one from an empty folder, with next to no environment.
 installs_tools() {
-    mkdir "$scratch/empty" && tools/install --no-build "$scratch/first prefix" >"$scratch/report" 2>"$scratch/diagnostics" &&
+    mkdir "$scratch/empty" && install_built "$scratch/first prefix" >"$scratch/report" 2>"$scratch/diagnostics" &&
         mv "$scratch/first prefix" "$scratch/moved prefix"
 }
 
@@ -457,7 +423,7 @@ installs_what_it_builds() {
 top=${0%/*} && mkdir -p "$top/crates/pmfarm/out" && echo built >"$top/crates/pmfarm/out/pmfarm" && chmod +x "$top/crates/pmfarm/out/pmfarm"
 SH
     chmod +x "$repo/pmfarm" && "$repo/tools/install" --no-build "$scratch/prefix" >"$scratch/report" 2>"$scratch/diagnostics"
-    ended 1 $? && said 'install: there is no built program: ./pmfarm builds it' "$scratch/diagnostics" && [ ! -e "$scratch/prefix" ] || return
+    ended 1 $? && said 'install: there is no such program: ./pmfarm --prove builds it' "$scratch/diagnostics" && [ ! -e "$scratch/prefix" ] || return
     (cd "$scratch" && repo/tools/install prefix) >"$scratch/report" && said built "$scratch/prefix/bin/pmfarm" &&
         files "$scratch/prefix" | are_installed && printf '#!/bin/sh\nexit 2\n' >"$repo/pmfarm" || return
     "$repo/tools/install" "$scratch/prefix" >"$scratch/report" 2>"$scratch/diagnostics"
@@ -492,8 +458,7 @@ try_tools() {
     check_by c++ 'the example as C++ writes its logs' example_by 'c++ -std=c++11 -x c++' 'c++ -std=c++17 -x c++ -O2'
     check_by c++ 'the markers in C++ refuse a section beside those of threads' sections_by c++ -std=c++11 -x c++
     check 'the requests of pmemcheck, played' markers_by_valgrind
-    check 'the program that is built here tells its commit' built_with_its_commit
-    check 'a stamped program tells its commit and its kit, and is the same but for that' stamped
+    check 'a program tells its commit, its kit and whether it was proved here, and no other program is stamped' stamped
     check 'tools/install installs what is there, and removes it' installs
     check 'tools/install builds the program first' installs_what_it_builds
     check_by 'a static C library' 'tools/install --static installs a program that needs no C library, and answers the same' installs_static

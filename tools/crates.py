@@ -1,12 +1,13 @@
-"""The crates of the repository, how the toolchain proves one of them, and such work side by side.
+"""The crates of the repository, how the toolchain proves one of them, what is kept of that, and such work side by side.
 
-tools/build and tests/gate stand on this file. A library is proved from nothing, over the statements alone of those below it: to load
-their proofs takes longer. So the compiler is called by its own words; `rt lib` knows whole libraries only. Each call has a room, a
-copy of the crate's sources as they are when it begins. `tools/weights` tells what each crate takes; it orders the work and tells how
-long is left, and nothing else rests on it.
+tools/build and tests/gate stand on this file. They work on a copy of the sources as they were when the call began. A library is proved
+from nothing, over the statements alone of those below it: to load their proofs takes longer. So the compiler is called by its own words;
+`rt lib` knows whole libraries only. The statements of a library are kept in its folder out/statements, with the sum of all that they
+rest on. `tools/weights` tells what each crate takes; it orders the work and tells how long is left, and nothing else rests on it.
 """
 
 import contextlib
+import fcntl
 import functools
 import hashlib
 import os
@@ -16,22 +17,20 @@ import shlex
 import shutil
 import signal
 import subprocess
-import tempfile
 import time
 
 PARTS = ("src", "specs", "proofs")
+PROGRAM = "pmfarm"
 # (as tools/sources passes over them)
 TESTS = re.compile(r"(^|/)(tests(/|\.rt$)|\w*_tests\.rt$)")
 # Lines that are a comment alone. Nothing is proved by them, and no string of the sources has such a line.
 COMMENTS = {".rt": re.compile(rb"(?m)^[ \t]*//.*\n?"), ".antt": re.compile(rb"(?m)^[ \t]*--(?!\S).*\n?")}
+# The room for the version in a program.
+ROOM, VERSION = 96, re.compile(rb"\d+\.\d+\.\d+ \(commit [^)]{1,80}\)(?: not proved here)? {0,90}")
 TARGET = "x86_64-unknown-linux-gnu"
 GIGABYTE = 1_000_000_000
-# How much faster a proof is on so many processors.
-SPEED = (1.0, 1.0, 1.5, 1.8, 2.0)
-# What each processor more than one adds to the memory of a proof.
-SHARE = 0.3
-# The room of memory that is left to others.
-FREE = 0.85
+# The share of the free memory that is taken, and what a second processor adds to the memory of a proof.
+FREE, SHARE = 0.85, 0.3
 
 
 class Crates:
@@ -49,11 +48,8 @@ class Crates:
     def folder(self, name):
         return self.top / "crates" / name
 
-    def below(self, name):
-        """The crates below one, each after those that it stands on."""
-        return self.all_of(self.uses, name)
-
     def all_of(self, uses, name):
+        """The crates below one, each after those that it stands on."""
         found = []
         for it in uses[name]:
             found += [low for low in [*self.all_of(uses, it), it] if low not in found]
@@ -71,10 +67,59 @@ class Crates:
     def is_program(self, name):
         return (self.folder(name) / "src" / "main.rt").is_file()
 
+    def root(self, name):
+        return "src/main.rt" if self.is_program(name) else "src/lib.rt"
+
     def made(self, name):
         """What the proof of a crate makes: the statements of a library, or the program."""
         out = self.folder(name) / "out"
         return out / name if self.is_program(name) else out / "statements" / f"{name}.rlib"
+
+    @property
+    def of_program(self):
+        """The crates that the program is made of, the lowest first."""
+        return [*self.all_of(self.rests, PROGRAM), PROGRAM]
+
+    def copy(self, target):
+        """These crates as they are now, in another folder."""
+        shutil.copytree(self.top / "crates", target / "crates", ignore=shutil.ignore_patterns("out"))
+        for name in ("crates.txt", "HANDLES"):
+            if (self.top / name).is_file():
+                shutil.copy2(self.top / name, target / name)
+        return Crates(target)
+
+    # What is kept of a library.
+
+    def kept_sum(self, name):
+        file = self.made(name).with_suffix(".sum")
+        return file.read_text() if not self.is_program(name) and self.made(name).is_dir() and file.is_file() else None
+
+    def take_kept(self, name, other):
+        """Takes what another folder has kept of a library, by links: nobody changes such a file."""
+        shutil.copytree(other.made(name), self.made(name), copy_function=link_or_copy, dirs_exist_ok=True)
+
+    def keep(self, name, of, found):
+        """Keeps what the proof of a library has made in the folder `of`, with the sum of all that it rests on."""
+        target = self.made(name)
+        (self.top / "out").mkdir(exist_ok=True)
+        with open(self.top / "out" / "kept.lock", "w") as lock:
+            with contextlib.suppress(OSError):
+                # (some file systems have no locks)
+                fcntl.flock(lock, fcntl.LOCK_EX)
+            target.with_suffix(".sum").unlink(missing_ok=True)
+            shutil.rmtree(target, ignore_errors=True)
+            new = target.with_name(f"{name}.new")
+            shutil.rmtree(new, ignore_errors=True)
+            shutil.copytree(of.made(name), new, copy_function=link_or_copy)
+            new.replace(target)
+            target.with_suffix(".sum").write_text(found)
+
+
+def link_or_copy(one, other):
+    try:
+        os.link(one, other)
+    except OSError:
+        shutil.copy2(one, other)
 
 
 def command(*words, folder=None):
@@ -92,19 +137,16 @@ def digest(*texts):
 
 
 class Sums:
-    """For each crate a sum of all that its proof rests on: the kit, its files but for comments, and all below."""
+    """For each crate a sum of all that its proof rests on: the kit, its files but for tests and comments, and all below."""
 
     def __init__(self, crates, kit):
         self.crates, self.kit, self.known = crates, kit, {}
 
     def __call__(self, name):
         if name not in self.known:
-            self.known[name] = self.of(name, self.crates.folder(name), self)
+            folder, rests = self.crates.folder(name), self.crates.rests[name]
+            self.known[name] = digest(self.kit, self.crates.lines[name], *files(folder, *PARTS), *map(self, rests))
         return self.known[name]
-
-    def of(self, name, folder, below):
-        """The sum of a crate with the files of this folder, over these sums."""
-        return digest(self.kit, self.crates.lines[name], *files(folder, *PARTS), *map(below, self.crates.rests[name]))
 
 
 def files(folder, *parts):
@@ -119,6 +161,30 @@ def without_comments(file):
     return COMMENTS[file.suffix].sub(b"", data) if file.suffix in COMMENTS else data
 
 
+class Stamp:
+    """What a run of ./test in which all passed has left: its commit, its kit, and for each crate the sums of its proof and of its edits.
+
+    It has nothing where the file is not there, or a line of it was changed since.
+    """
+
+    HEAD = "# Left by `./test` where all has passed: it proved each crate of these sums and tried its edits, or the stamp before stood for it.\n"
+
+    def __init__(self, file):
+        self.commit, self.kit, self.proofs, self.edits = "", "", {}, {}
+        with contextlib.suppress(OSError, ValueError):
+            *lines, last = [it for it in file.read_text().splitlines() if not it.startswith("#")]
+            if last == f"sum {digest(*lines)}":
+                rows = [it.split() for it in lines[2:]]
+                self.proofs = {name: proof for name, proof, _ in rows}
+                self.edits = {name: edits for name, _, edits in rows}
+                self.commit, self.kit = (it.partition(" ")[2] for it in lines[:2])
+
+    @classmethod
+    def text(cls, commit, kit, rows):
+        lines = [f"commit {commit}", f"kit {kit}", *(" ".join(it) for it in sorted(rows))]
+        return cls.HEAD + "".join(f"{it}\n" for it in [*lines, f"sum {digest(*lines)}"])
+
+
 class Kit:
     """The toolchain's kit: where it lies, by the page that `rt doc` names, and how its compiler is called."""
 
@@ -128,92 +194,114 @@ class Kit:
 
     def words(self, crates, name, verb, jobs, *more, over=None):
         """A call of the compiler on a crate, over what is made of those below, or of these alone."""
-        root = "src/main.rt" if crates.is_program(name) else "src/lib.rt"
-        words = [self.folder / "bin" / "rattle", verb, "--crate-name", name, root]
+        words = [self.folder / "bin" / "rattle", verb, "--crate-name", name, crates.root(name)]
         for it in crates.takes[name]:
             words += ["--extern", f"{it}={self.folder}/rlibs/{it}.rlib"]
         for it in crates.uses[name] if over is None else over:
             words += ["--extern", f"{it}={crates.made(it)}"]
-        for it in (self.folder / "rlibs", *(crates.made(it).parent for it in crates.below(name))):
+        for it in (self.folder / "rlibs", *(crates.made(it).parent for it in crates.all_of(crates.uses, name))):
             words += ["-L", f"dependency={it}"]
         words += ["--antt-project", self.folder / "rattle" / "logic" / "antt-project.json"]
         words += ["--logic-built", self.folder / "logic_built", "--links", f"{name}=", "--jobs", jobs, *more]
         return [str(it) for it in words]
 
-    def program(self, crates, name, jobs, *more, after, over=None):
-        """The crate, or its tests, built into the program out/NAME of a room, and then this command."""
-        chain, made = self.folder / "toolchain", f"out/{name}"
-        made_by = ("--toolchain", chain, "--backend", "llvm", "-o", f"{made}.o")
+    def link(self, made, *objects, toolchain=None):
+        """The call that links a program."""
+        words = [self.folder / "bin" / "rattle-link", "--target", TARGET, "--toolchain", toolchain or self.folder / "toolchain", "-o", made]
+        return [str(it) for it in (*words, *objects, self.folder / "c" / "libos_c.a", self.folder / "c" / "liblibc_c.a")]
+
+    def program(self, crates, name, jobs, *more, after=("true",), over=None):
+        """The crate, or its tests, proved and built into the program out/NAME, and then this command."""
+        made = f"out/{name}"
+        made_by = ("--toolchain", self.folder / "toolchain", "--backend", "llvm", "-o", f"{made}.o")
         build = self.words(crates, name, "build", jobs, *more, *made_by, over=over)
-        link = [self.folder / "bin" / "rattle-link", "--target", TARGET, "--toolchain", chain, "-o", made, f"{made}.o"]
-        link += [self.folder / "c" / "libos_c.a", self.folder / "c" / "liblibc_c.a"]
-        return ["sh", "-c", " && ".join(shlex.join(map(str, it)) for it in (build, link, after))]
+        return in_turn(build, self.link(made, f"{made}.o"), after)
 
     def proof(self, crates, name, jobs):
-        """The crate proved from nothing, and what is made of it in out/ of a room."""
-        over = crates.rests[name]
+        """The crate proved from nothing, and what is made of it below out/."""
+        over, made = crates.rests[name], crates.made(name)
+        made.parent.mkdir(parents=True, exist_ok=True)
         if crates.is_program(name):
-            return self.program(crates, name, jobs, after=["test", "-x", f"out/{name}"], over=over)
-        return self.words(crates, name, "build", jobs, "--statements", "-o", f"out/{name}.rlib", over=over)
+            return self.program(crates, name, jobs, over=over)
+        return self.words(crates, name, "build", jobs, "--statements", "-o", made, over=over)
+
+
+def in_turn(*commands):
+    return ["sh", "-c", " && ".join(shlex.join(map(str, it)) for it in commands)]
+
+
+class Built:
+    """One of the two programs: the proved one, or the one that is made without proofs. Beside it are kept the list of the sources
+    that it was built from, and its sum with that of each crate: what else has these bytes is this program."""
+
+    def __init__(self, top, is_proved):
+        kind, folder = ("proved", "crates/pmfarm/out") if is_proved else ("quick", "out/quick")
+        self.top, self.is_proved, self.file = top, is_proved, top / folder / PROGRAM
+        self.list, self.record = top / "out" / f"{kind}.built", top / "out" / f"{kind}.sums"
+
+    def put(self, made, listed, kit, sums):
+        """Puts a program that was made, and its object beside it, in its place, and the list last."""
+        self.list.unlink(missing_ok=True)
+        self.file.parent.mkdir(parents=True, exist_ok=True)
+        rows = [f"kit {kit}", *(f"{name} {found}" for name, found in sums.items())]
+        self.record.write_text("".join(f"{it}\n" for it in [digest(*self.parts(made.read_bytes())[::2]), *rows]))
+        for it in (f"{PROGRAM}.o", PROGRAM):
+            new = self.file.with_name(f"{it}.new")
+            shutil.copy2(made.with_name(it), new)
+            new.replace(self.file.with_name(it))
+        # (what the program tells of itself; without it the program is as good)
+        subprocess.run([self.top / "tools" / "stamp", self.file], stdin=subprocess.DEVNULL, check=False)
+        new = self.list.with_suffix(".new")
+        new.write_bytes(listed)
+        new.replace(self.list)
+
+    def made_of(self, data):
+        """The kit and the sums of the crates of which a program is made, if it is this one."""
+        with contextlib.suppress(OSError, ValueError):
+            found, kit, *rows = self.record.read_text().splitlines()
+            if found == digest(*self.parts(data)[::2]):
+                return kit.partition(" ")[2], dict(it.split() for it in rows)
+        return None
+
+    @staticmethod
+    def parts(data):
+        """What stands in a program before its version, the version, and what stands behind it."""
+        places = [it.start() for it in VERSION.finditer(data) if len(it.group()) >= ROOM]
+        if len(places) != 1:
+            raise ValueError("the program has no room for its version")
+        return data[: places[0]], data[places[0] : places[0] + ROOM], data[places[0] + ROOM :]
+
+
+def listed_by(top, kinds, rt):
+    """The list of tools/sources, as ./pmfarm compares it, and the kind of the program that is built from these sources, if there is one."""
+    words = ["bash", "-c", '. tools/sources && sources "$2" && kind_of "$1" "$2" >&2', "bash", kinds, rt]
+    ran = subprocess.run(words, cwd=top, stdin=subprocess.DEVNULL, capture_output=True, check=True)
+    if b" crates.txt\n" not in ran.stdout:
+        raise FileNotFoundError("find lists no sources")
+    return ran.stdout, ran.stderr.decode().strip()
 
 
 class Weights:
     """What each crate takes: processor seconds of its proof, its tests and its edits, and gigabytes of its proof."""
 
-    NAMES = ("proof", "tests", "edits", "memory")
+    NAMES = {"proof": 100.0, "tests": 20.0, "edits": 60.0, "memory": 2.0}
+    HEAD = "# Processor seconds of proof, tests and edits, and gigabytes of the proof; written by each whole run.\n"
 
     def __init__(self, file):
-        self.of, self.reasons = {}, {}
-        with contextlib.suppress(OSError):
+        self.of = {}
+        with contextlib.suppress(OSError, ValueError):
             for line in pathlib.Path(file).read_text().splitlines():
-                words = line.partition("#")[0].split(None, 5)
-                if len(words) >= 5:
-                    self.of[words[0]] = dict(zip(self.NAMES, map(float, words[1:5])))
-                    self.reasons[words[0]] = line.partition("#")[2].strip()
+                if line and not line.startswith("#"):
+                    name, *numbers = line.split()
+                    self.of[name] = dict(zip(self.NAMES, map(float, numbers)))
 
     def __call__(self, name, what):
         """The weight of a crate, or that of a usual one where none is told."""
-        usual = {"proof": 100.0, "tests": 40.0, "edits": 100.0, "memory": 2.0}
-        return self.of.get(name, usual)[what]
+        return self.of.get(name, self.NAMES).get(what, self.NAMES[what])
 
-
-def link(source, target):
-    """Copies a folder, its files by links where these can be made: the compiler replaces such a file, and changes none."""
-
-    def copy(one, other):
-        try:
-            os.link(one, other)
-        except OSError:
-            shutil.copy2(one, other)
-
-    shutil.copytree(source, target, copy_function=copy)
-
-
-class Room:
-    """A copy of a crate's sources, in a folder of its own."""
-
-    def __init__(self, crates, name, rooms, texts=None):
-        """Copies the sources, with these texts in place of some."""
-        self.folder = pathlib.Path(tempfile.mkdtemp(dir=rooms))
-        for part in PARTS:
-            if (crates.folder(name) / part).is_dir():
-                shutil.copytree(crates.folder(name) / part, self.folder / part)
-        for path, text in (texts or {}).items():
-            (self.folder / path).write_text(text)
-        (self.folder / "out").mkdir()
-
-    def remove(self):
-        shutil.rmtree(self.folder, ignore_errors=True)
-
-
-def put(source, target):
-    """Moves a file or a folder to where another may be."""
-    target.parent.mkdir(parents=True, exist_ok=True)
-    if target.is_dir():
-        shutil.rmtree(target)
-    new = target.with_name(f"{target.name}.new")
-    shutil.move(source, new)
-    new.replace(target)
+    def text(self, names):
+        row = lambda name: "".join(f"{self(name, it):>8.{int(it == 'memory')}f}" for it in self.NAMES)
+        return self.HEAD + "".join(f"{name:<14}{row(name)}\n" for name in names)
 
 
 def folder_of_rooms(top):
@@ -246,25 +334,32 @@ def free_memory():
 
 
 class Task:
-    """A command for a crate. `begin` tells its words and its folder, and `end` what is to be done then."""
+    """A command for a crate: `words` tell it, in `folder`, and `end` what comes of it. One that spreads takes `--jobs`."""
 
-    # Whether the command takes several processors, by `--jobs`.
-    spreads = False
-    # How far it stands back behind others, as `nice` counts.
-    nice = 10
+    phase, spreads, folder = "", False, None
 
-    def __init__(self, name, after=(), seconds=1.0, memory=2.0):
-        self.name, self.after, self.seconds, self.memory = name, tuple(after), seconds, memory
+    def __init__(self, name, crate, after=(), seconds=1.0, memory=2.0):
+        self.name, self.crate, self.after, self.seconds, self.memory = name, crate, tuple(after), seconds, memory
 
-    def begin(self, jobs):
+    def words(self, jobs):
         raise NotImplementedError
 
     def end(self, status, said, seconds):
         """Returns whether it ended well, and the tasks that come of it."""
-        raise NotImplementedError
+        return status == 0, []
 
-    def leave(self):
-        """Removes what `begin` made, however the task ended."""
+
+class Proof(Task):
+    """The proof of a crate from nothing, and what is made of it: the statements of a library, or the program."""
+
+    phase, spreads = "proof", True
+
+    def __init__(self, kit, crates, name, weights):
+        super().__init__(name, name, crates.rests[name], weights(name, "proof"), weights(name, "memory"))
+        self.kit, self.crates, self.folder = kit, crates, crates.folder(name)
+
+    def words(self, jobs):
+        return self.kit.proof(self.crates, self.crate, jobs)
 
 
 class Running:
@@ -272,11 +367,10 @@ class Running:
 
     def __init__(self, task, jobs, log):
         self.task, self.jobs, self.begun, self.log = task, jobs, time.monotonic(), log
-        words, folder = task.begin(jobs)
-        nice = ["nice", "-n", str(task.nice)] if task.nice else []
+        words = task.words(jobs)
         with open(log, "wb") as out:
-            how = {"cwd": folder, "stdin": subprocess.DEVNULL, "stdout": out, "stderr": out, "start_new_session": True}
-            self.process = subprocess.Popen([*nice, *words], **how)
+            how = {"cwd": task.folder, "stdin": subprocess.DEVNULL, "stdout": out, "stderr": out, "start_new_session": True}
+            self.process = subprocess.Popen(words, **how)
 
     def seconds(self):
         return time.monotonic() - self.begun
@@ -287,21 +381,17 @@ class Running:
         with contextlib.suppress(ChildProcessError):
             os.waitpid(self.process.pid, 0)
         self.process.returncode = -signal.SIGTERM
-        self.task.leave()
 
 
 class Work:
-    """Tasks side by side: as many as there are processors and memory for, first those with the longest chain behind them.
-
-    The task that leads, one at a time, may take every processor. Those on which none waits stand back.
-    """
+    """Tasks side by side: as many as there are processors and memory for, first those with the longest chain behind them."""
 
     def __init__(self, tasks, logs, guard=contextlib.nullcontext):
         """Logs are a folder. No signal that ends this process comes within a guard."""
         self.left, self.running, self.ended = list(tasks), {}, {}
         self.logs, self.guard, self.processors = logs, guard, processors()
         self.memory = FREE * free_memory() / GIGABYTE
-        self.done = self.seconds = 0.0
+        self.done = self.spent = 0.0
 
     def chains(self):
         """For each task the processor seconds of the longest chain that it begins."""
@@ -324,30 +414,22 @@ class Work:
             if any(self.ended.get(it) is False for it in task.after):
                 self.left.remove(task)
                 self.ended[task.name] = False
-            elif all(self.ended.get(it) for it in task.after) and self.has_room(task):
+            elif all(self.ended.get(it) for it in task.after) and self.has_room(task.memory):
+                jobs = 2 if task.spreads and self.is_late(chains[task.name]) and self.has_room(task.memory * (1 + SHARE), 2) else 1
                 with self.guard():
                     self.left.remove(task)
-                    running = Running(task, self.jobs_of(task, chains), self.logs / f"{task.name}.log")
+                    running = Running(task, jobs, self.logs / f"{task.name}.log")
                     self.running[running.process.pid] = running
 
-    def has_room(self, task):
-        held = sum(it.task.memory for it in self.running.values())
-        return not self.running or len(self.running) < self.processors and held + task.memory <= self.memory
+    def has_room(self, memory, jobs=1):
+        of = [it for it in self.running.values()]
+        is_free = sum(it.jobs for it in of) + jobs <= self.processors
+        return (not of and jobs == 1) or is_free and sum(it.task.memory for it in of) + memory <= self.memory
 
-    def jobs_of(self, task, chains):
-        """How many processors a task may use: as many as its chain needs so that it ends no later than the rest, if their memory is
-        there. A proof on several takes more of their time, so one task at a time may have all, and another one two that are idle."""
-        spread = sum(it.jobs > 1 for it in self.running.values())
-        if not task.spreads or spread > 1 or spread and len(self.running) + 2 > self.processors:
-            return 1
-        whole = sum(it.seconds for it in [task, *self.left, *(it.task for it in self.running.values())])
-        room = self.memory - sum(it.task.memory for it in self.running.values())
-        most = 2 if spread else min(self.processors, len(SPEED) - 1)
-        enough = [it for it in range(1, most) if chains[task.name] / SPEED[it] <= whole / self.processors]
-        jobs = min(enough, default=most)
-        while jobs > 1 and task.memory * (1 + SHARE * (jobs - 1)) > room:
-            jobs -= 1
-        return jobs
+    def is_late(self, chain):
+        """Whether a chain alone takes longer than its processors' share of all that is left."""
+        whole = sum(it.seconds for it in [*self.left, *(it.task for it in self.running.values())])
+        return chain > whole / self.processors
 
     def ends(self):
         """Does all of it. Yields each task once it has ended and what may start has: the processor seconds, and whether it is well."""
@@ -366,51 +448,21 @@ class Work:
             it = self.running.pop(pid)
             it.process.returncode = os.waitstatus_to_exitcode(status)
             seconds = used.ru_utime + used.ru_stime
-            try:
-                well, more = it.task.end(it.process.returncode, it.log.read_text(errors="replace"), seconds)
-            finally:
-                it.task.leave()
+            well, more = it.task.end(it.process.returncode, it.log.read_text(errors="replace"), seconds)
             self.left += more
             self.ended[it.task.name] = well
-            self.done, self.seconds = self.done + it.task.seconds, self.seconds + seconds
+            self.done, self.spent = self.done + it.task.seconds, self.spent + seconds
         return it, seconds, well
 
     def seconds_left(self):
         """About how long the rest takes: all of it on all processors, but no less than its longest chain."""
-        of_running = sum(max(0.0, it.task.seconds - SPEED[it.jobs] * it.seconds()) for it in self.running.values())
-        whole = sum(it.seconds for it in self.left) + of_running
-        chain = max(self.chains().values(), default=0.0) / SPEED[min(self.processors, len(SPEED) - 1)]
-        pace = self.seconds / self.done if self.done > 60 else 1.0
-        return pace * max(whole / self.processors / FREE, chain)
+        whole = sum(it.seconds for it in self.left)
+        whole += sum(max(0.0, it.task.seconds - it.seconds()) for it in self.running.values())
+        pace = self.spent / self.done if self.done > 60 else 1.0
+        return pace * max(whole / self.processors, max(self.chains().values(), default=0.0))
 
     def stop(self):
         """Ends each command that runs, with all that it has started."""
         for it in self.running.values():
             it.stop()
         self.running = {}
-
-
-class Proof(Task):
-    """The proof of a crate from nothing, and what is made of it: the statements of a library, or the program."""
-
-    spreads, nice = True, 0
-
-    def __init__(self, kit, crates, name, rooms, weights):
-        super().__init__(name, crates.rests[name], weights(name, "proof"), weights(name, "memory"))
-        self.kit, self.crates, self.rooms, self.room = kit, crates, rooms, None
-
-    def begin(self, jobs):
-        self.room = Room(self.crates, self.name, self.rooms)
-        return self.kit.proof(self.crates, self.name, jobs), self.room.folder
-
-    def end(self, status, said, seconds):
-        made = self.crates.made(self.name)
-        if status == 0:
-            if self.crates.is_program(self.name):
-                # (`tools/install --static` links it in another way)
-                put(self.room.folder / "out" / f"{made.name}.o", made.with_name(f"{made.name}.o"))
-            put(self.room.folder / "out" / made.name, made)
-        return status == 0, []
-
-    def leave(self):
-        self.room.remove()

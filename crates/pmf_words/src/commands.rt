@@ -12,9 +12,10 @@ use crate::options::{
 use clap::{Arg, Command};
 use std::alloc::{AllocError, Global};
 
-// The version, and room behind it: `tools/stamp` writes the commit and the kit into the built program here.
+// The version, and room behind it: `tools/stamp` writes the commit and the kit into the built program here, and takes away that it is
+// not proved where a proof of its sources is kept.
 const VERSION: &str =
-    "0.1.0 (commit and kit unknown)                                                                  ";
+    "0.1.0 (commit and kit unknown) not proved here                                                  ";
 
 const AFTER_HELP: &str = "\
 Examples:
