@@ -2,7 +2,7 @@
 use Rattle.std.proofs.{Common.{◌≡◌, ℕ, ◌<◌, Bool, true, false, not, nat_lt, List, Option, Some, Result, Ok, Err, refl, sym, ap, subst, ◌∙◌, inl, inr, arith, if◌then◌else◌}, lemmas.Bool.{and_parts, ltb-true, not-true}}
 use Rattle.pmf_storelog.specs.{declared.fault.Cause.{Cause}}
 use Rattle.pmf_farm.specs.declared.fault.FarmFault.{FarmFault}
-use Rattle.pmf_query.specs.{declared.warnings.Warnings.{Warnings}, Warnings.{are_due, warnings_of}}
+use Rattle.pmf_lint.specs.{declared.warnings.Warnings.{Warnings}, Warnings.{are_due, warnings_of}}
 use Rattle.pmf_stream.specs.{Answering.{Answers}, Checking.{AreWarnings, IsCheckFaultOf, IsReportOf}, declared.checking.{CheckLogFault.{CheckLogFault}, Done.{Done}}, declared.fault.StreamFault.{StreamFault}}
 use Rattle.pmf_request.specs.declared.{settings.Settings.{Settings}, request.{Input.{Input}, Input.TheVariants.{Standard, File}, Request.TheVariants.{Check}}}
 use Rattle.pmf_command.specs.{Answered.{Streams, EndsStrictlyOnlyIfTrusted, EndsWellOnlyIfKept, IsAnswered, IsSaidOf, IsUnread}, Statuses.{is_trusted, status_of, status_of_cause, status_of_check_fault, status_of_done, status_of_farm_fault, status_of_fails, status_of_fault}, declared.status.{Status.{Status}, Status.TheVariants.{NoFail, SomeFail}}}

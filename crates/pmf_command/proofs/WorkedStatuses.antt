@@ -1,6 +1,6 @@
 -- Worked examples of how commands end, computed by the definitions: each status that `check` can end with, and the others of each command.
 use Rattle.std.proofs.Common.{◌≡◌, Bool, true, false, None, Some, Ok, Err, refl}
-use Rattle.pmf_query.specs.{declared.warnings.Warnings.{Warnings}, Warnings.{are_due}}
+use Rattle.pmf_lint.specs.{declared.warnings.Warnings.{Warnings}, Warnings.{are_due}}
 use Rattle.pmf_storelog.specs.declared.fault.Cause.TheVariants.{BadNumber, OutOfMemory}
 use Rattle.pmf_ledger.specs.declared.joining.JoinFault.TheVariants.{ProfileMismatch}
 use Rattle.pmf_farm.specs.declared.fault.FarmFault.TheVariants.{NoWorkers}

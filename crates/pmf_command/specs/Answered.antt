@@ -11,7 +11,8 @@ use Rattle.pmf_request.specs.declared.request.{Cuts.{Cuts}, Files.{Files}, Input
 use Rattle.pmf_request.specs.declared.request.Wanted.TheVariants as wanted
 use Rattle.pmf_request.specs.declared.request.Joining.TheVariants as joining
 use Rattle.pmf_cut.specs.declared.fault.CutFault.{CutFault}
-use Rattle.pmf_query.specs.{Explanation.{IsExplanation}, AllExplained.{ExplainsAll}, Locating.{IsLocationText}, Linting.{Overviews}, Warnings.{are_due, warnings_of}, Refusals.{IsEventRefusal, IsLogRefusal}}
+use Rattle.pmf_query.specs.{Explanation.{IsExplanation}, AllExplained.{ExplainsAll}, Locating.{IsLocationText}, Refusals.{IsEventRefusal, IsLogRefusal}}
+use Rattle.pmf_lint.specs.{Linting.{Overviews}, Warnings.{are_due, warnings_of}}
 use Rattle.pmf_why.specs.{Patching.{IsPatch, IsPatchRefusal}, Why.{IsWhy, IsWhyRefusal}}
 use Rattle.pmf_stream.specs.{Answering.{Answers}, Asked.{IsAnswerOf, IsRefusalOf}, Checking.{IsCheckFaultOf, IsLogOf, IsReportOf}, Files.{IsCutOf}, Joining.{IsJoinedText, IsRefusalOfTexts}, Reading.{HasReadAll}, Simulated.{IsSimRefusalOf, IsSimulationOf}, declared.cutting.Pieces.{Pieces}, declared.fault.StreamFault.{StreamFault}}
 use Rattle.pmf_ledger.specs.declared.totals.Totals.{Totals}

@@ -7,7 +7,8 @@ use Rattle.pmf_ledger.specs.declared.{block_lines.BlockFault.{BlockFault}, joini
 use Rattle.pmf_merge.specs.declared.fault.MergeFault.{MergeFault}
 use Rattle.pmf_farm.specs.declared.fault.FarmFault.{FarmFault}
 use Rattle.pmf_stream.specs.declared.{checking.CheckLogFault.{CheckLogFault}, checking.Done.{Done}, cutting.Pieces.{Pieces}, joining.Joined.{Joined}, joining.JoinTextFault.{JoinTextFault}, fault.StreamFault.{StreamFault}}
-use Rattle.pmf_query.specs.{declared.{lint.Linted.{Linted}, refusal.EventFault.{EventFault}, refusal.EventRefusal.{EventRefusal}, refusal.LogRefusal.{LogRefusal}, warnings.Warnings.{Warnings}}, Warnings.{are_due}}
+use Rattle.pmf_query.specs.{declared.refusal.EventFault.{EventFault}, declared.refusal.EventRefusal.{EventRefusal}, declared.refusal.LogRefusal.{LogRefusal}}
+use Rattle.pmf_lint.specs.{declared.lint.Linted.{Linted}, declared.warnings.Warnings.{Warnings}, Warnings.{are_due}}
 use Rattle.pmf_why.specs.declared.refusal.PatchRefusal.{PatchRefusal}
 use Rattle.pmf_world.specs.declared.{fault.WorldNewFault.{WorldNewFault}, simulating.SimFault.{SimFault}}
 use Rattle.pmf_command.specs.declared.status.{Status.{Status}, Status.TheVariants.{NoFail, SomeFail, Refused, NoMemory, DeviceFault}}

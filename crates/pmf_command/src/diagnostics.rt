@@ -3,7 +3,7 @@
 ghost use Rattle.std.specs.Prelude.{◌≡◌};
 
 use crate::status::Status;
-use pmf_query::{Warnings, push_warnings};
+use pmf_lint::{Warnings, push_warnings};
 use pmf_stream::Notes;
 use std::alloc::Global;
 use std::fmt::Display;

@@ -1,6 +1,6 @@
 //! What is said behind the line of a fault: what may help.
 
-use pmf_query::near;
+use pmf_lint::near;
 use pmf_storelog::{Cause, read_number_in_front};
 use std::fmt::Display;
 use std::io::Eprint;

@@ -2,7 +2,7 @@
 use Rattle.std.specs.Prelude.{◌≡◌, ℕ, ◌+◌, ◌<◌, List, [], ◌∷◌, ◌++◌, length, take, drop, slice_get, None, Some, codes, decimal, flat_map}
 use Rattle.pmf_event.specs.declared.event.Event.{Event}
 use Rattle.pmf_storelog.specs.{Separators.{records_of}, LogText.{reading_at, current_at, numbered, events_in, fault_of}}
-use Rattle.pmf_query.specs.{LintText.{shown_byte}, declared.locate.Located.{Located}}
+use Rattle.pmf_query.specs.{Ascii.{shown_byte}, declared.locate.Located.{Located}}
 
 -- record k, counted from 0, gave event number `place` of the section: it happened there, behind `place` - 1 others
 pub record Gives (records : List (List ℕ)) (section place : ℕ) (event : Event) (k : ℕ) : Type 0 where

@@ -1,7 +1,7 @@
--- Records whose names are known by how they begin. No public clause cites this.
+-- Records whose names are known by how they begin. Defined here.
 use Rattle.std.specs.Prelude.{◌≡◌, ℕ, ◌<◌, Bool, true, false, List, [], Result, Ok, Err, codes, bytes_eq, slice_index_or}
 use Rattle.pmf_storelog.specs.{declared.fault.Cause.{Cause}, declared.record.Saying.{Saying}, declared.record.Saying.TheVariants.{Happens, Enters, Skipped}, Records.{record_of}}
-use Rattle.pmf_query.specs.{Ending.{asserts_decimal}, Naming.{known_names, name_of}}
+use Rattle.pmf_query.specs.{Decimal.{asserts_decimal}, RecordNames.{known_names, name_of}}
 
 -- whether what a record says is an event, or refused
 abbrev pub says_event : Result Saying Cause → Bool

@@ -4,11 +4,11 @@ ghost use Rattle.std.specs.Prelude.{◌≡◌, ◌≢◌, ◌<◌, ◌≤◌, le
 ghost use Rattle.pmf_storelog.specs.{LogText.{events_in}, Separators.{records_of}};
 ghost use Rattle.pmf_query.specs.{Locating.{IsLocated, IsLocation, IsLocationText, text_of_location}, Refusals.{HasEvent, IsEventFault, IsEventRefusal}};
 
+use crate::ascii::push_bytes;
 use crate::passing::Passed;
 use crate::query::{Answer, Query};
 use crate::refusal::{EventFault, EventRefusal};
 use crate::section::section_with;
-use crate::telling::push_bytes;
 use crate::walking::next_record;
 use pmf_request::Sought;
 use pmf_storelog::read_log;

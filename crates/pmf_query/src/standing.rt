@@ -61,7 +61,7 @@ impl<'a> Standing<'a> {
     }
 
     /// The same, as it is kept.
-    pub(crate) fn kept_of(&self, section: u64) -> &[Located<'a>]
+    pub fn kept_of(&self, section: u64) -> &[Located<'a>]
         ensures { result.now ≡ located_in self.now section }
     {
         let Some(found) = self.places.get(&section) else {

@@ -1,5 +1,4 @@
 //! What is told of logs, and where their events stand.
 
 mod explain;
-mod lint;
 mod locate;

@@ -9,18 +9,18 @@ use pmf_storelog::trim;
 
 /// A record where it stands.
 #[derive(Clone, Copy)]
-pub(crate) struct Found<'a> {
+pub struct Found<'a> {
     /// How many bytes of the log stand before it.
-    pub(crate) offset: usize,
+    pub offset: usize,
     /// The record, without the blanks around it.
-    pub(crate) text: &'a [u8],
+    pub text: &'a [u8],
     /// Where the walk goes on.
-    pub(crate) next: usize,
+    pub next: usize,
 }
 
 /// The first record from an offset on at which the records begin anew, or None where there is none left.
 #[tactic(auto, using(std::proofs::lemmas::Grind::common_steps, crate::proofs::CursorLemmas::few_blanks, crate::proofs::CursorLemmas::next_blank, crate::proofs::CursorLemmas::part_taken))]
-pub(crate) fn next_record(log: &[u8], start: usize) -> Option<Found<'_>>
+pub fn next_record(log: &[u8], start: usize) -> Option<Found<'_>>
     requires within { start ≤ length log.now }
     requires anew { BeginsAnew log.now start }
     ensures { MatchOption result (records_of (take start log.now) ≡ records_of log.now)

@@ -2,7 +2,7 @@
 use Rattle.std.specs.{Prelude.{◌≡◌, ◌≢◌, ◌*◌, ◌<◌, ◌≤◌, ◌⊎◌, min, nat_lt, if◌then◌else◌, Bool, true, false, List, ◌++◌, length, map, ℕ, Option, None, Some, Ok, Err}, Io.KnownBytes.{IsAtEnd}}
 use Rattle.pmf_storelog.specs.{declared.fault.LogFault.{LogFault}, declared.fault.TheConstants.{LOG_LIMIT}, LogValue.{LogValue}, LogText.{log_of, shown_fault, IsFaultOfAll, out_of_memory}}
 use Rattle.pmf_ledger.specs.{declared.form.Form.{Form}, declared.form.Form.TheVariants.{Report, Ledger}, declared.loading.TheConstants.{LEDGER_LIMIT}, Gathered.{IsLedgerOf}, AllKept.{AllKept, AllFilled}, LedgerText.{text_of_ledger}, LedgerValue.{LedgerValue}, Loading.{LoadsAs}, Report.{totals_of}, ReportTold.{sections_told, shown}, Telling.{text_told}}
-use Rattle.pmf_query.specs.{declared.warnings.Warnings.{Warnings}, Warnings.{warnings_of}}
+use Rattle.pmf_lint.specs.{declared.warnings.Warnings.{Warnings}, Warnings.{warnings_of}}
 use Rattle.pmf_farm.specs.{declared.fault.FarmFault.{FarmFault}, Running.{IsTaken}}
 use Rattle.pmf_board.specs.{declared.board.TheConstants.{MOST_WORKERS}, Workers.{AreWorkers}}
 use Rattle.pmf_stream.specs.{declared.checking.CheckLogFault.{CheckLogFault}, declared.checking.Done.{Done}, declared.ahead.TheConstants.{MOST_PARTS, PART}, declared.reading.TheConstants.{PIECE}, Reading.{HasReadBytes}}

@@ -17,7 +17,7 @@ use pmf_device::{Failed, Sink, Source};
 use pmf_event::Profile;
 use pmf_farm::{FarmFault, Gate, run};
 use pmf_ledger::{Form, LEDGER_LIMIT, Ledger, Totals};
-use pmf_query::{Warnings, warnings_due};
+use pmf_lint::{Warnings, warnings_due};
 use pmf_request::Settings;
 use pmf_storelog::{LOG_LIMIT, Log, LogFault, LogReader};
 use pmf_verdict::Verdict;

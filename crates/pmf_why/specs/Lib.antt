@@ -11,7 +11,7 @@ pub use Rattle.pmf_verdict.specs.Outcome
 pub use Rattle.pmf_cause.specs.Cause
 pub use Rattle.pmf_cause.specs.Cure
 pub use Rattle.pmf_query.specs.Locating
-pub use Rattle.pmf_query.specs.LintText
+pub use Rattle.pmf_query.specs.Ascii
 pub mod Reasons
 pub mod Cures
 pub mod WhyText

@@ -7,7 +7,7 @@ use Rattle.pmf_cause.specs.declared.{edit.Edit.{Edit}, lack.Lack.{Lack}, need.Ne
 use Rattle.pmf_cause.specs.declared.edit.Edit.TheVariants as edit
 use Rattle.pmf_cause.specs.declared.lack.Lack.TheVariants as lack
 use Rattle.pmf_cause.specs.declared.cause.Cause.TheVariants as cause
-use Rattle.pmf_query.specs.{declared.locate.Located.{Located}, LintText.{shown_text}}
+use Rattle.pmf_query.specs.{declared.locate.Located.{Located}, Ascii.{shown_text}}
 use Rattle.pmf_why.specs.{declared.cure.Way.{Way}, declared.cure.Way.TheVariants.{NotFound, Alone, WithAll}, declared.telling.TheConstants.{SHOWN}, Reasons.{Bad, stands_at}}
 
 -- ---- records

@@ -1,7 +1,7 @@
 -- A log that is read piece by piece, and what its end or its fault says.
 use Rattle.std.proofs.Common.{◌≡◌, ℕ, ◌≤◌, Bool, true, false, nat_lt, if◌then◌else◌, List, [], ◌++◌, length, refl, sym, ◌∙◌, ap, arith, inl, inr, ◌≢◌, Option, Some, None, Ok, Err, ltb-false, append-nil}
 use Rattle.pmf_storelog.{specs.declared.fault.LogFault.{LogFault}, specs.declared.fault.TheConstants.{LOG_LIMIT}, specs.declared.reader.LogReader.{LogReader}, specs.LogText.{log_of, shown_fault, shown_within, too_long, or_else, first_fault, first_fault_among, out_of_memory}, specs.Separators.{records_in, parts_of, ended_parts}, specs.LogValue.{LogValue}, specs.Reader.{HasRead}, proofs.CallerLemmas.{log_of-all}}
-use Rattle.pmf_query.specs.{declared.warnings.Warnings.{Warnings}, Warnings.{warnings_of}}
+use Rattle.pmf_lint.specs.{declared.warnings.Warnings.{Warnings}, Warnings.{warnings_of}}
 use Rattle.pmf_stream.specs.{Checking.{AreWarnings, HasKept, IsLogOf, IsLogFaultOf}, Reading.{HasReadAll, HasReadTo}, Pieces.{Takes, Refuses}}
 
 second-none : (first second : Option LogFault) → or_else first second ≡ None → second ≡ None

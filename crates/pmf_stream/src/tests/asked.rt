@@ -8,9 +8,8 @@ use crate::excerpt::Excerpt;
 use crate::fault::StreamFault;
 use pmf_device::{ByteSink, Device};
 use pmf_event::Profile;
-use pmf_query::{
-    EventFault, EventRefusal, Linted, LogRefusal, Overview, Query, Question, Sought, Whole,
-};
+use pmf_lint::{Linted, Look, Overview};
+use pmf_query::{EventFault, EventRefusal, LogRefusal, Query, Question, Sought, Whole};
 use pmf_storelog::{Cause, LogFault};
 use std::alloc::Global;
 use std::fmt::Debug;
@@ -115,13 +114,10 @@ fn what_is_told_of_a_log_and_the_text_that_is_written(rt: HostRuntime) {
     };
     tells(&rt, rt.alloc(), &question, (), EXPLAINED);
     tells(&rt, rt.alloc(), &SOUGHT, (), LOCATED);
-    tells(
-        &rt,
-        rt.alloc(),
-        &Overview { unasserted: false },
-        linted,
-        HELD,
-    );
+    let look = Look {
+        asked: Overview { unasserted: false },
+    };
+    tells(&rt, rt.alloc(), &look, linted, HELD);
 }
 
 const WHOLE: Whole = Whole {

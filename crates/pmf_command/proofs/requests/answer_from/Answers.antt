@@ -17,6 +17,11 @@ returns-in-Patch g c =
     let made = c.answer_to-in-Patch.ensures in
     found c.args.request.now _ _ c.answer_to-in-Patch.result c.in-Patch.is (made.0, made.1, made.2)
 
+pub returns-in-Lint : goal.returns-in-Lint
+returns-in-Lint g c =
+    let made = c.answer_to-in-Lint.ensures in
+    found c.args.request.now _ _ c.answer_to-in-Lint.result c.in-Lint.is (made.0, made.1, made.2)
+
 pub returns-in-Check : goal.returns-in-Check
 returns-in-Check g c =
     let made = c.check_to.ensures in

@@ -1,0 +1,16 @@
+pub mod FirstNamesLemmas
+pub mod NamingLemmas
+pub mod NearnessLemmas
+pub mod WorkedNames
+pub mod InsideLemmas
+pub mod CoverLemmas
+pub mod NotingLemmas
+pub mod UsualCountLemmas
+pub mod EndingLemmas
+pub mod LeavingLemmas
+pub mod UpkeepLemmas
+pub mod EmptyLemmas
+pub mod DueLemmas
+pub mod TallySumLemmas
+pub mod StoreNameLemmas
+pub mod LintLemmas

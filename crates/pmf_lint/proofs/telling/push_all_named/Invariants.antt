@@ -1,0 +1,6 @@
+use Rattle.std.proofs.Common.{◌≡◌, ◌++◌, take, flat_map, string_bytes}
+use Rattle.pmf_lint.specs.LintText.{line_of_named}
+use Rattle.pmf_lint.proofs.telling.push_all_named.Given as goal
+
+abbrev pub invariant-loop-named : goal.invariant-loop-named
+invariant-loop-named l = string_bytes l.text ≡ string_bytes l.initial.text ++ flat_map (λ b. line_of_named l.kind b) (take l.named-index l.counts)

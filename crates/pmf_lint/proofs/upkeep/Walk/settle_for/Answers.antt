@@ -1,0 +1,12 @@
+use Rattle.pmf_lint.proofs.upkeep.Walk.settle_for.Goals as goal
+
+pub returns : goal.returns
+returns c = λ es p walked. record {
+  shadow = c.settle_for.ensures (λ k. k) es p walked.shadow;
+  flushed = walked.flushed;
+  fences = walked.fences;
+  idle = walked.idle;
+  overwriting = walked.overwriting;
+  misread = walked.misread;
+  empty = walked.empty;
+}

@@ -1,6 +1,0 @@
-use Rattle.pmf_query.proofs.NamingLemmas.{lists_none}
-use Rattle.std.proofs.Common.{refl}
-use Rattle.pmf_query.proofs.listing.Listing.new.Goals as goal
-
-pub returns : goal.returns
-returns c = lists_none _ c.new.ensures.items refl

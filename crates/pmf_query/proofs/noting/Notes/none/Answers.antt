@@ -1,6 +1,0 @@
-use Rattle.std.proofs.Common.{refl}
-use Rattle.pmf_query.proofs.NotingLemmas.{notes_none}
-use Rattle.pmf_query.proofs.noting.Notes.none.Goals as goal
-
-pub returns : goal.returns
-returns c = notes_none _ refl refl refl refl refl

@@ -1,6 +1,0 @@
-use Rattle.std.proofs.Common.{ℕ, List, ◌++◌}
-use Rattle.pmf_query.{specs.Counting.{Lists}, specs.StoreNames.{names_among}, proofs.StoreNameLemmas.{is_marked}}
-use Rattle.pmf_query.proofs.storing.take_marked.Given as goal
-
-abbrev pub invariant-loop-index : goal.invariant-loop-index
-invariant-loop-index l = (names : List (List ℕ)) → Lists l.initial.listing names → Lists l.listing (names ++ names_among (is_marked l.marks) l.located l.index)
