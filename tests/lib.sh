@@ -28,28 +28,47 @@ check() {
     fi
 }
 
-# begin NAME COMMAND..: starts a check beside others: of a command that writes nothing to the folder of the checks.
-begun=()
-begin() {
-    local number=${#begun[@]}
-    begun+=("$1")
-    shift
-    ("$@" </dev/null >"$scratch/begun.$number" 2>&1 && : >"$scratch/begun.$number.well") &
+# in_a_room GROUP: calls the function with a folder of its own, for temporary files too, and leaves its counts beside that.
+in_a_room() {
+    scratch+=/$1 passed=0 failed=0
+    export TMPDIR=$scratch
+    "$1"
+    printf '%s %s\n' "$passed" "$failed" >"$scratch.counts"
 }
 
-# await: counts the checks that were started, once all of them have ended.
-await() {
-    local number
-    wait
-    for number in "${!begun[@]}"; do
-        if [ -e "$scratch/begun.$number.well" ]; then
-            pass "${begun[number]}"
-        else
-            fail "${begun[number]}" "$scratch/begun.$number"
-        fi
-        rm -f "$scratch/begun.$number" "$scratch/begun.$number.well"
+# side_by_side GROUP..: calls these functions, as many at once as there are processors. What a group prints comes whole once it has ended.
+# Its counts are added to ours. A group that ends without counts fails by its name.
+side_by_side() {
+    local processor group good bad
+    set -m
+    for ((processor = $(nproc); processor > 0; processor--)); do
+        (
+            set +m
+            for group in "$@"; do
+                # (the job that makes the folder takes the group)
+                mkdir "$scratch/$group" 2>/dev/null || continue
+                (in_a_room "$group") >"$scratch/$group.said" 2>&1
+                flock "$scratch" cat "$scratch/$group.said"
+            done
+        ) </dev/null &
     done
-    begun=()
+    set +m
+    wait
+    for group in "$@"; do
+        if read -r good bad 2>/dev/null <"$scratch/$group.counts"; then
+            passed=$((passed + good)) failed=$((failed + bad))
+        else
+            fail "$group gives its counts"
+        fi
+    done
+}
+
+# end_jobs: interrupts what `side_by_side` has left running, and kills what is there two seconds later. Each job is a group of processes.
+end_jobs() {
+    local jobs
+    jobs=$(jobs -pr | sed 's/^/-/')
+    # shellcheck disable=SC2086
+    [ -z "$jobs" ] || { kill -INT -- $jobs; sleep 2; kill -KILL -- $jobs; wait; } 2>/dev/null
 }
 
 # has ENGINE: whether it is installed.

@@ -474,9 +474,20 @@ try_tools() {
     check_by zsh 'the completions for zsh are well-formed' well_formed 'zsh -n' completions/_*
     check_by fish 'the completions for fish are well-formed' well_formed 'fish -n' completions/*.fish
     check_by groff 'the man pages are well-formed' well_formed 'groff -man -ww -z' man/*.1
+}
+
+try_speed() {
     check 'large logs within their limits of time and memory' tests/try-speed "$program"
+}
+
+try_limits() {
     check 'inputs at the limits, and one past them' tests/limits "$program"
-    check 'the gate: edits in batches, stamps, what runs beside what, and whole runs that are played' tests/try-gate
-    check 'the launcher builds where it has to, and only there' tests/try-launcher
+}
+
+try_builder() {
+    check 'the launcher, both builds, edits in batches, stamps, and whole runs of the gate that are played' tests/try-builder
+}
+
+try_main_ends() {
     check 'a main that lets its answer go, or makes one of its own, is no program' tests/main-ends
 }

@@ -2,7 +2,6 @@
 # logs of it that stand in examples/ are checked all the same.
 
 tracer='valgrind with its static libraries and gcc'
-room=$scratch/traces
 
 # Each program of tests/trace, compiled; the tracer is built anew, in a folder of these tests.
 compile_for_traces() {
@@ -439,6 +438,7 @@ in_one_pipe() {
 }
 
 try_trace() {
+    local room=$scratch/traces
     check 'tools/trace refuses wrong words and programs' trace_refuses
     check 'tools/trace names what is missing' what_is_missing
     check_by "$tracer" 'the programs to be traced are compiled' compile_for_traces

@@ -130,6 +130,10 @@ patch_is_the_cured_log() {
         "$program" check "$scratch/report" | same examples/c/append_log.report -
 }
 
+try_cures() {
+    check 'what why tells as a cure of rows of random logs is one' tests/try-why "$program"
+}
+
 # Two sections of one text line each, whose stores are not fenced.
 two_unfenced='STORE;0x0;1;8;a (x.c:1)|FLUSH;0;64|PMT.PERSIST;0x0;8\nPMT.SECTION;4|STORE;0x40;1;8|FLUSH;0x40;64|PMT.PERSIST;0x40;8\n'
 
@@ -200,7 +204,6 @@ rows=1 told=1 untold=0; with all cures: pass=9 fail=0" '' why --event 12 "$appen
         $'pmfarm: record 2: unknown marker\npmfarm: hint: PMT.PERSITS: PMT.PERSIST?' why --patch --section 7
     check 'a full device as standard output of why --patch' full_output "$append_log" why --patch
     check 'each request for memory of why --patch refused in turn' sweep examples/order_and_warnings.log why --patch
-    check 'what why tells as a cure of rows of random logs is one' tests/try-why "$program"
     check 'a full device as standard output of why' full_output "$append_log" why
     check 'a directory as standard input of why' unreadable why
     check 'each request for memory of why refused in turn' sweep examples/order_and_warnings.log why
