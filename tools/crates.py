@@ -162,12 +162,12 @@ def without_comments(file):
 
 
 class Stamp:
-    """What a run of ./test in which all passed has left: its commit, its kit, and for each crate the sums of its proof and of its edits.
+    """What a run of ./test has left: its commit, its kit, and for each crate that passed the sums of its proof and of its edits.
 
     It has nothing where the file is not there, or a line of it was changed since.
     """
 
-    HEAD = "# Left by `./test` where all has passed: it proved each crate of these sums and tried its edits, or the stamp before stood for it.\n"
+    HEAD = "# Left by `./test`: it proved each crate of these sums from nothing and refused its edits, or the stamp before stood for it.\n"
 
     def __init__(self, file):
         self.commit, self.kit, self.proofs, self.edits = "", "", {}, {}
