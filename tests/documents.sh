@@ -154,7 +154,7 @@ try_documents() {
     check 'docs/DEFINITIONS.md names all its notation' the_page_is_whole
     check 'a claim names what is in the sources, and docs/TRUST.md each file of definitions' claims_are_of_the_sources
     check 'tools/promises refuses mutants that break the rule' mutants_keep_the_rule
-    check 'the man page and the completions have the options of help, and the program does what they tell' tests/flags
+    check 'the man page and the completions have the options of help, and the program does what they tell' tests/flags "$program"
     check 'the version is that at the head of CHANGELOG.md' version_of_changelog
     try_farms
 }

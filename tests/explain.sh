@@ -67,7 +67,7 @@ try_explain() {
     check 'an event that is no number is refused' refused explain --section 0 --event x
     check 'a full device as standard output of explain' full_output "$log" explain --section 0 --event 6
     check 'a directory as standard input of explain' unreadable explain --section 0 --event 1
-    check 'explain agrees with the rows of the examples' tests/explain-fails examples/*.log
+    check 'explain agrees with the rows of the examples' tests/explain-fails "$program" examples/*.log
     check 'explain --all explains each row that fails, as explain does' explains_all_rows
     check 'explain --all --first explains so many of them' explains_the_first
     check 'explain --all --first 0 is refused' refused explain --all --first 0
