@@ -205,10 +205,10 @@ class Kit:
         words += ["--logic-built", self.folder / "logic_built", "--links", f"{name}=", "--jobs", jobs, *more]
         return [str(it) for it in words]
 
-    def link(self, made, *objects, toolchain=None):
+    def link(self, made, module):
         """The call that links a program."""
-        words = [self.folder / "bin" / "rattle-link", "--target", TARGET, "--toolchain", toolchain or self.folder / "toolchain", "-o", made]
-        return [str(it) for it in (*words, *objects, self.folder / "c" / "libos_c.a", self.folder / "c" / "liblibc_c.a")]
+        words = [self.folder / "bin" / "rattle-link", "--target", TARGET, "--toolchain", self.folder / "toolchain", "-o", made, module]
+        return [str(it) for it in (*words, self.folder / "c" / "libos_c.a", self.folder / "c" / "liblibc_c.a")]
 
     def program(self, crates, name, jobs, *more, after=("true",), over=None):
         """The crate, or its tests, proved and built into the program out/NAME, and then this command."""
@@ -422,7 +422,7 @@ class Work:
                     self.running[running.process.pid] = running
 
     def has_room(self, memory, jobs=1):
-        of = [it for it in self.running.values()]
+        of = self.running.values()
         is_free = sum(it.jobs for it in of) + jobs <= self.processors
         return (not of and jobs == 1) or is_free and sum(it.task.memory for it in of) + memory <= self.memory
 
