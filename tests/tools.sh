@@ -222,10 +222,11 @@ tells_version() {
     }
 }
 
-# A stamped copy differs from the program in no byte, and what is no program of here is not stamped.
+# A stamped copy differs from the program in the 96 bytes of the version at most, and what is no program of here is not stamped.
 stamped() {
     local it
-    cp "$program" "$scratch/stamped" && tools/stamp "$scratch/stamped" && cmp "$program" "$scratch/stamped" && tells_version "$program" || return
+    cp "$program" "$scratch/stamped" && tools/stamp "$scratch/stamped" && tells_version "$scratch/stamped" &&
+        [ "$(cmp -l "$program" "$scratch/stamped" | wc -l)" -le 96 ] || return
     printf x >>"$scratch/stamped"
     for it in /bin/true "$scratch/stamped"; do
         tools/stamp "$it" 2>"$scratch/diagnostics"
