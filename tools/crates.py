@@ -384,7 +384,7 @@ class Running:
 
 
 class Work:
-    """Tasks side by side: as many as there are processors and memory for, first those with the longest chain behind them."""
+    """Tasks side by side: as many as there are processors and memory for, proofs first, and those with the longest chain behind them."""
 
     def __init__(self, tasks, logs, guard=contextlib.nullcontext):
         """Logs are a folder. No signal that ends this process comes within a guard."""
@@ -410,7 +410,7 @@ class Work:
     def start(self):
         """Starts what may start, and gives up what waits for a task that did not end well."""
         chains = self.chains()
-        for task in sorted(self.left, key=lambda it: -chains[it.name]):
+        for task in sorted(self.left, key=lambda it: (not it.spreads, -chains[it.name])):
             if any(self.ended.get(it) is False for it in task.after):
                 self.left.remove(task)
                 self.ended[task.name] = False
