@@ -4,7 +4,7 @@
 # A project in an empty folder, in which no failure is known, beside the commands.
 ci_project() {
     project=$scratch/project commands=$scratch/commands
-    rm -rf "$project" "$commands" && mkdir -p "$project/src" && tools/install --no-build "$commands" >"$scratch/report" 2>&1 &&
+    rm -rf "$project" "$commands" && mkdir -p "$project/src" && install_built "$commands" >"$scratch/report" 2>&1 &&
         rm "$commands/bin/pmfarm-trace" && cat >"$commands/bin/pmfarm-trace" <<'SH' || return
 #!/bin/sh
 while [ "$1" != --log ]; do shift; done
@@ -172,7 +172,7 @@ PY
 
 # The tracer as it is: a program of the project whose failure is shown at its line.
 ci_traces() {
-    ci_project && tools/install --no-build "$commands" >"$scratch/report" 2>&1 &&
+    ci_project && install_built "$commands" >"$scratch/report" 2>&1 &&
         cc -g -I trace/include -I examples/c -DMISSING_FENCE -o "$project/my-test" "$project/src/append_log.c" &&
         in_ci 1 '' env GITHUB_ACTIONS=true HOME="$scratch" ./ci.sh 1 ./my-test pool &&
         cut -d : -f 1-3 "$scratch/rows" | sort -u | said '::error file=src/append_log.c,line=59,title=ORDERED FAIL' -
