@@ -102,8 +102,8 @@ class Batch:
         """The functions that a check of this batch asks for, of those that a check prints; none if it is to be of the crate."""
         if self.is_alone:
             return [] if self.whole else [it for it in lines if it.endswith("::" + self.edits[0].name.partition(".")[0])]
-        found = [name_of(it, crate, lines) for it in self.places]
-        return found if all(found) else []
+        found = [names_of(it, crate, lines) for it in self.places]
+        return [name for it in found for name in it] if all(found) else []
 
     def texts(self, folder):
         texts = {}
@@ -212,12 +212,18 @@ def functions_of(said):
     return dict(LINE_OF_FUNCTION.findall(said))
 
 
-def name_of(place, crate, lines):
-    """The one name that a check prints of the function at this place; or None. (A method is printed below its type's module.)"""
+def names_of(place, crate, lines):
+    """The names that a check may print of the function at this place. (A method is printed below its type's module.)"""
     module, owner, name = place
     found = [it for it in lines if it.startswith(f"{crate}::") and it.endswith(f"::{name}")]
     for narrow in (f"{crate}::{module}::", f"::{owner}", f"::{owner}::"):
         found = [it for it in found if narrow in it] or found
+    return found
+
+
+def name_of(place, crate, lines):
+    """The one name that a check prints of the function at this place; or None."""
+    found = names_of(place, crate, lines)
     return found[0] if len(found) == 1 else None
 
 
