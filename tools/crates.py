@@ -217,14 +217,13 @@ class Kit:
         build = self.words(crates, name, "build", jobs, *more, *made_by, over=over)
         return in_turn(build, self.link(made, f"{made}.o"), after)
 
-    def proof(self, crates, name, jobs, work=None):
-        """The crate proved from nothing, and what is made of it below out/: its statements, or with a folder for its work all of it."""
+    def proof(self, crates, name, jobs):
+        """The crate proved from nothing, and what is made of it below out/."""
         over, made = crates.rests[name], crates.made(name)
         made.parent.mkdir(parents=True, exist_ok=True)
         if crates.is_program(name):
             return self.program(crates, name, jobs, over=over)
-        how = ["--incremental", work] if work else ["--statements"]
-        return self.words(crates, name, "build", jobs, *how, "-o", made, over=over)
+        return self.words(crates, name, "build", jobs, "--statements", "-o", made, over=over)
 
 
 def in_turn(*commands):
