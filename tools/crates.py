@@ -88,6 +88,10 @@ class Crates:
                 shutil.copy2(self.top / name, target / name)
         return Crates(target)
 
+    def interface(self, name):
+        """A sum of what the crates above a proved library can see of it: its public items with their clauses, and its definitions."""
+        return digest(*files(self.made(name) / "interface" / "lang", "src"), *files(self.folder(name), "specs"))
+
     # What is kept of a library.
 
     def kept_sum(self, name):
@@ -144,9 +148,12 @@ class Sums:
 
     def __call__(self, name):
         if name not in self.known:
-            folder, rests = self.crates.folder(name), self.crates.rests[name]
-            self.known[name] = digest(self.kit, self.crates.lines[name], *files(folder, *PARTS), *map(self, rests))
+            self.known[name] = digest(self.own(name), *map(self, self.crates.rests[name]))
         return self.known[name]
+
+    def own(self, name):
+        """A sum of the crate alone."""
+        return digest(self.kit, self.crates.lines[name], *files(self.crates.folder(name), *PARTS))
 
 
 def files(folder, *parts):
@@ -162,7 +169,7 @@ def without_comments(file):
 
 
 class Stamp:
-    """What a run of ./test has left: its commit, its kit, and for each crate that passed the sums of its proof and of its edits.
+    """What a run of ./test has left: its commit, its kit, and for each crate that passed the sums of its proof, its interface, and its edits.
 
     It has nothing where the file is not there, or a line of it was changed since.
     """
@@ -170,14 +177,13 @@ class Stamp:
     HEAD = "# Left by `./test`: it proved each crate of these sums from nothing and refused its edits, or the stamp before stood for it.\n"
 
     def __init__(self, file):
-        self.commit, self.kit, self.proofs, self.edits = "", "", {}, {}
+        self.commit, self.kit, self.rows = "", "", []
         with contextlib.suppress(OSError, ValueError):
             *lines, last = [it for it in file.read_text().splitlines() if not it.startswith("#")]
             if last == f"sum {digest(*lines)}":
-                rows = [it.split() for it in lines[2:]]
-                self.proofs = {name: proof for name, proof, _ in rows}
-                self.edits = {name: edits for name, _, edits in rows}
+                self.rows = [(name, proof, interface, edits) for name, proof, interface, edits in map(str.split, lines[2:])]
                 self.commit, self.kit = (it.partition(" ")[2] for it in lines[:2])
+        self.proofs, self.interfaces, self.edits = ({it[0]: it[at] for it in self.rows} for at in (1, 2, 3))
 
     @classmethod
     def text(cls, commit, kit, rows):
@@ -410,7 +416,7 @@ class Work:
     def start(self):
         """Starts what may start, and gives up what waits for a task that did not end well."""
         chains = self.chains()
-        for task in sorted(self.left, key=lambda it: (not it.spreads, -chains[it.name])):
+        for task in sorted(self.left, key=lambda it: (it.phase != "proof", -chains[it.name])):
             if any(self.ended.get(it) is False for it in task.after):
                 self.left.remove(task)
                 self.ended[task.name] = False
