@@ -148,12 +148,12 @@ class Sums:
 
     def __call__(self, name):
         if name not in self.known:
-            self.known[name] = digest(self.own(name), *map(self, self.crates.rests[name]))
+            self.known[name] = digest(*self.of(name), *map(self, self.crates.rests[name]))
         return self.known[name]
 
-    def own(self, name):
-        """A sum of the crate alone."""
-        return digest(self.kit, self.crates.lines[name], *files(self.crates.folder(name), *PARTS))
+    def of(self, name):
+        """What goes into the sum of a crate itself."""
+        return [self.kit, self.crates.lines[name], *files(self.crates.folder(name), *PARTS)]
 
 
 def files(folder, *parts):
