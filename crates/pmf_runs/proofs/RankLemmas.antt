@@ -1,5 +1,5 @@
 -- Ranks by index, and what an edit of the keys and the elements does to them.
-use Rattle.std.proofs.{Common.{add-one, ◌≡◌, ℕ, zero, suc, ◌+◌, ◌-◌, ◌<◌, ◌≤◌, true, false, List, [], ◌∷◌, length, get_or, take, drop, set, refl, sym, ◌∙◌, ap, subst, arith, rules, inl, inr, nat_le, nat_lt, ◌&&◌, if◌then◌else◌, Option, None, IfSome, is_some, insert, remove}, lemmas.Bool.{cases_eq}, lemmas.Bool.Decides.{nat_tests}, lemmas.List.{set-get_or}, lemmas.List.Edits.{length-insert, get_or-insert_below, get_or-insert_at, get_or-insert_above, length-remove, get_or-remove_below, get_or-remove_above}}
+use Rattle.std.proofs.{Common.{add-one, ◌≡◌, ℕ, zero, suc, ◌+◌, ◌-◌, ◌<◌, ◌≤◌, true, false, List, [], ◌∷◌, length, length-drop, get_or, get_or-drop, take, drop, set, refl, sym, ◌∙◌, ap, subst, arith, rules, inl, inr, nat_le, nat_lt, ◌&&◌, if◌then◌else◌, Option, None, IfSome, is_some, insert, remove}, lemmas.Bool.{cases_eq}, lemmas.Bool.Decides.{nat_tests}, lemmas.List.{set-get_or}, lemmas.List.Edits.{length-insert, get_or-insert_below, get_or-insert_at, get_or-insert_above, length-remove, get_or-remove_below, get_or-remove_above}}
 use Rattle.pmf_runs.specs.Ranks.{IsFresh, rank, at_rank, Rises, HasKey, reaches, falls_short, low_rank, high_rank, IsInner, bound_at}
 
 -- the first i keys are at most the number, and the next one is above it
@@ -88,6 +88,10 @@ pub insert-keeps : (keys : List ℕ) (p i b : ℕ) → i ≤ length keys → Has
 insert-keeps keys p i b bound has = grind (arith, length-insert, get_or-insert_below, get_or-insert_above)
 
 -- ---- a key is taken out
+
+-- what is left of rising keys rises
+pub rises-drop : (keys rest : List ℕ) (n : ℕ) → rest ≡ drop n keys → Rises keys → Rises rest
+rises-drop keys rest n is rises = record { order = λ i j less within. grind (arith, length-drop, get_or-drop) }
 
 pub remove-rises : (keys : List ℕ) (i : ℕ) → Rises keys → i < length keys → Rises (remove keys i)
 remove-rises [] i rises within = absurd (omega arith)
