@@ -41,7 +41,6 @@ pub fn lint_text(
     Ok(text.into_bytes())
 }
 
-#[tactic(auto, unfolding(crate::specs::LintText::line_of_counts))]
 fn push_counts(text: &mut String, lint: &Lint<'_>) -> Result<(), AllocError>
     ensures { OnOk result (string_bytes text.new
         ≡ string_bytes text.old ++ line_of_counts lint.now) }
