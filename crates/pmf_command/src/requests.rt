@@ -14,7 +14,7 @@ use crate::shelf::{Shelf, bytes_of};
 use pmf_device::{Device, Sink, Source};
 use pmf_event::EVENT_LIMIT;
 use pmf_ledger::{Form, LEDGER_LIMIT};
-use pmf_lint::Look;
+use pmf_lint::Survey;
 use pmf_request::{Cuts, Files, Input, Joining, Request, Simulation, Wanted};
 use pmf_storelog::LOG_LIMIT;
 use pmf_stream::{Excerpt, Outlet, read_all};
@@ -134,8 +134,8 @@ fn answer_from<
         }
         Request::Locate(sought, _) => answer_to(rt, alloc, source, sink, sought),
         Request::Lint(overview, _) => {
-            let look = Look { asked: *overview };
-            answer_to(rt, alloc, source, sink, &look)
+            let survey = Survey { asked: *overview };
+            answer_to(rt, alloc, source, sink, &survey)
         }
         Request::Cut(cuts) => {
             if let Some(why) = refusal_of(*cuts) {

@@ -1,6 +1,6 @@
 //! What a log's user asks before its rows are believed: what the log holds.
 //!
-//! [`Look`] is that question, a `Query` of `pmf_query`, whose answer is one text.
+//! [`Survey`] is that question, a `Query` of `pmf_query`, whose answer is one text.
 //! [`lint_log`] counts the records of each name (`Naming`), and over the sections the assertions, the rows of those that
 //! had nothing to check, the stores, those that no later assertion covers (`Covering`), those that are not durable at the end
 //! (`Leaving`), and what is done in vain (`Upkeep`, `Summing`). It tells which warnings are due (`Warnings`): of what is asserted, of
@@ -34,7 +34,7 @@ mod usual;
 mod warnings;
 
 pub use due::warnings_due;
-pub use lint::{Lint, Linted, Look, lint_log};
+pub use lint::{Lint, Linted, Survey, lint_log};
 pub use listing::Listing;
 pub use naming::{LISTED, Named};
 pub use nearness::near;

@@ -29,17 +29,17 @@ pub struct Linted {
 
 /// What a log holds, as a question about it.
 #[derive(Clone, Copy, Debug)]
-pub struct Look {
+pub struct Survey {
     /// What it is told by its words.
     pub asked: Overview,
 }
 
-impl Query for Look {
+impl Query for Survey {
     type Told = Linted;
 
     type Refusal = LogRefusal;
 
-    ghost IsAnswer = { λ look. Overviews look.asked.unasserted };
+    ghost IsAnswer = { λ survey. Overviews survey.asked.unasserted };
 
     ghost IsRefusal = { λ _. IsLogRefusal 0 };
 

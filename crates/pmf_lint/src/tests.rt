@@ -1,6 +1,6 @@
 //! What is told of logs, and its text.
 
-use crate::{Look, Overview, Warnings, lint_log, near, warnings_due};
+use crate::{Overview, Survey, Warnings, lint_log, near, warnings_due};
 use pmf_query::{LogRefusal, Query, is_text};
 use pmf_storelog::{Cause, LogFault, read_log};
 use std::alloc::Global;
@@ -29,19 +29,19 @@ warning: START stands without STOP
 ";
 
 // What a log holds, with the stores that no assertion covers where these are asked for.
-fn look(unasserted: bool) -> Look {
-    Look {
+fn survey(unasserted: bool) -> Survey {
+    Survey {
         asked: Overview { unasserted },
     }
 }
 
 fn text_of(alloc: Global, log: &[u8]) -> Result<Vec<u8>, LogRefusal> {
-    Ok(look(false).answer(alloc, log)?.text)
+    Ok(survey(false).answer(alloc, log)?.text)
 }
 
 // The text, with the stores that no assertion covers where these are asked for.
 fn ends_with(alloc: Global, log: &[u8], unasserted: bool, end: &str) -> Result<bool, LogRefusal> {
-    let answer = look(unasserted).answer(alloc, log)?;
+    let answer = survey(unasserted).answer(alloc, log)?;
     Ok(answer.text.ends_with(end.as_bytes()))
 }
 
@@ -72,7 +72,7 @@ fn warnings_of(alloc: Global, log: &[u8]) -> Result<(bool, bool, bool, bool), Lo
 
 #[test]
 fn the_text_tells_names_sums_and_warnings(rt: HostRuntime) -> Result<(), Fail> {
-    let answer = look(false).answer(rt.alloc(), MIXED)?;
+    let answer = survey(false).answer(rt.alloc(), MIXED)?;
     assert!(rt; answer.told.is_suspicious);
     assert!(rt; answer.text.as_slice() == MIXED_TEXT.as_bytes());
     let empty = text_of(rt.alloc(), b"")?;
@@ -332,7 +332,7 @@ fn the_33rd_name_of_a_store_is_another(rt: HostRuntime) -> Result<(), Fail> {
     }
     log.extend_from_slice(b"STORE;99;0;1;A|PMT.CHECKEND|")?;
     let front = "fences=0 idle=0\nunwritten A stores=2\nunwritten B stores=1\n";
-    let answer = look(false).answer(rt.alloc(), &log)?;
+    let answer = survey(false).answer(rt.alloc(), &log)?;
     assert!(rt;
         answer
             .text

@@ -17,7 +17,7 @@ pub use pmf_device::{
     Counted, Cut, Device, Failed, Page, Sink, Source, StdSink, StdSource, Stop, write_text,
 };
 pub use pmf_farm::{FarmFault, Gate, OpenGate, Turn};
-pub use pmf_lint::{Linted, Look, Overview};
+pub use pmf_lint::{Linted, Overview, Survey};
 pub use pmf_query::{
     Answer, EventFault, EventRefusal, LogRefusal, Query, Question, Sought, StreamedQuery,
     Unanswered, Whole, explain_all, explain_text,

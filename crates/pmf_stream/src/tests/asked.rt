@@ -8,7 +8,7 @@ use crate::excerpt::Excerpt;
 use crate::fault::StreamFault;
 use pmf_device::{ByteSink, Device};
 use pmf_event::Profile;
-use pmf_lint::{Linted, Look, Overview};
+use pmf_lint::{Linted, Overview, Survey};
 use pmf_query::{EventFault, EventRefusal, LogRefusal, Query, Question, Sought, Whole};
 use pmf_storelog::{Cause, LogFault};
 use std::alloc::Global;
@@ -114,10 +114,10 @@ fn what_is_told_of_a_log_and_the_text_that_is_written(rt: HostRuntime) {
     };
     tells(&rt, rt.alloc(), &question, (), EXPLAINED);
     tells(&rt, rt.alloc(), &SOUGHT, (), LOCATED);
-    let look = Look {
+    let survey = Survey {
         asked: Overview { unasserted: false },
     };
-    tells(&rt, rt.alloc(), &look, linted, HELD);
+    tells(&rt, rt.alloc(), &survey, linted, HELD);
 }
 
 const WHOLE: Whole = Whole {

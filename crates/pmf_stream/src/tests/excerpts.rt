@@ -9,7 +9,7 @@ use crate::excerpt::Excerpt;
 use pmf_device::ByteSink;
 use pmf_event::Profile;
 use pmf_farm::OpenGate;
-use pmf_lint::{Look, Overview};
+use pmf_lint::{Overview, Survey};
 use pmf_request::Settings;
 use std::alloc::Global;
 use std::process::Abort;
@@ -35,11 +35,11 @@ fn keeps(
     };
     let mut sink = ByteSink::new(alloc);
     let mut refused = Excerpt::none();
-    let look = Look {
+    let survey = Survey {
         asked: Overview { unasserted: false },
     };
     let is_refused = if asks {
-        answer_stream(alloc, &mut source, &mut sink, &look, &mut refused).is_err()
+        answer_stream(alloc, &mut source, &mut sink, &survey, &mut refused).is_err()
     } else {
         check_stream(
             rt,
