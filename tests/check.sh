@@ -148,7 +148,7 @@ strict() {
 # What passes, what fails, and what lint warns of, though no row fails.
 strict_ends() {
     local holds='STORE;0x1000;7;8|FLUSH;0x1000;64|FENCE|PMT.PERSIST;0x1000;8'
-    strict 0 '' "$holds|" && strict 1 '' "$holds|STORE;0x2000;7;8|PMT.PERSIST;0x2000;8|" &&
+    strict 0 '' "$holds|" && strict 0 '' "$holds|PMT.PERSIST;4096;8|PMT.PERSIST;0x3e8;8|" && strict 1 '' "$holds|STORE;0x2000;7;8|PMT.PERSIST;0x2000;8|" &&
         strict 1 'pmfarm: warning: no end stands behind the last record' "$holds" &&
         strict 1 'pmfarm: warning: nothing is asserted' 'FENCE|' &&
         strict 1 $'pmfarm: warning: each assertion is empty\npmfarm: warning: an empty assertion would not be if its decimal address were hexadecimal' \
@@ -168,11 +168,12 @@ try_check() {
     check 'worked logs have the answers of tests/logs' tests/try-logs "$program"
     check 'a run that is no number is refused' refused check --run x
     check 'a profile that is neither 1 nor 2 is refused' refused check --profile 3
+    check 'no worker is refused' told 2 FENCE '' 'pmfarm: workers must be 1 to 64' check --workers 0
     check '65 workers are refused' told 2 FENCE '' 'pmfarm: workers must be 1 to 64' check --workers 65
+    check 'a faulty log is refused before no worker' told 2 'FENCE|PMT.X' '' 'pmfarm: record 2: unknown marker' check --workers 0
     check 'a faulty log is refused before its workers' told 2 'FENCE|PMT.X' '' 'pmfarm: record 2: unknown marker' check --workers 65
     check 'a number of workers that is no number is refused' refused check --workers x
     check 'two workers check two sections' told 1 "$interleaved" "$interleaved_report" '' check --workers 2
-    check 'as many workers as the machine has check them' told 1 "$interleaved" "$interleaved_report" '' check --workers 0
     check 'each request for memory of check --workers 2 refused in turn' sweep_workers
     check 'each request for memory of two workers that read refused in turn' sweep_readers
     check 'each request for memory of a check beside the reading refused in turn' sweep_beside

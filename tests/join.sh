@@ -96,7 +96,7 @@ merges_two() {
 }
 
 # joins_cut DIAGNOSTICS FILE..: these files are not joined. `cut` and `shorter` lack their last lines, the rows of `false` are false,
-# and `other` doesn't join `good`.
+# `other` doesn't join `good`, and `second` is of profile 2.
 joins_cut() {
     local diagnostics=$1
     shift
@@ -106,6 +106,7 @@ joins_cut() {
     printf 'PMFARM-LEDGER 1\nsection 7.2 events=1 rows=1\nFENCE\nend verdicts=1\n' >"$scratch/cut_off/false"
     printf 'PMFARM-LEDGER 1\nsection 7.3 events=1 rows=0\nFENCE\nend verdicts=1' >"$scratch/cut_off/cut"
     printf 'PMFARM-LEDGER 1\nsection 7.3 events=1 rows=0\n' >"$scratch/cut_off/shorter"
+    printf 'PMFARM-LEDGER 2\nend verdicts=0\n' >"$scratch/cut_off/second"
     (cd "$scratch/cut_off" && "$OLDPWD/$program" join "$@") >"$scratch/report" 2>"$scratch/diagnostics"
     ended 2 $? && same /dev/null "$scratch/report" && said "$diagnostics" "$scratch/diagnostics"
 }
@@ -247,11 +248,13 @@ try_join() {
     check 'files of both profiles are refused' joins_two 'PMFARM-LEDGER 1\nend verdicts=0\n' \
         'PMFARM-LEDGER 2\nend verdicts=0\n' 'pmfarm: profiles differ'
     check 'rows that are false are told of the first file' joins_cut 'pmfarm: false: section 7.2: rows are false' false good other
-    check 'a last file that was cut off is told before false rows' joins_cut 'pmfarm: cut: line 4: not a ledger' false good cut
-    check 'a last file that was cut off is told before a conflict' joins_cut 'pmfarm: cut: line 4: not a ledger' good other cut
+    check 'false rows are told before a last file that was cut off' joins_cut 'pmfarm: false: section 7.2: rows are false' false good cut
+    check 'a conflict is told before a last file that was cut off' joins_cut 'pmfarm: section 7.1: held with other events' good other cut
+    check 'a file that was cut off is told before a conflict behind it' joins_cut 'pmfarm: cut: line 4: not a ledger' good cut other
+    check 'of two profiles before a file that was cut off it is told' joins_cut 'pmfarm: profiles differ' good second cut
     check 'a first file that was cut off is told' joins_cut 'pmfarm: shorter: line 3: not a ledger' shorter false good
-    check 'of two files that were cut off the first is told' joins_cut 'pmfarm: cut: line 4: not a ledger' false cut good shorter
-    check 'the other way round the other is told' joins_cut 'pmfarm: shorter: line 3: not a ledger' false shorter good cut
+    check 'of two files that were cut off the first is told' joins_cut 'pmfarm: cut: line 4: not a ledger' cut false good shorter
+    check 'the other way round the other is told' joins_cut 'pmfarm: shorter: line 3: not a ledger' good shorter cut
     check 'a ledger of profile 2 joins as one' ledger_of_profile_2
     check 'a thousand ledgers join, and a list of a hundred thousand' many_ledgers
     check 'a list names ledgers' joins_list 0 'shared_b.ledger\nshared_a.ledger\n' examples/shared.report ''
@@ -301,7 +304,7 @@ try_join() {
     check 'a front of a ledger is not merged on trust' joins 2 /dev/null "pmfarm: $scratch/cut_off/cut: line 4: not a ledger" --stream --trust "$scratch/cut_off/cut"
     check 'trust is for a merge' trust_refused
     check 'trust writes no summary' trust_refused --stream --summary
-    check 'a merge by as many workers as the machine has' joins 0 examples/shared.report '' --stream --workers 0 shared_a.ledger shared_b.ledger
+    check 'a merge by no worker is refused' refused join --stream --workers 0 examples/shared_a.ledger
     check 'a merge by 65 workers is refused' refused join --stream --workers 65 examples/shared_a.ledger
     check 'a merge without a file is refused' joins 2 /dev/null 'pmfarm: error: no ledger is named' --stream
     check 'join without a file is refused' refused join

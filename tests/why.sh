@@ -54,12 +54,12 @@ why_warnings='0.3 3 FLUSH DOUBLED line=0x1000 lines=1
   event    record 15 FLUSH;0x1000;0xc0
   cause    written back already, by record 14
   cure     leave out record 15
-           this row then passes
+           this row is then gone
 0.3 3 FLUSH NEEDLESS line=0x1040 lines=2
   event    record 15 FLUSH;0x1000;0xc0
   cause    nothing to write back: the line was neither stored to nor written back before
   cure     leave out record 15
-           this row then passes
+           this row is then gone
 rows=2 told=2 untold=0; with all cures: pass=0 fail=0'
 
 one_store='STORE;0x1000;7;16|PMT.ORDERED;0x1000;8;0x1008;8'
@@ -75,7 +75,7 @@ why_unclosed="0.0 3 SECTION UNCLOSED start=1
   event    the section's end
   cause    the scope that record 1 opened is still open
   cure     at the end: PMT.CHECKEND
-           this row then passes
+           this row is then gone
 rows=1 told=1 untold=0; with all cures: pass=1 fail=0"
 
 # tells_each_row LOG WORD..: `why --all-rows` tells the rows that tools/rows lists as fails and warnings, in this order.

@@ -132,6 +132,7 @@ try_words() {
     check 'help goes to standard output' help_text
     check 'the help of explain has its examples and the words of its text' help_of_explain
     check 'the help of why has a text of it, and its words' help_of_why
+    check 'each of three options has its effect beside the others' tests/try-options "$program"
     check 'no word is refused' refused
     check 'an unknown word is refused' refused chek
     check 'a word that is not UTF-8 is refused' refused $'\xff'

@@ -4,7 +4,7 @@ use Rattle.pmf_event.{specs.declared.profile.Profile.TheVariants.{One}, specs.In
 use Rattle.pmf_image.proofs.{ImageLemmas.{holds-where_closed}, OrderedLemmas.{holds-where_ordered}}
 use Rattle.pmf_cause.{specs.Laws.{WhatIsFencedBeforeHolds, WhatIsFencedInTimeHolds}, proofs.LawLemmas.{closing-where_nothing, unordered-open}}
 
-shut : (v : Bool) → (v ≡ true → ⊥) → v ≡ false
+pub shut : (v : Bool) → (v ≡ true → ⊥) → v ≡ false
 shut true never = absurd (never refl)
 shut false never = refl
 

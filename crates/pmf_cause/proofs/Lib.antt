@@ -6,6 +6,7 @@ pub mod LaterLemmas
 pub mod ListLemmas
 pub mod JudgingLemmas
 pub mod RowOrderLemmas
+pub mod LackLemmas
 pub mod LawLemmas
 pub mod FencedLemmas
 pub mod ChangedLemmas

@@ -1,7 +1,7 @@
 -- The worked examples, computed by the definitions alone.
 use Rattle.std.proofs.Common.{◌≡◌, ℕ, List, [], ◌∷◌, refl, Option, Some, None}
-use Rattle.pmf_event.specs.{declared.event.Event.{Event}, declared.event.Event.TheVariants.{Store, Flush, Fence, Persist, Ordered, TxBegin, TxAdd, TxEnd, CheckStart, CheckEnd}, declared.finding.Finding.{Finding}, declared.finding.Finding.TheVariants.{PersistPass, PersistFail, PersistEmpty, OrderedFail, OrderedSameLine, FlushDoubled, FlushNeedless, NoBackup, DupLog, CheckFail, TxStillOpen, Unmatched, Outside, Nested, Unopened, Unclosed}, Span.{Extent}, Places.{greatest, least, count, highest}, Store.{at, event_at, flushes, is_fence, last, stores}, Interval.{writes_back}, Transactions.{adds, begins, closes_scope, depth_at, ends, in_transaction, is_outside, opens_after, opens_scope, rise, scope_at}}
-use Rattle.pmf_cause.specs.{declared.cause.Cause.{Cause}, declared.cause.Cause.TheVariants.{NotDurable, WrittenBackBefore, BackedUpBefore, NotBackedUp, TransactionRuns, NoTransaction, ScopeOpen, NoScope}, declared.lack.Lack.{Lack}, declared.lack.Lack.TheVariants.{StoredBehind, OneStore, NotWrittenBack, WrittenBackLate, NotFenced, FencedLate}, Cause.{begun_at, cause_at, cause_of, fence_after, fences_after, lack_of, need_at, write_back_after}}
+use Rattle.pmf_event.specs.{declared.event.Event.{Event}, declared.event.Event.TheVariants.{Store, Flush, Fence, Persist, Ordered, TxBegin, TxAdd, TxEnd, CheckStart, CheckEnd}, declared.finding.Finding.{Finding}, declared.finding.Finding.TheVariants.{PersistPass, PersistFail, PersistEmpty, OrderedFail, OrderedSameLine, FlushDoubled, FlushNeedless, NoBackup, DupLog, CheckFail, TxStillOpen, Unmatched, Outside, Nested, Unopened, Unclosed}, Span.{Extent}, Places.{greatest, least, count, highest}, Store.{at, event_at, flushes, is_fence, last, stores}, Interval.{writes_back}, Transactions.{adds, begins, closes_scope, depth_at, ends, in_scope, in_transaction, is_outside, opens_after, opens_scope, rise, scope_at}}
+use Rattle.pmf_cause.specs.{declared.cause.Cause.{Cause}, declared.cause.Cause.TheVariants.{NotDurable, WrittenBackBefore, BackedUpBefore, NotBackedUp, TransactionRuns, NoTransaction, ScopeOpen, NoScope}, declared.lack.Lack.{Lack}, declared.lack.Lack.TheVariants.{StoredBehind, OneStore, NotWrittenBack, WrittenBackLate, NotFenced, FencedLate}, Cause.{begun_at, cause_at, cause_of, closes_last, ends_last, fence_after, fences_after, lack_of, need_at, write_back_after}}
 
 abbrev span : ℕ → ℕ → Extent
 span first size = record { first = first; size = size }
@@ -64,8 +64,12 @@ out_of_place :
     × (cause (TxBegin ∷ TxEnd ∷ CheckStart ∷ TxBegin ∷ TxBegin ∷ CheckEnd ∷ []) 6 (TxStillOpen 2) ≡ Some (TransactionRuns 4))  -- the outermost one
     × (cause (TxBegin ∷ TxEnd ∷ TxEnd ∷ []) 3 Unmatched ≡ Some (NoTransaction 2))
     × (cause (add ∷ []) 1 Outside ≡ Some (NoTransaction 0))
+    × (cause (TxEnd ∷ add ∷ []) 2 Outside ≡ Some (NoTransaction 0))  -- none ever ran
+    × (cause (TxBegin ∷ TxBegin ∷ TxEnd ∷ TxEnd ∷ TxEnd ∷ add ∷ []) 6 Outside ≡ Some (NoTransaction 4))  -- the end of the outermost one
     × (cause (CheckStart ∷ CheckStart ∷ []) 2 Nested ≡ Some (ScopeOpen 1))
     × (cause (Fence ∷ CheckStart ∷ []) 3 (Unclosed 2) ≡ Some (ScopeOpen 2))  -- at the section's end
     × (cause (CheckStart ∷ CheckEnd ∷ CheckEnd ∷ []) 3 Unopened ≡ Some (NoScope 2))
-unfolding cause_at begun_at scope_at opens_after opens_scope closes_scope is_outside in_transaction depth_at rise begins ends adds last flushes at event_at greatest least count highest
-out_of_place = (refl, refl, refl, refl, refl, refl, refl, refl, refl, refl)
+    × (cause (CheckEnd ∷ CheckEnd ∷ []) 2 Unopened ≡ Some (NoScope 0))  -- none was ever open
+    × (cause (CheckStart ∷ CheckEnd ∷ CheckEnd ∷ CheckEnd ∷ []) 4 Unopened ≡ Some (NoScope 2))
+unfolding cause_at ends_last closes_last in_scope begun_at scope_at opens_after opens_scope closes_scope is_outside in_transaction depth_at rise begins ends adds last flushes at event_at greatest least count highest
+out_of_place = (refl, refl, refl, refl, refl, refl, refl, refl, refl, refl, refl, refl, refl, refl)

@@ -1,6 +1,6 @@
 -- Why a row is no PASS: what a byte lacks that had to be durable, or which event is missing or too many. Defined here.
-use Rattle.std.specs.Prelude.{ℕ, suc, ◌-◌, Bool, ◌&&◌, ◌==◌, nat_lt, List, length, Option, None, Some, if◌then◌else◌}
-use Rattle.pmf_event.specs.{declared.event.Event.{Event}, declared.row.Row.{Row}, declared.finding.Finding.{Finding}, Line.{line_of_byte}, Places.{greatest, least}, Store.{at, flushes, is_fence, last, last_store}, Interval.{writes_back}, Transactions.{adds, closes_scope, ends, is_outside, scope_at}}
+use Rattle.std.specs.Prelude.{ℕ, suc, ◌-◌, Bool, not, ◌&&◌, ◌==◌, nat_lt, List, length, Option, None, Some, if◌then◌else◌}
+use Rattle.pmf_event.specs.{declared.event.Event.{Event}, declared.row.Row.{Row}, declared.finding.Finding.{Finding}, Line.{line_of_byte}, Places.{greatest, least}, Store.{at, flushes, is_fence, last, last_store}, Interval.{writes_back}, Transactions.{adds, in_scope, in_transaction, is_outside, scope_at}}
 use Rattle.pmf_event.specs.declared.finding.Finding.TheVariants as finding
 use Rattle.pmf_cause.specs.declared.{lack.Lack.{Lack}, need.Need.{Need}, cause.Cause.{Cause}}
 use Rattle.pmf_cause.specs.declared.lack.Lack.TheVariants as lack
@@ -53,12 +53,20 @@ need_at es p _ = None
 unfoldable pub begun_at : List Event → ℕ → ℕ
 begun_at es p = suc (greatest (is_outside es) p)
 
--- the last place, up to p, that ended a transaction, or 0; that closed a scope
+-- whether the transactions that ran up to place k ended there, and the last of them with it: one ran before it, and none runs behind it
+unfoldable pub ends_last : List Event → ℕ → Bool
+ends_last es k = in_transaction es (k - 1) && is_outside es k
+
+-- whether the scope that was open up to place k was closed there
+unfoldable pub closes_last : List Event → ℕ → Bool
+closes_last es k = in_scope es (k - 1) && not (in_scope es k)
+
+-- the last place, up to p, at which that is so, or 0
 abbrev pub last_end : List Event → ℕ → ℕ
-last_end es p = last ends es p
+last_end es p = greatest (ends_last es) p
 
 abbrev pub last_close : List Event → ℕ → ℕ
-last_close es p = last closes_scope es p
+last_close es p = greatest (closes_last es) p
 
 -- the last write-back of the line, up to p, or 0; the last TXADD of the byte
 abbrev pub last_flush : List Event → ℕ → ℕ → ℕ

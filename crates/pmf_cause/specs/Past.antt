@@ -1,9 +1,9 @@
 -- What the walk from a section's first event to its last keeps. No public clause cites this.
 use Rattle.std.specs.Prelude.{◌≡◌, ℕ, Bool, true, List}
-use Rattle.pmf_event.specs.{declared.event.Event.{Event}, Line.{line_of_byte}, Places.{greatest}, Store.{last, last_store, stores}, Interval.{first_write_back}, Transactions.{closes_scope, depth_at, ends, is_outside, scope_at}}
+use Rattle.pmf_event.specs.{declared.event.Event.{Event}, Line.{line_of_byte}, Places.{greatest}, Store.{last_store, stores}, Interval.{first_write_back}, Transactions.{depth_at, is_outside, scope_at}}
 use Rattle.pmf_runs.specs.{declared.members.Members.{Members}, declared.runs.RunMap.{RunMap}, contracts.members.BoolState.TheImpl.{ghosts}, Runs.{state_at}}
 use Rattle.pmf_places.specs.declared.places.Place.{Place}
-use Rattle.pmf_cause.specs.{declared.marks.Marks.{Marks}, declared.past.Past.{Past}, declared.stored.{Behind.{Behind}, Stored.{Stored}}, Cause.{last_add, last_flush}, Watching.{has_line}}
+use Rattle.pmf_cause.specs.{declared.marks.Marks.{Marks}, declared.past.Past.{Past}, declared.stored.{Behind.{Behind}, Stored.{Stored}}, Cause.{last_add, last_close, last_end, last_flush}, Watching.{has_line}}
 use Rattle.pmf_cause.specs.contracts.stored.StoredState.TheImpl as stores_kept
 use Rattle.pmf_places.specs.contracts.places.PlaceState.TheImpl as places
 
@@ -24,9 +24,9 @@ AreAdded lines runs es p = (b : ℕ) → has_line lines b ≡ true → (state_at
 pub record AreMarks (marks : Marks) (es : List Event) (p : ℕ) : Type 0 where
   pub depth : marks.depth ≡ depth_at es p
   pub outside : marks.outside ≡ greatest (is_outside es) p
-  pub ended : marks.ended ≡ last ends es p
+  pub ended : marks.ended ≡ last_end es p
   pub scope : marks.scope ≡ scope_at es p
-  pub closed : marks.closed ≡ last closes_scope es p
+  pub closed : marks.closed ≡ last_close es p
 
 -- all that is kept of the first events of a list, for the lines that are watched
 pub record IsPast (past : Past) (es : List Event) : Type 0 where

@@ -35,7 +35,7 @@ pub enum Cause {
     },
     /// No transaction runs.
     NoTransaction {
-        /// The last TXEND in front, or 0.
+        /// The place in front that ended the last one that ran, or 0 where none did.
         ended: u32,
     },
     /// A scope is open.
@@ -45,7 +45,7 @@ pub enum Cause {
     },
     /// No scope is open.
     NoScope {
-        /// The last CHECKEND in front, or 0.
+        /// The place in front that closed the last one that was open, or 0 where none was.
         ended: u32,
     },
 }

@@ -151,9 +151,9 @@ fn fences_behind(alloc: Global, events: &Events) -> Result<Vec<u32>, AllocError>
     Ok(fences)
 }
 
-/// Whether a finding asks for a byte that had to be durable.
+/// Whether a finding asks for a byte that had to be durable: it is a FAIL of PERSIST, ORDERED or CHECKEND, or a SAMELINE.
 #[tactic(auto, unfolding(crate::specs::Later::asks_byte))]
-fn asks_byte(finding: Finding) -> bool
+pub fn asks_byte(finding: Finding) -> bool
     ensures { result ≡ asks_byte finding }
 {
     match finding {

@@ -1,6 +1,6 @@
 //! Where transactions and scopes began and ended.
 
-ghost use Rattle.std.specs.Prelude.{◌≡◌, ◌<◌, ℕ, suc, List, Some};
+ghost use Rattle.std.specs.Prelude.{◌≡◌, ◌<◌, ◌&&◌, ◌==◌, ℕ, suc, nat_lt, if◌then◌else◌, List, Some};
 ghost use Rattle.pmf_event.specs.{declared.event.Event.{Event}, declared.section.TheConstants.{EVENT_LIMIT}, Store.{event_at}, Transactions.{begins, closes_scope, depth_at, ends, opens_scope, scope_at}};
 ghost use Rattle.pmf_cause.specs.Past.{AreMarks};
 
@@ -14,11 +14,11 @@ pub(crate) struct Marks {
     pub(crate) depth: u32,
     /// The last place at which none ran.
     pub(crate) outside: u32,
-    /// The last place that ended one.
+    /// The last place that ended the last one that ran.
     pub(crate) ended: u32,
     /// The place that opened the scope.
     pub(crate) scope: u32,
-    /// The last place that closed one.
+    /// The last place that closed one that was open.
     pub(crate) closed: u32,
 }
 
@@ -43,14 +43,25 @@ impl Marks {
             → AreMarks self es p → AreMarks result es (suc p) }
     {
         let depth = depth_after(self.depth, event);
+        let scope = scope_after(self.scope, place, event);
         Marks {
             depth,
             outside: place_if(depth == 0, place, self.outside),
-            ended: place_if(ends(event), place, self.ended),
-            scope: scope_after(self.scope, place, event),
-            closed: place_if(closes(event), place, self.closed),
+            ended: place_at_end(self.depth, depth, place, self.ended),
+            scope,
+            closed: place_at_end(self.scope, scope, place, self.closed),
         }
     }
+}
+
+// The place, where what was no 0 before is 0 there, and else the other.
+fn place_at_end(before: u32, now: u32, place: u32, other: u32) -> u32
+    ensures { result ≡ (if nat_lt 0 before && (now == 0) then place else other) }
+{
+    if before > 0 && now == 0 {
+        return place;
+    }
+    other
 }
 
 // How many transactions run after the event.

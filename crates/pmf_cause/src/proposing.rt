@@ -18,13 +18,14 @@ use std::alloc::{AllocError, Global};
 /// Changes that may cure rows. The places of each list rise.
 #[derive(Debug, Drop)]
 pub struct Proposal {
-    /// For all rows of the verdict together.
+    /// For all rows of the verdict together, or for those that were picked.
     pub all: Vec<Edit>,
     /// For each row that was asked for, what it needs alone; nothing where nothing was found.
     pub own: Vec<Vec<Edit>>,
 }
 
-/// Proposes changes for the rows of the verdict, and for each wanted one, by its index in rising order, those that it needs alone.
+/// Proposes changes for the rows of the verdict, or for those that are picked, where some are; and for each wanted one of them, by its
+/// index in rising order, those that it needs alone.
 ///
 /// A byte that lacks a write-back or a fence is written back and fenced in front of the place that asks for it; where a fence stands
 /// between its last store and that place, it is written back in front of that fence. A byte without a backup is added in front of
@@ -32,7 +33,12 @@ pub struct Proposal {
 ///
 /// After some steps over runs of bytes for each event and row, no more is looked for that is not durable. Takes memory for what is kept of
 /// the lines that rows ask of, and for what is proposed.
-pub fn propose(alloc: Global, verdict: &Verdict, wanted: &[usize]) -> Result<Proposal, AllocError> {
+pub fn propose(
+    alloc: Global,
+    verdict: &Verdict,
+    wanted: &[usize],
+    picked: Option<&[bool]>,
+) -> Result<Proposal, AllocError> {
     let (events, rows) = (verdict.section().events(), verdict.rows());
     let mut seeker = Seeker::new(alloc, events.len(), rows.len());
     let watch = watched(alloc, events, rows)?;
@@ -42,6 +48,9 @@ pub fn propose(alloc: Global, verdict: &Verdict, wanted: &[usize]) -> Result<Pro
     let mut own = Vec::new(alloc);
     let mut left = wanted;
     for (index, row) in rows.iter().enumerate() {
+        if !is_picked(picked, index) {
+            continue;
+        }
         reach.go_before(events, row)?;
         seeker.seek(&reach, events, rows, index)?;
         if !plan.cures(&seeker.needs.each, &seeker.edits) {
@@ -56,6 +65,14 @@ pub fn propose(alloc: Global, verdict: &Verdict, wanted: &[usize]) -> Result<Pro
         all: plan.sorted()?,
         own,
     })
+}
+
+// Whether the row with this index is picked: each is, where none are told.
+fn is_picked(picked: Option<&[bool]>, index: usize) -> bool {
+    match picked {
+        Some(picked) => picked.get(index).copied().unwrap_or(false),
+        None => true,
+    }
 }
 
 // Looks for the cure of one row after another.

@@ -2,13 +2,14 @@
 
 ghost use Rattle.std.specs.{Prelude.{◌≡◌, ◌||◌, ◌&&◌, ◌==◌, ℕ, true, List, IfOk, IfSome, OnOk}, List.{list_any}};
 ghost use Rattle.pmf_runs.specs.Runs.{state_at};
-ghost use Rattle.pmf_verdict.specs.Checked.{Checked, rows_in};
-ghost use Rattle.pmf_cause.specs.{Changed.{old_place, RisesFrom}, Cure.{bad_at, cured, Cures, fails, fails_at, is_bad, is_new, IsFailing, IsTrial}, declared.edit.Edit.{Edit}};
+ghost use Rattle.pmf_verdict.specs.{Checked.{Checked, rows_in}, Outcome.{is_same, outcome_of}, declared.outcome.Outcome.TheVariants.{Pass}};
+ghost use Rattle.pmf_cause.specs.{Changed.{old_place, RisesFrom}, Cure.{bad_at, cured, Cures, excludes, excludes_anew, fails, fails_at, is_bad, is_new, passes_at, IsFailing, IsTrial}, declared.edit.Edit.{Edit}};
 ghost use Rattle.pmf_event.specs.declared.row.Row.{Row};
 
 use crate::changing::{Changed, change};
 use crate::edit::Edit;
-use pmf_event::{Row, SectionFault};
+use crate::later::asks_byte;
+use pmf_event::{Event, Events, Row, SectionFault};
 use pmf_runs::{PutIn, RunMap};
 use pmf_verdict::{Outcome, Verdict, check, outcome_of};
 use std::alloc::{AllocError, Global};
@@ -18,15 +19,25 @@ use std::sync::Arc;
 #[derive(Debug, Drop)]
 pub struct Trial {
     pub(crate) verdict: Verdict,
+    /// The places that had what counts as fail or as a warning.
     pub(crate) bad: RunMap<bool>,
+    /// Those at which a row failed, and that had what passes.
+    pub(crate) good: RunMap<bool>,
+    /// Whether nothing is excluded or included anew.
+    pub(crate) checks_alike: bool,
 }
 
 impl Trial {
-    /// Whether, of what stood at the place, no row is left that counts as fail or as a warning.
-    pub fn is_cured(&self, place: u32) -> bool
-        ensures { (checked : Checked) (edits : List Edit) → IsTrial checked edits self.now → result ≡ true → Cures checked edits place }
+    /// Whether the row is cured: of what stood at its place no row is left that counts as fail or as a warning, and an assertion whose
+    /// bytes were not durable still stands, checks the same bytes, and passes.
+    pub fn is_cured(&self, row: &Row) -> bool
+        ensures { (checked : Checked) (edits : List Edit) → IsTrial checked edits self.now → result ≡ true → Cures checked edits row.now }
     {
-        !self.bad.at(u64::from(place))
+        let place = u64::from(row.place);
+        if self.bad.at(place) {
+            return false;
+        }
+        !asks_byte(row.finding) || (self.checks_alike && self.good.at(place))
     }
 
     /// The verdict of the section with the changes.
@@ -67,9 +78,13 @@ pub fn try_edits(
         return Ok(None);
     }
     let bad = bad_places(alloc, checked.rows(), &places)?;
+    let good = good_places(alloc, checked.rows(), &places, &failed)?;
+    let checks_alike = !exclude_anew(verdict.section().events(), edits);
     Ok(Some(Trial {
         verdict: checked,
         bad,
+        good,
+        checks_alike,
     }))
 }
 
@@ -163,4 +178,69 @@ fn bad_places(alloc: Global, rows: &[Row], places: &[u32]) -> Result<RunMap<bool
         put_if(&mut set, old_place(places, row.place), is_bad(row))?;
     }
     Ok(set)
+}
+
+// Those of the failed places that had what passes in the changed section.
+fn good_places(
+    alloc: Global,
+    rows: &[Row],
+    places: &[u32],
+    failed: &RunMap<bool>,
+) -> Result<RunMap<bool>, AllocError>
+    ensures { IfOk result (λ set. (p : ℕ) → state_at set p ≡ true → list_any (passes_at places.now p) rows.now ≡ true) }
+{
+    let mut set = RunMap::new(alloc, false);
+    for row in rows {
+        let place = old_place(places, row.place);
+        put_if(
+            &mut set,
+            place,
+            passes_again(row, failed.at(u64::from(place))),
+        )?;
+    }
+    Ok(set)
+}
+
+#[tactic(auto, unfolding(pmf_verdict::specs::Outcome::is_same))]
+fn passes_again(row: &Row, has_failed: bool) -> bool
+    ensures { result ≡ (is_same Pass (outcome_of row.now.finding) && has_failed) }
+{
+    matches!(outcome_of(row.finding), Outcome::Pass) && has_failed
+}
+
+// Whether a change of the events excludes bytes from what is checked, or includes some anew.
+fn exclude_anew(events: &Events, edits: &[Edit]) -> bool
+    ensures { result ≡ list_any (excludes_anew events.now) edits.now }
+{
+    for edit in edits {
+        if excludes_anew(events, edit) {
+            return true;
+        }
+    }
+    false
+}
+
+#[tactic(auto, unfolding(crate::specs::Cure::excludes_anew, pmf_event::specs::Store::at, pmf_event::specs::Store::event_at))]
+fn excludes_anew(events: &Events, edit: &Edit) -> bool
+    ensures { result ≡ excludes_anew events.now edit.now }
+{
+    match edit {
+        Edit::Put { event, .. } => excludes(event),
+        Edit::LeaveOut { place } => {
+            let Some(index) = place.checked_sub(1) else {
+                return false;
+            };
+            match events.get(index as usize) {
+                Some(event) => excludes(&event),
+                None => false,
+            }
+        }
+    }
+}
+
+#[tactic(auto, unfolding(crate::specs::Cure::excludes))]
+fn excludes(event: &Event) -> bool
+    ensures { result ≡ excludes event.now }
+{
+    matches!(event, Event::Exclude(_) | Event::Include(_))
 }

@@ -1,11 +1,13 @@
 -- What is answered of `check` where it ends with status 0.
-use Rattle.std.proofs.{Common.{◌≡◌, ℕ, ◌<◌, Bool, true, false, not, nat_lt, List, Option, Some, Result, Ok, Err, refl, sym, ap, subst, ◌∙◌, inl, inr, arith, if◌then◌else◌}, lemmas.Bool.{and_parts, ltb-true, not-true}}
+use Rattle.std.proofs.{Common.{◌≡◌, ◌⊎◌, ℕ, ◌<◌, codes, Bool, true, false, not, nat_lt, List, Option, Some, Result, Ok, Err, refl, sym, ap, subst, ◌∙◌, inl, inr, arith, if◌then◌else◌}, lemmas.Bool.{and_parts, ltb-true, not-true}}
 use Rattle.pmf_storelog.specs.{declared.fault.Cause.{Cause}}
 use Rattle.pmf_farm.specs.declared.fault.FarmFault.{FarmFault}
 use Rattle.pmf_lint.specs.{declared.warnings.Warnings.{Warnings}, Warnings.{are_due, warnings_of}}
 use Rattle.pmf_stream.specs.{Answering.{Answers}, Checking.{AreWarnings, IsCheckFaultOf, IsReportOf}, declared.checking.{CheckLogFault.{CheckLogFault}, Done.{Done}}, declared.fault.StreamFault.{StreamFault}}
-use Rattle.pmf_request.specs.declared.{settings.Settings.{Settings}, request.{Input.{Input}, Input.TheVariants.{Standard, File}, Request.TheVariants.{Check}}}
-use Rattle.pmf_command.specs.{Answered.{Streams, EndsStrictlyOnlyIfTrusted, EndsWellOnlyIfKept, IsAnswered, IsSaidOf, IsUnread}, Statuses.{is_trusted, status_of, status_of_cause, status_of_check_fault, status_of_done, status_of_farm_fault, status_of_fails, status_of_fault}, declared.status.{Status.{Status}, Status.TheVariants.{NoFail, SomeFail}}}
+use Rattle.pmf_request.specs.declared.{settings.Settings.{Settings}, request.{Input.{Input}, Input.TheVariants.{Standard, File}, Request.{Request}, Request.TheVariants.{Check}}}
+use Rattle.pmf_command.specs.{Answered.{AnswersWords, AreTrusted, AskForHelp, EndsWellOnlyIfKept, IsAnswered, IsSaidOf, IsTrusted, IsUnread, Streams}, Statuses.{IsAnswerTo, is_trusted, status_of, status_of_cause, status_of_check_fault, status_of_done, status_of_farm_fault, status_of_fails, status_of_fault, status_of_kind}, declared.status.{Status.{Status}, Status.TheVariants.{NoFail, SomeFail}}}
+use Rattle.clap.specs.{Words.{Row, Text, one_of}, declared.error.kind.{ErrorKind.{ErrorKind}, ErrorKind.TheVariants.{DisplayHelp, DisplayVersion, OutOfMemory}}}
+use Rattle.pmf_words.specs.Words.{IsCheckBy, IsCheckOf, IsInputOf, IsRefusedWith}
 use Rattle.pmf_storelog.specs.declared.fault.Cause.TheVariants as log
 use Rattle.pmf_farm.specs.declared.fault.FarmFault.TheVariants as farm
 use Rattle.pmf_stream.specs.declared.checking.CheckLogFault.TheVariants as checking
@@ -71,9 +73,31 @@ trusts strict bytes passes warnings are is trusted =
     let both = and_parts (nat_lt 0 passes) (not (are_due (warnings_of bytes))) (sym (ap (is_trusted passes) some) ∙ trusted) in
     (ltb-true 0 passes both.0, not-true (are_due (warnings_of bytes)) both.1)
 
-pub ends_trusted : (settings : Settings) (input : Input) (s : Streams) (status : Status) → IsAnswered (Check settings input) s status → EndsStrictlyOnlyIfTrusted settings input s status
+pub ends_trusted : (settings : Settings) (input : Input) (s : Streams) (status : Status) → IsAnswered (Check settings input) s status → settings.strict ≡ true → status ≡ NoFail → IsTrusted settings input s
 ends_trusted settings input s status answered strict well =
     said_so input s (HasReported settings) _ (λ left rest found.
     let report = found.2.2 in
     let trusted = trusts settings.strict found.2.1.bytes found.0.passes found.0.warnings found.2.3 strict found.3 in
     (found.2.0, found.2.1, report.kept found.4, (report.ledger, report.gathered, subst (λ n. 0 < n) report.passes trusted.0), trusted.1)) (ends settings input s status answered well)
+
+-- an error that ends well asks for help or the version
+asked_for : (words : List Text) (kind : ErrorKind) → IsRefusedWith words kind → status_of_kind kind ≡ NoFail → AskForHelp words
+asked_for words DisplayHelp refused well = inl refused
+asked_for words DisplayVersion refused well = inr refused
+asked_for words OutOfMemory refused well = cc
+asked_for words _ refused well = cc
+
+refused_well : (words : List Text) (kind : ErrorKind) → IsRefusedWith words kind → IsAnswerTo kind NoFail → AskForHelp words
+refused_well words kind refused (inl is) = asked_for words kind refused (sym is)
+refused_well words kind refused (inr (inl is)) = cc
+refused_well words kind refused (inr (inr (none, is))) = cc
+
+-- a request that the words of `check` ask for
+checked : (rows : List Row) (asked : Request) (s : Streams) → IsCheckBy rows asked → IsAnswered asked s NoFail → one_of (codes "strict") rows ≡ Some (codes "true") →
+    (settings : Settings) × (input : Input) × IsCheckOf rows settings × IsInputOf rows input × IsTrusted settings input s
+checked rows (Check settings input) s (is, from) answered strict = (settings, input, is, from, ends_trusted settings input s NoFail answered (is.strict.given strict) refl)
+checked rows _ s is answered strict = absurd is
+
+pub words_trusted : (words : List Text) (s : Streams) → AnswersWords words s NoFail → AskForHelp words ⊎ AreTrusted words s
+words_trusted words s (inl (kind, refused, answer)) = inl (refused_well words kind refused answer)
+words_trusted words s (inr (asked, (p, q, r, passed, by), answered)) = inr (p, q, r, λ rows is strict. checked rows asked s ((by (codes "check") rows is).check refl) answered strict)

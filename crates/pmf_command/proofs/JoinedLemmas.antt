@@ -1,5 +1,5 @@
 -- A join of the files with some names, and one of none.
-use Rattle.std.proofs.Common.{◌≡◌, ◌⊎◌, ◌<◌, ℕ, Bool, List, [], ◌∷◌, ◌++◌, length, map, Bor, Option, arith}
+use Rattle.std.proofs.Common.{◌≡◌, ◌⊎◌, ◌<◌, ℕ, List, [], ◌∷◌, ◌++◌, length, map, Bor, Option, arith}
 use Rattle.pmf_request.specs.declared.request.Joining.{Joining}
 use Rattle.pmf_ledger.specs.declared.form.Form.{Form}
 use Rattle.pmf_command.specs.{Answered.{AreEach, IsUnread, JoinsAs, JoinsNamed}, declared.status.{Status.{Status}, Status.TheVariants.{Refused}}}

@@ -1,11 +1,13 @@
 -- How each request is answered, from the bytes that are read to the status with which the process ends. Defined here.
-use Rattle.std.specs.Prelude.{◌≡◌, ◌⊎◌, ◌+◌, ◌<◌, ◌≤◌, ℕ, Bool, true, false, ◌&&◌, not, ◌==◌, nat_le, nat_lt, List, [], ◌∷◌, ◌++◌, length, map, filter, take, All, IsUtf8, Option, None, Some, Result, MatchResult, OnOk}
+use Rattle.std.specs.Prelude.{◌≡◌, ◌⊎◌, ◌+◌, ◌<◌, ◌≤◌, ℕ, Bool, true, false, ◌&&◌, not, ◌==◌, nat_le, nat_lt, List, [], ◌∷◌, ◌++◌, length, map, filter, take, codes, All, IsUtf8, Option, None, Some, Result, MatchResult, IfOk}
 use Rattle.std.specs.{Borrow.{Bor}, List.{slice_split}}
+use Rattle.clap.specs.{Words.{Row, one_of, subcommand_of}, declared.{builder.value_parser.ValueParser.{ValueParser}, error.kind.{ErrorKind.{ErrorKind}, ErrorKind.TheVariants.{DisplayHelp, DisplayVersion}}}}
 use Rattle.pmf_event.specs.declared.section.TheConstants.{EVENT_LIMIT}
 use Rattle.pmf_storelog.specs.declared.fault.TheConstants.{LOG_LIMIT}
 use Rattle.pmf_ledger.specs.declared.{form.Form.{Form}, form.Form.TheVariants.{Report, Summary, Ledger}, loading.TheConstants.{LEDGER_LIMIT}}
 use Rattle.pmf_storelog.specs.LogValue.{LogValue}
 use Rattle.pmf_ledger.specs.{AllKept.{AllKept}, Gathered.{IsLedgerOf}, LedgerValue.{LedgerValue}, Report.{totals_of}}
+use Rattle.pmf_words.specs.Words.{IsCheckOf, IsInputOf, IsRefusedWith, IsRequestOf, program_of}
 use Rattle.pmf_request.specs.declared.settings.Settings.{Settings}
 use Rattle.pmf_request.specs.declared.request.{Cuts.{Cuts}, Files.{Files}, Input.{Input}, Input.TheVariants.{Standard, File}, Simulation.{Simulation}, Request.{Request}, Request.TheVariants.{Check, Explain, ExplainAll, Why, Patch, Locate, Lint, Cut, Join, Sim}, Wanted.{Wanted}, Joining.{Joining}}
 use Rattle.pmf_request.specs.declared.request.Wanted.TheVariants as wanted
@@ -18,7 +20,7 @@ use Rattle.pmf_stream.specs.{Answering.{Answers}, Asked.{IsAnswerOf, IsRefusalOf
 use Rattle.pmf_ledger.specs.declared.totals.Totals.{Totals}
 use Rattle.pmf_merge.specs.{Merging.{IsMergeFaultOf, Merges}, Trusting.{IsTrustFaultOf, Trusts}, declared.fault.MergeFault.{MergeFault}}
 use Rattle.pmf_world.specs.declared.simulating.{TheConstants.{SCHEDULE_LIMIT}}
-use Rattle.pmf_command.specs.{Statuses.{status_of, status_of_asked, status_of_check_fault, status_of_cut_fault, status_of_done, status_of_event_refusal, status_of_joined, status_of_linted, status_of_log_refusal, status_of_merge, status_of_patch_refusal, status_of_pieces, status_of_sim_fault, status_of_text_fault, status_of_trust}, declared.status.{Status.{Status}, Status.TheVariants.{NoFail, Refused, NoMemory, DeviceFault}}}
+use Rattle.pmf_command.specs.{Statuses.{IsAnswerTo, status_of, status_of_asked, status_of_check_fault, status_of_cut_fault, status_of_done, status_of_event_refusal, status_of_joined, status_of_linted, status_of_log_refusal, status_of_merge, status_of_patch_refusal, status_of_pieces, status_of_sim_fault, status_of_text_fault, status_of_trust}, declared.status.{Status.{Status}, Status.TheVariants.{NoFail, Refused, NoMemory, DeviceFault}}}
 
 -- a file that is opened has the bytes that its name has, where they are known
 abbrev pub IsFileOf : Option (List ℕ) → Option (List ℕ) → Type 0
@@ -114,7 +116,7 @@ MergesOpened form names known held holds status =
 abbrev pub TrustsOpened : List (List ℕ) → (List ℕ → Option (List ℕ)) → Option (List ℕ) → Option (List ℕ) → Status → Type 0
 TrustsOpened names known held holds status =
     (starts : List (Option (List ℕ))) × AreOpened known names starts
-    × ((answer : Result Bool MergeFault) × (status ≡ status_of_trust answer) × MatchResult answer (λ fails. Trusts starts held holds) (IsTrustFaultOf starts))
+    × ((answer : Result Bool MergeFault) × (status ≡ status_of_trust answer) × MatchResult answer (Trusts starts held holds) (IsTrustFaultOf starts))
 
 -- the files with these names were joined so, in the way that is asked for
 abbrev pub JoinsAs : Joining → Form → List (List ℕ) → (List ℕ → Option (List ℕ)) → Option (List ℕ) → Option (List ℕ) → Status → Type 0
@@ -145,16 +147,16 @@ Simulates simulation known left rest held holds status =
 abbrev pub can_cut : Cuts → Bool
 can_cut cuts = nat_lt 0 cuts.lengths.events && nat_le cuts.lengths.events EVENT_LIMIT && nat_lt 0 cuts.lengths.step && nat_le 1024 cuts.bytes && nat_le cuts.bytes LOG_LIMIT
 
--- a log is cut into the output, or into files where some are asked for
-abbrev pub IsCutWhere : {X : Type 0} → Option X → ℕ → Streams → Type 0
-IsCutWhere None step s = IsCutOf step s.left s.rest s.held_in s.holds_in
-IsCutWhere (Some prefix) step s = IsCutOf step s.left s.rest s.parts_held s.parts_hold
+-- a log is cut into the output, or into files where some are asked for; so much was told
+abbrev pub IsCutWhere : {X : Type 0} → Option X → ℕ → Streams → ℕ → Type 0
+IsCutWhere None step s told = IsCutOf step s.left s.rest s.held_in s.holds_in told
+IsCutWhere (Some prefix) step s told = IsCutOf step s.left s.rest s.parts_held s.parts_hold told
 
 -- it is cut so, where it can be
 abbrev pub IsCutAs : Cuts → Streams → Status → Type 0
 IsCutAs cuts s status =
     (can_cut cuts ≡ false → status ≡ Refused)
-    × (can_cut cuts ≡ true → (answer : Result Pieces (StreamFault CutFault)) × (status ≡ status_of status_of_pieces status_of_cut_fault answer) × OnOk answer (IsCutWhere cuts.files cuts.lengths.step s))
+    × (can_cut cuts ≡ true → (answer : Result Pieces (StreamFault CutFault)) × (status ≡ status_of status_of_pieces status_of_cut_fault answer) × IfOk answer (λ pieces. IsCutWhere cuts.files cuts.lengths.step s pieces.told))
 
 -- the process ends with the status of what was answered, where the log is read from these streams
 abbrev pub IsAnsweredFrom : Request → Streams → Status → Type 0
@@ -202,6 +204,15 @@ IsAnswered request s status =
     IsUnopened (input_of request) status
     ⊎ IsSaidOf (input_of request) s (λ left rest. IsAnsweredFrom request (record s { left = left; rest = rest }) status)
 
+-- the process ends as these words are answered: with an error that refuses them, or as their request is
+abbrev pub AnswersWords : List (List ℕ) → Streams → Status → Type 0
+AnswersWords words s status =
+    ((kind : ErrorKind) × IsRefusedWith words kind × IsAnswerTo kind status) ⊎ ((request : Request) × IsRequestOf words request × IsAnswered request s status)
+
+-- it ends so for some words and streams; or the words were not read
+abbrev pub AnswersSomeWords : Status → Type 0
+AnswersSomeWords status = (status ≡ NoMemory) ⊎ ((status ≡ Refused) ⊎ ((words : List (List ℕ)) × (s : Streams) × AnswersWords words s status))
+
 -- where `check` ends with status 0, what was read is a log, and all that it asserts holds
 abbrev pub EndsWellOnlyIfKept : Settings → Input → Streams → Status → Type 0
 EndsWellOnlyIfKept settings input s status =
@@ -212,14 +223,28 @@ abbrev pub StatusZeroKeepsAll : Type 0
 StatusZeroKeepsAll =
     (settings : Settings) (input : Input) (s : Streams) (status : Status) → IsAnswered (Check settings input) s status → EndsWellOnlyIfKept settings input s status
 
--- where `check --strict` ends with status 0, what was read is a log, and all that it asserts holds; some row passes, and no warning is due
-abbrev pub EndsStrictlyOnlyIfTrusted : Settings → Input → Streams → Status → Type 0
-EndsStrictlyOnlyIfTrusted settings input s status =
-    settings.strict ≡ true → status ≡ NoFail →
+-- what was read is a log, and all that it asserts holds; some row passes, and no warning is due
+abbrev pub IsTrusted : Settings → Input → Streams → Type 0
+IsTrusted settings input s =
     IsSaidOf input s (λ left rest. (log : LogValue) × (read : IsLogOf settings.run left rest log) × AllKept log.sections
     × ((ledger : LedgerValue) × IsLedgerOf settings.profile log.sections ledger × (0 < (totals_of ledger.sections).pass)) × (are_due (warnings_of read.bytes) ≡ false))
 
--- a law: what is answered of `check` says so, too
+-- a law: where `check --strict` ends with status 0, what was read can be trusted, whatever the streams
 abbrev pub StrictStatusZeroIsTrusted : Type 0
 StrictStatusZeroIsTrusted =
-    (settings : Settings) (input : Input) (s : Streams) (status : Status) → IsAnswered (Check settings input) s status → EndsStrictlyOnlyIfTrusted settings input s status
+    (settings : Settings) (input : Input) (s : Streams) (status : Status) → IsAnswered (Check settings input) s status →
+    settings.strict ≡ true → status ≡ NoFail → IsTrusted settings input s
+
+-- the words ask for help or the version
+abbrev pub AskForHelp : List (List ℕ) → Type 0
+AskForHelp words = IsRefusedWith words DisplayHelp ⊎ IsRefusedWith words DisplayVersion
+
+-- where they are those of `check --strict`, the log that they name, read by their run and profile, can be trusted
+abbrev pub AreTrusted : List (List ℕ) → Streams → Type 0
+AreTrusted words s =
+    (p q r : ValueParser) × ((rows : List Row) → subcommand_of (program_of words p q r) words ≡ Some (codes "check", rows) → one_of (codes "strict") rows ≡ Some (codes "true") →
+    (settings : Settings) × (input : Input) × IsCheckOf rows settings × IsInputOf rows input × IsTrusted settings input s)
+
+-- a law: words that end with status 0 ask for help, or can be trusted where they are those of `check --strict`
+abbrev pub StrictWordsAreTrusted : Type 0
+StrictWordsAreTrusted = (words : List (List ℕ)) (s : Streams) → AnswersWords words s NoFail → AskForHelp words ⊎ AreTrusted words s

@@ -1,6 +1,6 @@
 //! How the process ends: as what was asked for was answered.
 
-ghost use Rattle.std.specs.{Prelude.{◌≡◌, ◌⊎◌, ◌↔◌, ◌+◌, Bool, map, All, MatchResult, OnOk, Result}, Io.KnownBytes.{Appends}, Process.{exit_status}};
+ghost use Rattle.std.specs.{Prelude.{◌≡◌, ◌⊎◌, ◌↔◌, ◌+◌, Bool, map, All, MatchResult, IfOk, Result}, Io.KnownBytes.{Appends}, Process.{exit_status}};
 ghost use Rattle.clap.specs.Words.{kind_of};
 ghost use Rattle.pmf_device.specs.Failures.{CanCountOneMore};
 ghost use Rattle.pmf_stream.specs.{Simulated.{IsSimRefusalOf, IsSimulationOf}, Answering.{Answers, TellsFaults, TellsFaultsOfParts, failed_reads, failed_writes}, Asked.{IsAnswerOf, IsRefusalOf}, Checking.{IsCheckFaultOf, IsReportOf}, Files.{IsCutOf}, Joining.{IsJoinedText, IsRefusalOfTexts}, declared.checking.CheckLogFault.{CheckLogFault}, declared.checking.Done.{Done}, declared.cutting.Pieces.{Pieces}, declared.fault.StreamFault.{StreamFault}, declared.joining.Joined.{Joined}, declared.joining.JoinTextFault.{JoinTextFault}};
@@ -18,7 +18,7 @@ use crate::ending::Ending;
 use crate::hints::{print_hint, print_reason};
 use crate::shelf::Unread;
 use crate::status::Status;
-use pmf_device::{Cut, Device, Sink, Source, StdSink, write_text};
+use pmf_device::{Cut, Device, Sink, Source, write_text};
 use pmf_farm::OpenGate;
 use pmf_ledger::{Form, JoinFault};
 use pmf_merge::{MergeFault, merge_to, trust_to};
@@ -31,7 +31,7 @@ use pmf_stream::{
 use std::alloc::Global;
 use std::fmt::Display;
 use std::io;
-use std::io::{Eprint, Print};
+use std::io::Eprint;
 use std::marker::Model;
 use std::process::{ExitCode, Termination};
 use std::sync::Wait;
@@ -211,7 +211,7 @@ pub(crate) fn cut_to<R: Eprint, S: Source, W: Outlet>(
     requires write { CanCountOneMore (W.failed_calls sink.old) }
     ensures { (answer : Result Pieces (StreamFault CutFault))
         × (result ≡ status_of status_of_pieces status_of_cut_fault answer)
-        × OnOk answer (IsCutOf lengths.step (S.left source.old) (S.left source.new) (W.held_in sink.old) (W.held_in sink.new))
+        × IfOk answer (λ pieces. IsCutOf lengths.step (S.left source.old) (S.left source.new) (W.held_in sink.old) (W.held_in sink.new) pieces.told)
         × (S.failed_calls source.new ≡ S.failed_calls source.old + failed_reads answer)
         × (W.failed_calls sink.new ≡ W.failed_calls sink.old + failed_writes answer) }
 {
@@ -294,7 +294,7 @@ pub(crate) fn trust_all<R: Eprint, S: Source, W: Sink>(
     requires reads { All (λ s. CanCountOneMore (S.failed_calls s)) sources.old.items }
     requires writes { CanCountOneMore (W.failed_calls sink.old) }
     ensures { (answer : Result Bool MergeFault) × (result ≡ status_of_trust answer)
-        × MatchResult answer (λ _. Trusts (map S.left sources.old.items) (W.held sink.old) (W.held sink.new))
+        × MatchResult answer (Trusts (map S.left sources.old.items) (W.held sink.old) (W.held sink.new))
         (IsTrustFaultOf (map S.left sources.old.items)) }
 {
     let answer = trust_to(alloc, sources, sink);
@@ -375,25 +375,31 @@ pub(crate) fn play_to<R: Eprint, W: Sink>(
     report_ending(rt, answer, &Excerpt::none(), None)
 }
 
-/// Writes what `clap` has to say: help and the version to standard output, a fault to standard
-/// error.
-pub(crate) fn report_words<R: Print + Eprint>(rt: &R, alloc: Global, error: &clap::Error) -> Ended
+/// Writes what `clap` has to say: help and the version to the sink, a fault to standard error.
+pub(crate) fn report_words<R: Eprint, W: Sink>(
+    rt: &R,
+    alloc: Global,
+    sink: &mut W,
+    error: &clap::Error,
+) -> Ended
+    requires { CanCountOneMore (W.failed_calls sink.old) }
     ensures { IsAnswerTo (kind_of error.now) result }
 {
     Ended {
-        status: say_words(rt, alloc, error),
+        status: say_words(rt, alloc, sink, error),
     }
 }
 
 // The same, with its status.
-fn say_words<R: Print + Eprint>(rt: &R, alloc: Global, error: &clap::Error) -> Status
+fn say_words<R: Eprint, W: Sink>(rt: &R, alloc: Global, sink: &mut W, error: &clap::Error) -> Status
+    requires { CanCountOneMore (W.failed_calls sink.old) }
     ensures { IsAnswerTo (kind_of error.now) result }
 {
     let Ok(text) = format!(in alloc; "{error}") else {
         return out_of_memory(rt);
     };
     match Status::of_kind(error.kind()) {
-        Status::NoFail => show(rt, &mut StdSink::new(io::writer(rt)), text.as_bytes()),
+        Status::NoFail => show(rt, sink, text.as_bytes()),
         Status::NoMemory => out_of_memory(rt),
         _ => refuse_words(rt, text.as_str()),
     }

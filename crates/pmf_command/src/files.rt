@@ -28,15 +28,23 @@ pub struct NumberedFiles<'a, R: Files + Eprint> {
     failures: u64,
 }
 
+/// Files whose names begin alike.
+pub trait Prefixed<'a>: Outlet {
+    /// From now on the files' names begin so.
+    fn begin_names(&mut self, prefix: &'a str)
+        ensures held { Self.held_in self.new ≡ Self.held_in self.old }
+        ensures counted { Self.failed_calls self.new ≡ Self.failed_calls self.old };
+}
+
 impl<'a, R: Files + Eprint> NumberedFiles<'a, R> {
     /// No file yet.
-    pub fn new(rt: &'a R, alloc: Global, prefix: &'a str) -> NumberedFiles<'a, R>
+    pub fn new(rt: &'a R, alloc: Global) -> NumberedFiles<'a, R>
         ensures { result.failures ≡ 0 }
     {
         NumberedFiles {
             rt,
             alloc,
-            prefix,
+            prefix: "",
             count: 0,
             current: 0,
             file: None,
@@ -142,5 +150,11 @@ impl<R: Files + Eprint> Outlet for NumberedFiles<'_, R> {
     fn write_to(&mut self, file: usize, text: &[u8]) -> Result<(), NoFile> {
         self.turn_to(file)?;
         write_whole(self, text)
+    }
+}
+
+impl<'a, R: Files + Eprint> Prefixed<'a> for NumberedFiles<'a, R> {
+    fn begin_names(&mut self, prefix: &'a str) {
+        self.prefix = prefix;
     }
 }

@@ -1,6 +1,6 @@
 //! Laws of how requests are answered, each the clause of an empty function.
 
-ghost use Rattle.pmf_command.specs.{Answered.{StatusZeroKeepsAll, StrictStatusZeroIsTrusted}, ExplanationTold.{ExplanationsTellTheirRows}, MergesAreJoins.{MergesAreJoins}};
+ghost use Rattle.pmf_command.specs.{Answered.{StatusZeroKeepsAll, StrictStatusZeroIsTrusted, StrictWordsAreTrusted}, ExplanationTold.{ExplanationsTellTheirRows}, MergesAreJoins.{MergesAreJoins}};
 
 /// Where `check` ends with status 0, what was read is a log, and all that it asserts holds in every crash image.
 pub fn status_zero_keeps_all()
@@ -10,6 +10,11 @@ pub fn status_zero_keeps_all()
 /// Where `check --strict` does, some row passes, too, and `lint` has no warning of what was read.
 pub fn strict_status_zero_is_trusted()
     ensures { StrictStatusZeroIsTrusted }
+{}
+
+/// Where words of `check --strict` do, the log that they name, read by their run and their profile, is such a one.
+pub fn strict_words_are_trusted()
+    ensures { StrictWordsAreTrusted }
 {}
 
 /// The text that explains an event tells, text line by text line, just the rows that were found there, where their numbers are below 2^64.

@@ -1,8 +1,8 @@
 -- What a cutter has cut, with one part, one section or one event more.
-use Rattle.std.{proofs.Common.{◌≡◌, ◌≢◌, ◌⊎◌, inl, inr, ⊎_elim, ℕ, zero, suc, ◌+◌, ◌-◌, ◌<◌, ◌≤◌, Bool, true, false, cond, List, [], ◌∷◌, ◌++◌, length, take, drop, set, slice_get, Option, Some, None, Ok, refl, sym, ap, subst, ◌∙◌, arith, length-drop, append_assoc, append-nil, take_all, eq-eqb, ne_eqb, ◌==◌, add-one}, proofs.lemmas.Bool.{cases_eq}, proofs.lemmas.List.{drop-take, take-append-drop, take-take, take-append-le, drop-append-le, drop_all, length_push}, proofs.lemmas.Option.{slice_get_within}, proofs.Math.Path.{fun_ext}, specs.BTreeMap.{get}, specs.Ordering.{nat_cmp}}
-use Rattle.pmf_event.specs.{declared.event.Event.{Event}, Store.{event_at}}
+use Rattle.std.{proofs.Common.{◌≡◌, ◌≢◌, ◌⊎◌, inl, inr, ⊎_elim, ℕ, zero, suc, ◌+◌, ◌-◌, ◌<◌, ◌≤◌, Bool, true, false, cond, List, [], ◌∷◌, ◌++◌, length, take, drop, set, slice_get, Option, Some, None, Ok, refl, sym, ap, subst, ◌∙◌, arith, length-drop, append_assoc, append-nil, take_all, eq-eqb, ne_eqb, ◌==◌, add-one}, proofs.lemmas.Bool.{cases_eq, cases_lt}, proofs.lemmas.List.{drop-take, take-append-drop, take-take, take-append-le, drop-append-le, drop_all, length_push}, proofs.lemmas.List.Sums.{sum_by-cons}, proofs.lemmas.Option.{slice_get_within}, proofs.Math.Path.{fun_ext}, specs.BTreeMap.{get}, specs.Ordering.{nat_cmp}}
+use Rattle.pmf_event.specs.{declared.event.Event.{Event}, declared.event.Event.TheVariants.{Ordered}, Store.{event_at}}
 use Rattle.pmf_storelog.{specs.declared.record.Saying.TheVariants.{Happens, Enters}, specs.Records.{record_of}, specs.Separators.{ended_parts, parts_of, records_in, records_of}, specs.LogText.{events_in, current_of, number_after}, proofs.PartLemmas.{ended_is, parts_of-append, parts_of-nil}, proofs.TallyLemmas.{current_of-nil, events_in-nil}, proofs.SplitLemmas.{joined, joined_at}, proofs.LogLemmas.{events_in-event, events_in-enter, events_in-nothing, current_of-push}}
-use Rattle.pmf_cut.{specs.{declared.section.Cutting.{Cutting}, declared.part.Part.{Part}, declared.output.Outputs.{Outputs}, declared.output.Text.{Text}, declared.cutter.Cutter.{Cutter}, Alike.{IsCut}, Parts.{IsPartOf, part_of}, Deferred.{Begins, BeginsBehind}, Written.{WrittenPart, IsWritten, AreUpTo, AreNumbered, AreOf, IsAmong, NoneNamed, IsCutInto, said_in}, Outputs.{AllOpen, AllWait, HandsOut, Holds, IsNew, IsOpen, bytes_for, IsSaid, Says, current_in, said, text_of, waiting_in}, Cutting.{GoesOnAs, IsKept, HasPart, TakesEvent, HasSection, IsCurrent, IsPlaced, HasCut, IsNamed, MoreFiles, SayNothing, Cuts, CutsPart, CutsParts, CutsTo, Drains, HasCutAll, HasRead, handed_with}}, proofs.DeferredLemmas.{last-is}, proofs.OutputLemmas.{holds-ended, holds-open, nothing_behind, set-other}}
+use Rattle.pmf_cut.{specs.{declared.section.Cutting.{Cutting}, declared.part.Part.{Part}, declared.output.Outputs.{Outputs}, declared.output.Text.{Text}, declared.cutter.Cutter.{Cutter}, Alike.{IsCut}, Parts.{IsPartOf, part_of}, Deferred.{Begins, BeginsBehind, IsUpTo}, Written.{WrittenPart, IsWritten, AllKnow, KnowsOrders, AreUpTo, AreNumbered, AreOf, IsAmong, NoneNamed, IsCutInto, said_in}, Outputs.{AllOpen, AllWait, HandsOut, Holds, IsNew, IsOpen, bytes_for, IsSaid, Says, current_in, said, text_of, waiting_in}, Cutting.{GoesOnAs, IsKept, HasPart, HasPast, KnowsNext, SamePast, lost_in, TakesEvent, HasSection, IsCurrent, IsPlaced, HasCut, IsNamed, MoreFiles, SayNothing, Cuts, CutsPart, CutsParts, CutsTo, Drains, HasCutAll, HasRead, handed_with}}, proofs.DeferredLemmas.{last-is}, proofs.OrderLemmas.{knows-there, past-next}, proofs.OutputLemmas.{holds-ended, holds-open, nothing_behind, set-other}}
 
 none_is_some : {X : Type 0} {x : X} → None ≡ Some x → ⊥
 none_is_some same = cc
@@ -82,9 +82,47 @@ section-stays : (says says' : ℕ → ℕ → List Event) (files files' step : �
     SameAt says says' parts → files ≤ files' → HasSection says files step es parts section → HasSection says' files' step es parts section
 section-stays says says' files files' step es parts section same more has = grind (arith, up_to-same)
 
+pub some_apart : {X : Type 0} (x y : X) → Some x ≡ Some y → x ≡ y
+some_apart x y same = cc
+
+past-same : (es : List Event) (p : ℕ) (head : List Event) (old new : Cutting) → SamePast old new → HasPast old es p head → HasPast new es p head
+past-same es p head old new same past = grind arith
+
 -- a section that is as it was, but for when a cut is looked for, and which events wait
 section-same : (says : ℕ → ℕ → List Event) (files step : ℕ) (es : List Event) (parts : List WrittenPart) (old new : Cutting) → IsKept old new → HasSection says files step es parts old → HasSection says files step es parts new
-section-same says files step es parts old new kept has = grind arith
+section-same says files step es parts old new kept has = record {
+  last = has.last;
+  before = has.before;
+  parts_are = has.parts_are;
+  name_is = has.name_is ∙ sym kept.same.name_is;
+  file_is = has.file_is ∙ sym kept.same.file_is;
+  there = let there = has.there in let same = kept.same.file_is in omega arith;
+  once = subst (λ (n : ℕ). NoneNamed n has.before) (sym kept.same.name_is) has.once;
+  numbered = subst (λ (n : ℕ). AreNumbered step n (has.last ∷ has.before)) (sym kept.same.number_is) has.numbered;
+  up_to = has.up_to;
+  goes_on = λ rest. kept.stays (es ++ rest) has.last.first has.last.head (length es) (has.goes_on rest);
+  past = λ rest. past-same (es ++ rest) has.last.first has.last.head old new kept.before (has.past rest);
+  orders = λ none. has.orders (sym kept.lost ∙ none);
+}
+
+-- the parts know the pairs of one event more
+orders-grow : (es : List Event) (e : Event) (rest : List Event) (last : WrittenPart) (before : List WrittenPart) (section : Cutting) → last.first ≤ length es → KnowsNext section e →
+    ((more : List Event) → IsUpTo section.part (es ++ more) last.first last.head (length es)) → ((more : List Event) → HasPast section (es ++ more) last.first last.head) →
+    ((more : List Event) → AllKnow (es ++ more) (last ∷ before) (length es)) → AllKnow ((es ++ e ∷ []) ++ rest) (last ∷ before) (length (es ++ e ∷ []))
+orders-grow es e rest last before section within knows up_to past orders =
+    let whole = es ++ e ∷ rest in
+    let all : (es ++ e ∷ []) ++ rest ≡ whole = append_assoc es (e ∷ []) rest in
+    let count = length_push es e in
+    let was = orders (e ∷ rest) in (
+      subst (λ (fs : List Event). KnowsOrders fs last (length (es ++ e ∷ []))) (sym all) (λ n a b below here. elim (cases_lt (last.first + n) (length es)) [
+        | inl early ↦ was.0 n a b early here
+        | inr late ↦
+            let now : last.first + n ≡ length es = omega (arith, count, below) in
+            let is : e ≡ Ordered a b = some_apart _ _ (sym (event-behind es e rest) ∙ ap (λ k. event_at whole (suc k)) (sym now) ∙ here) in
+            knows-there section a b whole last.first last.head n (subst (KnowsNext section) is knows) (subst (IsUpTo section.part whole last.first last.head) (sym now) (up_to (e ∷ rest))) (past (e ∷ rest)) here
+      ]),
+      subst (λ (fs : List Event). AllKnow fs before last.first) (sym all) was.1,
+    )
 
 -- a section that has one event more
 section-grows : (says says' : ℕ → ℕ → List Event) (files files' step : ℕ) (es : List Event) (parts : List WrittenPart) (old new : Cutting) (e : Event) → TakesEvent old new e →
@@ -110,6 +148,10 @@ section-grows says says' files files' step es parts old new e takes here others 
         (up_to-same says says' es has.before last.first (same-but old.name says says' (λ other apart file. others file other (inr apart)) has.before has.once) has.up_to.1),
   );
   goes_on = grind (arith, event-behind, append_assoc, length_push, add-one);
+  past = λ rest. subst (λ whole. HasPast new whole last.first last.head) (sym (append_assoc es (e ∷ []) rest)) (past-same (es ++ e ∷ rest) last.first last.head old new takes.before (has.past (e ∷ rest)));
+  orders = λ none rest.
+      let told = takes.lost none in
+      orders-grow es e rest last has.before old begins told.1 has.goes_on has.past (has.orders told.0);
 }
   where
     last : WrittenPart
@@ -126,10 +168,10 @@ next_part es head file number = record { first = length es; head = head; file = 
 
 -- a section that is cut: its next part has said its head
 section-goes_on : (says says' : ℕ → ℕ → List Event) (names : ℕ → Option ℕ) (files files' step number name file : ℕ) (es : List Event) (parts : List WrittenPart) (old new : Cutting) (part : Part) (head : List Event) →
-    GoesOnAs new old.number name file part → BeginsBehind old.part part head → name ≡ old.name + step → names name ≡ None → AreOf names number parts → ((other : ℕ) → says other name ≡ []) →
+    GoesOnAs old new name file part → BeginsBehind old.part part head → old.part.waiting.items ≡ [] → name ≡ old.name + step → names name ≡ None → AreOf names number parts → ((other : ℕ) → says other name ≡ []) →
     says' file name ≡ says file name ++ head → ((other-file other : ℕ) → (other-file ≢ file) ⊎ (other ≢ name) → says' other-file other ≡ says other-file other) → file < files' →
     HasSection says files step es parts old → HasSection says' files' step es (next_part es head file name ∷ parts) new
-section-goes_on says says' names files files' step number name file es parts old new part head renewed begins above free of_it none here others there has = record {
+section-goes_on says says' names files files' step number name file es parts old new part head renewed begins none_waits above free of_it none here others there has = record {
   last = next_part es head file name;
   before = has.last ∷ has.before;
   parts_are = ap (λ before. next_part es head file name ∷ before) has.parts_are;
@@ -148,6 +190,9 @@ section-goes_on says says' names files files' step number name file es parts old
     up_to-same says says' es (has.last ∷ has.before) (length es) (same-but name says says' (λ other apart file. others file other (inr apart)) (has.last ∷ has.before) free_of_them) has.up_to,
   );
   goes_on = λ rest. renewed.begins (es ++ rest) (length es) head (length es) (on rest);
+  past = λ rest. past-next old new name file part (es ++ rest) has.last.first has.last.head head (length es) renewed none_waits (has.goes_on rest) (has.past rest)
+      (let count = (on rest).stands.events in omega arith);
+  orders = λ none rest. ((λ n a b below. absurd (omega arith)), has.orders (sym renewed.lost ∙ none) rest);
 }
   where
     free_of_them : NoneNamed name (has.last ∷ has.before)
@@ -158,9 +203,9 @@ section-goes_on says says' names files files' step number name file es parts old
 
 -- a section that begins
 section-begins : (says : ℕ → ℕ → List Event) (files step number file : ℕ) (section : Cutting) → HasPart section number number file section.part →
-    (part : Part) → Begins part section.part → ((es : List Event) → IsPartOf part es 0 [] 0) → ((other : ℕ) → says other number ≡ []) → file < files →
+    (part : Part) → Begins part section.part → ((es : List Event) → IsPartOf part es 0 [] 0) → ((es : List Event) → HasPast section es 0 []) → ((other : ℕ) → says other number ≡ []) → file < files →
     HasSection says files step [] (record { first = 0; head = []; file = file; number = number } ∷ []) section
-section-begins says files step number file section begun whole begins part none there = record {
+section-begins says files step number file section begun whole begins part past none there = record {
   last = record { first = 0; head = []; file = file; number = number };
   before = [];
   parts_are = refl;
@@ -171,6 +216,8 @@ section-begins says files step number file section begun whole begins part none 
   numbered = sym begun.number_is;
   up_to = (record { within = omega arith; here = none file; elsewhere = λ other apart. none other; cut = λ rest. (part rest).cut }, refl);
   goes_on = λ rest. begins rest 0 [] 0 (part rest);
+  past = past;
+  orders = λ none rest. ((λ n a b below. absurd (omega arith)), tt);
 }
 
 -- what changes at one section, and stays at each other one
@@ -260,9 +307,6 @@ module _ (ends : Bool) (step : ℕ) (records then-records : List (List ℕ)) (ha
     waits = changes.waits;
   }
 
-pub some_apart : {X : Type 0} (x y : X) → Some x ≡ Some y → x ≡ y
-some_apart x y same = cc
-
 -- the elements of a list with one more, and with another one at a place
 get-front : (xs more : List Cutting) (k : ℕ) (x : Cutting) → slice_get xs k ≡ Some x → slice_get (xs ++ more) k ≡ Some x
 get-front [] more k x at = absurd (none_is_some at)
@@ -286,6 +330,15 @@ module _ (names then-names : ℕ → Option ℕ) (name number : ℕ) (named : Is
 
   named-by : (other k : ℕ) → k ≢ number → then-names other ≡ Some k → names other ≡ Some k
   named-by other k apart is = ⊎_elim (λ both. absurd (apart both.1)) (λ was. was) (named-new other k is)
+
+-- where nothing was told of any section, nothing was of one
+none-lost : (sections : List Cutting) (place : ℕ) (section : Cutting) → slice_get sections place ≡ Some section → lost_in sections ≡ 0 → section.lost ≡ 0
+none-lost [] place section at none = absurd (none_is_some at)
+none-lost (first ∷ sections) zero section at none =
+    let is = ap (λ (s : Cutting). s.lost) (some_apart first section at) in
+    let all = sum_by-cons (λ (s : Cutting). s.lost) first sections in omega (arith, is, all, none)
+none-lost (first ∷ sections) (suc place) section at none =
+    let all = sum_by-cons (λ (s : Cutting). s.lost) first sections in none-lost sections place section at (omega (arith, all, none))
 
 -- what is said where files began
 more-says : (handed : ℕ → List ℕ) (outputs then-outputs : Outputs) → MoreFiles outputs then-outputs → (file name : ℕ) → said handed then-outputs file name ≡ said handed outputs file name
@@ -340,7 +393,14 @@ module _ (ends : Bool) (step : ℕ) (records : List (List ℕ)) (handed : ℕ �
         subst (AreNumbered step number) (sym placed.has.parts_are) (subst (λ n. AreNumbered step n (placed.has.last ∷ placed.has.before)) placed.number_is placed.has.numbered),
       )
 
-  pub is_cut : (log : List ℕ) → records_of log ≡ records → IsCutInto step log (text_of handed outputs)
+  orders-at : lost_in sections ≡ 0 → (number : ℕ) (place : Option ℕ) → places number ≡ place → AllKnow (events_in records number) (has.parts number) (length (events_in records number))
+  orders-at none number None absent = subst (λ parts. AllKnow (events_in records number) parts (length (events_in records number))) (sym (has.absent number absent).1) tt
+  orders-at none number (Some place) at =
+      let placed = has.placed number place at in
+      subst (λ parts. AllKnow (events_in records number) parts (length (events_in records number))) (sym placed.has.parts_are)
+      (subst (λ es. AllKnow es (placed.has.last ∷ placed.has.before) (length (events_in records number))) (append-nil (events_in records number)) (placed.has.orders (none-lost sections place placed.section placed.at none) []))
+
+  pub is_cut : (log : List ℕ) → records_of log ≡ records → IsCutInto step log (text_of handed outputs) (lost_in sections)
   is_cut log is = record {
     parts = has.parts;
     section = names;
@@ -349,6 +409,7 @@ module _ (ends : Bool) (step : ℕ) (records : List (List ℕ)) (handed : ℕ �
     of_it = has.of_it;
     among = has.among;
     nothing_else = has.nothing_else;
+    orders = λ none number. subst (λ rs. AllKnow (events_in rs number) (has.parts number) (length (events_in rs number))) (sym is) (orders-at none number (places number) refl);
   }
 
 module _ (step : ℕ) (records : List (List ℕ)) (handed : ℕ → List ℕ) (current : Option ℕ) (places names : ℕ → Option ℕ) (sections : List Cutting) (outputs : Outputs)
@@ -359,16 +420,16 @@ module _ (step : ℕ) (records : List (List ℕ)) (handed : ℕ → List ℕ) (c
   -- a section begins
   pub begun : (then-places then-names : ℕ → Option ℕ) (then-outputs : Outputs) (number file : ℕ) (section : Cutting) → places number ≡ None → IsNamed names then-names number number →
       then-places number ≡ Some (length sections) → ((other : ℕ) → other ≢ number → then-places other ≡ places other) → MoreFiles outputs then-outputs → file < length then-outputs.files.items →
-      HasPart section number number file section.part → (part : Part) → Begins part section.part → ((es : List Event) → IsPartOf part es 0 [] 0) →
+      HasPart section number number file section.part → (part : Part) → Begins part section.part → ((es : List Event) → IsPartOf part es 0 [] 0) → ((es : List Event) → HasPast section es 0 []) →
       HasCut true step records handed current then-places then-names (sections ++ section ∷ []) then-outputs
-  begun then-places then-names then-outputs number file section none named here others more there begins whole started part =
+  begun then-places then-names then-outputs number file section none named here others more there begins whole started part past =
       changed true step records records handed current current places then-places names then-names sections (sections ++ section ∷ []) outputs then-outputs number has record {
         own = record { first = 0; head = []; file = file; number = number } ∷ [];
         section = section;
         number_is = begins.number_is;
         has =
             subst (λ es. HasSection (said handed then-outputs) (length then-outputs.files.items) step es (record { first = 0; head = []; file = file; number = number } ∷ []) section) (sym (has.absent number none).0)
-            (section-begins (said handed then-outputs) (length then-outputs.files.items) step number file section begins whole started part (λ other. more-says handed outputs then-outputs more other number ∙ has.nothing_else number named.free other) there);
+            (section-begins (said handed then-outputs) (length then-outputs.files.items) step number file section begins whole started part past (λ other. more-says handed outputs then-outputs more other number ∙ has.nothing_else number named.free other) there);
         here = λ place at. subst (λ k. slice_get (sections ++ section ∷ []) k ≡ Some section) (some_apart _ _ (sym here ∙ at)) (last-is sections section);
         there = λ other place apart at. (sym (others other apart) ∙ at, λ s is. get-front sections (section ∷ []) place s is);
         current_is = current-kept then-places (λ other place is. others other (λ same. none_is_some (sym none ∙ ap places (sym same) ∙ is)) ∙ is) current has.current_is;
@@ -445,15 +506,15 @@ module _ (step : ℕ) (records : List (List ℕ)) (handed : ℕ → List ℕ) (c
 
     -- it goes on with its next part
     pub renewed : (mid then-outputs : Outputs) (then-names : ℕ → Option ℕ) (name file : ℕ) (new : Cutting) (part : Part) (head : List Event) → IsNamed names then-names name section.number → name ≡ section.name + step →
-        BeginsBehind section.part part head → GoesOnAs new section.number name file part → MoreFiles outputs mid → file < length mid.files.items → Says true file name head mid then-outputs →
+        BeginsBehind section.part part head → section.part.waiting.items ≡ [] → GoesOnAs section new name file part → MoreFiles outputs mid → file < length mid.files.items → Says true file name head mid then-outputs →
         HasCut true step records handed current places then-names (set sections place new) then-outputs
-    renewed mid then-outputs then-names name file new part head its-name above begins goes_on more there says =
+    renewed mid then-outputs then-names name file new part head its-name above begins none_waits goes_on more there says =
         changed true step records records handed current current places places names then-names sections (set sections place new) outputs then-outputs number has record {
           own = next_part (events_in records number) head file name ∷ has.parts number;
           section = new;
           number_is = goes_on.same.number_is ∙ number_of_it;
           has = section-goes_on (said handed outputs) (said handed then-outputs) names (length outputs.files.items) (length then-outputs.files.items) step number name file _ (has.parts number) section new part head
-              goes_on begins above named.free (has.of_it number) (λ other. has.nothing_else name named.free other)
+              goes_on begins none_waits above named.free (has.of_it number) (λ other. has.nothing_else name named.free other)
               (is-said.here ∙ ap (λ events. events ++ head) (before file name)) (λ other-file other apart. is-said.others other-file other apart ∙ before other-file other)
               (let count = is-said.count in omega arith) section-at;
           here = here-then new;
@@ -572,10 +633,10 @@ cut_as ends step records handed current then-current places then-places names th
 handed-same : (handed : ℕ → List ℕ) (old new : Outputs) (texts : List Text) → HandsOut old texts new → (file : ℕ) → text_of (handed_with handed texts) new file ≡ text_of handed old file
 handed-same handed old new texts out file = append_assoc (handed file) (bytes_for texts file) (waiting_in new file) ∙ ap (λ text. handed file ++ text) (out.kept file)
 
-pub drained : (old new : Cutter) (texts : List Text) → HandsOut old.outputs texts new.outputs → new.waiting ≡ old.waiting →
+pub drained : (old new : Cutter) (texts : List Text) → HandsOut old.outputs texts new.outputs → new.waiting ≡ old.waiting → new.sections ≡ old.sections →
     ((step : ℕ) (records : List (List ℕ)) (handed : ℕ → List ℕ) → Cuts true step records handed old → HasCut true step records (handed_with handed texts) old.current (get nat_cmp old.places) (get nat_cmp old.names) old.sections.items new.outputs → Cuts true step records (handed_with handed texts) new) →
     Drains old texts new
-drained old new texts out same rebuilt = record {
+drained old new texts out same sections rebuilt = record {
   reads = λ step log handed read. record {
     done = read.done;
     whole = read.whole ∙ ap (λ waits. read.done ++ waits.items) (sym same);
@@ -588,7 +649,8 @@ drained old new texts out same rebuilt = record {
         (λ file some. absurd (let none = ap length (out.none_left read.cuts.has.waits file) in omega arith)));
   };
   ends = λ step log handed all.
-      subst (IsCutInto step log) (fun_ext (λ file. sym (handed-same handed old.outputs new.outputs texts out file) ∙ ap (λ rest. handed_with handed texts file ++ rest) (out.none_left all.waits file) ∙ append-nil (handed_with handed texts file))) all.cut;
+      subst (λ texts. IsCutInto step log texts (lost_in old.sections.items)) (fun_ext (λ file. sym (handed-same handed old.outputs new.outputs texts out file) ∙ ap (λ rest. handed_with handed texts file ++ rest) (out.none_left all.waits file) ∙ append-nil (handed_with handed texts file))) all.cut;
+  same = sections;
 }
 
 take-further : (start len : ℕ) (text : List ℕ) → take start text ++ take (len + 1) (drop start text) ≡ take (start + len + 1) text

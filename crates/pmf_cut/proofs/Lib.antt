@@ -7,5 +7,6 @@ pub mod ComparingLemmas
 pub mod WholeLemmas
 pub mod LostLemmas
 pub mod DeferredLemmas
+pub mod OrderLemmas
 pub mod CuttingLemmas
 pub mod OutputLemmas

@@ -1,5 +1,5 @@
 -- A part of a whole goes on with it, and another one begins where it is cut.
-use Rattle.std.proofs.Common.{◌≡◌, ℕ, zero, suc, ◌+◌, ◌-◌, true, false, List, [], ◌∷◌, ◌++◌, length, drop, slice_get, refl, ◌∙◌, ap, subst, arith, Some}
+use Rattle.std.proofs.Common.{◌≡◌, ℕ, zero, suc, ◌+◌, ◌-◌, true, false, List, [], ◌∷◌, length, drop, slice_get, refl, ◌∙◌, ap, subst, arith, Some}
 use Rattle.pmf_event.{specs.declared.event.Event.{Event}, specs.Store.{event_at}, specs.LineBytes.{is_undurable}, proofs.EventLemmas.{last-none}, proofs.TransactionLemmas.{depth-start, scope-start, outside-from, unscoped-from}, proofs.PackedLemmas.{get-behind}}
 use Rattle.pmf_shadow.proofs.SameLemmas.{slice_get-front}
 use Rattle.pmf_cut.{specs.declared.part.Part.{Part}, specs.Alike.{IsCut}, specs.Parts.{Stands, Follows, BeginsWith, Renews, part_of, IsPartOf, GoesOnWith, BeginsAt}, proofs.StepLemmas.{undurable-stored_to}, proofs.BehindLemmas.{behind-cut, behind-step}, proofs.CutLemmas.{behind-there}}
@@ -10,7 +10,7 @@ get-dropped (suc p) [] k = refl
 get-dropped (suc p) (x ∷ xs) k = get-dropped p xs k ∙ ap (slice_get (x ∷ xs)) (let more : suc (p + k) ≡ suc p + k = omega arith in more)
 
 -- the events of the part behind its head are those of the whole behind the cut
-part-event : (es : List Event) (p : ℕ) (head : List Event) (k : ℕ) → event_at (part_of es p head) (suc (length head + k)) ≡ event_at es (suc (p + k))
+pub part-event : (es : List Event) (p : ℕ) (head : List Event) (k : ℕ) → event_at (part_of es p head) (suc (length head + k)) ≡ event_at es (suc (p + k))
 unfolding event_at
 part-event es p head k = get-behind head (drop p es) k ∙ get-dropped p es k
 

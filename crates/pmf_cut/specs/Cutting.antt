@@ -1,8 +1,8 @@
 -- What a cutter in mid-log stands for. Defined here.
-use Rattle.std.specs.{Prelude.{◌≡◌, ◌≢◌, ℕ, ◌<◌, ◌≤◌, Bool, true, List, [], ◌∷◌, ◌++◌, length, take, set, slice_get, Option, Some, None, Ok}, Ordering.{nat_cmp}, BTreeMap.{get}}
-use Rattle.pmf_event.specs.declared.event.Event.{Event}
+use Rattle.std.specs.{Prelude.{◌≡◌, ◌≢◌, ℕ, ◌<◌, ◌≤◌, Bool, true, List, [], ◌∷◌, ◌++◌, ◌-◌, ◌+◌, length, sum_by, take, set, slice_get, Option, Some, None, Ok}, Ordering.{nat_cmp}, BTreeMap.{get}}
+use Rattle.pmf_event.specs.declared.{event.Event.{Event}, event.Event.TheVariants.{Ordered}}
 use Rattle.pmf_storelog.specs.{declared.record.Saying.{Saying}, declared.record.Saying.TheVariants.{Skipped}, Records.{record_of}, Separators.{parts_of, ended_parts, records_in, records_of}, LogText.{events_in, current_of}}
-use Rattle.pmf_cut.specs.{declared.cutter.Cutter.{Cutter}, declared.section.Cutting.{Cutting}, declared.section.NextPart.{NextPart}, declared.part.Part.{Part}, declared.deferred.Deferred.{Deferred}, Deferred.{IsUpTo, Begins, StaysUpTo, GoesOnUpTo, BeginsBehind}, Written.{WrittenPart, AreUpTo, AreNumbered, AreOf, IsAmong, IsCutInto, NoneNamed}, declared.output.Outputs.{Outputs}, declared.output.Text.{Text}, Outputs.{AllOpen, AllWait, Holds, IsSameText, Says, behind_part, bytes_for, said, text_of}}
+use Rattle.pmf_cut.specs.{declared.cutter.Cutter.{Cutter}, declared.section.Cutting.{Cutting}, declared.section.NextPart.{NextPart}, declared.part.Part.{Part}, declared.deferred.Deferred.{Deferred}, Deferred.{IsUpTo, Begins, StaysUpTo, GoesOnUpTo, BeginsBehind}, Laws.{KnowsPairs}, Lost.{Adds, HasStored}, Parts.{part_of}, Written.{WrittenPart, AllKnow, AreUpTo, AreNumbered, AreOf, IsAmong, IsCutInto, NoneNamed}, declared.output.Outputs.{Outputs}, declared.output.Text.{Text}, Outputs.{AllOpen, AllWait, Holds, IsSameText, Says, behind_part, bytes_for, said, text_of}}
 
 -- the section has this part, under this name and in this file
 pub record HasPart (section : Cutting) (number name file : ℕ) (part : Deferred) : Type 0 where
@@ -11,24 +11,61 @@ pub record HasPart (section : Cutting) (number name file : ℕ) (part : Deferred
   pub file_is : section.file ≡ file
   pub part_is : section.part ≡ part
 
+-- what it knows of the parts before this one, and how long the part's head is, is as it was
+pub record SamePast (old new : Cutting) : Type 0 where
+  pub past : new.past ≡ old.past
+  pub head : new.head ≡ old.head
+
 -- the section is as it was, but for when a cut is looked for
-abbrev pub IsSame : Cutting → Cutting → Type 0
-IsSame old new = HasPart new old.number old.name old.file old.part
+pub record IsSame (old new : Cutting) : Type 0 where
+  pub same : HasPart new old.number old.name old.file old.part
+  pub before : SamePast old new
+  pub lost : new.lost ≡ old.lost
 
 -- the same, but for which events of its part wait
 pub record IsKept (old new : Cutting) : Type 0 where
   pub same : HasPart new old.number old.name old.file new.part
   pub stays : StaysUpTo old.part new.part
+  pub before : SamePast old new
+  pub lost : new.lost ≡ old.lost
+
+-- this is the section's part of the whole, from its cut at p on, with this head: its past has what was stored to in front of the cut, and
+-- there is one unless it is the first part
+pub record HasPast (section : Cutting) (es : List Event) (p : ℕ) (head : List Event) : Type 0 where
+  pub stored : HasStored section.past es p
+  pub first : section.past.last ≡ None → p ≡ 0
+  pub head_is : section.head ≡ length head
+
+-- where the event that happens next is an order assertion, the part knows the pairs
+abbrev pub KnowsNext : Cutting → Event → Type 0
+KnowsNext section (Ordered a b) = (es : List Event) (p : ℕ) (head : List Event) (n : ℕ) → IsUpTo section.part es p head n → HasPast section es p head →
+    KnowsPairs es p n (part_of es p head) (length head + (n - p)) a b
+KnowsNext section _ = Unit {0}
+
+-- where no more is told than was, nothing was told, and the part knows the pairs of the event that happens next
+abbrev pub TellsLost : Cutting → Cutting → Event → Type 0
+TellsLost old new event = new.lost ≡ 0 → (old.lost ≡ 0) × KnowsNext old event
 
 -- the section's part has one event more
 pub record TakesEvent (old new : Cutting) (event : Event) : Type 0 where
   pub same : HasPart new old.number old.name old.file new.part
   pub goes_on : GoesOnUpTo old.part new.part event
+  pub before : SamePast old new
+  pub lost : TellsLost old new event
 
--- the section goes on with this part, under this name and in this file
-pub record GoesOnAs (new : Cutting) (number name file : ℕ) (part : Part) : Type 0 where
-  pub same : HasPart new number name file new.part
+-- the part goes on behind the section's part, of which no event waits, with this head
+pub record BeginsNext (section : Cutting) (next : NextPart) : Type 0 where
+  pub behind : BeginsBehind section.part next.part next.head.items
+  pub none_waits : section.part.waiting.items ≡ []
+
+-- the section goes on with this part, under this name and in this file, and the part that ends is one of the past
+pub record GoesOnAs (old new : Cutting) (name file : ℕ) (part : Part) : Type 0 where
+  pub same : HasPart new old.number name file new.part
   pub begins : Begins part new.part
+  pub adds : Adds old.past new.past old.part.part
+  pub last : new.past.last ≡ Some old.part.part
+  pub head : new.head ≡ part.events
+  pub lost : new.lost ≡ old.lost
 
 -- the parts are the section up to its last event, and it goes on with the last one of them, whatever follows
 pub record HasSection (says : ℕ → ℕ → List Event) (files step : ℕ) (es : List Event) (parts : List WrittenPart) (section : Cutting) : Type 0 where
@@ -42,6 +79,8 @@ pub record HasSection (says : ℕ → ℕ → List Event) (files step : ℕ) (es
   pub numbered : AreNumbered step section.number (last ∷ before)
   pub up_to : AreUpTo says es (last ∷ before) (length es)
   pub goes_on : (rest : List Event) → IsUpTo section.part (es ++ rest) last.first last.head (length es)
+  pub past : (rest : List Event) → HasPast section (es ++ rest) last.first last.head
+  pub orders : section.lost ≡ 0 → (rest : List Event) → AllKnow (es ++ rest) (last ∷ before) (length es)
 
 -- what is current in what was read
 abbrev pub IsCurrent : (ℕ → Option ℕ) → ℕ → Option ℕ → Type 0
@@ -90,7 +129,7 @@ Keeps old new place = (step : ℕ) (records : List (List ℕ)) (handed : ℕ →
 
 -- the same, where the next part goes on as that section's does
 abbrev pub KeepsWith : Cutter → Cutter → ℕ → NextPart → Type 0
-KeepsWith old new place next = (section : Cutting) → slice_get old.sections.items place ≡ Some section → BeginsBehind section.part next.part next.head.items → Keeps old new place
+KeepsWith old new place next = (section : Cutting) → slice_get old.sections.items place ≡ Some section → BeginsNext section next → Keeps old new place
 
 -- the bytes, which are a record that says this, are cut, too
 abbrev pub CutsRecord : Cutter → Cutter → List ℕ → Saying → Type 0
@@ -153,7 +192,7 @@ pub record BeginsPart (old new : Cutter) (place name : ℕ) (next : NextPart) (s
   pub there : file < length old.outputs.files.items
   pub says : Says true file name next.head.items old.outputs new.outputs
   pub renewed : Cutting
-  pub has : GoesOnAs renewed section.number name file next.part
+  pub has : GoesOnAs section renewed name file next.part
   pub sections : new.sections.items ≡ set old.sections.items place renewed
   pub places : new.places ≡ old.places
   pub names : new.names ≡ old.names
@@ -168,9 +207,13 @@ pub record HasRead (step : ℕ) (log : List ℕ) (handed : ℕ → List ℕ) (cu
   pub unended : parts_of cutter.waiting.items ≡ cutter.waiting.items ∷ []
   pub cuts : Cuts true step (records_of done) handed cutter
 
+-- how often it was told that an order assertion may have lost its FAIL
+abbrev pub lost_in : List Cutting → ℕ
+lost_in sections = sum_by (λ (section : Cutting). section.lost) sections
+
 -- the whole log is cut into what was handed out, with what is to be written
 pub record HasCutAll (step : ℕ) (log : List ℕ) (handed : ℕ → List ℕ) (cutter : Cutter) : Type 0 where
-  pub cut : IsCutInto step log (text_of handed cutter.outputs)
+  pub cut : IsCutInto step log (text_of handed cutter.outputs) (lost_in cutter.sections.items)
   pub waits : AllWait cutter.outputs
 
 -- what was handed out with these texts
@@ -180,7 +223,8 @@ handed_with handed texts file = handed file ++ bytes_for texts file
 -- the texts are handed out, of what was cut in mid-log, and of the whole
 pub record Drains (old : Cutter) (texts : List Text) (new : Cutter) : Type 0 where
   pub reads : (step : ℕ) (log : List ℕ) (handed : ℕ → List ℕ) → HasRead step log handed old → HasRead step log (handed_with handed texts) new
-  pub ends : (step : ℕ) (log : List ℕ) (handed : ℕ → List ℕ) → HasCutAll step log handed old → IsCutInto step log (handed_with handed texts)
+  pub ends : (step : ℕ) (log : List ℕ) (handed : ℕ → List ℕ) → HasCutAll step log handed old → IsCutInto step log (handed_with handed texts) (lost_in old.sections.items)
+  pub same : new.sections ≡ old.sections
 
 -- behind what was done, the bytes up to an end are cut, too
 pub record CutsTo (step : ℕ) (done text : List ℕ) (handed : ℕ → List ℕ) (new : Cutter) (end : ℕ) : Type 0 where

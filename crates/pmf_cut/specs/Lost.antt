@@ -18,6 +18,10 @@ IsPast past b = (state_at past.bytes b ≡ true) ⊎ KnowsByte past.last b
 abbrev pub HasOld : Past → List Event → ℕ → List Event → ℕ → Type 0
 HasOld past es n fs m = (b : ℕ) → 0 < last_store es n b → last_store fs m b ≡ 0 → IsPast past b
 
+-- the past has each byte that the first events of the whole store to
+abbrev pub HasStored : Past → List Event → ℕ → Type 0
+HasStored past es p = (b : ℕ) → 0 < last_store es p b → IsPast past b
+
 -- the new past has the bytes of the old one, and those that the part knows a store of
 abbrev pub Adds : Past → Past → Part → Type 0
 Adds old new part = (fs : List Event) (m : ℕ) → Stands part fs m → (b : ℕ) → IsPast old b ⊎ (0 < last_store fs m b) → IsPast new b

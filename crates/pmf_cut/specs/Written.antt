@@ -1,8 +1,8 @@
 -- What the texts say that a log is cut into. Defined here.
-use Rattle.std.specs.Prelude.{◌≡◌, ◌≢◌, ◌⊎◌, ℕ, ◌+◌, ◌-◌, ◌≤◌, List, [], ◌∷◌, ◌++◌, length, take, drop, Option, Some, None}
-use Rattle.pmf_event.specs.declared.event.Event.{Event}
+use Rattle.std.specs.Prelude.{◌≡◌, ◌≢◌, ◌⊎◌, ℕ, suc, ◌+◌, ◌-◌, ◌<◌, ◌≤◌, List, [], ◌∷◌, ◌++◌, length, take, drop, Option, Some, None}
+use Rattle.pmf_event.specs.{declared.event.Event.{Event}, declared.event.Event.TheVariants.{Ordered}, Span.{Extent}, Store.{event_at}}
 use Rattle.pmf_storelog.specs.{Separators.{records_of}, LogText.{events_in}}
-use Rattle.pmf_cut.specs.{Alike.{IsCut}, Parts.{part_of}}
+use Rattle.pmf_cut.specs.{Alike.{IsCut}, Laws.{KnowsPairs}, Parts.{part_of}}
 
 -- a part of a section as it is written: it goes on behind the first events of the section, with this head, in this file and under this number
 pub record WrittenPart : Type 0 where
@@ -49,9 +49,19 @@ abbrev pub NoneNamed : ℕ → List WrittenPart → Type 0
 NoneNamed number [] = Unit {0}
 NoneNamed number (part ∷ before) = (part.number ≢ number) × NoneNamed number before
 
+-- of each order assertion behind the part's head, and up to a last event, the part knows the pairs: what is found of it stays
+abbrev pub KnowsOrders : List Event → WrittenPart → ℕ → Type 0
+KnowsOrders es part last = (n : ℕ) (a b : Extent) → part.first + n < last → event_at es (suc (part.first + n)) ≡ Some (Ordered a b) →
+    KnowsPairs es part.first (suc (part.first + n)) (part_of es part.first part.head) (suc (length part.head + n)) a b
+
+-- the same of the parts, the last one first, each up to where the next one begins
+abbrev pub AllKnow : List Event → List WrittenPart → ℕ → Type 0
+AllKnow es [] last = Unit {0}
+AllKnow es (part ∷ before) last = KnowsOrders es part last × AllKnow es before part.first
+
 -- the log is cut into these texts, one for each file: of each section there are parts, which are the whole section, and whose numbers are of
--- no other section; and no text says anything but these parts
-pub record IsCutInto (step : ℕ) (log : List ℕ) (texts : ℕ → List ℕ) : Type 0 where
+-- no other section; no text says anything but these parts; and where nothing was told, none of them loses what an order assertion finds
+pub record IsCutInto (step : ℕ) (log : List ℕ) (texts : ℕ → List ℕ) (told : ℕ) : Type 0 where
   pub parts : ℕ → List WrittenPart
   pub section : ℕ → Option ℕ
   pub whole : (number : ℕ) → AreUpTo (λ file. said_in (texts file)) (said_in log number) (parts number) (length (said_in log number))
@@ -59,3 +69,4 @@ pub record IsCutInto (step : ℕ) (log : List ℕ) (texts : ℕ → List ℕ) : 
   pub of_it : (number : ℕ) → AreOf section number (parts number)
   pub among : (name number : ℕ) → section name ≡ Some number → IsAmong name (parts number)
   pub nothing_else : (name : ℕ) → section name ≡ None → (file : ℕ) → said_in (texts file) name ≡ []
+  pub orders : told ≡ 0 → (number : ℕ) → AllKnow (said_in log number) (parts number) (length (said_in log number))

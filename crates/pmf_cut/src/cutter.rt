@@ -3,7 +3,7 @@
 ghost use Rattle.std.specs.{Prelude.{◌≡◌, ◌+◌, ◌<◌, ◌≤◌, ◌++◌, ◌∷◌, [], ℕ, List, Some, None, length, take, drop, slice_get, OnOk, IfOk, IfSome}, Ordering.{nat_cmp}, BTreeMap.{get}};
 ghost use Rattle.pmf_event.specs.declared.event.Event.{Event};
 ghost use Rattle.pmf_storelog.specs.{Quick.{SaysAlone}, Separators.{parts_of}, declared.record.Saying.TheVariants.{Enters, Happens}};
-ghost use Rattle.pmf_cut.specs.{declared.section.Cutting.{Cutting}, Cutting.{BeginsFile, BeginsPart, CutsAny, CutsNothing, CutsPart, CutsParts, CutsRecord, Drains, Finds, FindsCurrent, HasCutAll, HasRead, Keeps, KeepsWith, Names, TakesAt}};
+ghost use Rattle.pmf_cut.specs.{declared.section.Cutting.{Cutting}, Cutting.{BeginsFile, BeginsPart, CutsAny, CutsNothing, CutsPart, CutsParts, CutsRecord, Drains, Finds, FindsCurrent, HasCutAll, HasRead, Keeps, KeepsWith, lost_in, Names, TakesAt}};
 
 use crate::fault::CutFault;
 use crate::notes::Notes;
@@ -102,7 +102,6 @@ impl Cutter {
     }
 
     /// What is to be written of what was read since the last call, for each file once: it is handed out once.
-    #[tactic(auto, using(crate::proofs::CuttingLemmas::drained))]
     pub fn drain(&mut self) -> Result<Vec<Text>, CutFault>
         ensures { IfOk result (λ texts. Drains self.old texts.items self.new) }
     {
@@ -112,7 +111,8 @@ impl Cutter {
 
     /// The lines that are to be said of what was read since the last call: they are handed out once.
     pub fn notes(&mut self) -> Vec<String>
-        ensures { (step : ℕ) (log : List ℕ) (handed : ℕ → List ℕ) → HasRead step log handed self.old → HasRead step log handed self.new }
+        ensures reads { (step : ℕ) (log : List ℕ) (handed : ℕ → List ℕ) → HasRead step log handed self.old → HasRead step log handed self.new }
+        ensures same { self.new.sections ≡ self.old.sections }
     {
         self.notes.take()
     }
@@ -133,8 +133,10 @@ impl Cutter {
     }
 
     /// How many things were said.
-    pub fn told(&self) -> u64 {
-        self.notes.told()
+    pub fn told(&self) -> u64
+        ensures { result ≡ 0 → lost_in self.now.sections.items ≡ 0 }
+    {
+        self.notes.long().saturating_add(lost_in(&self.sections))
     }
 
     // Cuts the parts that wait and those of these bytes, which a separator ends.
@@ -412,7 +414,8 @@ impl Cutter {
 
     // Whether a file has more bytes than it may have.
     fn tell_size(&mut self, file: usize) -> Result<(), AllocError>
-        ensures { self.new.outputs ≡ self.old.outputs }
+        ensures outputs { self.new.outputs ≡ self.old.outputs }
+        ensures sections { self.new.sections ≡ self.old.sections }
     {
         let size = self.outputs.size(file);
         let most = self.outputs.most();
@@ -437,4 +440,15 @@ fn ended(piece: &[u8]) -> usize
         Some(end) => end + 1,
         None => 0,
     }
+}
+
+// How often it was said of the sections that an order assertion may have lost its FAIL.
+fn lost_in(sections: &[Cutting]) -> u64
+    ensures { result ≡ 0 → lost_in sections.now ≡ 0 }
+{
+    let mut lost: u64 = 0;
+    for section in sections {
+        lost = lost.saturating_add(section.lost);
+    }
+    lost
 }

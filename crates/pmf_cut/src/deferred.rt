@@ -78,7 +78,8 @@ impl Deferred {
     /// Goes on with this part; the one that ends.
     #[tactic(auto, using(crate::proofs::DeferredLemmas::begins))]
     pub(crate) fn go_on(&mut self, part: Part) -> Part
-        ensures { Begins part self.new }
+        ensures begins { Begins part self.new }
+        ensures ended { result ≡ self.old.part }
     {
         self.waiting.clear();
         std::mem::replace(&mut self.part, part)

@@ -1,6 +1,6 @@
 //! Which order assertions a cut may change.
 
-ghost use Rattle.std.specs.Prelude.{◌≡◌, ◌+◌, ◌<◌, ◌≤◌, ℕ, false, unwrap_or, IfSome, OnOk};
+ghost use Rattle.std.specs.Prelude.{◌≡◌, ◌+◌, ◌<◌, ◌≤◌, ℕ, true, false, None, Some, unwrap_or, IfSome, OnOk};
 ghost use Rattle.pmf_cut.specs.Lost.{is_told_again, is_unknown};
 
 use crate::part::Part;
@@ -19,7 +19,9 @@ pub(crate) struct Past {
 impl Past {
     ghost use Rattle.pmf_cut.specs.Lost.{Adds, IsPast, Knows, NoneOld, NoneTold, Puts};
 
-    pub(crate) fn new(alloc: Global) -> Past {
+    pub(crate) fn new(alloc: Global) -> Past
+        ensures { result.last ≡ None }
+    {
         Past {
             bytes: RunMap::new(alloc, false),
             last: None,
@@ -27,14 +29,17 @@ impl Past {
     }
 
     /// Whether no part has ended.
-    pub(crate) fn is_empty(&self) -> bool {
+    pub(crate) fn is_empty(&self) -> bool
+        ensures { result ≡ true → self.now.last ≡ None }
+    {
         self.last.is_none()
     }
 
     /// Takes a part that has ended.
     #[tactic(auto, using(crate::proofs::LostLemmas::add_first, crate::proofs::LostLemmas::add_next))]
     pub(crate) fn add(&mut self, part: Part) -> Result<(), AllocError>
-        ensures { OnOk result (Adds self.old self.new part) }
+        ensures adds { OnOk result (Adds self.old self.new part) }
+        ensures last { OnOk result (self.new.last ≡ Some part) }
     {
         let last = std::mem::replace(&mut self.last, Some(part));
         match last {

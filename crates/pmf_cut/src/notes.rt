@@ -2,12 +2,13 @@
 
 use std::alloc::{AllocError, Global};
 
-/// The lines that are to be said, and how many things were said.
+/// The lines that are to be said.
 #[derive(Debug, Drop)]
 pub(crate) struct Notes {
     alloc: Global,
     lines: Vec<String>,
-    told: u64,
+    /// How often it was said that a part or a file is too long.
+    long: u64,
 }
 
 impl Notes {
@@ -15,13 +16,13 @@ impl Notes {
         Notes {
             alloc,
             lines: Vec::new(alloc),
-            told: 0,
+            long: 0,
         }
     }
 
-    /// How many things were said.
-    pub(crate) fn told(&self) -> u64 {
-        self.told
+    /// How often it was said that a part or a file is too long.
+    pub(crate) fn long(&self) -> u64 {
+        self.long
     }
 
     /// The lines since the last call: they are handed out once.
@@ -32,7 +33,8 @@ impl Notes {
     /// Says this of the event of the section.
     pub(crate) fn tell(&mut self, section: u64, event: u64, text: &str) -> Result<(), AllocError> {
         let line = format!(in self.alloc; "section {section}, event {event}: {text}")?;
-        self.push(line)
+        self.lines.push(line)?;
+        Ok(())
     }
 
     /// Says that a part gets longer than it may be.
@@ -43,6 +45,7 @@ impl Notes {
         limit: u32,
         why: &str,
     ) -> Result<(), AllocError> {
+        self.long = self.long.saturating_add(1);
         let text = format!(in self.alloc; "the piece has more than {limit} events: {why}")?;
         self.tell(section, event, text.as_str())
     }
@@ -54,6 +57,7 @@ impl Notes {
         size: u64,
         most: u64,
     ) -> Result<(), AllocError> {
+        self.long = self.long.saturating_add(1);
         let line = match file {
             Some(number) => {
                 format!(in self.alloc; "file {number} has {size} bytes, more than {most}")?
@@ -62,11 +66,6 @@ impl Notes {
                 format!(in self.alloc; "the cut log has {size} bytes, more than a log may have")?
             }
         };
-        self.push(line)
-    }
-
-    fn push(&mut self, line: String) -> Result<(), AllocError> {
-        self.told = self.told.saturating_add(1);
         self.lines.push(line)?;
         Ok(())
     }

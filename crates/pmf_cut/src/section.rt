@@ -2,7 +2,8 @@
 
 ghost use Rattle.std.specs.Prelude.{◌≡◌, ℕ, List, [], IfOk, IfSome, OnOk};
 ghost use Rattle.pmf_event.specs.declared.event.Event.{Event};
-ghost use Rattle.pmf_cut.specs.{Cutting.{GoesOnAs, HasPart, IsKept, IsSame, TakesEvent}, Deferred.{Begins, BeginsBehind}, Parts.{IsPartOf}, declared.part.Part.{Part}};
+ghost use Rattle.pmf_cut.specs.{Cutting.{BeginsNext, GoesOnAs, HasPart, HasPast, IsKept, IsSame, SamePast, TakesEvent, TellsLost}, Deferred.{Begins, StaysUpTo}, Parts.{IsPartOf}, declared.part.Part.{Part}};
+ghost use Rattle.pmf_event.specs.declared.event.Event.TheVariants.{Ordered};
 
 use crate::deferred::Deferred;
 use crate::lost::Past;
@@ -37,6 +38,8 @@ pub(crate) struct Cutting {
     newest: usize,
     /// Whether it was told that the part is too long.
     is_told: bool,
+    /// How often it was told that an order assertion may have lost its FAIL.
+    pub(crate) lost: u64,
 }
 
 /// The part that a section goes on with, and the events that it has had.
@@ -51,6 +54,7 @@ impl Cutting {
     pub(crate) fn new(alloc: Global, number: u64, file: usize, limit: u32) -> Cutting
         ensures has { HasPart result number number file result.part }
         ensures part { (part : Part) × Begins part result.part × ((es : List Event) → IsPartOf part es 0 [] 0) }
+        ensures past { (es : List Event) → HasPast result es 0 [] }
     {
         Cutting {
             number,
@@ -64,6 +68,7 @@ impl Cutting {
             overdue: overdue_after(0, limit),
             newest: file,
             is_told: false,
+            lost: 0,
         }
     }
 
@@ -82,7 +87,7 @@ impl Cutting {
         notes: &mut Notes,
     ) -> Result<Option<NextPart>, PartFault>
         ensures same { OnOk result (IsKept self.old self.new) }
-        ensures begins { IfOk result (λ found. IfSome found (λ next. BeginsBehind self.new.part next.part next.head.items)) }
+        ensures begins { IfOk result (λ found. IfSome found (BeginsNext self.new)) }
     {
         self.hurry(newest);
         self.part.catch_up()?;
@@ -160,7 +165,9 @@ impl Cutting {
     }
 
     fn tell_lost(&mut self, before: Span, after: Span, notes: &mut Notes) -> Result<(), PartFault>
-        ensures { OnOk result (IsKept self.old self.new) }
+        ensures same { OnOk result (HasPart self.new self.old.number self.old.name self.old.file self.new.part) }
+        ensures stays { OnOk result (StaysUpTo self.old.part self.new.part × SamePast self.old self.new) }
+        ensures lost { OnOk result (TellsLost self.old self.new (Ordered before after)) }
     {
         if self.past.is_empty() {
             return Ok(());
@@ -168,6 +175,7 @@ impl Cutting {
         self.part.catch_up()?;
         let shadow = &self.part.part().shadow;
         if self.past.may_lose(shadow, self.head, before, after) {
+            self.lost = self.lost.saturating_add(1);
             notes.tell(
                 self.number,
                 self.next_event(),
@@ -185,7 +193,7 @@ impl Cutting {
         file: usize,
         limit: u32,
     ) -> Result<(), AllocError>
-        ensures { OnOk result (GoesOnAs self.new self.old.number name file part) }
+        ensures { OnOk result (GoesOnAs self.old self.new name file part) }
     {
         let head = part.events();
         let ended = self.part.go_on(part);

@@ -25,7 +25,7 @@ pub mod ReportToldLemmas
 pub mod LoadedLemmas
 pub mod BlockReadingLemmas
 pub mod TextFrontLemmas
-pub mod LedgerEndLemmas
+pub mod TextPartsLemmas
 pub mod LoneBlockLemmas
 pub mod RawTextLemmas
 pub mod RawTextOnceLemmas

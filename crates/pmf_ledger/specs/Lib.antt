@@ -22,7 +22,6 @@ pub mod Report
 pub mod AllKept
 pub mod LedgerText
 pub mod Loading
-pub mod Ending
 pub mod ReportTold
 pub mod FaultText
 pub mod Together

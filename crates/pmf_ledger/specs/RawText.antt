@@ -1,6 +1,7 @@
 -- Ledger texts whose blocks are taken as they stand. Defined here.
-use Rattle.std.specs.Prelude.{◌≡◌, ◌⊎◌, ◌≤◌, ◌+◌, ℕ, List, [], ◌∷◌, ◌++◌, length, take, codes, flat_map, All, AllPairs, Some}
+use Rattle.std.specs.{Prelude.{◌≡◌, ◌⊎◌, ◌≤◌, ◌+◌, ℕ, suc, nat_eq, Bool, false, not, List, [], ◌∷◌, ◌++◌, length, take, drop, slice_index_or, codes, flat_map, All, AllPairs, Option, None, Some}, List.{list_any, starts_with}}
 use Rattle.pmf_event.specs.declared.{name.Name.{Name}, profile.Profile.{Profile}, profile.Profile.TheVariants.{One, Two}}
+use Rattle.pmf_storelog.specs.Numbers.{number_in_front}
 use Rattle.pmf_verdict.specs.Checked.{Checked}
 use Rattle.pmf_ledger.specs.{declared.head.Head.{Head}, declared.raw_text.FirstBlock.{FirstBlock}, LedgerText.{text_of_block, text_of_end, version_of}, Loading.{head_of, left_of, lines_of}, Names.{IsBefore}}
 
@@ -63,12 +64,46 @@ pub record IsFirstLines (bytes : List ℕ) (count taken : ℕ) : Type 0 where
   pub ended : left_of (take taken bytes) ≡ []
   pub lines : length (lines_of (take taken bytes)) ≡ count
 
+-- ---- whether a block tells a fail
+
+-- the words behind the place of a row that counts as no fail
+abbrev pub words_of_no_fail : List (List ℕ)
+words_of_no_fail =
+    codes " PERSIST PASS" ∷ codes " PERSIST EMPTY" ∷ codes " ORDERED PASS" ∷ codes " ORDERED EMPTY" ∷ codes " FLUSH DOUBLED" ∷ codes " FLUSH NEEDLESS" ∷ codes " TXADD DUPLOG"
+    ∷ codes " CHECKEND PASS" ∷ []
+
+-- whether the text behind a number begins with such words
+abbrev pub begins_no_fail : Option (ℕ × List ℕ) → Bool
+begins_no_fail None = false
+begins_no_fail (Some found) = list_any (λ words. starts_with nat_eq found.1 words) words_of_no_fail
+
+-- whether a text line begins like a row that counts as fail, or like none
+unfoldable pub tells_fail_in : List ℕ → Bool
+tells_fail_in line = not (begins_no_fail (number_in_front line))
+
+-- of the text lines of a block with this head, those behind its head and its events
+abbrev pub rows_behind : Option Head → List (List ℕ) → List (List ℕ)
+rows_behind None lines = []
+rows_behind (Some head) lines = drop (suc head.events) lines
+
+-- the text lines of a block's rows
+unfoldable pub row_lines_of : List ℕ → List (List ℕ)
+row_lines_of bytes = rows_behind (head_of (slice_index_or (lines_of bytes) 0 [])) (lines_of bytes)
+
+-- whether one of a block's rows counts as fail
+unfoldable pub tells_fail : List ℕ → Bool
+tells_fail bytes = list_any tells_fail_in (row_lines_of bytes)
+
 -- the bytes begin with this block
 abbrev pub raw_of : List ℕ → FirstBlock → RawBlock
 raw_of bytes found = record { name = found.name; bytes = take found.taken bytes }
 
+-- and its rows begin there
+abbrev pub HasRowsAt : List ℕ → FirstBlock → Type 0
+HasRowsAt bytes found = (found.rows ≤ found.taken) × (row_lines_of (take found.taken bytes) ≡ lines_of (drop found.rows (take found.taken bytes)))
+
 abbrev pub IsFirst : List ℕ → FirstBlock → Type 0
-IsFirst bytes found = (found.taken ≤ length bytes) × IsWhole (raw_of bytes found)
+IsFirst bytes found = (found.taken ≤ length bytes) × IsWhole (raw_of bytes found) × HasRowsAt bytes found
 
 -- they begin with none
 abbrev pub HasNoFirst : List ℕ → Type 0

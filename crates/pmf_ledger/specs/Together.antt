@@ -1,5 +1,5 @@
 -- Ledgers that are to become one. Defined here.
-use Rattle.std.specs.Prelude.{◌≡◌, ◌↔◌, ◌∷◌, [], ◌++◌, List, All, Contains}
+use Rattle.std.specs.Prelude.{◌≡◌, ◌↔◌, List, All, Contains}
 use Rattle.pmf_event.specs.{declared.name.Name.{Name}, declared.profile.Profile.{Profile}, Section.{Trace}}
 use Rattle.pmf_ledger.specs.{declared.taking.Standing.{Standing}, Gathered.{Holds, HoldsOther}, Gathering.{Agrees}, LedgerValue.{LedgerValue}, Names.{Rises}, Places.{LacksName}}
 use Rattle.pmf_verdict.specs.Checked.{Checked}

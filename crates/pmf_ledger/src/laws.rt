@@ -1,6 +1,6 @@
 //! Laws of gatherings, of their ledgers and of ledger texts, each the clause of an empty function.
 
-ghost use Rattle.pmf_ledger.specs.{AllKept.{AllRowsAreTrue, NoEmptyIsFilled, NoFailIsKept}, Gathering.{GivesItsLedger, GivesOrIsRefused, GivesWhereItMay, JoiningAssociates, JoiningCommutes, JoiningRepeats, OnlyTheSetCounts, RefusesForCause}, Laws.{EqualSetsHaveOneLedger, LedgerTextsHaveTheirBlocks, TextsHaveTheirBlocksInOneWay, TextsLoadAsOneLedger, WhatLoadsHasAnEnd, WhatLoadsIsNotRefused}, ReportTold.{ReportsTellSections, ReportsTellTotals}};
+ghost use Rattle.pmf_ledger.specs.{AllKept.{AllRowsAreTrue, NoEmptyIsFilled, NoFailIsKept}, Gathering.{GivesItsLedger, GivesOrIsRefused, GivesWhereItMay, JoiningAssociates, JoiningCommutes, JoiningRepeats, OnlyTheSetCounts, RefusesForCause}, Laws.{BlocksTellTheirFails, EqualSetsHaveOneLedger, LedgerTextsHaveTheirBlocks, TextsHaveTheirBlocksInOneWay, TextsLoadAsOneLedger, WhatLoadsIsNotRefused}, ReportTold.{ReportsTellSections, ReportsTellTotals}};
 
 /// Whatever ledger a gathering gives, in whatever order it took and joined, it is the ledger of the set that
 /// was gathered: each of its sections once, in the order of their names. That set agrees, and all is by one
@@ -68,11 +68,6 @@ pub fn what_loads_is_not_refused()
     ensures { WhatLoadsIsNotRefused }
 {}
 
-/// A text that loads as a ledger has an end.
-pub fn what_loads_has_an_end()
-    ensures { WhatLoadsHasAnEnd }
-{}
-
 /// A text has its blocks, as they stand, in one way.
 pub fn texts_have_their_blocks_in_one_way()
     ensures { TextsHaveTheirBlocksInOneWay }
@@ -111,4 +106,10 @@ pub fn reports_tell_their_sections()
 #[tactic(auto, using(crate::proofs::lemmas::ReportToldLemmas::reports_tell_totals))]
 pub fn reports_tell_their_totals()
     ensures { ReportsTellTotals }
+{}
+
+/// A block of a section, as it stands, tells a fail exactly where one of the section's rows counts as one: so what a merge on trust tells
+/// of texts that `check` and `join` wrote is so of their sections.
+pub fn blocks_tell_their_fails()
+    ensures { BlocksTellTheirFails }
 {}

@@ -16,7 +16,6 @@ mod block_lines;
 mod block_reader;
 mod blocks;
 mod copying;
-mod ending;
 mod fitting;
 mod form;
 mod head;
@@ -40,7 +39,6 @@ mod writing;
 
 pub use block_lines::BlockFault;
 pub use block_reader::{BlockReader, Fed};
-pub use ending::has_end;
 pub use form::Form;
 pub use joining::JoinFault;
 pub use laws::{
@@ -49,8 +47,7 @@ pub use laws::{
     gatherings_that_agree_give_a_ledger, joining_again_changes_nothing, joining_associates,
     joining_commutes, ledger_texts_have_their_blocks, no_empty_is_filled, no_fail_is_kept,
     only_the_set_counts, reports_tell_their_sections, reports_tell_their_totals,
-    texts_have_their_blocks_in_one_way, texts_load_as_one_ledger, what_loads_has_an_end,
-    what_loads_is_not_refused,
+    texts_have_their_blocks_in_one_way, texts_load_as_one_ledger, what_loads_is_not_refused,
 };
 pub use ledger::Ledger;
 pub use loading::{LEDGER_LIMIT, LedgerFault, load_ledger};

@@ -1,7 +1,7 @@
 //! Ledger texts whose blocks are taken as they stand: where each ends, and whether its rows tell a fail.
 
-ghost use Rattle.std.specs.Prelude.{◌≡◌, ◌<◌, ◌↔◌, ◌++◌, ℕ, List, MatchOption, IsTrue, length};
-ghost use Rattle.pmf_ledger.specs.{Loading.{lines_of}, RawText.{HasNoFirst, HasNoVersion, IsFirst, IsFirstLines, IsFirstVersion, IsVersion, trusted_version_of}};
+ghost use Rattle.std.specs.{Prelude.{◌≡◌, ◌<◌, ◌↔◌, ◌++◌, ℕ, List, MatchOption, IsTrue, length}, List.{list_any}};
+ghost use Rattle.pmf_ledger.specs.{Loading.{lines_of}, RawText.{HasNoFirst, HasNoVersion, IsFirst, IsFirstLines, IsFirstVersion, IsVersion, tells_fail_in, trusted_version_of}};
 
 use crate::head::read_head;
 use crate::writing::version_of;
@@ -22,48 +22,52 @@ pub struct FirstBlock {
     pub lines: u64,
 }
 
-/// What stands behind the place of a row that counts as no fail.
-const NO_FAIL: [&str; 8] = [
-    " PERSIST PASS",
-    " PERSIST EMPTY",
-    " ORDERED PASS",
-    " ORDERED EMPTY",
-    " FLUSH DOUBLED",
-    " FLUSH NEEDLESS",
-    " TXADD DUPLOG",
-    " CHECKEND PASS",
-];
-
 impl FirstBlock {
+    ghost use Rattle.std.specs.Prelude.{◌≡◌};
+    ghost use Rattle.pmf_ledger.specs.RawText.{IsFirst, raw_of, tells_fail};
+
     /// Whether some row of the block, as it stands at the front of the bytes, counts as fail, by its first words. A text line
     /// that begins like no row does.
-    pub fn tells_fail(&self, bytes: &[u8]) -> bool {
-        let Some(rows) = bytes.get(self.rows..self.taken) else {
-            return true;
-        };
-        let Some((_, rows)) = rows.split_last() else {
-            return false;
-        };
-        for row in rows.split(|byte: &u8| *byte == b'\n') {
-            if !is_no_fail(row) {
-                return true;
-            }
+    pub fn tells_fail(&self, bytes: &[u8]) -> bool
+        ensures { IsFirst bytes.now self.now → result ≡ tells_fail (raw_of bytes.now self.now).bytes }
+    {
+        match bytes.get(self.rows..self.taken) {
+            Some(rows) => any_tells_fail(rows),
+            None => true,
         }
-        false
     }
 }
 
-// Whether the text line begins like a row that counts as no fail.
-fn is_no_fail(row: &[u8]) -> bool {
-    let Some((_, rest)) = read_number_in_front(row) else {
-        return false;
-    };
-    for words in &NO_FAIL {
-        if rest.starts_with(words.as_bytes()) {
+// Whether one of the text lines does.
+fn any_tells_fail(rows: &[u8]) -> bool
+    ensures { result ≡ list_any tells_fail_in (lines_of rows.now) }
+{
+    let mut at = 0;
+    while let Some(length) = memchr(b'\n', &rows[at..]) {
+        if tells_fail_in(&rows[at..at + length]) {
             return true;
         }
+        at += length + 1;
     }
     false
+}
+
+// Whether the text line begins like a row that counts as fail, or like none.
+#[tactic(auto, unfolding(crate::specs::RawText::tells_fail_in))]
+fn tells_fail_in(row: &[u8]) -> bool
+    ensures { result ≡ tells_fail_in row.now }
+{
+    let Some((_, rest)) = read_number_in_front(row) else {
+        return true;
+    };
+    !(rest.starts_with(b" PERSIST PASS")
+        || rest.starts_with(b" PERSIST EMPTY")
+        || rest.starts_with(b" ORDERED PASS")
+        || rest.starts_with(b" ORDERED EMPTY")
+        || rest.starts_with(b" FLUSH DOUBLED")
+        || rest.starts_with(b" FLUSH NEEDLESS")
+        || rest.starts_with(b" TXADD DUPLOG")
+        || rest.starts_with(b" CHECKEND PASS"))
 }
 
 /// The block that the bytes begin with, if it is whole: its head, and as many text lines as this tells. What these text lines are is

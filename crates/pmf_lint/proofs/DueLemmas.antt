@@ -1,9 +1,9 @@
 -- Whether some assertion has something to check, by how many have nothing.
-use Rattle.std.{proofs.Common.{◌≡◌, ℕ, zero, suc, ◌+◌, ◌-◌, ◌<◌, ◌≤◌, ◌==◌, Bool, true, false, cond, not, ◌&&◌, ◌||◌, List, [], ◌∷◌, ◌++◌, Option, Some, length, take, get_or, map, refl, sym, ap, subst, ◌∙◌, arith, count_by, sum_by, nat_lt, codes}, proofs.lemmas.List.{take_more, take_all}, proofs.lemmas.List.Sums.{sum_by-append, sum_by-le-sum_by}, proofs.lemmas.Option.{slice_get-get_or}, proofs.lemmas.Bool.{false≢true}, proofs.lemmas.Grind.{common_steps}}
+use Rattle.std.{proofs.Common.{◌≡◌, ℕ, zero, suc, ◌+◌, ◌-◌, ◌<◌, ◌≤◌, ◌==◌, Bool, true, false, cond, not, ◌&&◌, ◌||◌, List, [], ◌∷◌, ◌++◌, Option, Some, length, take, get_or, map, refl, sym, ap, subst, ◌∙◌, arith, count_by, sum_by, codes}, proofs.lemmas.List.{take_more, take_all}, proofs.lemmas.List.Sums.{sum_by-append, sum_by-le-sum_by}, proofs.lemmas.Option.{slice_get-get_or}, proofs.lemmas.Bool.{false≢true}, proofs.lemmas.Grind.{common_steps}}
 use Rattle.pmf_event.{specs.declared.event.Event.{Event}, specs.declared.event.Event.TheVariants.{Fence}, specs.Places.{count}, specs.Section.{Trace}, specs.Store.{at, event_at, passes}, proofs.EventLemmas.{at-is}, proofs.PlacesLemmas.{count-zero}}
 use Rattle.pmf_storelog.specs.{Separators.{records_of}, LogText.{events_in, numbers_of, section_named, sections_of}}
 use Rattle.pmf_query.specs.Walking.{IsNext}
-use Rattle.pmf_lint.{specs.declared.noting.Notes.{Notes}, specs.declared.warnings.Warnings.{Warnings}, specs.Counting.{AreNotes}, specs.Due.{asserted_in, empty_in, fills}, specs.Covering.{uncovered_of}, specs.Ending.{has_record, is_open_ended, lacks_stop}, specs.Misread.{is_unmet, lacks_bytes}, specs.Summing.{asserts, empty_of, is_store, sums_of, upkeeps_of}, specs.Upkeep.{misread_of, upkeep_of}, specs.Warnings.{asserts_nothing, checks_nothing, warnings_by}, proofs.EmptyLemmas.{unmet_counted}, proofs.StoreNameLemmas.{sections_more}, proofs.UpkeepLemmas.{count_more}}
+use Rattle.pmf_lint.{specs.declared.noting.Notes.{Notes}, specs.declared.warnings.Warnings.{Warnings}, specs.Counting.{AreNotes}, specs.Due.{asserted_in, empty_in, fills}, specs.Covering.{uncovered_of}, specs.Ending.{has_record, is_open_ended, lacks_stop}, specs.Misread.{has_misread, is_unmet, lacks_bytes}, specs.Summing.{asserts, empty_of, is_store, sums_of, upkeeps_of}, specs.Upkeep.{upkeep_of}, specs.Warnings.{asserts_nothing, checks_nothing, warnings_by}, proofs.EmptyLemmas.{unmet_counted}, proofs.StoreNameLemmas.{sections_more}, proofs.UpkeepLemmas.{count_more}}
 
 pub noted_next : (bytes : List ℕ) (start offset : ℕ) (text : List ℕ) (next : ℕ) (notes : Notes) → IsNext bytes start offset text next → AreNotes notes (records_of (take start bytes) ++ text ∷ []) → AreNotes notes (records_of (take next bytes))
 noted_next bytes start offset text next notes found are = subst (AreNotes notes) (sym found.adds) are
@@ -157,7 +157,6 @@ sums_run run records =
     let events = by (λ (t : Trace). length t.events) (λ run number es. refl) in
     let assertions = by (λ (t : Trace). count_by (λ e. asserts e) t.events) (λ run number es. refl) in
     let empty = by (λ (t : Trace). empty_of t) (λ run number es. refl) in
-    let misread = by (λ (t : Trace). misread_of t.events) (λ run number es. refl) in
     let stores = by (λ (t : Trace). count_by (λ e. is_store e) t.events) (λ run number es. refl) in
     let unasserted = by (λ (t : Trace). uncovered_of t.events) (λ run number es. refl) in
     let unwritten = by (λ (t : Trace). (upkeep_of t.events).unwritten) (λ run number es. refl) in
@@ -165,7 +164,7 @@ sums_run run records =
     let overwriting = by (λ (t : Trace). (upkeep_of t.events).overwriting) (λ run number es. refl) in
     let fences = by (λ (t : Trace). (upkeep_of t.events).fences) (λ run number es. refl) in
     let idle = by (λ (t : Trace). (upkeep_of t.events).idle) (λ run number es. refl) in
-    rw (events, assertions, empty, misread, stores, unasserted, unwritten, unfenced, overwriting, fences, idle) refl
+    rw (events, assertions, empty, stores, unasserted, unwritten, unfenced, overwriting, fences, idle) refl
 
 -- ---- the warnings
 
@@ -178,14 +177,14 @@ twice b = grind (arith, common_steps)
 same_warnings : (a b c d e f g h i j k l m n : Bool) → a ≡ h → b ≡ i → c ≡ j → d ≡ k → e ≡ l → f ≡ m → g ≡ n → as_warnings a b c d e f g ≡ as_warnings h i j k l m n
 same_warnings a b c d e f g h i j k l m n p q r s t u v = cc
 
-pub due_so : (bytes : List ℕ) (records : List (List ℕ)) (sections : List Trace) (notes : Notes) (asserted filled ended checks lacks : Bool) → AreNotes notes records → notes.has_decimal ≡ false →
+pub due_so : (bytes : List ℕ) (records : List (List ℕ)) (sections : List Trace) (notes : Notes) (asserted filled ended checks lacks misread : Bool) → AreNotes notes records → misread ≡ has_misread records →
     asserted ≡ not (asserted_in sections == 0) → filled ≡ not (empty_in sections == asserted_in sections) → ended ≡ is_open_ended bytes → checks ≡ (asserted && not filled) → lacks ≡ (notes.starts && not notes.stops) →
-    as_warnings (not asserted) checks notes.has_near notes.has_strange ended lacks false ≡ warnings_by bytes records (sums_of sections)
+    as_warnings (not asserted) checks notes.has_near notes.has_strange ended lacks misread ≡ warnings_by bytes records (sums_of sections)
 unfolding warnings_by asserts_nothing checks_nothing lacks_stop sums_of
-due_so bytes records sections notes asserted filled ended checks lacks are decimal some fill ended_is checks_is lacks_is =
+due_so bytes records sections notes asserted filled ended checks lacks misread are misread_is some fill ended_is checks_is lacks_is =
     same_warnings _ _ _ _ _ _ _ _ _ _ _ _ _ _
     (ap not some ∙ twice (asserted_in sections == 0))
     (checks_is ∙ ap (λ b. b && not filled) some ∙ ap (λ b. not (asserted_in sections == 0) && not b) fill ∙ ap (λ b. not (asserted_in sections == 0) && b) (twice (empty_in sections == asserted_in sections)))
     are.near are.strange ended_is
     (lacks_is ∙ ap (λ b. b && not notes.stops) are.started ∙ ap (λ b. has_record (codes "START") records && not b) are.stopped)
-    (ap (λ b. b && nat_lt 0 (sums_of sections).misread) (sym decimal ∙ are.decimal))
+    misread_is

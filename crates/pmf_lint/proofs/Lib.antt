@@ -11,6 +11,7 @@ pub mod LeavingLemmas
 pub mod UpkeepLemmas
 pub mod EmptyLemmas
 pub mod DueLemmas
+pub mod MisreadLemmas
 pub mod TallySumLemmas
 pub mod StoreNameLemmas
 pub mod LintLemmas

@@ -1,7 +1,7 @@
 -- Counts over lists, and the sums of sections, with one more.
 use Rattle.std.proofs.{Common.{◌≡◌, ℕ, Bool, cond, Some, slice_get, ◌+◌, ◌*◌, ◌^◌, ◌<◌, List, [], ◌∷◌, ◌++◌, length, take, get_or, map, sym, ap, subst, ◌∙◌, arith, count_by}, lemmas.List.{take_more, map-append}, lemmas.List.Sums.{sum_by-append}, lemmas.Option.{get_or_from_slice_get, slice_get_within}, lemmas.Grind.{common_steps}}
 use Rattle.pmf_event.specs.{declared.event.Event.{Event}, Section.{Trace}}
-use Rattle.pmf_lint.specs.{declared.summing.Sums.{Sums}, declared.upkeep.Upkeep.{Upkeep}, Covering.{uncovered_of}, Summing.{IsWithin, asserts, both, empty_of, is_store, kept_both, sums_of, upkeeps_of}, Upkeep.{IsUpkeepWithin, misread_of, upkeep_of}}
+use Rattle.pmf_lint.specs.{declared.summing.Sums.{Sums}, declared.upkeep.Upkeep.{Upkeep}, Covering.{uncovered_of}, Summing.{IsWithin, asserts, both, empty_of, is_store, kept_both, sums_of, upkeeps_of}, Upkeep.{IsUpkeepWithin, upkeep_of}}
 
 upkeeps_both : (xs ys : List Trace) → upkeeps_of (xs ++ ys) ≡ kept_both (upkeeps_of xs) (upkeeps_of ys)
 unfolding upkeeps_of
@@ -30,7 +30,6 @@ sums_within m n a b small one = record {
   events_within = omega (arith, small.events_within, one.events_within);
   assertions_within = omega (arith, small.assertions_within, one.assertions_within);
   empty_within = omega (arith, small.empty_within, one.empty_within);
-  misread_within = omega (arith, small.misread_within, one.misread_within);
   stores_within = omega (arith, small.stores_within, one.stores_within);
   unasserted_within = omega (arith, small.unasserted_within, one.unasserted_within);
   upkeep_within = kept_within m n a.upkeep b.upkeep small.upkeep_within one.upkeep_within;
@@ -50,25 +49,24 @@ none_within = record {
   events_within = omega arith;
   assertions_within = omega arith;
   empty_within = omega arith;
-  misread_within = omega arith;
   stores_within = omega arith;
   unasserted_within = omega arith;
   upkeep_within = none_kept;
 }
 
 -- the numbers as sums
-abbrev pub made : ℕ → ℕ → ℕ → ℕ → ℕ → ℕ → Upkeep → Sums
-made events assertions empty misread stores unasserted upkeep =
-    record { events = events; assertions = assertions; empty = empty; misread = misread; stores = stores; unasserted = unasserted; upkeep = upkeep }
+abbrev pub made : ℕ → ℕ → ℕ → ℕ → ℕ → Upkeep → Sums
+made events assertions empty stores unasserted upkeep =
+    record { events = events; assertions = assertions; empty = empty; stores = stores; unasserted = unasserted; upkeep = upkeep }
 
 upkeep_one : (t : Trace) → upkeep_of t.events ≡ upkeeps_of (t ∷ [])
 unfolding upkeeps_of upkeep_of
 upkeep_one t = grind (arith, common_steps)
 
-pub sums_one : (t : Trace) (events assertions empty misread stores unasserted : ℕ) (upkeep : Upkeep) → events ≡ length t.events → assertions ≡ count_by (λ e. asserts e) t.events → empty ≡ empty_of t →
-    misread ≡ misread_of t.events → stores ≡ count_by (λ e. is_store e) t.events → unasserted ≡ uncovered_of t.events → upkeep ≡ upkeep_of t.events → made events assertions empty misread stores unasserted upkeep ≡ sums_of (t ∷ [])
+pub sums_one : (t : Trace) (events assertions empty stores unasserted : ℕ) (upkeep : Upkeep) → events ≡ length t.events → assertions ≡ count_by (λ e. asserts e) t.events → empty ≡ empty_of t →
+    stores ≡ count_by (λ e. is_store e) t.events → unasserted ≡ uncovered_of t.events → upkeep ≡ upkeep_of t.events → made events assertions empty stores unasserted upkeep ≡ sums_of (t ∷ [])
 unfolding sums_of
-sums_one t events assertions empty misread stores unasserted upkeep p q r m s u k = grind (arith, common_steps, upkeep_one)
+sums_one t events assertions empty stores unasserted upkeep p q r s u k = grind (arith, common_steps, upkeep_one)
 
 -- one more event is counted
 pub counted_more : (test : Event → Bool) (es : List Event) (i : ℕ) (e : Event) (n one : ℕ) → slice_get es i ≡ Some e → n ≡ count_by test (take i es) → one ≡ cond (test e) 1 0 →

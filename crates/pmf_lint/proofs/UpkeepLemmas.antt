@@ -11,14 +11,13 @@ unflushed : (es : List Event) → false ≡ is_flushed es 0
 unfolding is_flushed last
 unflushed es = grind (arith, common_steps, greatest-zero)
 
-pub walked_none : (walk : Walk) → ((told : ℕ → ℕ) (es : List Event) → StandsFor walk.shadow told es 0) → walk.flushed ≡ false → walk.fences ≡ 0 → walk.idle ≡ 0 → walk.overwriting ≡ 0 → walk.misread ≡ 0 → walk.empty ≡ 0 → (es : List Event) → HasWalkedOver walk es 0
-walked_none walk stands flushed fences idle overwriting misread empty es = record {
+pub walked_none : (walk : Walk) → ((told : ℕ → ℕ) (es : List Event) → StandsFor walk.shadow told es 0) → walk.flushed ≡ false → walk.fences ≡ 0 → walk.idle ≡ 0 → walk.overwriting ≡ 0 → walk.empty ≡ 0 → (es : List Event) → HasWalkedOver walk es 0
+walked_none walk stands flushed fences idle overwriting empty es = record {
   shadow = stands (λ k. k) es;
   flushed = flushed ∙ unflushed es;
   fences = fences ∙ sym (count-zero (at is_fence es));
   idle = idle ∙ sym (count-zero (is_idle es));
   overwriting = overwriting ∙ sym (count-zero (is_overwriting es));
-  misread = misread ∙ sym (count-zero (is_misread es));
   empty = empty ∙ sym (count-zero (is_unmet es));
 }
 
@@ -28,7 +27,6 @@ pub record IsFew (walk : Walk) (p : ℕ) : Type 0 where
   pub fences : walk.fences ≤ p
   pub idle : walk.idle ≤ p
   pub overwriting : walk.overwriting ≤ p
-  pub misread : walk.misread ≤ p
   pub empty : walk.empty ≤ p
 
 pub walked_few : (walk : Walk) (es : List Event) (p : ℕ) → HasWalkedOver walk es p → IsFew walk p
@@ -37,7 +35,6 @@ walked_few walk es p walked = record {
   fences = omega (arith, walked.fences, count-le (at is_fence es) p);
   idle = omega (arith, walked.idle, count-le (is_idle es) p);
   overwriting = omega (arith, walked.overwriting, count-le (is_overwriting es) p);
-  misread = omega (arith, walked.misread, count-le (is_misread es) p);
   empty = omega (arith, walked.empty, count-le (is_unmet es) p);
 }
 
@@ -81,15 +78,14 @@ module _ (es : List Event) (p : ℕ) (e : Event) (here : event_at es (suc p) ≡
       ∙ flushed_by p (last is_fence es p) (last is_flush es p) (is_fence e) (is_flush e) (greatest-bound (at is_fence es) p) (greatest-bound (at is_flush es) p) (one_alone e)
 
   -- the walk with this event more
-  pub walked_more : (old new : Walk) (unmet misread overwritten fence idle : Bool) → HasWalkedOver old es p → is_unmet es (suc p) ≡ unmet → misread ≡ misreads es p (Some e) → overwritten ≡ overwrites es p (Some e) → fence ≡ is_fence e →
-      idle ≡ (fence && not old.flushed) → FollowsAt (suc p) old.shadow new.shadow e → new.flushed ≡ flushed_after old.flushed e → new.empty ≡ old.empty + cond unmet 1 0 → new.misread ≡ old.misread + cond misread 1 0 →
+  pub walked_more : (old new : Walk) (unmet overwritten fence idle : Bool) → HasWalkedOver old es p → is_unmet es (suc p) ≡ unmet → overwritten ≡ overwrites es p (Some e) → fence ≡ is_fence e →
+      idle ≡ (fence && not old.flushed) → FollowsAt (suc p) old.shadow new.shadow e → new.flushed ≡ flushed_after old.flushed e → new.empty ≡ old.empty + cond unmet 1 0 →
       new.overwriting ≡ old.overwriting + cond overwritten 1 0 → new.fences ≡ old.fences + cond fence 1 0 → new.idle ≡ old.idle + cond idle 1 0 → HasWalkedOver new es (suc p)
-  walked_more old new unmet misread overwritten fence idle walked u m o f i follows flushed empty_is misreads_is overwriting_is fences_is idle_is = record {
+  walked_more old new unmet overwritten fence idle walked u o f i follows flushed empty_is overwriting_is fences_is idle_is = record {
     shadow = follows-within (suc p) old.shadow new.shadow e follows (λ k. k) es p here refl walked.shadow;
     flushed = flushed ∙ ap (λ b. flushed_after b e) walked.flushed ∙ sym flushed_here;
     fences = fences_is ∙ count_more (at is_fence es) p old.fences fence walked.fences (fence_here ∙ sym f);
     idle = idle_is ∙ count_more (is_idle es) p old.idle idle walked.idle (idle_here ∙ ap (λ b. b && not (is_flushed es p)) (sym f) ∙ ap (λ b. fence && not b) (sym walked.flushed) ∙ sym i);
     overwriting = overwriting_is ∙ count_more (is_overwriting es) p old.overwriting overwritten walked.overwriting (overwriting_here ∙ sym o);
-    misread = misreads_is ∙ count_more (is_misread es) p old.misread misread walked.misread (misread_here ∙ sym m);
     empty = empty_is ∙ count_more (is_unmet es) p old.empty unmet walked.empty u;
   }

@@ -1,7 +1,8 @@
--- Assertions that had nothing to check, and would have if their addresses were hexadecimal. Defined here.
-use Rattle.std.specs.Prelude.{ℕ, ◌-◌, Bool, false, not, ◌&&◌, ◌||◌, List, ◌++◌, codes, decimal, Option, Some, is_some, Result, Ok}
+-- Assertions that write an address in decimal, had nothing to check, and would have if it were hexadecimal. Defined here.
+use Rattle.std.specs.{Prelude.{ℕ, zero, suc, ◌-◌, Bool, false, not, ◌&&◌, ◌||◌, ◌==◌, List, [], ◌++◌, length, take, slice_index_or, codes, decimal, Option, None, Some, slice_get, is_some, Result, Ok}, List.{list_any}}
 use Rattle.pmf_event.specs.{declared.event.Event.{Event}, declared.event.Event.TheVariants.{Persist, Ordered}, Span.{Extent}, Ranges.{first_byte}, Store.{event_at}, Persist.{is_checked}}
-use Rattle.pmf_storelog.specs.{declared.record.Saying.{Saying}, declared.record.Saying.TheVariants.{Happens}, declared.fault.Cause.{Cause}, Records.{record_of}}
+use Rattle.pmf_storelog.specs.{declared.record.Saying.{Saying}, declared.record.Saying.TheVariants.{Happens}, declared.fault.Cause.{Cause}, Records.{record_of}, LogText.{current_at, events_in, numbered, numbers_of, reading_at}}
+use Rattle.pmf_query.specs.{declared.locate.Located.{Located}, Decimal.{asserts_decimal}}
 
 -- whether a byte of the span is checked at p
 abbrev pub is_met : List Event → ℕ → Extent → Bool
@@ -43,3 +44,33 @@ misreads es p _ = false
 -- whether place k is such an assertion, by what stands before it
 unfoldable pub is_misread : List Event → ℕ → Bool
 is_misread es k = misreads es (k - 1) (event_at es k)
+
+-- whether an event that record k gives, with the number of its section, is one of this section, and misread behind the section's events
+-- before it
+abbrev pub misreads_at : List (List ℕ) → ℕ → ℕ → ℕ × Event → Bool
+misreads_at records number k given = given.0 == number && misreads (events_in records number) (length (events_in (take k records) number)) (Some given.1)
+
+-- whether record k, counted from 0, writes an address in decimal that it asserts something of, and is misread in the section with this number
+unfoldable pub is_misread_record : List (List ℕ) → ℕ → ℕ → Bool
+is_misread_record records number k = asserts_decimal (slice_index_or records k []) && list_any (misreads_at records number k) (numbered (current_at records k) (reading_at records k))
+
+-- whether one of the first n records is
+unfoldable pub some_misread : List (List ℕ) → ℕ → ℕ → Bool
+some_misread records number zero = false
+some_misread records number (suc k) = some_misread records number k || is_misread_record records number k
+
+-- whether an assertion of some section is misread
+unfoldable pub has_misread : List (List ℕ) → Bool
+has_misread records = list_any (λ number. some_misread records number (length records)) (numbers_of records)
+
+-- ---- by where the events stand. No public clause cites this.
+
+-- whether the record that stands there asserts something of an address that it writes in decimal
+abbrev pub is_decimal_there : Option Located → Bool
+is_decimal_there None = false
+is_decimal_there (Some l) = asserts_decimal l.text.now
+
+-- whether one of the events at the places 1 to n is misread, and its record writes an address in decimal
+unfoldable pub misread_among : List Event → List Located → ℕ → Bool
+misread_among es located zero = false
+misread_among es located (suc k) = misread_among es located k || (is_decimal_there (slice_get located k) && is_misread es (suc k))

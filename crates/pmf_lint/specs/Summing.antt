@@ -2,7 +2,7 @@
 use Rattle.std.specs.Prelude.{ℕ, ◌+◌, ◌≤◌, Bool, true, false, List, length, count_by, sum_by}
 use Rattle.pmf_event.specs.{declared.event.Event.{Event}, declared.event.Event.TheVariants.{Store, Persist, Ordered, CheckEnd}, declared.profile.Profile.TheVariants.{One}, declared.row.Row.{Row}, Section.{Trace}}
 use Rattle.pmf_verdict.specs.{declared.outcome.Outcome.TheVariants.{Empty}, Outcome.{outcome_of, is_same}, Rows.{rows_of}}
-use Rattle.pmf_lint.specs.{Covering.{uncovered_of}, declared.{summing.Sums.{Sums}, upkeep.Upkeep.{Upkeep}}, Upkeep.{IsUpkeepWithin, misread_of, upkeep_of}}
+use Rattle.pmf_lint.specs.{Covering.{uncovered_of}, declared.{summing.Sums.{Sums}, upkeep.Upkeep.{Upkeep}}, Upkeep.{IsUpkeepWithin, upkeep_of}}
 
 -- whether the event asserts something: that bytes are durable, that two were made in order, or what its scope stored
 unfoldable pub asserts : Event → Bool
@@ -34,14 +34,13 @@ upkeeps_of sections = record {
   idle = sum_by (λ (t : Trace). (upkeep_of t.events).idle) sections;
 }
 
--- how many events the sections have, how many of these assert something, how many rows are empty, how many of these would not be
--- if addresses were hexadecimal, how many events are stores, how many of these no later assertion covers, and how they are made durable
+-- how many events the sections have, how many of these assert something, how many rows are empty, how many events are stores, how many of
+-- these no later assertion covers, and how they are made durable
 unfoldable pub sums_of : List Trace → Sums
 sums_of sections = record {
   events = sum_by (λ (t : Trace). length t.events) sections;
   assertions = sum_by (λ (t : Trace). count_by (λ e. asserts e) t.events) sections;
   empty = sum_by (λ (t : Trace). empty_of t) sections;
-  misread = sum_by (λ (t : Trace). misread_of t.events) sections;
   stores = sum_by (λ (t : Trace). count_by (λ e. is_store e) t.events) sections;
   unasserted = sum_by (λ (t : Trace). uncovered_of t.events) sections;
   upkeep = upkeeps_of sections;
@@ -63,7 +62,6 @@ both a b = record {
   events = a.events + b.events;
   assertions = a.assertions + b.assertions;
   empty = a.empty + b.empty;
-  misread = a.misread + b.misread;
   stores = a.stores + b.stores;
   unasserted = a.unasserted + b.unasserted;
   upkeep = kept_both a.upkeep b.upkeep;
@@ -74,7 +72,6 @@ pub record IsWithin (most : ℕ) (sums : Sums) : Type 0 where
   pub events_within : sums.events ≤ most
   pub assertions_within : sums.assertions ≤ most
   pub empty_within : sums.empty ≤ most
-  pub misread_within : sums.misread ≤ most
   pub stores_within : sums.stores ≤ most
   pub unasserted_within : sums.unasserted ≤ most
   pub upkeep_within : IsUpkeepWithin most sums.upkeep

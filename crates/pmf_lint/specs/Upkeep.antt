@@ -2,7 +2,7 @@
 use Rattle.std.specs.Prelude.{◌≡◌, ℕ, ◌-◌, ◌≤◌, Bool, true, false, not, ◌&&◌, nat_lt, List, length, Option, Some, is_some, if◌then◌else◌}
 use Rattle.pmf_event.specs.{declared.event.Event.{Event}, declared.event.Event.TheVariants.{Store, Flush}, Places.{count}, Ranges.{first_byte}, Store.{at, event_at, is_fence, last}, Persist.{is_exposed}}
 use Rattle.pmf_shadow.specs.Shadow.{StandsFor}
-use Rattle.pmf_lint.specs.{declared.upkeep.{Upkeep.{Upkeep}, Walk.{Walk}}, Leaving.{leaves_unfenced, leaves_unwritten}, Misread.{is_misread, is_unmet}}
+use Rattle.pmf_lint.specs.{declared.upkeep.{Upkeep.{Upkeep}, Walk.{Walk}}, Leaving.{leaves_unfenced, leaves_unwritten}, Misread.{is_unmet}}
 
 -- whether the event is a write-back
 unfoldable pub is_flush : Event → Bool
@@ -49,10 +49,6 @@ pub record IsUpkeepWithin (most : ℕ) (u : Upkeep) : Type 0 where
   pub fences_within : u.fences ≤ most
   pub idle_within : u.idle ≤ most
 
--- how many assertions of a section are EMPTY, and would not be if their addresses were hexadecimal
-unfoldable pub misread_of : List Event → ℕ
-misread_of es = count (is_misread es) (length es)
-
 -- what a walk has counted of the first p events, and what it keeps of them
 pub record HasWalkedOver (walk : Walk) (es : List Event) (p : ℕ) : Type 0 where
   pub shadow : StandsFor walk.shadow (λ k. k) es p
@@ -60,5 +56,4 @@ pub record HasWalkedOver (walk : Walk) (es : List Event) (p : ℕ) : Type 0 wher
   pub fences : walk.fences ≡ count (at is_fence es) p
   pub idle : walk.idle ≡ count (is_idle es) p
   pub overwriting : walk.overwriting ≡ count (is_overwriting es) p
-  pub misread : walk.misread ≡ count (is_misread es) p
   pub empty : walk.empty ≡ count (is_unmet es) p

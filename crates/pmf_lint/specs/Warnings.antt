@@ -1,7 +1,7 @@
 -- Why a log may not be what its user believes it is. Defined here.
-use Rattle.std.specs.Prelude.{ℕ, Bool, not, ◌&&◌, ◌||◌, ◌==◌, nat_lt, List}
+use Rattle.std.specs.Prelude.{ℕ, Bool, not, ◌&&◌, ◌||◌, ◌==◌, List}
 use Rattle.pmf_storelog.specs.{Separators.{records_of}, LogText.{sections_of}}
-use Rattle.pmf_lint.specs.{declared.summing.Sums.{Sums}, declared.warnings.Warnings.{Warnings}, Ending.{has_decimal, is_open_ended, lacks_stop}, Naming.{skipped_names}, Nearness.{has_near, has_strange}, Summing.{sums_of}}
+use Rattle.pmf_lint.specs.{declared.summing.Sums.{Sums}, declared.warnings.Warnings.{Warnings}, Ending.{is_open_ended, lacks_stop}, Misread.{has_misread}, Naming.{skipped_names}, Nearness.{has_near, has_strange}, Summing.{sums_of}}
 
 -- whether nothing is asserted
 unfoldable pub asserts_nothing : Sums → Bool
@@ -20,7 +20,7 @@ warnings_by bytes records sums = record {
   has_strange = has_strange (skipped_names records);
   is_open_ended = is_open_ended bytes;
   lacks_stop = lacks_stop records;
-  is_misread = has_decimal records && nat_lt 0 sums.misread;
+  is_misread = has_misread records;
 }
 
 -- which warnings are due of a log

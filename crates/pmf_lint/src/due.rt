@@ -7,10 +7,10 @@ ghost use Rattle.pmf_lint.specs.{Counting.{AreNotes}, Due.{asserted_in, empty_in
 
 use crate::covering::{both, either};
 use crate::ending::is_open_ended;
-use crate::lint::warnings_by;
+use crate::lint::is_misread;
 use crate::misread::lacks_bytes;
 use crate::noting::Notes;
-use crate::summing::{asserts, count_assertions, look_through};
+use crate::summing::{asserts, count_assertions};
 use crate::warnings::Warnings;
 use pmf_event::{Events, Section};
 use pmf_query::next_record;
@@ -21,17 +21,14 @@ use std::sync::Arc;
 
 /// Which warnings are due of a log that was read, as sections of whatever run.
 ///
-/// Each record is looked at once more, and each section up to the first assertion that has something to check; to its end only where an
-/// assertion writes an address in decimal. Takes memory for the shadow of one section at a time, and in that case for what [`crate::lint_log`] takes.
+/// Each record is looked at once more, and each section up to the first assertion that has something to check; once more only where an
+/// assertion writes an address in decimal. Takes memory for the shadow of one section at a time, and in that case for a location of each event.
 pub fn warnings_due(alloc: Global, log: &[u8], read: &Log) -> Result<Warnings, AllocError>
     requires { (run : ℕ) × (log_of run log.now ≡ Ok read.now) }
     ensures { IfOk result (λ warnings. warnings ≡ warnings_of log.now) }
 {
     let notes = note_records(log);
-    if notes.has_decimal {
-        let (sums, _) = look_through(alloc, read.sections())?;
-        return Ok(warnings_by(log, notes, sums));
-    }
+    let misread = is_misread(alloc, log, notes, read)?;
     let (asserted, filled) = look_for_assertions(alloc, read.sections())?;
     Ok(Warnings {
         asserts_nothing: !asserted,
@@ -40,7 +37,7 @@ pub fn warnings_due(alloc: Global, log: &[u8], read: &Log) -> Result<Warnings, A
         has_strange: notes.has_strange,
         is_open_ended: is_open_ended(log),
         lacks_stop: both(notes.starts, !notes.stops),
-        is_misread: false,
+        is_misread: misread,
     })
 }
 

@@ -1,14 +1,15 @@
 //! What a log holds, before its rows are believed.
 
-ghost use Rattle.std.specs.Prelude.{◌≡◌, Ok, MatchResult, IfOk};
+ghost use Rattle.std.specs.Prelude.{◌≡◌, ℕ, Ok, MatchResult, IfOk};
 ghost use Rattle.pmf_storelog.specs.{LogText.{log_of}, Separators.{records_of}};
 ghost use Rattle.pmf_query.specs.Refusals.{IsLogRefusal};
-ghost use Rattle.pmf_lint.specs.{Counting.{AreNotes, Tallies}, Linting.{IsLint, Overviews}, Summing.{sums_of}, Warnings.{warnings_by}};
+ghost use Rattle.pmf_lint.specs.{Counting.{AreNotes, Tallies}, Linting.{IsLint, Overviews}, Misread.{has_misread}, Summing.{sums_of}, Warnings.{warnings_by}};
 
 use crate::counting::NameCounts;
 use crate::covering::both;
 use crate::ending::is_open_ended;
 use crate::listing::Listing;
+use crate::misread::has_misread;
 use crate::naming::Named;
 use crate::noting::Notes;
 use crate::storing::name_all;
@@ -122,14 +123,34 @@ fn lint_of<'a>(alloc: Global, log: &'a [u8], read: &Log, sums: Sums) -> Result<L
 {
     let counts = count_names(alloc, log)?;
     let sections = read.sections().len() as u64;
-    let warnings = warnings_by(log, counts.notes, sums);
+    let misread = is_misread(alloc, log, counts.notes, read)?;
+    let warnings = warnings_by(log, counts.notes, sums, misread);
     Ok(told(counts, read.skipped(), sections, sums, warnings))
+}
+
+/// Whether an assertion of the log is misread, whose records tell this. No section is looked through where none writes an address in decimal.
+pub(crate) fn is_misread(
+    alloc: Global,
+    log: &[u8],
+    notes: Notes,
+    read: &Log,
+) -> Result<bool, AllocError>
+    requires notes { AreNotes notes (records_of log.now) }
+    requires read { (run : ℕ) × (log_of run log.now ≡ Ok read.now) }
+    ensures { IfOk result (λ any. any ≡ has_misread (records_of log.now)) }
+{
+    if !notes.has_decimal {
+        return Ok(false);
+    }
+    let any = has_misread(alloc, log, read.sections())?;
+    Ok(any)
 }
 
 /// Which warnings are due of the log whose records tell this, and whose sections hold this.
 #[tactic(auto, unfolding(crate::specs::Warnings::warnings_by, crate::specs::Ending::lacks_stop))]
-pub(crate) fn warnings_by(log: &[u8], notes: Notes, sums: Sums) -> Warnings
-    requires { AreNotes notes (records_of log.now) }
+fn warnings_by(log: &[u8], notes: Notes, sums: Sums, misread: bool) -> Warnings
+    requires notes { AreNotes notes (records_of log.now) }
+    requires misread { misread ≡ has_misread (records_of log.now) }
     ensures { result ≡ warnings_by log.now (records_of log.now) sums }
 {
     Warnings {
@@ -139,7 +160,7 @@ pub(crate) fn warnings_by(log: &[u8], notes: Notes, sums: Sums) -> Warnings
         has_strange: notes.has_strange,
         is_open_ended: is_open_ended(log),
         lacks_stop: both(notes.starts, !notes.stops),
-        is_misread: both(notes.has_decimal, sums.misread > 0),
+        is_misread: misread,
     }
 }
 

@@ -1,15 +1,92 @@
-//! Assertions that had nothing to check, and would have if their addresses were hexadecimal.
+//! Assertions that write an address in decimal, had nothing to check, and would have if it were hexadecimal.
 
-ghost use Rattle.std.specs.Prelude.{◌≡◌, Some, IfOk, string_bytes};
-ghost use Rattle.pmf_storelog.specs.Records.{record_of};
+ghost use Rattle.std.specs.Prelude.{◌≡◌, ◌≤◌, ◌&&◌, ℕ, Some, length, map, slice_get, IfOk, string_bytes};
+ghost use Rattle.pmf_event.specs.declared.section.TheConstants.{EVENT_LIMIT};
+ghost use Rattle.pmf_storelog.specs.{LogText.{sections_of}, Records.{record_of}, Separators.{records_of}};
+ghost use Rattle.pmf_query.specs.Locating.{IsFaultless};
 ghost use Rattle.pmf_shadow.specs.Shadow.{ForEachList};
-ghost use Rattle.pmf_lint.specs.Misread.{is_met_as_read, lacks_bytes, may_be_met, misreads, read_as_hexadecimal, text_as_hexadecimal};
+ghost use Rattle.pmf_lint.specs.Misread.{has_misread, is_decimal_there, is_met_as_read, lacks_bytes, may_be_met, misread_among, misreads, read_as_hexadecimal, text_as_hexadecimal};
 
 use crate::covering::both;
-use pmf_event::{Event, Span};
+use crate::naming::name_of;
+use crate::noting::asserts_decimal;
+use pmf_event::{Event, Events, Section, Span};
+use pmf_query::{Located, Standing};
 use pmf_shadow::Shadow;
 use pmf_storelog::{Saying, read_record};
 use std::alloc::{AllocError, Global};
+use std::sync::Arc;
+
+/// Whether an assertion of the log, which has no fault and these sections, writes an address in decimal, had nothing to check, and would
+/// have if it were hexadecimal. Takes memory for a location of each event, and for the shadow of one section at a time.
+pub(crate) fn has_misread(
+    alloc: Global,
+    log: &[u8],
+    sections: &[Arc<Section>],
+) -> Result<bool, AllocError>
+    requires faultless { IsFaultless log.now }
+    requires sections { (run : ℕ) × (map (λ s. s.value) sections.now ≡ sections_of run (records_of log.now)) }
+    ensures { IfOk result (λ any. any ≡ has_misread (records_of log.now)) }
+{
+    let standing = Standing::of_faultless(alloc, log)?;
+    for section in sections {
+        let located = standing.in_section(section.name().number);
+        if is_any_misread(alloc, section.events(), located)? {
+            return Ok(true);
+        }
+    }
+    Ok(false)
+}
+
+// Whether one of these events is such an assertion, where they stand so. A walk up to the first.
+fn is_any_misread(
+    alloc: Global,
+    events: &Events,
+    located: &[Located<'_>],
+) -> Result<bool, AllocError>
+    requires { length events.now ≤ EVENT_LIMIT }
+    ensures { IfOk result (λ any. any ≡ misread_among events.now located.now (length events.now)) }
+{
+    let mut shadow = Shadow::for_walk(alloc, events);
+    let mut place: u32 = 0;
+    for index in 0..events.len() {
+        let event = events.at(index);
+        place += 1;
+        shadow.settle_for(&event)?;
+        let decimal = is_decimal_there(located, index);
+        if is_misread_here(alloc, &shadow, &event, decimal)? {
+            return Ok(true);
+        }
+        shadow.follow(place, event)?;
+    }
+    Ok(false)
+}
+
+// Whether the record of an event, by its index, writes an address in decimal that it asserts something of.
+fn is_decimal_there(located: &[Located<'_>], index: usize) -> bool
+    ensures { result ≡ is_decimal_there (slice_get located.now index) }
+{
+    match located.get(index) {
+        Some(found) => asserts_decimal(found.text, name_of(found.text)),
+        None => false,
+    }
+}
+
+// Whether the event is misread, behind those that the shadow stands for, where it is decimal.
+fn is_misread_here(
+    alloc: Global,
+    shadow: &Shadow,
+    event: &Event,
+    decimal: bool,
+) -> Result<bool, AllocError>
+    ensures { IfOk result (λ misread. ForEachList shadow.now (λ told es p. misread ≡ (decimal && misreads es p (Some event.now)))) }
+{
+    if !decimal {
+        return Ok(false);
+    }
+    let misread = misreads(alloc, shadow, event, lacks_bytes(shadow, event))?;
+    Ok(misread)
+}
 
 /// Whether the event, behind those that the shadow stands for, is an assertion that has nothing to check there.
 pub(crate) fn lacks_bytes(shadow: &Shadow, event: &Event) -> bool
@@ -25,15 +102,10 @@ pub(crate) fn lacks_bytes(shadow: &Shadow, event: &Event) -> bool
     }
 }
 
-/// Whether the event, behind those that the shadow stands for, is an assertion that is EMPTY there, and would not be if its address, or one
-/// of its two, were hexadecimal; for an event of which it is known whether it lacks bytes. Takes memory for the text of such an address, and
-/// for none of an assertion that is met.
-pub(crate) fn misreads(
-    alloc: Global,
-    shadow: &Shadow,
-    event: &Event,
-    unmet: bool,
-) -> Result<bool, AllocError>
+// Whether the event, behind those that the shadow stands for, is an assertion that is EMPTY there, and would not be if its address, or one
+// of its two, were hexadecimal; for an event of which it is known whether it lacks bytes. Takes memory for the text of such an address, and
+// for none of an assertion that is met.
+fn misreads(alloc: Global, shadow: &Shadow, event: &Event, unmet: bool) -> Result<bool, AllocError>
     ensures { IfOk result (λ misread. ForEachList shadow.now (λ told es p.
         unmet ≡ lacks_bytes es p (Some event.now) → misread ≡ misreads es p (Some event.now))) }
 {

@@ -82,9 +82,9 @@ fn is_strange_skipped(name: &[u8], skipped: bool) -> bool
     skipped && !is_text(name)
 }
 
-// Whether the record of this name asserts bytes of which it writes an address in decimal.
+/// Whether the record of this name asserts bytes of which it writes an address in decimal.
 #[tactic(auto, unfolding(pmf_query::specs::Decimal::asserts_decimal))]
-fn asserts_decimal(text: &[u8], name: &[u8]) -> bool
+pub(crate) fn asserts_decimal(text: &[u8], name: &[u8]) -> bool
     requires { name.now ≡ name_of text.now }
     ensures { result ≡ asserts_decimal text.now }
 {

@@ -19,8 +19,6 @@ pub struct Sums {
     pub assertions: u128,
     /// Rows of assertions that had nothing to check.
     pub empty: u128,
-    /// Assertions that had nothing to check, and would have had if their addresses were hexadecimal.
-    pub misread: u128,
     /// Events that are stores.
     pub stores: u128,
     /// Those of them that no later assertion covers: none names one of their bytes, and no `PMT.CHECKEND` closes a scope in
@@ -39,7 +37,6 @@ impl Sums {
             events: 0,
             assertions: 0,
             empty: 0,
-            misread: 0,
             stores: 0,
             unasserted: 0,
             upkeep: Upkeep::none(),
@@ -60,7 +57,6 @@ impl Sums {
             events: events.len() as u128,
             assertions: u128::from(count_assertions(events)),
             empty: u128::from(walk.empty),
-            misread: u128::from(walk.misread),
             stores: u128::from(count_stores(events)),
             unasserted: u128::from(count_marked(&looked.uncovered)),
             upkeep: upkeep_of(&walk, &looked.left),
@@ -75,7 +71,6 @@ impl Sums {
         self.events += more.events;
         self.assertions += more.assertions;
         self.empty += more.empty;
-        self.misread += more.misread;
         self.stores += more.stores;
         self.unasserted += more.unasserted;
         self.upkeep = self.upkeep.and(more.upkeep);

@@ -179,7 +179,7 @@ fn what_is_no_log_is_suspicious(rt: HostRuntime) {
 #[test]
 fn a_log_may_be_cut_off_or_misread(rt: HostRuntime) -> Result<(), Fail> {
     // Whether the last record has no end, START no STOP, and an empty assertion would not be if its address were hexadecimal.
-    let cases: [(&[u8], (bool, bool, bool)); 17] = [
+    let cases: [(&[u8], (bool, bool, bool)); 20] = [
         (b"STORE;1;0;1|PMT.PERSIST;1;1|", (false, false, false)),
         (b"STORE;1;0;1|PMT.PERSIST;1;1", (true, false, false)),
         (b"STORE;1;0;1\nPMT.PERSIST;1;1\r ", (false, false, false)),
@@ -206,6 +206,19 @@ fn a_log_may_be_cut_off_or_misread(rt: HostRuntime) -> Result<(), Fail> {
         (
             b"STORE;0x1000;0;8|PMT.ORDERED;0x1000;8;2000;8|",
             (false, false, false),
+        ),
+        // Of two assertions one is decimal, and the other one would not be empty.
+        (
+            b"STORE;0x1000;0;8|PMT.PERSIST;4096;8|PMT.PERSIST;0x3e8;8|",
+            (false, false, false),
+        ),
+        (
+            b"PMT.SECTION;1|PMT.PERSIST;1000;8|PMT.SECTION;2|STORE;0x1000;0;8|PMT.PERSIST;0x3e8;8|",
+            (false, false, false),
+        ),
+        (
+            b"PMT.SECTION;9|STORE;0x1000;0;8|PMT.SECTION;2|PMT.PERSIST;0x3e8;8|PMT.SECTION;9|PMT.PERSIST;1000;8|",
+            (false, false, true),
         ),
         (b"STORE;1000;0;8|PMT.PERSIST;1000;8|", (false, false, false)),
         (

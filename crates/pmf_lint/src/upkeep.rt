@@ -7,7 +7,7 @@ ghost use Rattle.pmf_lint.specs.{Upkeep.{HasWalkedOver, flushed_after, IsUpkeepW
 
 use crate::covering::{both, one_if};
 use crate::leaving::{Left, are_narrow};
-use crate::misread::{lacks_bytes, misreads};
+use crate::misread::lacks_bytes;
 use pmf_event::{Event, Events};
 use pmf_shadow::Shadow;
 use std::alloc::{AllocError, Global};
@@ -76,15 +76,12 @@ pub(crate) fn upkeep_of(walk: &Walk, left: &Left) -> Upkeep
 /// The events of a section as far as a walk has passed them.
 #[derive(Debug, Drop)]
 pub(crate) struct Walk {
-    alloc: Global,
     pub(crate) shadow: Shadow,
     /// Whether a write-back stands behind the last fence.
     pub(crate) flushed: bool,
     pub(crate) fences: u64,
     pub(crate) idle: u64,
     pub(crate) overwriting: u64,
-    /// Assertions that are EMPTY, and would not be if their addresses were hexadecimal.
-    pub(crate) misread: u64,
     /// Assertions that are EMPTY.
     pub(crate) empty: u64,
 }
@@ -112,13 +109,11 @@ impl Walk {
         ensures { (es : List Event) → HasWalkedOver result es 0 }
     {
         Walk {
-            alloc,
             shadow: Shadow::for_walk(alloc, events),
             flushed: false,
             fences: 0,
             idle: 0,
             overwriting: 0,
-            misread: 0,
             empty: 0,
         }
     }
@@ -149,11 +144,9 @@ impl Walk {
             → suc p ≡ place → OnOk result (HasWalkedOver self.new es (suc p)) }
     {
         let unmet = lacks_bytes(&self.shadow, event);
-        let misread = misreads(self.alloc, &self.shadow, event, unmet)?;
         let overwrites = overwrites(&self.shadow, event);
         let fence = is_fence(event);
         self.empty += one_if(unmet);
-        self.misread += one_if(misread);
         self.overwriting += one_if(overwrites);
         self.fences += one_if(fence);
         self.idle += one_if(both(fence, !self.flushed));

@@ -20,8 +20,8 @@ pub struct Warnings {
     pub is_open_ended: bool,
     /// `START` stands without `STOP`: the log may be cut off.
     pub lacks_stop: bool,
-    /// An assertion had nothing to check, and would have had if its address were hexadecimal; and an assertion of the log writes its
-    /// address in decimal.
+    /// An assertion that writes an address in decimal had nothing to check, and would have had if its address, or each of its two, were
+    /// hexadecimal.
     pub is_misread: bool,
 }
 

@@ -1,6 +1,7 @@
 pub mod HeadsLemmas
 pub mod OverLemmas
 pub mod TellingLemmas
+pub mod FrontLemmas
 pub mod WaitingLemmas
 pub mod NamesLemmas
 pub mod FeedingLemmas

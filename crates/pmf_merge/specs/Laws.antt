@@ -1,5 +1,5 @@
 -- What is said of ledgers that are merged as they stand. Defined here.
-use Rattle.std.specs.{Prelude.{◌≡◌, ◌↔◌, ℕ, List, [], map, flat_map, Contains, All, Option, Some}, Io.KnownBytes.{Appends}}
+use Rattle.std.specs.{Prelude.{◌≡◌, ◌↔◌, ℕ, Bool, List, [], map, flat_map, Contains, All, Option, Some}, Io.KnownBytes.{Appends}}
 use Rattle.pmf_event.specs.declared.profile.Profile.TheVariants.{One}
 use Rattle.pmf_verdict.specs.Checked.{Checked}
 use Rattle.pmf_ledger.specs.{Laws.{CanBeSpelled}, LedgerText.{text_of_ledger}, LedgerValue.{LedgerValue}, Names.{Rises}, RawText.{raw_block, text_on_trust}}
@@ -28,5 +28,5 @@ sources_of ledgers = map (λ (l : LedgerValue). Some (text_of_ledger l)) ledgers
 -- of the texts of ledgers the text of their union is written, but for its first text line
 abbrev pub TrustKeepsLedgers : Type 0
 TrustKeepsLedgers =
-    (ledgers : List LedgerValue) (ledger : LedgerValue) (held holds : Option (List ℕ)) → All CanBeWritten ledgers → IsUnionOf ledgers ledger → Trusts (sources_of ledgers) held holds →
+    (ledgers : List LedgerValue) (ledger : LedgerValue) (held holds : Option (List ℕ)) (fails : Bool) → All CanBeWritten ledgers → IsUnionOf ledgers ledger → Trusts (sources_of ledgers) held holds fails →
     Appends held holds (text_on_trust ledger.profile (map raw_block ledger.sections))

@@ -2,7 +2,7 @@
 use Rattle.std.specs.Prelude.{◌≡◌, ◌≢◌, ◌⊎◌, ◌↔◌, ℕ, List, [], ◌∷◌, ◌++◌, Contains, length, codes, Option, None, Some}
 use Rattle.pmf_device.specs.Pages.{IsPage}
 use Rattle.pmf_event.specs.declared.{name.Name.{Name}, profile.Profile.{Profile}}
-use Rattle.pmf_ledger.specs.RawText.{RawBlock, RawNamesRise, bytes_of, trusted_version_of}
+use Rattle.pmf_ledger.specs.RawText.{RawBlock, RawNamesRise, bytes_of, text_on_trust, trusted_version_of}
 use Rattle.pmf_merge.specs.{Refusing.{IsOfNoText}, declared.{fault.MergeFault.{MergeFault}, raw_written.RawWritten.{RawWritten}}}
 use Rattle.pmf_merge.specs.declared.fault.MergeFault.TheVariants as fault
 
@@ -18,6 +18,10 @@ pub record IsRawWritten (profile : Profile) (held holds : Option (List ℕ)) (ou
   pub whole : front ++ written.rest.items ≡ (trusted_version_of profile ++ codes "\n") ++ bytes_of out
   pub count : written.count ≡ length out
   pub last : IsLastTold out written.name written.last.items
+
+-- this is the text of some blocks
+abbrev pub IsTextOfBlocks : List ℕ → Type 0
+IsTextOfBlocks text = (profile : Profile) × (out : List RawBlock) × (text ≡ text_on_trust profile out)
 
 -- with this block more these are told, or it is told already
 pub record AddsRaw (out : List RawBlock) (v : RawBlock) (new : List RawBlock) : Type 0 where

@@ -1,5 +1,5 @@
 -- Why a text is not read further, or a section not told. Defined here.
-use Rattle.std.specs.Prelude.{◌≡◌, ◌≢◌, ℕ, List, Option, Some}
+use Rattle.std.specs.{Prelude.{◌≡◌, ◌≢◌, ℕ, List, take, Option, Some}, Io.KnownBytes.{Appends}}
 use Rattle.pmf_verdict.specs.Checked.{Checked}
 use Rattle.pmf_merge.specs.{Feeding.{IsTextFault}, declared.fault.MergeFault.{MergeFault}}
 use Rattle.pmf_merge.specs.declared.fault.MergeFault.TheVariants as fault
@@ -27,3 +27,7 @@ IsReadFault index _ = ⊥
 abbrev pub IsTellFault : Option Checked → Checked → MergeFault → Type 0
 IsTellFault last v (fault.Conflict name) = (l : Checked) × (last ≡ Some l) × (l.section.name ≡ name) × (v.section.name ≡ name) × (l.section ≢ v.section)
 IsTellFault last v found = IsOfNoText found
+
+-- a front of such a text was written
+abbrev pub WritesFront : (List ℕ → Type 0) → Option (List ℕ) → Option (List ℕ) → Type 0
+WritesFront IsText held holds = (text : List ℕ) × (count : ℕ) × IsText text × Appends held holds (take count text)

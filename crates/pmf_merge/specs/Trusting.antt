@@ -1,7 +1,7 @@
 -- What is written of ledger texts of any length that are merged as they stand. Defined here.
-use Rattle.std.specs.{Prelude.{◌≡◌, ◌≢◌, ◌↔◌, ℕ, ◌<◌, List, [], ◌∷◌, ◌++◌, length, map, slice_index_or, flat_map, option_map, Contains, Option, None, Some}, Io.KnownBytes.{Appends, Consumes}}
+use Rattle.std.specs.{Prelude.{◌≡◌, ◌≢◌, ◌↔◌, ℕ, ◌<◌, Bool, true, List, [], ◌∷◌, ◌++◌, length, map, slice_index_or, flat_map, option_map, Contains, Option, None, Some}, Io.KnownBytes.{Appends, Consumes}}
 use Rattle.pmf_event.specs.{declared.name.Name.{Name}, declared.profile.Profile.{Profile}, declared.profile.Profile.TheVariants.{One}}
-use Rattle.pmf_ledger.specs.RawText.{IsRawFront, IsRawText, RawBlock, RawNamesRise, text_on_trust}
+use Rattle.pmf_ledger.specs.RawText.{IsRawFront, IsRawText, RawBlock, RawNamesRise, tells_fail, text_on_trust}
 use Rattle.pmf_merge.specs.{Heads.{IsUpTo}, Merging.{IsAllOf}, RawFeeding.{IsNoRawText, IsRawHead, head_in}, declared.fault.MergeFault.{MergeFault}, declared.raw_feed.RawFeed.{RawFeed}}
 use Rattle.pmf_merge.specs.declared.fault.MergeFault.TheVariants as fault
 
@@ -17,14 +17,20 @@ AreRawTexts profile (start ∷ starts) (blocks ∷ parts) = ((text : List ℕ) �
 AreRawTexts profile [] (blocks ∷ parts) = ⊥
 AreRawTexts profile (start ∷ starts) [] = ⊥
 
--- all sources were read, and the text of their blocks was written; without a source it is by profile One
-pub record Trusts (starts : List (Option (List ℕ))) (held holds : Option (List ℕ)) : Type 0 where
+-- one of the blocks has a row that counts as fail
+abbrev pub AnyTellsFail : List RawBlock → Type 0
+AnyTellsFail blocks = (b : RawBlock) × Contains blocks b × (tells_fail b.bytes ≡ true)
+
+-- all sources were read, and the text of their blocks was written, with this answer whether one tells a fail; without a source it is by
+-- profile One
+pub record Trusts (starts : List (Option (List ℕ))) (held holds : Option (List ℕ)) (fails : Bool) : Type 0 where
   pub profile : Profile
   pub parts : List (List RawBlock)
   pub texts : AreRawTexts profile starts parts
   pub out : List RawBlock
   pub blocks : AreBlocksOf parts out
   pub written : Appends held holds (text_on_trust profile out)
+  pub fails_are_told : (fails ≡ true) ↔ AnyTellsFail out
   pub of_none : starts ≡ [] → profile ≡ One
 
 -- what was read of a source begins with a first text line by the profile and these blocks

@@ -5,7 +5,7 @@ ghost use Rattle.pmf_device.specs.Failures.{CanCountOneMore};
 ghost use Rattle.pmf_verdict.specs.Checked.{Checked};
 ghost use Rattle.pmf_event.specs.declared.profile.Profile.{Profile};
 ghost use Rattle.pmf_ledger.specs.{declared.form.Form.{Form}, Names.{IsBefore, Rises}};
-ghost use Rattle.pmf_merge.specs.{Heads.{HasTold, IsLast, IsUpTo}, Merging.{IsMergeFaultOf, Merges}, Refusing.{IsTellFault}, Written.{IsWritten}};
+ghost use Rattle.pmf_merge.specs.{Heads.{HasTold, IsLast, IsUpTo}, Merging.{IsMergeFaultOf, Merges}, Refusing.{IsTellFault, WritesFront}, Written.{IsTextOfSome, IsWritten}};
 
 use crate::fault::MergeFault;
 use crate::heads::Heads;
@@ -37,6 +37,8 @@ pub fn merge_to<T: Threads + Sync, R: Source, W: Sink>(
     requires writes { CanCountOneMore (W.failed_calls writer.old) }
     ensures merges { IfOk result (Merges form (map R.left sources.old.items) (W.held writer.old) (W.held writer.new)) }
     ensures refused { IfErr result (IsMergeFaultOf (map R.left sources.old.items)) }
+    // What was written before is a front of the text of some sections.
+    ensures front { IfErr result (λ found. WritesFront (IsTextOfSome form) (W.held writer.old) (W.held writer.new)) }
 {
     let mut heads = Heads::begin(rt, alloc, workers, sources)?;
     let mut written = match Written::begin(alloc, form, heads.profile) {
@@ -72,6 +74,8 @@ fn tell<W: Sink>(
         → All (λ (c : Checked). c.profile ≡ profile) out → verdict.now.profile ≡ profile
         → OnOk result ((new : List Checked) × HasTold out verdict.now new × IsLast new (Some verdict.now)
         × IsWritten form profile held (W.held writer.new) new written.new) }
+    ensures front { (form : Form) (profile : Profile) (held : Option (List ℕ)) (out : List Checked)
+        → IsWritten form profile held (W.held writer.old) out written.old → IfErr result (λ found. WritesFront (IsTextOfSome form) held (W.held writer.new)) }
     ensures refused { IfErr result (IsTellFault last.now verdict.now) }
     ensures counted { OnOk result (W.failed_calls writer.new ≡ W.failed_calls writer.old) }
 {

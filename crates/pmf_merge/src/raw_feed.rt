@@ -1,11 +1,11 @@
 //! A ledger text that is read from its source up to its next block, as it stands.
 
-ghost use Rattle.std.specs.Prelude.{◌≡◌, ◌<◌, ◌≤◌, ◌∷◌, ◌++◌, ℕ, List, [], Option, None, Some, IfErr, IfOk, IsTrue, OnOk, length, option_map};
+ghost use Rattle.std.specs.Prelude.{◌≡◌, ◌<◌, ◌≤◌, ◌||◌, ◌∷◌, ◌++◌, ℕ, List, [], Option, None, Some, IfErr, IfOk, IsTrue, OnOk, length, option_map};
 ghost use Rattle.pmf_device.specs.Failures.{CanCountOneMore};
 ghost use Rattle.pmf_event.specs.declared.name.Name.{Name};
 ghost use Rattle.std.specs.Io.KnownBytes.{IsAtEnd};
 ghost use Rattle.pmf_ledger.specs.LedgerText.{text_of_end};
-ghost use Rattle.pmf_ledger.specs.RawText.{HasNoFirst, IsFirst, RawBlock};
+ghost use Rattle.pmf_ledger.specs.RawText.{HasNoFirst, IsFirst, RawBlock, tells_fail};
 ghost use Rattle.pmf_merge.specs.RawFeeding.{IsNoRawText, IsRawFault, IsRawFed, IsRawHead, head_in, rest_of};
 
 use crate::fault::MergeFault;
@@ -99,8 +99,14 @@ impl RawFeed {
         }
     }
 
-    /// Whether some row of the next block counts as fail.
-    pub(crate) fn tells_fail(&self) -> bool {
+    /// Whether some row of the next block counts as fail, or one did before.
+    pub(crate) fn tells_fail(&self, before: bool) -> bool
+        ensures { (start left : Option (List ℕ)) (told : List RawBlock) (v : RawBlock) → IsRawHead start left told self.now
+            → head_in self.now ≡ Some v → result ≡ (before || tells_fail v.bytes) }
+    {
+        if before {
+            return true;
+        }
         match self.next {
             Some(found) => found.tells_fail(self.unread.rest()),
             None => false,

@@ -5,7 +5,7 @@ ghost use Rattle.std.specs.Io.KnownBytes.{Appends};
 ghost use Rattle.pmf_device.specs.Failures.{CanCountOneMore};
 ghost use Rattle.pmf_event.specs.declared.profile.Profile.{Profile};
 ghost use Rattle.pmf_ledger.specs.RawText.{RawBlock, RawNamesRise, text_on_trust};
-ghost use Rattle.pmf_merge.specs.{Heads.{IsUpTo}, RawWritten.{AddsRaw, IsRawTellFault, IsRawWritten}, Refusing.{IsOfNoText}};
+ghost use Rattle.pmf_merge.specs.{Heads.{IsUpTo}, RawWritten.{AddsRaw, IsRawTellFault, IsRawWritten, IsTextOfBlocks}, Refusing.{IsOfNoText, WritesFront}};
 
 use crate::fault::MergeFault;
 use crate::written::fault_of;
@@ -58,6 +58,8 @@ impl RawWritten {
             → IsRawWritten profile held (W.held writer.old) out self.old → RawNamesRise out → v.name ≡ name → v.bytes ≡ block.now
             → ((c : RawBlock) → Contains out c → IsUpTo c.name v.name)
             → OnOk result ((new : List RawBlock) × AddsRaw out v new × IsRawWritten profile held (W.held writer.new) new self.new) }
+        ensures front { (profile : Profile) (held : Option (List ℕ)) (out : List RawBlock)
+            → IsRawWritten profile held (W.held writer.old) out self.old → IfErr result (λ found. WritesFront IsTextOfBlocks held (W.held writer.new)) }
         ensures refused { (profile : Profile) (held : Option (List ℕ)) (out : List RawBlock) (v : RawBlock)
             → IsRawWritten profile held (W.held writer.old) out self.old → v.name ≡ name → v.bytes ≡ block.now → IfErr result (IsRawTellFault out v) }
         ensures counted { OnOk result (W.failed_calls writer.new ≡ W.failed_calls writer.old) }
@@ -111,6 +113,8 @@ impl RawWritten {
         ensures refused { IfErr result IsOfNoText }
         ensures written { (profile : Profile) (held : Option (List ℕ)) (out : List RawBlock) → IsRawWritten profile held (W.held writer.old) out self
             → OnOk result (Appends held (W.held writer.new) (text_on_trust profile out)) }
+        ensures front { (profile : Profile) (held : Option (List ℕ)) (out : List RawBlock)
+            → IsRawWritten profile held (W.held writer.old) out self → IfErr result (λ found. WritesFront IsTextOfBlocks held (W.held writer.new)) }
     {
         let mut end = String::new(alloc);
         match push_end(&mut end, self.count) {
@@ -132,6 +136,8 @@ impl RawWritten {
         requires { CanCountOneMore (W.failed_calls writer.old) }
         ensures written { (profile : Profile) (held : Option (List ℕ)) (out : List RawBlock) → IsRawWritten profile held (W.held writer.old) out self.old
             → OnOk result (IsRawWritten profile held (W.held writer.new) out self.new) }
+        ensures front { (profile : Profile) (held : Option (List ℕ)) (out : List RawBlock)
+            → IsRawWritten profile held (W.held writer.old) out self.old → IfErr result (λ found. WritesFront IsTextOfBlocks held (W.held writer.new)) }
         ensures refused { IfErr result IsOfNoText }
         ensures counted { OnOk result (W.failed_calls writer.new ≡ W.failed_calls writer.old) }
     {

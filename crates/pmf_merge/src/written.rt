@@ -6,7 +6,7 @@ ghost use Rattle.pmf_device.specs.Failures.{CanCountOneMore};
 ghost use Rattle.pmf_event.specs.declared.profile.Profile.{Profile};
 ghost use Rattle.pmf_verdict.specs.Checked.{Checked};
 ghost use Rattle.pmf_ledger.specs.{declared.form.Form.{Form}, Report.{totals_of}, Telling.{parts_after, text_before, text_behind}};
-ghost use Rattle.pmf_merge.specs.{Refusing.{IsOfNoText}, Written.{IsWritten}};
+ghost use Rattle.pmf_merge.specs.{Refusing.{IsOfNoText, WritesFront}, Written.{IsTextOfSome, IsWritten}};
 
 use crate::fault::MergeFault;
 use pmf_device::{Page, Sink, Stop};
@@ -51,6 +51,8 @@ impl Written {
         ensures told { (form : Form) (profile : Profile) (held : Option (List ℕ)) (out : List Checked)
             → IsWritten form profile held (W.held writer.old) out self.old
             → OnOk result (IsWritten form profile held (W.held writer.new) (out ++ verdict.now ∷ []) self.new) }
+        ensures front { (form : Form) (profile : Profile) (held : Option (List ℕ)) (out : List Checked)
+            → IsWritten form profile held (W.held writer.old) out self.old → IfErr result (λ found. WritesFront (IsTextOfSome form) held (W.held writer.new)) }
         ensures refused { IfErr result IsOfNoText }
         ensures counted { OnOk result (W.failed_calls writer.new ≡ W.failed_calls writer.old) }
     {
@@ -72,6 +74,8 @@ impl Written {
             → IsWritten form profile held (W.held writer.old) out self
             → IfOk result (λ totals. (totals ≡ totals_of out)
             × Appends held (W.held writer.new) (text_before form profile ++ parts_after form [] out ++ text_behind form out)) }
+        ensures front { (form : Form) (profile : Profile) (held : Option (List ℕ)) (out : List Checked)
+            → IsWritten form profile held (W.held writer.old) out self → IfErr result (λ found. WritesFront (IsTextOfSome form) held (W.held writer.new)) }
     {
         match self.teller.end(&mut self.rest) {
             Ok(()) => {}
@@ -90,6 +94,8 @@ impl Written {
         ensures written { (form : Form) (profile : Profile) (held : Option (List ℕ)) (out : List Checked)
             → IsWritten form profile held (W.held writer.old) out self.old
             → OnOk result (IsWritten form profile held (W.held writer.new) out self.new) }
+        ensures front { (form : Form) (profile : Profile) (held : Option (List ℕ)) (out : List Checked)
+            → IsWritten form profile held (W.held writer.old) out self.old → IfErr result (λ found. WritesFront (IsTextOfSome form) held (W.held writer.new)) }
         ensures refused { IfErr result IsOfNoText }
         ensures counted { OnOk result (W.failed_calls writer.new ≡ W.failed_calls writer.old) }
     {

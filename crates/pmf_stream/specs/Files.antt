@@ -18,13 +18,13 @@ AppendsTo held holds file text = Appends (held file) (holds file) text × ((othe
 abbrev pub AppendsEach : (ℕ → Option (List ℕ)) → (ℕ → Option (List ℕ)) → (ℕ → List ℕ) → Type 0
 AppendsEach held holds texts = (file : ℕ) → Appends (held file) (holds file) (texts file)
 
--- the stream was read to its end, and the log is cut into what was written to the files
-pub record IsCutOf (step : ℕ) (left rest : Option (List ℕ)) (held holds : ℕ → Option (List ℕ)) : Type 0 where
+-- the stream was read to its end, and the log is cut into what was written to the files; so much was told
+pub record IsCutOf (step : ℕ) (left rest : Option (List ℕ)) (held holds : ℕ → Option (List ℕ)) (told : ℕ) : Type 0 where
   pub log : List ℕ
   pub consumed : Consumes left rest log
   pub ended : IsAtEnd rest
   pub texts : ℕ → List ℕ
-  pub cut : IsCutInto step log texts
+  pub cut : IsCutInto step log texts told
   pub written : AppendsEach held holds texts
 
 -- what the cutter handed out was written

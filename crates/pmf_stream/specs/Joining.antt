@@ -1,7 +1,7 @@
 -- What the texts of ledgers give that are joined, text after text. Defined here.
-use Rattle.std.specs.Prelude.{◌≡◌, ◌≢◌, ◌⊎◌, ℕ, zero, suc, ◌<◌, ◌≤◌, true, false, List, [], length, take, slice_index_or, None, All, flat_map}
+use Rattle.std.specs.Prelude.{◌≡◌, ◌≢◌, ◌⊎◌, ℕ, zero, suc, ◌<◌, ◌≤◌, List, [], length, take, slice_index_or, None, All, flat_map}
 use Rattle.pmf_event.specs.{declared.profile.Profile.{Profile}, declared.profile.Profile.TheVariants.{One}, Section.{Trace}}
-use Rattle.pmf_ledger.specs.{declared.form.Form.{Form}, declared.joining.JoinFault.{JoinFault}, Joining.{AgreeTogether}, Gathered.{GathersBoth, IsLeastClash, IsLedgerOf, Unites}, AllKept.{AllKept, AllFilled}, Ending.{has_end}, LedgerValue.{LedgerValue}, Loading.{IsRefusedWith, LoadsAs, MayWantMemory, fault_of, reading_of}, Report.{totals_of}}
+use Rattle.pmf_ledger.specs.{declared.form.Form.{Form}, declared.joining.JoinFault.{JoinFault}, Joining.{AgreeTogether}, Gathered.{GathersBoth, IsLeastClash, IsLedgerOf, Unites}, AllKept.{AllKept, AllFilled}, LedgerValue.{LedgerValue}, Loading.{IsRefusedWith, LoadsAs, MayWantMemory, fault_of, reading_of}, Report.{totals_of}}
 use Rattle.pmf_stream.specs.{declared.joining.Joined.{Joined}, declared.joining.JoinTextFault.{JoinTextFault}, Checking.{IsTooLong, IsWrittenOf}}
 use Rattle.pmf_ledger.specs.declared.joining.JoinFault.TheVariants as join
 use Rattle.pmf_stream.specs.declared.joining.JoinTextFault.TheVariants as fault
@@ -46,36 +46,11 @@ abbrev pub IsRefusedInTurn : List (List ℕ) → JoinTextFault → Type 0
 IsRefusedInTurn texts found =
     (index : ℕ) × (before : LedgerValue) × IsReached texts index before × IsRefusedAt before index (slice_index_or texts index []) found
 
--- each text has an end
-abbrev pub AllHaveEnds : List (List ℕ) → Type 0
-AllHaveEnds texts = All (λ text. has_end text ≡ true) texts
-
--- the text of this index is the first that has no end
-pub record IsFirstWithoutEnd (texts : List (List ℕ)) (index : ℕ) : Type 0 where
-  pub within : index < length texts
-  pub before : AllHaveEnds (take index texts)
-  pub lacking : has_end (slice_index_or texts index []) ≡ false
-
--- the text of this index is refused itself with this fault, whatever stands before it; memory is wanted where it may be
-abbrev pub IsRefusedAlone : ℕ → List ℕ → JoinTextFault → Type 0
-IsRefusedAlone index text (fault.Load told found) = (told ≡ index) × IsRefusedWith text found
-IsRefusedAlone index text fault.OutOfMemory = MayWantMemory text
-IsRefusedAlone index text _ = ⊥
-
--- some text has no end, and the first such text is refused itself
-abbrev pub IsRefusedForItsEnd : List (List ℕ) → JoinTextFault → Type 0
-IsRefusedForItsEnd texts found =
-    (index : ℕ) × IsFirstWithoutEnd texts index × IsRefusedAlone index (slice_index_or texts index []) found
-
--- a text without an end comes before all other refusals; where each text has one, they are refused in turn
-abbrev pub IsFirstRefusal : List (List ℕ) → JoinTextFault → Type 0
-IsFirstRefusal texts found = IsRefusedForItsEnd texts found ⊎ (AllHaveEnds texts × IsRefusedInTurn texts found)
-
--- the same; or all texts are joined, and their ledger is too long to be written. Want of memory is answered otherwise by a command
+-- they are refused in turn; or all are joined, and their ledger is too long to be written. Want of memory is answered otherwise by a command
 abbrev pub IsRefusalOfTexts : Form → List (List ℕ) → JoinTextFault → Type 0
 IsRefusalOfTexts form texts fault.TooLong = (ledger : LedgerValue) × IsJoinOf texts ledger × IsTooLong form ledger
 IsRefusalOfTexts form texts fault.OutOfMemory = ⊥
-IsRefusalOfTexts form texts found = IsFirstRefusal texts found
+IsRefusalOfTexts form texts found = IsRefusedInTurn texts found
 
 -- the new ledger is that of both, which are by one profile
 pub record IsJoinOfTwo (before after new : LedgerValue) : Type 0 where

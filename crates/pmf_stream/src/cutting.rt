@@ -1,6 +1,6 @@
 //! A log that is read in pieces, and written with its sections cut as it is read.
 
-ghost use Rattle.std.specs.Prelude.{◌≡◌, ◌+◌, ◌++◌, ℕ, List, IfErr, OnOk};
+ghost use Rattle.std.specs.Prelude.{◌≡◌, ◌+◌, ◌++◌, ℕ, List, IfErr, IfOk, OnOk};
 ghost use Rattle.pmf_cut.specs.Cutting.{HasCutAll, HasRead};
 ghost use Rattle.pmf_device.specs.Failures.{CanCountOneMore};
 ghost use Rattle.pmf_stream.specs.{Answering.{IsRefused, failed_reads, failed_writes}, Files.{IsCutOf, WritesOut}};
@@ -51,7 +51,7 @@ pub fn cut_stream<R: Source, W: Outlet, N: Notes>(
 ) -> Result<Pieces, StreamFault<CutFault>>
     requires read { CanCountOneMore (R.failed_calls reader.old) }
     requires write { CanCountOneMore (W.failed_calls writer.old) }
-    ensures cut { OnOk result (IsCutOf lengths.step (R.left reader.old) (R.left reader.new) (W.held_in writer.old) (W.held_in writer.new)) }
+    ensures cut { IfOk result (λ pieces. IsCutOf lengths.step (R.left reader.old) (R.left reader.new) (W.held_in writer.old) (W.held_in writer.new) pieces.told) }
     ensures reads { R.failed_calls reader.new ≡ R.failed_calls reader.old + failed_reads result }
     ensures writes { W.failed_calls writer.new ≡ W.failed_calls writer.old + failed_writes result }
 {

@@ -1,16 +1,16 @@
 //! From the texts of ledgers to the text of the ledger of them all.
 
-ghost use Rattle.std.specs.Prelude.{◌≡◌, ◌+◌, ◌++◌, ◌⊎◌, ◌<◌, ◌≤◌, ℕ, List, length, map, take, true, false, IfOk, IfErr, IfSome, IsErrOf, MatchResult};
-ghost use Rattle.pmf_ledger.specs.{Ending.{has_end}, LedgerValue.{LedgerValue}, Loading.{IsOfText, IsRefusedWith, IsWantOfMemory, LoadsAs, MayWantMemory}};
+ghost use Rattle.std.specs.Prelude.{◌≡◌, ◌+◌, ◌++◌, ◌⊎◌, ◌<◌, ◌≤◌, ℕ, List, length, map, take, IfOk, IfErr, IfSome, IsErrOf, MatchResult};
+ghost use Rattle.pmf_ledger.specs.{LedgerValue.{LedgerValue}, Loading.{IsOfText, IsRefusedWith, IsWantOfMemory, LoadsAs, MayWantMemory}};
 ghost use Rattle.pmf_device.specs.Failures.{CanCountOneMore};
-ghost use Rattle.pmf_stream.specs.{Answering.{Answers, TellsFaults}, Joining.{AllHaveEnds, IsFirstRefusal, IsJoinFaultOf, IsJoinOf, IsJoinOfTwo, IsJoinedAt, IsJoinedText, IsRefusalOfTexts, IsRefusedAlone, IsRefusedAt, IsRefusedForItsEnd, IsRefusedInTurn}};
+ghost use Rattle.pmf_stream.specs.{Answering.{Answers, TellsFaults}, Joining.{IsJoinFaultOf, IsJoinOf, IsJoinOfTwo, IsJoinedAt, IsJoinedText, IsRefusalOfTexts, IsRefusedAt, IsRefusedInTurn}};
 
 use crate::checking::write_asked;
 use crate::fault::StreamFault;
 use crate::writing::write_answer;
 use pmf_device::Sink;
 use pmf_event::Profile;
-use pmf_ledger::{Form, JoinFault, Ledger, LedgerFault, has_end, load_ledger};
+use pmf_ledger::{Form, JoinFault, Ledger, LedgerFault, load_ledger};
 use pmf_storelog::{Cause, LogFault};
 use std::alloc::Global;
 use std::error::Error;
@@ -23,8 +23,7 @@ pub struct Joined {
     pub fails: u128,
 }
 
-/// Why ledger texts were not joined: the first text that has no end is refused itself; or else it is the first that applies as they
-/// are loaded and joined, text after text.
+/// Why ledger texts were not joined: the first that applies as they are loaded and joined, text after text.
 #[derive(Clone, Copy, Debug, PartialEq, Eq)]
 pub enum JoinTextFault {
     /// A text is refused.
@@ -62,8 +61,8 @@ impl Error for JoinTextFault {}
 
 // Why the text of this index was not loaded.
 fn fault_at(index: usize, fault: LedgerFault) -> JoinTextFault
-    ensures refused { (text : List ℕ) → (IsOfText fault → IsRefusedWith text fault)
-        → (IsWantOfMemory fault → MayWantMemory text) → IsRefusedAlone index text result }
+    ensures refused { (before : LedgerValue) (text : List ℕ) → (IsOfText fault → IsRefusedWith text fault)
+        → (IsWantOfMemory fault → MayWantMemory text) → IsRefusedAt before index text result }
     ensures memory { result ≡ JoinTextFault.OutOfMemory → IsWantOfMemory fault }
 {
     match fault {
@@ -94,43 +93,14 @@ fn fault_of_join(fault: JoinFault) -> JoinTextFault
 /// decides: a text that is no ledger's, or one whose ledger doesn't join that of those before it. Of no text it is
 /// the empty ledger of profile One.
 ///
-/// Before any text is loaded, the end of each is looked at. Where one has none (see [`has_end`]), as a text that was cut off, the
-/// first such text is loaded alone, and refused with its own fault.
-///
 /// The texts are joined by halves of about as many bytes: beside their checks the time grows with their sections times the
 /// logarithm of their bytes. Takes memory for the sections and their verdicts, and while two ledgers are joined for a list of both.
 pub fn join_texts(alloc: Global, texts: &[Vec<u8>]) -> Result<Ledger, JoinTextFault>
     ensures { MatchResult result (IsJoinOf (map (λ text. text.items) texts.now))
-        (IsFirstRefusal (map (λ text. text.items) texts.now)) }
+        (IsRefusedInTurn (map (λ text. text.items) texts.now)) }
 {
-    look_at_ends(alloc, texts)?;
     let none = Ledger::new(alloc, Profile::One);
     join_up_to(alloc, none, texts, 0, texts.len())
-}
-
-// Refuses the first text that has no end.
-fn look_at_ends(alloc: Global, texts: &[Vec<u8>]) -> Result<(), JoinTextFault>
-    ensures { MatchResult result (λ _. AllHaveEnds (map (λ text. text.items) texts.now))
-        (IsRefusedForItsEnd (map (λ text. text.items) texts.now)) }
-{
-    for (index, text) in texts.iter().enumerate() {
-        look_at_end(alloc, index, text)?;
-    }
-    Ok(())
-}
-
-// Refuses the text with its own fault if it has no end: such a text isn't loaded.
-fn look_at_end(alloc: Global, index: usize, text: &[u8]) -> Result<(), JoinTextFault>
-    ensures { MatchResult result (λ _. has_end text.now ≡ true)
-        (λ found. (has_end text.now ≡ false) × IsRefusedAlone index text.now found) }
-{
-    if has_end(text) {
-        return Ok(());
-    }
-    let Err(fault) = load_ledger(alloc, text) else {
-        return Ok(());
-    };
-    Err(fault_at(index, fault))
 }
 
 // The ledger of the texts before the end, of which those before the first are joined. Where their second half isn't joined
@@ -267,7 +237,7 @@ pub fn join_to<W: Sink>(
         (W.held writer.old) (W.held writer.new) result }
     // Memory was wanted where a text is loaded or joined, or the texts are joined.
     ensures memory { IsErrOf result StreamFault.OutOfMemory
-        → IsFirstRefusal (map (λ text. text.items) texts.now) JoinTextFault.OutOfMemory
+        → IsRefusedInTurn (map (λ text. text.items) texts.now) JoinTextFault.OutOfMemory
         ⊎ ((ledger : LedgerValue) × IsJoinOf (map (λ text. text.items) texts.now) ledger) }
     ensures faults { TellsFaults 0 0 (W.failed_calls writer.old) (W.failed_calls writer.new)
         writer.old writer.new result }

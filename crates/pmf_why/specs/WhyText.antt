@@ -3,7 +3,7 @@ use Rattle.std.specs.{Prelude.{ℕ, ◌-◌, ◌==◌, nat_le, List, [], ◌++�
 use Rattle.pmf_event.specs.{declared.finding.Finding.{Finding}, declared.finding.Finding.TheVariants.{OrderedFail, OrderedSameLine}, declared.name.Name.{Name}, declared.row.Row.{Row}}
 use Rattle.pmf_storelog.specs.Canonical.{line_of_event}
 use Rattle.pmf_verdict.specs.Text.{text_of_row}
-use Rattle.pmf_cause.specs.declared.{edit.Edit.{Edit}, lack.Lack.{Lack}, need.Need.{Need}, cause.Cause.{Cause}}
+use Rattle.pmf_cause.specs.{declared.{edit.Edit.{Edit}, lack.Lack.{Lack}, need.Need.{Need}, cause.Cause.{Cause}}, Later.{asks_byte}}
 use Rattle.pmf_cause.specs.declared.edit.Edit.TheVariants as edit
 use Rattle.pmf_cause.specs.declared.lack.Lack.TheVariants as lack
 use Rattle.pmf_cause.specs.declared.cause.Cause.TheVariants as cause
@@ -79,11 +79,16 @@ text_of_edit stands (edit.LeaveOut place) = text_with stands (codes "leave out r
 unfoldable pub text_of_edits : List Located → List Edit → List ℕ
 text_of_edits stands edits = flat_map (λ e. text_of_edit stands e ++ codes "           ") edits
 
--- what is told as a cure
-unfoldable pub text_of_cure : List Located → List Edit → Way → List ℕ
-text_of_cure stands edits NotFound = codes "none found\n"
-text_of_cure stands edits Alone = text_of_edits stands edits ++ codes "this row then passes\n"
-text_of_cure stands edits WithAll = text_of_edits stands edits ++ codes "with all cures this row passes\n"
+-- what is told behind the changes: a row of an assertion whose bytes were not durable passes, another is gone; or that there are none
+abbrev pub text_of_cured : Finding → Way → List ℕ
+text_of_cured finding NotFound = codes "none found\n"
+text_of_cured finding Alone = if asks_byte finding then codes "this row then passes\n" else codes "this row is then gone\n"
+text_of_cured finding WithAll = if asks_byte finding then codes "with all cures this row passes\n" else codes "with all cures this row is gone\n"
+
+-- what is told as a cure of a row with this finding
+unfoldable pub text_of_cure : List Located → Finding → List Edit → Way → List ℕ
+text_of_cure stands finding edits NotFound = text_of_cured finding NotFound
+text_of_cure stands finding edits way = text_of_edits stands edits ++ text_of_cured finding way
 
 -- ---- a row
 
@@ -108,7 +113,7 @@ text_of_reason bad edits way =
     text_of_section bad.part.checked.section.name ++ text_of_row bad.row
     ++ text_of_records bad.part.stands bad.row bad.cause
     ++ codes "  cause    " ++ text_of_cause bad.part.stands bad.cause ++ codes "\n"
-    ++ codes "  cure     " ++ text_of_cure bad.part.stands edits way
+    ++ codes "  cure     " ++ text_of_cure bad.part.stands bad.row.finding edits way
 
 -- how many rows more are like a row that is told, where there are more
 unfoldable pub text_of_more : Name → Row → ℕ → List ℕ

@@ -5,8 +5,8 @@
 pub enum Way {
     /// No cure was found.
     NotFound,
-    /// The row passes with these changes alone.
+    /// The row is cured by these changes alone, and by those for all rows of its section.
     Alone,
-    /// The row passes with the changes for all rows of its section, and these are some of them.
+    /// The row is cured by the changes for all rows of its section, and these are some of them.
     WithAll,
 }

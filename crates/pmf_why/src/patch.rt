@@ -140,7 +140,7 @@ fn patched_of(alloc: Global, section: &Arc<Section>, asked: Patches) -> Result<P
         Ok(verdict) => verdict,
         Err(_) => return Err(AllocError),
     };
-    let proposal = propose(alloc, &verdict, &[])?;
+    let proposal = propose(alloc, &verdict, &[], None)?;
     let Plan { edits, trial } = Plan::of(alloc, &verdict, proposal.all)?;
     match trial {
         Some(trial) => Ok(Patched {

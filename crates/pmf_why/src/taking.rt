@@ -100,7 +100,7 @@ impl<'a> Telling<'a> {
         };
         let causes = causes(alloc, &verdict)?;
         let wanted = wanted_rows(alloc, verdict.rows(), &causes, self.asked.event)?;
-        let Proposal { all, own } = propose(alloc, &verdict, &wanted)?;
+        let Proposal { all, own } = propose(alloc, &verdict, &wanted, None)?;
         let plan = Plan::of(alloc, &verdict, all)?;
         self.counts.push(plan.counts(&verdict))?;
         let taken = Taken {

@@ -1,12 +1,12 @@
 //! The text of one row: its records, its cause, and what cures it.
 
 ghost use Rattle.std.specs.Prelude.{◌≡◌, ◌++◌, OnOk, IfOk, option_copied, string_bytes, flat_map, codes};
-ghost use Rattle.pmf_why.specs.{Reasons.{stands_at}, Rows.{bad_of}, WhyText.{record_at, text_of_cause, text_of_cure, text_of_edit, text_of_edits, text_of_kept, text_of_lack, text_of_last, text_of_late_fence, text_with, text_of_more, text_of_place, text_of_reason, text_of_record, text_of_records, text_of_section}};
+ghost use Rattle.pmf_why.specs.{Reasons.{stands_at}, Rows.{bad_of}, WhyText.{record_at, text_of_cause, text_of_cure, text_of_cured, text_of_edit, text_of_edits, text_of_kept, text_of_lack, text_of_last, text_of_late_fence, text_with, text_of_more, text_of_place, text_of_reason, text_of_record, text_of_records, text_of_section}};
 
 use crate::cure::Way;
 use crate::kind::stands_at;
 use crate::row::BadRow;
-use pmf_cause::{Cause, Edit, Lack, Need};
+use pmf_cause::{Cause, Edit, Lack, Need, asks_byte};
 use pmf_event::{Finding, Name, Row};
 use pmf_query::{Located, push_ascii};
 use pmf_storelog::push_event;
@@ -34,7 +34,7 @@ pub(crate) fn reason_text(
     text.push_str("  cause    ")?;
     push_cause(&mut text, stands, bad.cause)?;
     text.push_str("\n  cure     ")?;
-    push_cure(&mut text, stands, edits, way)?;
+    push_cure(&mut text, stands, bad.row.finding, edits, way)?;
     Ok(text)
 }
 
@@ -288,21 +288,29 @@ fn push_with(
 fn push_cure(
     text: &mut String,
     stands: &[Located<'_>],
+    finding: Finding,
     edits: &[Edit],
     way: Way,
 ) -> Result<(), AllocError>
-    ensures { OnOk result (string_bytes text.new ≡ string_bytes text.old ++ text_of_cure stands.now edits.now way) }
+    ensures { OnOk result (string_bytes text.new ≡ string_bytes text.old ++ text_of_cure stands.now finding edits.now way) }
 {
     match way {
-        Way::NotFound => text.push_str("none found\n"),
-        Way::Alone => {
-            push_edits(text, stands, edits)?;
-            text.push_str("this row then passes\n")
-        }
-        Way::WithAll => {
-            push_edits(text, stands, edits)?;
-            text.push_str("with all cures this row passes\n")
-        }
+        Way::NotFound => {}
+        Way::Alone | Way::WithAll => push_edits(text, stands, edits)?,
+    }
+    text.push_str(words_of_cured(finding, way))
+}
+
+// What is told of a row with this finding behind its cure.
+fn words_of_cured(finding: Finding, way: Way) -> &'static str
+    ensures { result.now ≡ text_of_cured finding way }
+{
+    match (asks_byte(finding), way) {
+        (_, Way::NotFound) => "none found\n",
+        (true, Way::Alone) => "this row then passes\n",
+        (false, Way::Alone) => "this row is then gone\n",
+        (true, Way::WithAll) => "with all cures this row passes\n",
+        (false, Way::WithAll) => "with all cures this row is gone\n",
     }
 }
 

@@ -8,8 +8,8 @@ use crate::row::BadRow;
 use pmf_cause::{Edit, try_edits};
 use std::alloc::{AllocError, Global};
 
-/// How far these changes cure the row, as far as was tried: alone, while there is room for such a check of the section, and else with
-/// all changes of its section.
+/// How far these changes cure the row, as far as was tried: with all changes of its section, and by themselves, too, while there is room
+/// for such a check of the section. Changes that cure it by themselves alone are none: `--patch` would leave them out.
 pub(crate) fn way_of(
     alloc: Global,
     bad: &BadRow<'_, '_>,
@@ -22,23 +22,24 @@ pub(crate) fn way_of(
     if edits.is_empty() {
         return Ok(Way::NotFound);
     }
+    let Some(with_all) = &bad.taken.plan.trial else {
+        return Ok(Way::NotFound);
+    };
+    if !with_all.is_cured(&bad.row) {
+        return Ok(Way::NotFound);
+    }
     let verdict = bad.taken.verdict;
     let spent = verdict.section().events().len();
     if spent < *budget {
         *budget -= spent;
-        if let Some(trial) = try_edits(alloc, verdict, edits)? {
-            if trial.is_cured(bad.row.place) {
+        if let Some(alone) = try_edits(alloc, verdict, edits)? {
+            if alone.is_cured(&bad.row) {
                 return Ok(Way::Alone);
             }
         }
     }
-    let Some(trial) = &bad.taken.plan.trial else {
-        return Ok(Way::NotFound);
-    };
-    if trial.is_cured(bad.row.place) {
-        if are_among(edits, &bad.taken.plan.edits) {
-            return Ok(Way::WithAll);
-        }
+    if are_among(edits, &bad.taken.plan.edits) {
+        return Ok(Way::WithAll);
     }
     Ok(Way::NotFound)
 }

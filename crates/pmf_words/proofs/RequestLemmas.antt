@@ -1,7 +1,7 @@
 -- What the matches of a command say of its options, and what the parts of a command have to do with its words.
-use Rattle.std.{proofs.Common.{◌≡◌, ℕ, ◌<◌, ◌^◌, Bool, List, [], ◌∷◌, ◌||◌, refl, sym, ◌∙◌, ap, subst, Option, Some, None, Result, Ok, Err, option_map, map, codes, true, false, Bor, unwrap_or, IfOk, decimal}, specs.List.{list_any}, specs.Str.Parse.{ParsesUnsigned, ExplainsUnsignedError, HasUnsignedDigitsIfOk}, proofs.lemmas.Bool.{true≢false}, proofs.lemmas.Fmt.{parse-decimal}, specs.declared.alloc.AllocError.{AllocError}, specs.declared.num.ParseIntError.{ParseIntError}}
-use Rattle.clap.{specs.Matches.{ReadsOne}, specs.declared.parser.matches.Found.{Found}, specs.Words.{Text, one_text, rows_of, rule_of, with_rule, with_subcommand, app_of, AddsArg, AddsSubcommand, App, Rule, is_simple}, specs.declared.builder.arg.Arg.{Arg}, specs.declared.builder.command.Command.{Command}, specs.declared.builder.value_parser.ValueParser.{ValueParser}, proofs.OnLiterals.{clap_on_literals}, proofs.WalkLemmas.{one_text-rows}}
-use Rattle.pmf_words.specs.Words.{HasWords, IsMaybeNumberOf, IsNumberOf, IsFlagOf, pmfarm_words}
+use Rattle.std.{proofs.Common.{◌≡◌, ℕ, ◌<◌, ◌^◌, Bool, List, [], ◌∷◌, ◌||◌, refl, sym, ◌∙◌, ap, subst, Option, Some, None, Result, Ok, Err, option_map, map, codes, true, false, Bor, unwrap_or, IfOk, decimal, inl, inr}, specs.Prelude.{IsErr, IsErrAnd, MatchResult}, specs.List.{list_any}, specs.Str.Parse.{ParsesUnsigned, ExplainsUnsignedError, HasUnsignedDigitsIfOk}, proofs.lemmas.Bool.{true≢false}, proofs.lemmas.Fmt.{parse-decimal}, specs.declared.alloc.AllocError.{AllocError}, specs.declared.num.ParseIntError.{ParseIntError}}
+use Rattle.clap.{specs.Matches.{ReadsOne}, specs.declared.parser.matches.Found.{Found}, specs.Words.{Text, one_text, rows_of, rule_of, with_rule, with_subcommand, app_of, AddsArg, AddsSubcommand, App, HasKind, IsAmong, Rule, fault_of, is_simple, is_simple_and_free, kind_of}, specs.declared.builder.arg.Arg.{Arg}, specs.declared.builder.command.Command.{Command}, specs.declared.builder.value_parser.ValueParser.{ValueParser}, specs.declared.error.Error.{Error}, proofs.OnLiterals.{clap_on_literals}, proofs.WalkLemmas.{one_text-rows}}
+use Rattle.pmf_words.specs.Words.{HasWords, IsMaybeNumberOf, IsNumberOf, IsFlagOf, IsRefusedWith, own_kinds, pmfarm_words, program_of}
 
 ok-same : {E : Type 0} (r : Result ℕ E) (v k : ℕ) → r ≡ Ok v → r ≡ Ok k → v ≡ k
 ok-same r v k a b = cc
@@ -97,3 +97,24 @@ is_simple-words true true p q r = refl
 is_simple-words true false p q r = refl
 is_simple-words false true p q r = refl
 is_simple-words false false p q r = refl
+
+pub is_free-words : (all patch : Bool) (p q r : ValueParser) → is_simple_and_free (pmfarm_words all patch p q r) ≡ true
+unfolding clap_on_literals
+is_free-words true true p q r = refl
+is_free-words true false p q r = refl
+is_free-words false true p q r = refl
+is_free-words false false p q r = refl
+
+-- an error that is passed on
+pub passed_on : {X E : Type 0} (Done : X → Type 0) (Why : E → Type 0) (result : Result X E) (e : E) → IsErr result × IsErrAnd result (λ other. other ≡ e) → Why e → MatchResult result Done Why
+passed_on Done Why (Ok done) e is because = absurd cc
+passed_on Done Why (Err other) e is because = subst Why (sym is.1) because
+
+-- an error of the parser, and one of the program's own
+pub refused-by_parser : (words : List Text) (p q r : ValueParser) (a : App) (e : Error) → a ≡ program_of words p q r → HasKind (fault_of a words) e → IsRefusedWith words (kind_of e)
+refused-by_parser words p q r a e is (inl memory) = inl memory
+refused-by_parser words p q r a e is (inr among) = inr (p, q, r, inl (subst (λ b. IsAmong (kind_of e) (fault_of b words)) is among))
+
+pub refused-itself : (words : List Text) (p q r : ValueParser) (e : Error) → fault_of (program_of words p q r) words ≡ [] → HasKind own_kinds e → IsRefusedWith words (kind_of e)
+refused-itself words p q r e passed (inl memory) = inl memory
+refused-itself words p q r e passed (inr among) = inr (p, q, r, inr (passed, among))

@@ -1,7 +1,7 @@
 -- The words of the command line: the commands and options of the program, and what they ask for. Defined here,
 -- in the words of `clap`.
-use Rattle.std.specs.{Prelude.{◌≡◌, ℕ, ◌<◌, ◌^◌, pos, Bool, true, false, List, [], ◌∷◌, ◌++◌, map, Option, option_map, unwrap_or, None, Some, codes, bytes_eq, decimal, if◌then◌else◌}, List.{list_any}}
-use Rattle.clap.specs.{Words.{App, Row, Rule, Text, all_of, first_of, one_of, app_of, new_app, new_rule, subcommand_of, with_rule, with_subcommand}, Simple.{new_shape}, declared.builder.action.ArgAction.TheVariants.{Append, SetTrue}, declared.builder.command.Command.{Command, out-Command}, declared.builder.value_parser.ValueParser.{ValueParser}}
+use Rattle.std.specs.{Prelude.{◌≡◌, ◌⊎◌, ℕ, ◌<◌, ◌^◌, pos, Bool, true, false, List, [], ◌∷◌, ◌++◌, map, Option, option_map, unwrap_or, None, Some, codes, bytes_eq, decimal, if◌then◌else◌}, List.{list_any}}
+use Rattle.clap.specs.{Words.{App, IsAmong, Kinds, Row, Rule, Text, all_of, fault_of, first_of, one_of, app_of, new_app, new_rule, subcommand_of, with_rule, with_subcommand}, Simple.{new_shape}, declared.builder.action.ArgAction.TheVariants.{Append, SetTrue}, declared.builder.command.Command.{Command, out-Command}, declared.builder.value_parser.ValueParser.{ValueParser}, declared.error.kind.{ErrorKind.{ErrorKind}, ErrorKind.TheVariants.{ArgumentConflict, OutOfMemory, ValueValidation}}}
 use Rattle.pmf_event.specs.declared.profile.Profile.{Profile}
 use Rattle.pmf_request.specs.declared.{settings.Overview.{Overview}, settings.Patches.{Patches}, settings.Question.{Question}, settings.Reasons.{Reasons}, settings.Settings.{Settings}, settings.Sought.{Sought}, settings.Whole.{Whole}, request.Cuts.{Cuts}, request.Files.{Files}, request.Input.{Input}, request.Simulation.{Simulation}, request.Request.{Request}, request.Wanted.{Wanted}, request.Joining.{Joining}}
 use Rattle.clap.specs.declared.builder.value_parser.ValueParser.TheVariants as vp
@@ -27,7 +27,7 @@ abbrev pub row_count : ValueParser
 row_count = vp.Signed (pos 1) (pos 1000)
 
 abbrev pub thread_count : ValueParser
-thread_count = vp.Signed (pos 0) (pos 64)
+thread_count = vp.Signed (pos 1) (pos 64)
 
 -- an option with one value
 abbrev pub option : Text → Rule
@@ -237,9 +237,9 @@ pub record IsWantedOf (rows : List Row) (w : Wanted) : Type 0 where
   pub summary : one_of (codes "summary") rows ≡ Some (codes "true") → w ≡ wanted.Summary
   pub report : one_of (codes "ledger") rows ≡ Some (codes "false") → one_of (codes "summary") rows ≡ Some (codes "false") → w ≡ wanted.Report
 
--- the way is the one that the flags name; trust without a merge is no request
+-- the way is the one that the flags name; trust without a merge, or beside a summary, is no request
 pub record IsJoiningOf (rows : List Row) (w : Joining) : Type 0 where
-  pub trust : one_of (codes "trust") rows ≡ Some (codes "true") → (one_of (codes "stream") rows ≡ Some (codes "false") → ⊥) × (w ≡ joining.Trust)
+  pub trust : one_of (codes "trust") rows ≡ Some (codes "true") → (one_of (codes "stream") rows ≡ Some (codes "false") → ⊥) × (one_of (codes "summary") rows ≡ Some (codes "true") → ⊥) × (w ≡ joining.Trust)
   pub merge : one_of (codes "trust") rows ≡ Some (codes "false") → one_of (codes "stream") rows ≡ Some (codes "true") → w ≡ joining.Merge
   pub load : one_of (codes "trust") rows ≡ Some (codes "false") → one_of (codes "stream") rows ≡ Some (codes "false") → w ≡ joining.Load
 
@@ -314,8 +314,22 @@ names_all words = has_word (codes "--all") words
 abbrev pub names_patch : List Text → Bool
 names_patch words = has_word (codes "--patch") words
 
--- the request is what these words ask for, the first of which names the program
+-- the program that reads these words
+abbrev pub program_of : List Text → ValueParser → ValueParser → ValueParser → App
+program_of words p q r = pmfarm_words (names_all words) (names_patch words) p q r
+
+-- the kinds of error with which the program refuses words that the parser passes: no section is named so, or two flags don't go together
+abbrev pub own_kinds : Kinds
+own_kinds = ValueValidation ∷ ArgumentConflict ∷ []
+
+-- the parser passes these words, the first of which names the program, and the request is what they ask for
 abbrev pub IsRequestOf : List Text → Request → Type 0
 IsRequestOf words asked =
-    (p q r : ValueParser) × ((command : Text) (rows : List Row) → subcommand_of (pmfarm_words (names_all words) (names_patch words) p q r) words ≡ Some (command, rows) →
+    (p q r : ValueParser) × (fault_of (program_of words p q r) words ≡ []) × ((command : Text) (rows : List Row) → subcommand_of (program_of words p q r) words ≡ Some (command, rows) →
     IsRequestBy (names_all words) (names_patch words) command rows asked)
+
+-- an error of this kind refuses these words: memory ran out, the parser has this kind of them, or it passes them and the program does not
+abbrev pub IsRefusedWith : List Text → ErrorKind → Type 0
+IsRefusedWith words kind =
+    (kind ≡ OutOfMemory)
+    ⊎ ((p q r : ValueParser) × (IsAmong kind (fault_of (program_of words p q r) words) ⊎ ((fault_of (program_of words p q r) words ≡ []) × IsAmong kind own_kinds)))

@@ -111,8 +111,8 @@ What is written of a row, and at the end:
 
   lost, kept   the store that a crash may lose, and the one that it keeps
   event        where no store is lost: the event of the row
-  cure         changes of the log, and what a check with them found; or `none
-               found`, or `with all cures this row passes`
+  cure         changes of the log, and what a check with them found: the row
+               passes, or is gone where no assertion made it; or `none found`
   untold       so many rows are neither told nor like one that is
 
 Rows of one finding, one cause and one place in the source (or one distance of

@@ -50,7 +50,7 @@ pub(crate) fn workers<'a>(alloc: Global) -> Arg<'a>
     ensures rule { rule_of result ≡ number (codes "workers") small_number (codes "1") }
     ensures local { result.global ≡ false }
 {
-    let help = "How many threads check the sections, 1 to 64, or 0 for all that the machine has";
+    let help = "How many threads check the sections, 1 to 64";
     parsed(alloc, "workers", "N", help, value_parser!(u32)).default_value("1")
 }
 
@@ -289,7 +289,7 @@ pub(crate) fn merge_workers<'a>(alloc: Global) -> Arg<'a>
     ensures local { result.global ≡ false }
 {
     let help = "With --stream: how many threads check the sections, as for check";
-    let parser = value_parser!(u32).range(0..=64);
+    let parser = value_parser!(u32).range(1..=64);
     parsed(alloc, "workers", "N", help, parser).default_value("1")
 }
 

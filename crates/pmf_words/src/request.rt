@@ -1,9 +1,9 @@
 //! What the words of the command line ask for.
 
-ghost use Rattle.std.specs.{Prelude.{◌≡◌, List, false, true, Some, codes, map, option_map, IfOk, IfSome, bytes_eq, string_bytes, if◌then◌else◌}, List.{list_any}};
-ghost use Rattle.clap.specs.Words.{Row, Text, found_of, rows_of, subcommand_rows_of};
+ghost use Rattle.std.specs.{Prelude.{◌≡◌, List, false, true, Some, codes, map, option_map, IfOk, IfSome, MatchResult, bytes_eq, string_bytes, if◌then◌else◌}, List.{list_any}};
+ghost use Rattle.clap.specs.Words.{HasKind, Row, Text, found_of, kind_of, rows_of, subcommand_rows_of};
 ghost use Rattle.pmf_event.specs.declared.profile.Profile.{Profile};
-ghost use Rattle.pmf_words.specs.Words.{IsCheckOf, IsCutOf, IsExplainAllOf, IsExplainBy, IsExplainOf, IsFirstOf, IsInputOf, IsJoinOf, IsLintOf, IsLocateOf, IsMaybeSectionOf, IsPatchOf, IsRequestBy, IsRequestOf, IsSectionOf, IsSimOf, IsWantedOf, IsJoiningOf, IsWhyBy, IsWhyOf, NamesSection};
+ghost use Rattle.pmf_words.specs.Words.{IsCheckOf, IsCutOf, IsExplainAllOf, IsExplainBy, IsExplainOf, IsFirstOf, IsInputOf, IsJoinOf, IsLintOf, IsLocateOf, IsMaybeSectionOf, IsPatchOf, IsRefusedWith, IsRequestBy, IsRequestOf, IsSectionOf, IsSimOf, IsWantedOf, IsJoiningOf, IsWhyBy, IsWhyOf, NamesSection, own_kinds};
 
 use crate::commands::program;
 use clap::error::ErrorKind;
@@ -18,7 +18,8 @@ use std::alloc::{AllocError, Global};
 /// Reads the words, the first of which is the program's name. Help and the version come as errors
 /// of their own kind, and so do want of memory and a word that names no section.
 pub fn request_of<'a>(alloc: Global, words: &'a [String]) -> Result<Request<'a>, Error>
-    ensures { IfOk result (IsRequestOf (map string_bytes words.entry.now)) }
+    ensures { MatchResult result (IsRequestOf (map string_bytes words.entry.now))
+        (λ error. IsRefusedWith (map string_bytes words.entry.now) (kind_of error)) }
 {
     let all = has_word(words, "--all");
     let patch = has_word(words, "--patch");
@@ -46,8 +47,9 @@ fn request_by<'a>(
     all: bool,
     patch: bool,
 ) -> Result<Request<'a>, Error>
-    ensures { IfOk result (λ request. (command : Text) (rows : List Row)
-        → subcommand_rows_of matches.now ≡ Some (command, rows) → IsRequestBy all patch command rows request) }
+    ensures { MatchResult result (λ request. (command : Text) (rows : List Row)
+        → subcommand_rows_of matches.now ≡ Some (command, rows) → IsRequestBy all patch command rows request)
+        (HasKind own_kinds) }
 {
     // There are eight commands, and the parser lets nothing pass without one.
     if let Some(explain) = matches.subcommand_matches("explain") {
@@ -110,7 +112,7 @@ fn settings_of(check: &ArgMatches<'_>) -> Settings
 
 // What the words of `explain` ask for, with `--all` or without it.
 fn explain_by<'a>(alloc: Global, explain: &ArgMatches<'a>, all: bool) -> Result<Request<'a>, Error>
-    ensures { IfOk result (IsExplainBy all (rows_of (found_of explain.now))) }
+    ensures { MatchResult result (IsExplainBy all (rows_of (found_of explain.now))) (HasKind own_kinds) }
 {
     let input = input_of(explain);
     if all {
@@ -132,7 +134,7 @@ fn whole_of(explain: &ArgMatches<'_>) -> Whole
 
 // What the words of `why` ask for, with `--patch` or without it.
 fn why_by<'a>(alloc: Global, why: &ArgMatches<'a>, patch: bool) -> Result<Request<'a>, Error>
-    ensures { IfOk result (IsWhyBy patch (rows_of (found_of why.now))) }
+    ensures { MatchResult result (IsWhyBy patch (rows_of (found_of why.now))) (HasKind own_kinds) }
 {
     let input = input_of(why);
     if patch {
@@ -144,7 +146,7 @@ fn why_by<'a>(alloc: Global, why: &ArgMatches<'a>, patch: bool) -> Result<Reques
 }
 
 fn patches_of(alloc: Global, why: &ArgMatches<'_>) -> Result<Patches, Error>
-    ensures { IfOk result (IsPatchOf (rows_of (found_of why.now))) }
+    ensures { MatchResult result (IsPatchOf (rows_of (found_of why.now))) (HasKind own_kinds) }
 {
     let (run, only) = maybe_section_of(alloc, why)?;
     Ok(Patches {
@@ -155,7 +157,7 @@ fn patches_of(alloc: Global, why: &ArgMatches<'_>) -> Result<Patches, Error>
 }
 
 fn reasons_of(alloc: Global, why: &ArgMatches<'_>) -> Result<Reasons, Error>
-    ensures { IfOk result (IsWhyOf (rows_of (found_of why.now))) }
+    ensures { MatchResult result (IsWhyOf (rows_of (found_of why.now))) (HasKind own_kinds) }
 {
     let (run, section) = maybe_section_of(alloc, why)?;
     let all = why.get_flag("all-rows");
@@ -185,7 +187,7 @@ fn most_of(all: bool) -> u32
 
 // The run, and the number of the section if the words name one.
 fn maybe_section_of(alloc: Global, matches: &ArgMatches<'_>) -> Result<(u64, Option<u64>), Error>
-    ensures { IfOk result (λ named. IsMaybeSectionOf (rows_of (found_of matches.now)) named.0 named.1) }
+    ensures { MatchResult result (λ named. IsMaybeSectionOf (rows_of (found_of matches.now)) named.0 named.1) (HasKind own_kinds) }
 {
     match matches.get_str("section") {
         Some(_) => {
@@ -197,7 +199,7 @@ fn maybe_section_of(alloc: Global, matches: &ArgMatches<'_>) -> Result<(u64, Opt
 }
 
 fn sought_of(alloc: Global, locate: &ArgMatches<'_>) -> Result<Sought, Error>
-    ensures { IfOk result (IsLocateOf (rows_of (found_of locate.now))) }
+    ensures { MatchResult result (IsLocateOf (rows_of (found_of locate.now))) (HasKind own_kinds) }
 {
     let (run, section) = section_of(alloc, locate)?;
     Ok(Sought {
@@ -208,7 +210,7 @@ fn sought_of(alloc: Global, locate: &ArgMatches<'_>) -> Result<Sought, Error>
 }
 
 fn question_of(alloc: Global, explain: &ArgMatches<'_>) -> Result<Question, Error>
-    ensures { IfOk result (IsExplainOf (rows_of (found_of explain.now))) }
+    ensures { MatchResult result (IsExplainOf (rows_of (found_of explain.now))) (HasKind own_kinds) }
 {
     let (run, section) = section_of(alloc, explain)?;
     Ok(Question {
@@ -221,7 +223,7 @@ fn question_of(alloc: Global, explain: &ArgMatches<'_>) -> Result<Question, Erro
 
 // The run and the number of the section that the words name.
 fn section_of(alloc: Global, matches: &ArgMatches<'_>) -> Result<(u64, u64), Error>
-    ensures { IfOk result (λ named. IsSectionOf (rows_of (found_of matches.now)) named.0 named.1) }
+    ensures { MatchResult result (λ named. IsSectionOf (rows_of (found_of matches.now)) named.0 named.1) (HasKind own_kinds) }
 {
     let run = matches.get_one::<u64>("run").unwrap_or(0);
     let word = matches.get_str("section").unwrap_or("");
@@ -252,14 +254,18 @@ fn both_of(run: Option<u64>, number: Option<u64>) -> Option<(u64, u64)>
 }
 
 // The error of a word that names no section, in the form of the parser's own.
-fn no_section(alloc: Global, word: &str) -> Error {
+fn no_section(alloc: Global, word: &str) -> Error
+    ensures { HasKind own_kinds result }
+{
     match error_of(alloc, word) {
         Ok(error) => error,
         Err(refused) => Error::from(refused),
     }
 }
 
-fn error_of(alloc: Global, word: &str) -> Result<Error, AllocError> {
+fn error_of(alloc: Global, word: &str) -> Result<Error, AllocError>
+    ensures { IfOk result (HasKind own_kinds) }
+{
     let message = format!(in alloc;
         "invalid value '{word}' for '--section <N>': a section is named N, or R.N as in a report"
     )?;
@@ -288,7 +294,7 @@ fn cuts_of<'a>(cut: &ArgMatches<'a>) -> Cuts<'a>
 }
 
 fn files_of<'a>(alloc: Global, join: &ArgMatches<'a>) -> Result<Files<'a>, Error>
-    ensures { IfOk result (IsJoinOf (rows_of (found_of join.now))) }
+    ensures { MatchResult result (IsJoinOf (rows_of (found_of join.now))) (HasKind own_kinds) }
 {
     let wanted = wanted_of(alloc, join)?;
     let joining = joining_of(alloc, join)?;
@@ -305,7 +311,7 @@ fn files_of<'a>(alloc: Global, join: &ArgMatches<'a>) -> Result<Files<'a>, Error
 
 // What is to be written. Both flags together are refused.
 fn wanted_of(alloc: Global, join: &ArgMatches<'_>) -> Result<Wanted, Error>
-    ensures { IfOk result (IsWantedOf (rows_of (found_of join.now))) }
+    ensures { MatchResult result (IsWantedOf (rows_of (found_of join.now))) (HasKind own_kinds) }
 {
     let ledger = join.get_flag("ledger");
     let summary = join.get_flag("summary");
@@ -322,14 +328,16 @@ fn wanted_of(alloc: Global, join: &ArgMatches<'_>) -> Result<Wanted, Error>
 }
 
 // The error of both flags, in the form of the parser's own.
-fn two_wanted(alloc: Global) -> Result<Error, AllocError> {
+fn two_wanted(alloc: Global) -> Result<Error, AllocError>
+    ensures { IfOk result (HasKind own_kinds) }
+{
     let message = "the argument '--ledger' cannot be used with '--summary'";
     program(alloc, false, false)?.error(ErrorKind::ArgumentConflict, message)
 }
 
 // How they are joined. Trust is for a merge that writes a ledger.
 fn joining_of(alloc: Global, join: &ArgMatches<'_>) -> Result<Joining, Error>
-    ensures { IfOk result (IsJoiningOf (rows_of (found_of join.now))) }
+    ensures { MatchResult result (IsJoiningOf (rows_of (found_of join.now))) (HasKind own_kinds) }
 {
     let stream = join.get_flag("stream");
     let summary = join.get_flag("summary");
@@ -347,7 +355,9 @@ fn joining_of(alloc: Global, join: &ArgMatches<'_>) -> Result<Joining, Error>
 }
 
 // The error of trust that is asked for elsewhere.
-fn no_trust(alloc: Global) -> Result<Error, AllocError> {
+fn no_trust(alloc: Global) -> Result<Error, AllocError>
+    ensures { IfOk result (HasKind own_kinds) }
+{
     let message = "the argument '--trust' needs '--stream', and cannot be used with '--summary'";
     program(alloc, false, false)?.error(ErrorKind::ArgumentConflict, message)
 }

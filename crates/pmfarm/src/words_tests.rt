@@ -321,7 +321,6 @@ fn cut_takes_lengths_a_step_and_the_front_of_names(rt: HostRuntime) -> Result<()
 fn join_takes_files_in_their_order(rt: HostRuntime) -> Result<(), Fail> {
     let (report, summary, ledger) = (Wanted::Report, Wanted::Summary, Wanted::Ledger);
     let by_all = "join --workers=64 --stream a";
-    let as_many = "join --workers 0 --stream a";
     let trusted = "join --trust --ledger --stream";
     let (load, merge, trust) = (Joining::Load, Joining::Merge, Joining::Trust);
     for (line, files, list, joining, workers, wanted) in [
@@ -335,7 +334,6 @@ fn join_takes_files_in_their_order(rt: HostRuntime) -> Result<(), Fail> {
         ("join --stream a", &["a"], None, merge, 1, report),
         ("join --summary --stream a", &["a"], None, merge, 1, summary),
         (by_all, &["a"], None, merge, 64, report),
-        (as_many, &["a"], None, merge, 0, report),
         ("join --stream --trust a", &["a"], None, trust, 1, report),
         (trusted, &[], None, trust, 1, ledger),
     ] {

@@ -4,7 +4,7 @@ use super::verdict_of;
 use crate::{Edit, propose, try_edits};
 use pmf_event::{Event, Finding, Profile, Span, SpanFault};
 use pmf_fixtures::{FENCE, FLUSH, Numbers, OTHER, STORE, Step, events_of};
-use pmf_verdict::{Outcome, outcome_of};
+use pmf_verdict::{Outcome, Verdict, outcome_of};
 use std::alloc::Global;
 use std::test::Fail;
 
@@ -23,17 +23,26 @@ fn cure_of(alloc: Global, steps: &[Step]) -> Result<(Vec<Edit>, bool), Fail> {
             index = at;
         }
     }
-    let place = match verdict.rows().get(index) {
-        Some(row) => row.place,
-        None => 0,
-    };
-    let mut own = propose(alloc, &verdict, &[index])?.own;
+    let mut own = propose(alloc, &verdict, &[index], None)?.own;
     let edits = own.pop().unwrap_or(Vec::new(alloc));
-    let cured = match try_edits(alloc, &verdict, &edits)? {
-        Some(trial) => trial.is_cured(place),
-        None => false,
-    };
+    let cured = is_cured_by(alloc, &verdict, index, &edits)?;
     Ok((edits, cured))
+}
+
+// Whether the changes cure the row with this index.
+fn is_cured_by(
+    alloc: Global,
+    verdict: &Verdict,
+    index: usize,
+    edits: &[Edit],
+) -> Result<bool, Fail> {
+    let Some(row) = verdict.rows().get(index) else {
+        return Ok(false);
+    };
+    match try_edits(alloc, verdict, edits)? {
+        Some(trial) => Ok(trial.is_cured(row)),
+        None => Ok(false),
+    }
 }
 
 fn is_bad(finding: Finding) -> bool {
@@ -154,8 +163,58 @@ fn a_change_that_spoils_another_row_is_no_cure(rt: HostRuntime) -> Result<(), Fa
     let falls = [Edit::LeaveOut { place: 5 }, put(1, FENCE)?];
     assert!(rt; try_edits(alloc, &verdict, &falls)?.is_none());
     let cures = [Edit::LeaveOut { place: 5 }];
-    let trial = try_edits(alloc, &verdict, &cures)?;
-    assert!(rt; trial.is_some_and(|trial| trial.is_cured(5)));
+    let warned = verdict.rows().len() - 1;
+    assert!(rt; is_cured_by(alloc, &verdict, warned, &cures)?);
+    Ok(())
+}
+
+#[test]
+fn an_assertion_is_cured_where_it_still_stands_and_passes(rt: HostRuntime) -> Result<(), Fail> {
+    let alloc = rt.alloc();
+    let bytes = Span::make(0x1000, 8)?;
+    let scope = [
+        Step::CheckStart,
+        Step::TxBegin,
+        ADD,
+        STORE,
+        Step::TxEnd,
+        Step::CheckEnd,
+    ];
+    for (steps, edits, want) in [
+        (
+            [STORE, PERSIST].as_slice(),
+            [put(2, FLUSH)?, put(2, FENCE)?].as_slice(),
+            true,
+        ),
+        // The assertion is left out; its bytes are excluded; its store is left out, so that it has nothing to check.
+        (&[STORE, PERSIST], &[Edit::LeaveOut { place: 2 }], false),
+        (
+            &[STORE, PERSIST],
+            &[Edit::Put {
+                before: 2,
+                event: Event::Exclude(bytes),
+            }],
+            false,
+        ),
+        (&[STORE, PERSIST], &[Edit::LeaveOut { place: 1 }], false),
+        (
+            &[STORE, OTHER, IN_ORDER],
+            &[Edit::LeaveOut { place: 3 }],
+            false,
+        ),
+        (&scope, &[Edit::LeaveOut { place: 6 }], false),
+        (&scope, &[put(5, FLUSH)?, put(5, FENCE)?], true),
+        // A scope that was never opened has no end: that row is gone.
+        (&[Step::CheckEnd], &[Edit::LeaveOut { place: 1 }], true),
+    ] {
+        let verdict = verdict_of(alloc, &events_of(alloc, steps)?, Profile::One)?;
+        let last = verdict.rows().len() - 1;
+        assert_eq!(rt;
+            is_cured_by(alloc, &verdict, last, edits)?,
+            want,
+            "{steps:?} by {edits:?}"
+        );
+    }
     Ok(())
 }
 
@@ -202,14 +261,14 @@ fn what_is_proposed_for_random_rows_cures_them(rt: HostRuntime) -> Result<(), Fa
             ) {
                 continue;
             }
-            let mut own = propose(alloc, &verdict, &[index])?.own;
+            let mut own = propose(alloc, &verdict, &[index], None)?.own;
             let edits = own.pop().unwrap_or(Vec::new(alloc));
             if edits.is_empty() {
                 continue;
             }
             tried = tried.wrapping_add(1);
             match try_edits(alloc, &verdict, &edits)? {
-                Some(trial) if trial.is_cured(row.place) => cured = cured.wrapping_add(1),
+                Some(trial) if trial.is_cured(&row) => cured = cured.wrapping_add(1),
                 _ => assert!(rt; false, "{events:?}: {row:?} by {edits:?}"),
             }
         }
@@ -242,7 +301,7 @@ fn all_cures_together_leave_no_row_that_has_one(rt: HostRuntime) -> Result<(), F
         for index in 0..verdict.rows().len() {
             wanted.push(index)?;
         }
-        let proposal = propose(alloc, &verdict, &wanted)?;
+        let proposal = propose(alloc, &verdict, &wanted, None)?;
         let Some(trial) = try_edits(alloc, &verdict, &proposal.all)? else {
             assert!(rt; false, "{events:?}: {proposal:?}");
             return Ok(());
@@ -250,10 +309,7 @@ fn all_cures_together_leave_no_row_that_has_one(rt: HostRuntime) -> Result<(), F
         for (index, row) in verdict.rows().iter().enumerate() {
             let has_one = proposal.own.get(index).is_some_and(|own| !own.is_empty());
             if matches!(outcome_of(row.finding), Outcome::Fail) && has_one {
-                assert!(rt;
-                    trial.is_cured(row.place),
-                    "{events:?}: {row:?} by {proposal:?}"
-                );
+                assert!(rt; trial.is_cured(row), "{events:?}: {row:?} by {proposal:?}");
             }
         }
     }

@@ -11,8 +11,6 @@ enum Act {
     WriteBack(u64),
     Fence,
     BackUp(u64),
-    End,
-    Close,
 }
 
 fn does(event: &Event, act: Act) -> bool {
@@ -23,8 +21,6 @@ fn does(event: &Event, act: Act) -> bool {
         }
         (Event::Fence, Act::Fence) => true,
         (Event::TxAdd(span), Act::BackUp(byte)) => span.covers(byte),
-        (Event::TxEnd, Act::End) => true,
-        (Event::CheckEnd, Act::Close) => true,
         _ => false,
     }
 }
@@ -61,6 +57,23 @@ fn begun(past: &[Event]) -> u32 {
         }
     }
     begun
+}
+
+// Where the last transaction and the last scope ended that did end, or 0.
+fn ends(past: &[Event]) -> (u32, u32) {
+    let (mut place, mut ends) = (0u32, (0u32, 0u32));
+    for _event in past {
+        let before = first(past, place);
+        place = place.wrapping_add(1);
+        let now = first(past, place);
+        if depth(before) > 0 && depth(now) == 0 {
+            ends.0 = place;
+        }
+        if scope(before) > 0 && scope(now) == 0 {
+            ends.1 = place;
+        }
+    }
+    ends
 }
 
 fn lack_of(events: &[Event], need: Need) -> Option<Lack> {
@@ -105,7 +118,7 @@ pub(super) fn cause_of(events: &[Event], row: Row) -> Option<Cause> {
         }
         Finding::TxStillOpen { .. } => Some(Cause::TransactionRuns { begin: begun(past) }),
         Finding::Unmatched | Finding::Outside => {
-            let ended = last(past, Act::End);
+            let (ended, _) = ends(past);
             Some(Cause::NoTransaction { ended })
         }
         Finding::Nested | Finding::Unclosed { .. } => {
@@ -113,7 +126,7 @@ pub(super) fn cause_of(events: &[Event], row: Row) -> Option<Cause> {
             Some(Cause::ScopeOpen { start })
         }
         Finding::Unopened => {
-            let ended = last(past, Act::Close);
+            let (_, ended) = ends(past);
             Some(Cause::NoScope { ended })
         }
         _ => None,

@@ -1,7 +1,7 @@
 -- A block that is read apart from its text, and then stands in it.
 use Rattle.std.proofs.{Common.{◌≡◌, ℕ, suc, ◌+◌, ◌-◌, ◌<◌, Bool, true, false, List, [], ◌∷◌, ◌++◌, length, Some, refl, sym, ◌∙◌, ap, subst, arith, codes, append_assoc, append-nil, length-append, rules}, lemmas.List.{length_push}, lemmas.List.Elements.{All-from_recursion, All-nil}, lemmas.Grind.{common_steps}}
 use Rattle.pmf_event.specs.{declared.name.Name.{Name}, declared.profile.Profile.{Profile}, declared.profile.Profile.TheVariants.{One, Two}, Section.{Trace}}
-use Rattle.pmf_ledger.{specs.declared.block_lines.BlockLines.{BlockLines}, specs.declared.lone_block.LoneBlock.{LoneBlock}, specs.BlockReading.{AreLinesOf, EndsWithin, GivesBlock, HasNoLineEnd, behind}, specs.Following.{IsNext}, specs.LedgerText.{version_of}, specs.Loading.{Reading, Stage, AtVersion, AtBlock, AtEvents, AtRows, AtEnd, AtFault, after_line, after_line_at, after_lines, after_row, after_version, is_line_end, left_of, lines_of, parts_of, reading_through, unread, with_events, with_rows, with_section}, specs.LoneBlock.{IsLone}, specs.Names.{IsBefore}, proofs.lemmas.BlockReadingLemmas.{rises_more}, proofs.lemmas.LedgerEndLemmas.{last_is, parts_behind, parts_whole, without_last}, proofs.lemmas.LedgerTextLemmas.{profile_of-version}, proofs.lemmas.LinesLemmas.{parts_filled, stays}, proofs.lemmas.ReadingLemmas.{line-at}, proofs.lemmas.TextFrontLemmas.{left_alone, lines_alone, reading_is, within-more, within-next, within-start}}
+use Rattle.pmf_ledger.{specs.declared.block_lines.BlockLines.{BlockLines}, specs.declared.lone_block.LoneBlock.{LoneBlock}, specs.BlockReading.{AreLinesOf, EndsWithin, GivesBlock, HasNoLineEnd, behind}, specs.Following.{IsNext}, specs.LedgerText.{version_of}, specs.Loading.{Reading, Stage, AtVersion, AtBlock, AtEvents, AtRows, AtEnd, AtFault, after_line, after_line_at, after_lines, after_row, after_version, is_line_end, left_of, lines_of, parts_of, reading_through, unread, with_events, with_rows, with_section}, specs.LoneBlock.{IsLone}, specs.Names.{IsBefore}, proofs.lemmas.BlockReadingLemmas.{rises_more}, proofs.lemmas.TextPartsLemmas.{last_is, parts_behind, parts_whole, without_last}, proofs.lemmas.LedgerTextLemmas.{profile_of-version}, proofs.lemmas.LinesLemmas.{parts_filled, stays}, proofs.lemmas.ReadingLemmas.{line-at}, proofs.lemmas.TextFrontLemmas.{left_alone, lines_alone, reading_is, within-more, within-next, within-start}}
 
 -- whether a text line neither ended the text nor was refused
 abbrev goes_on : Stage → Bool

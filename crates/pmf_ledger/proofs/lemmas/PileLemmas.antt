@@ -1,8 +1,8 @@
 -- Ledgers that are to become one: of what set they are after one more section, and after two were joined.
-use Rattle.std.proofs.{Common.{◌≡◌, ◌≢◌, ◌⊎◌, ◌↔◌, ◌≤◌, List, [], ◌∷◌, ◌++◌, length, map, refl, sym, ◌∙◌, ap, subst, arith, inl, inr, Contains, Result, Ok, Err, IfErr, IfOk, OnErr, OnOk}, lemmas.List.Elements.{Contains-append_left, Contains-push, Contains-push_cases}, lemmas.Grind.{common_steps}}
-use Rattle.pmf_event.specs.{declared.name.Name.{Name}, declared.profile.Profile.{Profile}, Section.{Trace}}
+use Rattle.std.proofs.{Common.{◌≡◌, ◌≢◌, List, [], ◌∷◌, ◌++◌, map, refl, sym, ◌∙◌, ap, subst, inl, inr, Contains, Result, Ok, Err, IfErr, IfOk, OnErr, OnOk}, lemmas.List.Elements.{Contains-append_left, Contains-push, Contains-push_cases}}
+use Rattle.pmf_event.specs.{declared.profile.Profile.{Profile}, Section.{Trace}}
 use Rattle.pmf_verdict.specs.Checked.{Checked, checked_by}
-use Rattle.pmf_ledger.{specs.Gathered.{Gains, Gathers, GathersBoth, Holds, HoldsOther, IsLedgerOf, Unites}, specs.Gathering.{Agrees, HaveSameMembers}, specs.LedgerValue.{LedgerValue}, specs.Loading.{IsOther}, specs.Names.{Rises}, specs.declared.taking.Standing.{Standing}, specs.declared.taking.TakeFault.{TakeFault}, specs.declared.taking.TakeFault.TheVariants.{OutOfMemory}, specs.declared.taking.Taken.{Taken}, specs.declared.taking.Taken.TheVariants.{Added}, specs.Taking.{IsStandingOf}, specs.Together.{AreLedgersOf, AreWithout, IsBy, IsStandingIn, SomeHolds, SomeHoldsOther}, specs.Places.{LacksName}, proofs.lemmas.AddingLemmas.{Contains-cons, Contains-cons_cases, from_map, to_map}, proofs.lemmas.GatheringLemmas.{empty_ledger}, proofs.lemmas.JoiningLemmas.{AreBy, Holds-section}, proofs.lemmas.MergingLemmas.{none_of_empty}}
+use Rattle.pmf_ledger.{specs.Gathered.{Gains, Gathers, GathersBoth, Holds, IsLedgerOf, Unites}, specs.Gathering.{Agrees, HaveSameMembers}, specs.LedgerValue.{LedgerValue}, specs.Loading.{IsOther}, specs.declared.taking.Standing.{Standing}, specs.declared.taking.TakeFault.{TakeFault}, specs.declared.taking.TakeFault.TheVariants.{OutOfMemory}, specs.declared.taking.Taken.{Taken}, specs.declared.taking.Taken.TheVariants.{Added}, specs.Taking.{IsStandingOf}, specs.Together.{AreLedgersOf, AreWithout, IsBy, IsStandingIn, SomeHolds, SomeHoldsOther}, specs.Places.{LacksName}, proofs.lemmas.AddingLemmas.{Contains-cons, Contains-cons_cases, from_map, to_map}, proofs.lemmas.JoiningLemmas.{AreBy, Holds-section}, proofs.lemmas.MergingLemmas.{none_of_empty}}
 use Rattle.pmf_ledger.specs.declared.taking.Standing.TheVariants as standing
 
 -- ---- a ledger by a profile

@@ -1,7 +1,7 @@
 -- Text lines that bytes begin with, and blocks as they stand.
-use Rattle.std.{proofs.Common.{◌≡◌, ℕ, ◌+◌, ◌-◌, ◌<◌, ◌≤◌, List, [], ◌∷◌, ◌++◌, length, take, drop, get_or, Option, Some, None, refl, sym, ◌∙◌, ap, subst, arith, append_assoc, append-nil, length-append, true}, proofs.lemmas.List.{drop-take, get_or_append_left, length-drop, take-append-drop, take-append-le, take-take}, proofs.lemmas.Grind.{common_steps}}
+use Rattle.std.{proofs.Common.{◌≡◌, ◌||◌, ℕ, suc, ◌+◌, ◌-◌, ◌<◌, ◌≤◌, List, [], ◌∷◌, ◌++◌, length, take, drop, get_or, Option, Some, None, refl, sym, ◌∙◌, ap, subst, arith, append_assoc, append-nil, length-append, true}, proofs.lemmas.List.{drop-take, get_or_append_left, length-drop, take-append-drop, take-append-le, take-take}, proofs.lemmas.Grind.{common_steps}, proofs.Math.Seq.{drop-append_seam, drop-drop}, specs.List.{list_any}}
 use Rattle.memchr.specs.Find.{IsFirstByte, is_byte}
-use Rattle.pmf_ledger.{specs.declared.head.Head.{Head}, specs.Loading.{head_of, left_of, lines_of, parts_of}, specs.RawText.{HasNoFirst, IsFirstLines, IsWhole, RawBlock}, proofs.lemmas.LinesLemmas.{lines_more, lines_none}, proofs.lemmas.LoneBlockLemmas.{left_on, lines_on, parts_on}, proofs.lemmas.TextFrontLemmas.{before_first, front_more, left_ended, lines_ended, rest_is}}
+use Rattle.pmf_ledger.{specs.declared.head.Head.{Head}, specs.Loading.{head_of, left_of, lines_of, parts_of}, specs.RawText.{HasNoFirst, IsFirstLines, IsWhole, RawBlock, row_lines_of, rows_behind, tells_fail_in}, proofs.lemmas.LinesLemmas.{lines_more, lines_none}, proofs.lemmas.LoneBlockLemmas.{left_on, lines_on, parts_on}, proofs.lemmas.TextFrontLemmas.{before_first, front_more, left_ended, lines_ended, rest_is}}
 
 -- what is found in the rest of some bytes, as they are looked through
 pub in_rest : (bytes : List ℕ) (n : ℕ) (r : Option ℕ) → n ≤ length bytes → IsFirstByte (is_byte 10) (take (length bytes - n) (drop n bytes)) r → IsFirstByte (is_byte 10) (drop n bytes) r
@@ -48,6 +48,12 @@ lines_next bytes count taken k first found =
 -- the text lines of bytes, of which some are taken
 pub lines_behind : (bytes : List ℕ) (taken : ℕ) → left_of (take taken bytes) ≡ [] → lines_of bytes ≡ lines_of (take taken bytes) ++ lines_of (drop taken bytes)
 lines_behind bytes taken ended = ap lines_of (sym (take-append-drop taken bytes)) ∙ lines_on (take taken bytes) (drop taken bytes) ended
+
+-- whether one of the text lines tells a fail: the first one, or another
+pub fails_more : (bytes : List ℕ) (at k : ℕ) → IsFirstByte (is_byte 10) (drop at bytes) (Some k) →
+    list_any tells_fail_in (lines_of (drop at bytes)) ≡ (tells_fail_in (take k (drop at bytes)) || list_any tells_fail_in (lines_of (drop (at + (k + 1)) bytes)))
+fails_more bytes at k found =
+    ap (list_any tells_fail_in) (lines_more (drop at bytes) k found) ∙ ap (λ xs. tells_fail_in (take k (drop at bytes)) || list_any tells_fail_in (lines_of xs)) (drop-drop (k + 1) at bytes)
 
 -- no text line is left
 pub lines_over : (bytes : List ℕ) (count taken : ℕ) → IsFirstLines bytes count taken → IsFirstByte (is_byte 10) (drop taken bytes) None → length (lines_of bytes) ≡ count
@@ -166,3 +172,16 @@ module _ (bytes : List ℕ) (k events rows : ℕ) (head : Head) (found : IsFirst
         ∙ length-append (lines_of (take events (drop (k + 1) bytes))) (lines_of (take rows (drop events (drop (k + 1) bytes)))) ∙ ap (λ n. n + length (lines_of (take rows (drop events (drop (k + 1) bytes))))) first.lines
         ∙ ap (λ n. head.events + n) second.lines;
   }
+
+  -- and the text lines behind its events are those of its rows
+  pub rows_here : row_lines_of (take ((k + 1 + events) + rows) bytes) ≡ lines_of (drop (k + 1 + events) (take ((k + 1 + events) + rows) bytes))
+  unfolding row_lines_of block_whole parts_of
+  rows_here =
+      let block = take ((k + 1 + events) + rows) bytes in
+      let event_lines = lines_of (take events (drop (k + 1) bytes)) in
+      let row_lines = lines_of (take rows (drop events (drop (k + 1) bytes))) in
+      let lines : lines_of block ≡ take k bytes ∷ (event_lines ++ row_lines) = block_whole.lines ∙ ap (λ ls. take k bytes ∷ ls) body_lines in
+      let behind : drop (k + 1 + events) block ≡ take rows (drop events (drop (k + 1) bytes)) =
+      drop-take (k + 1 + events) rows bytes ∙ ap (take rows) (sym (drop-drop events (k + 1) bytes)) in
+      let ends : drop (suc head.events) (take k bytes ∷ (event_lines ++ row_lines)) ≡ row_lines = ap (λ n. drop n (event_lines ++ row_lines)) (sym first.lines) ∙ drop-append_seam event_lines row_lines in
+      ap (λ ls. rows_behind (head_of (get_or ls 0 [])) ls) lines ∙ ap (λ h. rows_behind h (take k bytes ∷ (event_lines ++ row_lines))) told ∙ ends ∙ ap lines_of (sym behind)

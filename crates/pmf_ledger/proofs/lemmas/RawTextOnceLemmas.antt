@@ -1,9 +1,9 @@
 -- A text has its blocks in one way, and the text of a ledger has those of its sections.
-use Rattle.std.{proofs.Common.{◌≡◌, ℕ, ◌+◌, List, [], ◌∷◌, ◌++◌, length, map, drop, get_or, flat_map, codes, Some, None, All, refl, sym, ◌∙◌, ap, subst, arith, inl, inr, append_assoc, append-nil, length-append, drop_at, decimal, Bool, true, false, ◌||◌, bytes_eq, rules}, proofs.lemmas.List.{append_cancel_right, length-map}, proofs.lemmas.List.Splits.{join_with_byte-slice_split}, proofs.lemmas.List.Elements.{All-from_recursion, All-head, All-map, All-tail, All-weaker, Contains-get_or}, proofs.lemmas.List.Kept.{AllPairs-cons}, specs.List.{join_with_byte}, proofs.lemmas.Grind.{common_steps}}
-use Rattle.pmf_event.specs.{declared.profile.Profile.{Profile}, declared.profile.Profile.TheVariants.{One, Two}}
-use Rattle.pmf_storelog.proofs.{PlainLemmas.{text_of_event}, PlainRecordLemmas.{text_of_lines}}
-use Rattle.pmf_verdict.specs.Checked.{Checked, rows_in}
-use Rattle.pmf_ledger.{specs.declared.head.Head.{Head}, specs.LedgerText.{text_of_block, text_of_end, version_of}, specs.Laws.{CanBeSpelled, LedgerTextsHaveTheirBlocks, TextsHaveTheirBlocksInOneWay}, specs.Loading.{head_of, is_line_end, left_of, lines_of, parts_of}, specs.Names.{IsBefore, Rises}, specs.RawText.{IsRawFront, IsRawText, IsVersion, IsWhole, RawBlock, RawNamesRise, bytes_of, raw_block, trusted_version_of}, proofs.lemmas.LedgerTextLemmas.{block-one, block-text, block_lines, body_lines, end_line, head_line, head_of-end, head_of-line, head_told}, proofs.lemmas.RawTextLemmas.{lines_are, parts_are}, proofs.lemmas.SpelledLemmas.{OneLine, decimal-one, left_of-lines, lines_of-lines, one-append, text_without_end}, proofs.lemmas.TextFrontLemmas.{parts_ended}, proofs.lemmas.UniqueLemmas.{Rises-first, Rises-rest}}
+use Rattle.std.{proofs.Common.{◌≡◌, ℕ, suc, ◌+◌, ◌^◌, ◌<◌, List, [], ◌∷◌, ◌++◌, length, map, drop, get_or, flat_map, codes, Some, None, All, refl, sym, ◌∙◌, ap, subst, arith, inl, inr, append_assoc, append-nil, length-append, drop_at, decimal, Bool, true, false, not, ◌||◌, bytes_eq, rules}, proofs.lemmas.List.{append_cancel_right, length-map}, proofs.lemmas.List.Splits.{join_with_byte-slice_split}, proofs.lemmas.List.Elements.{All-from_recursion, All-head, All-map, All-tail, All-weaker, Contains-get_or, recursion_from_All}, proofs.lemmas.List.Kept.{AllPairs-cons}, proofs.Math.Seq.{drop-append_seam}, specs.List.{AllByRecursion, join_with_byte, list_any}, proofs.lemmas.Grind.{common_steps}}
+use Rattle.pmf_event.specs.declared.{finding.Finding.{Finding}, finding.Finding.TheVariants.{PersistPass}, profile.Profile.{Profile}, profile.Profile.TheVariants.{One, Two}, row.Row.{Row}}
+use Rattle.pmf_storelog.proofs.{FrontLemmas.{number_in_front-decimal}, PlainLemmas.{text_of_event}, PlainRecordLemmas.{text_of_lines}}
+use Rattle.pmf_verdict.specs.{declared.outcome.Outcome.TheVariants.{Fail}, Outcome.{is_same, outcome_of}, Checked.{Checked, rows_in}, Text.{text_of_finding, text_of_pair}}
+use Rattle.pmf_ledger.{specs.declared.head.Head.{Head}, specs.LedgerText.{text_of_block, text_of_end, version_of}, specs.Laws.{BlocksTellTheirFails, CanBeSpelled, LedgerTextsHaveTheirBlocks, TextsHaveTheirBlocksInOneWay}, specs.Loading.{head_of, is_line_end, left_of, lines_of, parts_of}, specs.Names.{IsBefore, Rises}, specs.RawText.{IsRawFront, IsRawText, IsVersion, IsWhole, RawBlock, RawNamesRise, bytes_of, begins_no_fail, raw_block, row_lines_of, rows_behind, tells_fail, tells_fail_in, trusted_version_of}, specs.ReportTold.{FitsRow}, proofs.lemmas.LedgerTextLemmas.{block-one, block-text, block_lines, body_lines, end_line, head_line, head_of-end, head_of-line, head_told}, proofs.lemmas.RawTextLemmas.{lines_are, parts_are}, proofs.lemmas.ReportToldLemmas.{begins}, proofs.lemmas.SpelledLemmas.{OneLine, decimal-one, left_of-lines, lines_of-lines, one-append, text_without_end}, proofs.lemmas.TextFrontLemmas.{parts_ended}, proofs.lemmas.UniqueLemmas.{Rises-first, Rises-rest}}
 
 -- parts that are one are of one text
 one_text : (x y : List ℕ) → parts_of x ≡ parts_of y → x ≡ y
@@ -158,3 +158,30 @@ ledger_raw l rises each = (
   },
   grind (arith, common_steps, append_assoc, blocks_are, length-map),
 )
+
+-- ---- whether a block tells a fail
+
+words-fail : (k : ℕ) (f : Finding) → not (begins_no_fail (Some (k, text_of_finding k f))) ≡ is_same Fail (outcome_of f)
+unfolding text_of_finding text_of_pair is_same
+words-fail k PersistPass = refl
+words-fail k _ = refl
+
+row-fails : (row : Row) → row.place < 2 ^ 64 → tells_fail_in (text_without_end row) ≡ is_same Fail (outcome_of row.finding)
+unfolding tells_fail_in
+row-fails row small =
+    ap (λ found. not (begins_no_fail found)) (number_in_front-decimal row.place (text_of_finding row.place row.finding) small (begins row.place row.finding)) ∙ words-fail row.place row.finding
+
+rows-fail : (rows : List Row) → AllByRecursion FitsRow rows → list_any tells_fail_in (map text_without_end rows) ≡ list_any (λ row. is_same Fail (outcome_of row.finding)) rows
+rows-fail [] fits = refl
+rows-fail (row ∷ rows) fits =
+    ap (λ b. b || list_any tells_fail_in (map text_without_end rows)) (row-fails row fits.0.0) ∙ ap (λ b. is_same Fail (outcome_of row.finding) || b) (rows-fail rows fits.1)
+
+pub block_fails : BlocksTellTheirFails
+unfolding tells_fail row_lines_of body_lines head_told block_raw
+block_fails s can fits =
+    let whole = block_raw s can in
+    let events = map text_of_event s.section.events in
+    let behind : drop (suc (length s.section.events)) (whole.line ∷ whole.more) ≡ map text_without_end (rows_in s) =
+    ap (λ n. drop n (events ++ map text_without_end (rows_in s))) (sym (length-map s.section.events text_of_event)) ∙ drop-append_seam events (map text_without_end (rows_in s)) in
+    ap (λ lines. list_any tells_fail_in (rows_behind (head_of (get_or lines 0 [])) lines)) whole.lines ∙ ap (λ head. list_any tells_fail_in (rows_behind head (whole.line ∷ whole.more))) whole.told
+    ∙ ap (λ lines. list_any tells_fail_in lines) behind ∙ rows-fail (rows_in s) (recursion_from_All FitsRow (rows_in s) fits)

@@ -66,7 +66,7 @@ finding-is k (TxStillOpen depth) here fits = number-is (codes " depth=") TxStill
 finding-is k (Unclosed start) here fits = number-is (codes " start=") Unclosed start fits
 finding-is k _ here fits = refl
 
-begins : (k : ℕ) (f : Finding) → BeginsWithNoDigit (text_of_finding k f)
+pub begins : (k : ℕ) (f : Finding) → BeginsWithNoDigit (text_of_finding k f)
 unfolding text_of_finding
 begins k f = search rules
 

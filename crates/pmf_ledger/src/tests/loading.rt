@@ -2,7 +2,7 @@
 
 use super::texts::TEXT_OF_TWO;
 use super::{Given, ONE, assert_holds, assert_text, assert_told, name};
-use crate::{LedgerFault, has_end, load_ledger};
+use crate::{LedgerFault, load_ledger};
 use pmf_event::{Name, Profile};
 use pmf_fixtures::LEDGER;
 use pmf_storelog::{Cause, LogFault};
@@ -76,38 +76,11 @@ fn a_text_cut_short_lacks_its_next_line(rt: HostRuntime) {
     let mut line = 1;
     for cut in 0..text.len() {
         assert_refused(&rt, rt.alloc(), &text[..cut], not_a_ledger(line));
-        assert!(rt; !has_end(&text[..cut]), "{cut}");
         if text[cut] == b'\n' {
             line = u64::saturating_add(line, 1);
         }
     }
     assert_eq!(rt; line, 11);
-}
-
-#[test]
-fn a_text_has_an_end_where_its_last_line_tells_a_number(rt: HostRuntime) {
-    for (text, want) in [
-        (LEDGER, true),
-        ("end verdicts=0\n", true),
-        ("x\nend verdicts=3\n", true),
-        ("x\nend verdicts=18446744073709551615\n", true),
-        ("x\nend verdicts=18446744073709551616\n", false),
-        ("end verdicts=00000000000000000000\n", true),
-        ("end verdicts=000000000000000000000\n", false),
-        ("xend verdicts=00000000000000000000\n", false),
-        ("x\nend verdicts=3", false),
-        ("x\nend verdicts=3\r\n", false),
-        ("x\nend verdicts=3 \n", false),
-        ("x\nend verdicts=\n", false),
-        ("x\nend verdicts=3\n\n", false),
-        ("x\nend verdicts=3\nx\n", false),
-        ("x end verdicts=3\n", false),
-        ("PMFARM-LEDGER 1\n", false),
-        ("\n", false),
-        ("", false),
-    ] {
-        assert_eq!(rt; has_end(text.as_bytes()), want, "{text:?}");
-    }
 }
 
 #[test]

@@ -11,7 +11,7 @@ unfolding parts_of
 no_line found bytes none = ap (λ n. lines_of (take n bytes)) none
 
 pub some_taken : (bytes : List ℕ) (found : FirstBlock) → IsFirst bytes found → 0 < found.taken
-some_taken bytes found (within, whole) = by found.taken refl
+some_taken bytes found (within, whole, rows) = by found.taken refl
   where
     by : (n : ℕ) → found.taken ≡ n → 0 < found.taken
     by zero is = let count = ap (λ (ls : List (List ℕ)). length ls) (sym whole.lines ∙ no_line found bytes is) in absurd (omega (arith, count))
@@ -99,7 +99,7 @@ module _ (start left : Option (List ℕ)) (told : List RawBlock) (feed : RawFeed
 
   -- a block whose name doesn't come after the last one stands in no such text
   pub no_text_falls : (found : FirstBlock) (name : Name) → IsFirst rest found → feed.last ≡ Some name → (IsBefore name found.name → ⊥) → IsNoRawText start
-  no_text_falls found name (within, whole_b) last not_before text profile blocks is whole =
+  no_text_falls found name (within, whole_b, rows) last not_before text profile blocks is whole =
       let it = rest_is text profile blocks is whole in by it.2.0 it.2.1 it.0 it.2.2
     where
       at_end : (before : List RawBlock) × (l : RawBlock) × (told ≡ before ++ l ∷ []) × (l.name ≡ name)

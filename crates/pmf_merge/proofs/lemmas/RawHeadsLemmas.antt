@@ -1,8 +1,8 @@
 -- Texts that are merged as they stand: one goes on, one is added, and all are over.
-use Rattle.std.{proofs.{Common.{◌≡◌, ℕ, suc, ◌+◌, ◌<◌, ◌≤◌, List, [], ◌∷◌, ◌++◌, length, map, set, get_or, codes, option_map, drop, append-nil, MatchOption, Option, Some, None, Contains, refl, sym, ◌∙◌, ap, subst, arith, inl, inr, append_assoc}, lemmas.Bool.{cases_order}, lemmas.List.{get_or-map, get_or_append_left, get_or_push, get_or-set_same, get_or-set_other, length-map, length-set, length_push, map-set, take-append-drop}, lemmas.List.Elements.{All-nil, Contains-append_left, Contains-push, Contains-push_cases}}, specs.Io.KnownBytes.{Consumes, IsAtEnd}}
+use Rattle.std.{proofs.{Common.{◌≡◌, ◌⊎◌, ◌↔◌, ◌||◌, Bool, true, false, ℕ, suc, ◌+◌, ◌<◌, ◌≤◌, List, [], ◌∷◌, ◌++◌, length, map, set, get_or, codes, option_map, drop, append-nil, MatchOption, Option, Some, None, Contains, refl, sym, ◌∙◌, ap, subst, arith, inl, inr, append_assoc}, lemmas.Bool.{cases_order, or_cases, or_right}, lemmas.List.{get_or-map, get_or_append_left, get_or_push, get_or-set_same, get_or-set_other, length-map, length-set, length_push, map-set, take-append-drop}, lemmas.List.Elements.{All-nil, Contains-append_left, Contains-push, Contains-push_cases}}, specs.Io.KnownBytes.{Consumes, IsAtEnd}}
 use Rattle.pmf_event.specs.{declared.profile.Profile.{Profile}}
-use Rattle.pmf_ledger.{specs.declared.raw_text.FirstBlock.{FirstBlock}, specs.LedgerText.{text_of_end}, specs.Names.{IsBefore}, specs.RawText.{IsRawFront, IsRawText, IsWhole, RawBlock, RawNamesRise, bytes_of, raw_of}, proofs.lemmas.MergingLemmas.{AllPairs-last, none_of_empty}}
-use Rattle.pmf_merge.{specs.{Heads.{IsUpTo}, Merging.{IsAllOf}, RawFeeding.{ComesNext, IsNoRawText, IsRawFault, IsRawHead, head_in, rest_of}, RawWritten.{AddsRaw, IsRawTellFault}, Trusting.{AreBlocksOf, AreRawTexts, BeginsRaw, IsLeastRaw, IsTrustFaultOf, IsTrusting, heads_of, raw_names_of}, declared.fault.MergeFault.{MergeFault}, declared.raw_feed.RawFeed.{RawFeed}}, proofs.lemmas.HeadsLemmas.{before_upto, here_or, put, put_here, put_other}, proofs.lemmas.OverLemmas.{all_read, in_each, list_of, of_each}, proofs.lemmas.NamesLemmas.{name_at}, proofs.lemmas.RawFeedLemmas.{front_push}}
+use Rattle.pmf_ledger.{specs.declared.raw_text.FirstBlock.{FirstBlock}, specs.LedgerText.{text_of_end}, specs.Names.{IsBefore}, specs.RawText.{IsRawFront, IsRawText, IsWhole, RawBlock, RawNamesRise, bytes_of, raw_of, tells_fail}, proofs.lemmas.MergingLemmas.{AllPairs-last, none_of_empty}}
+use Rattle.pmf_merge.{specs.{Heads.{IsUpTo}, Merging.{IsAllOf}, RawFeeding.{ComesNext, IsNoRawText, IsRawFault, IsRawHead, head_in, rest_of}, RawWritten.{AddsRaw, IsRawTellFault}, Trusting.{AnyTellsFail, AreBlocksOf, AreRawTexts, BeginsRaw, IsLeastRaw, IsTrustFaultOf, IsTrusting, heads_of, raw_names_of}, declared.fault.MergeFault.{MergeFault}, declared.raw_feed.RawFeed.{RawFeed}}, proofs.lemmas.HeadsLemmas.{before_upto, here_or, put, put_here, put_other}, proofs.lemmas.OverLemmas.{all_read, in_each, list_of, of_each}, proofs.lemmas.NamesLemmas.{name_at}, proofs.lemmas.RawFeedLemmas.{front_push}}
 use Rattle.pmf_merge.specs.declared.fault.MergeFault.TheVariants as fault
 
 -- the block of this index that comes next
@@ -276,3 +276,22 @@ raw_begins start left feed head = (head.fed.front, rest_of feed.unread, left, he
 -- the block that comes next in a feed of a text is the least one
 pub head_of_feed : (feeds : List RawFeed) (index : ℕ) (v : RawBlock) (feed : RawFeed) → feed ≡ get_or feeds index feed → index < length feeds → get_or (heads_of feeds) index None ≡ Some v → head_in feed ≡ Some v
 head_of_feed feeds index v feed is inside at = sym (head_at feeds index feed inside ∙ ap head_in (sym is)) ∙ at
+
+-- ---- whether a block tells a fail
+
+pub fails-none : (false ≡ true) ↔ AnyTellsFail []
+fails-none = (λ is. cc, λ some. absurd (none_of_empty [] some.0 refl some.1))
+
+-- with one more block, or one that is told again
+pub fails-more : (out new : List RawBlock) (v : RawBlock) (old fails : Bool) → ((c : RawBlock) → Contains new c ↔ (Contains out c ⊎ (c ≡ v))) → ((old ≡ true) ↔ AnyTellsFail out) → fails ≡ (old || tells_fail v.bytes) →
+    (fails ≡ true) ↔ AnyTellsFail new
+fails-more out new v old fails members told is = (
+  λ so. elim (or_cases old (tells_fail v.bytes) (sym is ∙ so)) [
+    | inl before ↦ let b = told.0 before in (b.0, (members b.0).1 (inl b.1), b.2)
+    | inr now ↦ (v, (members v).1 (inr refl), now)
+  ],
+  λ some. is ∙ elim ((members some.0).0 some.1) [
+    | inl before ↦ ap (λ b. b || tells_fail v.bytes) (told.1 (some.0, before, some.2))
+    | inr same ↦ ap (λ b. old || b) (ap (λ (w : RawBlock). tells_fail w.bytes) (sym same) ∙ some.2) ∙ or_right old true refl
+  ],
+)

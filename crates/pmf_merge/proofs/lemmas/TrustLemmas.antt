@@ -49,7 +49,7 @@ blocks_too : (xs ys : List Checked) → ((c : Checked) → Contains xs c → Con
 blocks_too xs ys has b found = let it = from_map raw_block xs b found in subst (Contains (map raw_block ys)) it.2 (to_map raw_block ys it.0 (has it.0 it.1))
 
 pub keeps_ledgers : TrustKeepsLedgers
-keeps_ledgers ledgers ledger held holds can is trusts =
+keeps_ledgers ledgers ledger held holds fails can is trusts =
     let all : all_of trusts.parts ≡ map raw_block (sections_in ledgers) = ap all_of (parts_are trusts.profile ledgers trusts.parts can trusts.texts) ∙ all_blocks ledgers in
     let spelled : All CanBeSpelled ledger.sections = λ k d inside. can_spell ledgers can (get_or ledger.sections k d) ((is.same (get_or ledger.sections k d)).0 (Contains-get_or ledger.sections k d inside)) in
     let raw = ledger_raw ledger is.rises spelled in

@@ -1,6 +1,6 @@
 -- What is written to files, one text after another, and what is cut of a stream so far.
 use Rattle.std.{proofs.Common.{inl, inr, ◌≡◌, ℕ, ◌==◌, if◌then◌else◌, List, [], ◌∷◌, ◌++◌, Option, refl, sym, ap, subst, ◌∙◌, append-nil, append_assoc, eq-eqb, ne_eqb}, proofs.lemmas.Bool.{cases_eq}, proofs.KnownBytes.{Appends-kept, Appends-nil, Appends-trans, Consumes-nil, Consumes-trans}, specs.Io.KnownBytes.{Appends, Consumes, IsAtEnd}}
-use Rattle.pmf_cut.specs.{declared.cutter.Cutter.{Cutter}, declared.output.Text.{Text}, Outputs.{bytes_for}, Cutting.{HasCutAll, HasRead, handed_with}}
+use Rattle.pmf_cut.specs.{declared.cutter.Cutter.{Cutter}, declared.output.Text.{Text}, Outputs.{bytes_for}, Cutting.{HasCutAll, HasRead, handed_with, lost_in}}
 use Rattle.pmf_stream.specs.Files.{AppendsEach, AppendsTo, CutsSoFar, IsCutOf, WritesOut}
 
 bytes-push : (texts : List Text) (text : Text) (file : ℕ) → bytes_for (texts ++ text ∷ []) file ≡ bytes_for texts file ++ (if text.file == file then text.bytes.items else [])
@@ -34,12 +34,22 @@ so-far-more step left mid rest held here holds old took new piece so_far consume
 
 -- the stream has ended
 pub cut-of : (step : ℕ) (left rest last : Option (List ℕ)) (held here holds : ℕ → Option (List ℕ)) (old took new : Cutter) → CutsSoFar step left rest held here old → Consumes rest last [] → IsAtEnd last →
-    ((step : ℕ) (log : List ℕ) (handed : ℕ → List ℕ) → HasRead step log handed old → HasCutAll step log handed took) → WritesOut took new here holds → IsCutOf step left last held holds
-cut-of step left rest last held here holds old took new so_far none ended all out = record {
+    ((step : ℕ) (log : List ℕ) (handed : ℕ → List ℕ) → HasRead step log handed old → HasCutAll step log handed took) → WritesOut took new here holds → (told : ℕ) → (told ≡ 0 → lost_in new.sections.items ≡ 0) →
+    IsCutOf step left last held holds told
+cut-of step left rest last held here holds old took new so_far none ended all out told lost = let is-cut = out.drains.ends step _ _ (all step _ _ so_far.reads) in record {
   log = so_far.log;
   consumed = subst (Consumes left last) (append-nil so_far.log) (Consumes-trans left rest last so_far.log [] so_far.consumed none);
   ended = ended;
   texts = handed_with so_far.handed out.texts;
-  cut = out.drains.ends step _ _ (all step _ _ so_far.reads);
+  cut = record {
+    parts = is-cut.parts;
+    section = is-cut.section;
+    whole = is-cut.whole;
+    numbered = is-cut.numbered;
+    of_it = is-cut.of_it;
+    among = is-cut.among;
+    nothing_else = is-cut.nothing_else;
+    orders = λ is. is-cut.orders (ap (λ list. lost_in list.items) (sym out.drains.same) ∙ lost is);
+  };
   written = λ file. Appends-trans (held file) (here file) (holds file) _ _ (so_far.written file) (out.written file);
 }

@@ -1,9 +1,9 @@
 -- Ledger texts that are joined, one after another and by halves.
 use Rattle.std.specs.{Prelude.{get_or, take, drop, MatchResult, IfOk, IfErr, IfSome, Result, Ok, Err}, List.{drop-map, take-map}, Result.{result_ok}}
-use Rattle.std.proofs.{Common.{◌≡◌, inl, inr, ◌<◌, ◌≤◌, ◌+◌, ◌-◌, ℕ, true, false, List, [], ◌∷◌, ◌++◌, length, map, flat_map, refl, sym, ◌∙◌, ap, subst, arith, ◌≢◌, ◌↔◌, All, append-nil, length-take-le}, lemmas.Grind.{flat_map-append}, lemmas.List.{map-append, take-append-drop, take_more}, lemmas.List.Elements.{All-append, All-cons, All-more, All-nil}, Math.Seq.{take-add}}
+use Rattle.std.proofs.{Common.{◌≡◌, ◌<◌, ◌≤◌, ◌+◌, ◌-◌, ℕ, List, [], ◌∷◌, ◌++◌, length, map, flat_map, refl, sym, ◌∙◌, ap, subst, arith, ◌≢◌, ◌↔◌, All, append-nil, length-take-le}, lemmas.Grind.{flat_map-append}, lemmas.List.{map-append, take-append-drop, take_more}, lemmas.List.Elements.{All-append, All-cons, All-nil}, Math.Seq.{take-add}}
 use Rattle.pmf_event.specs.declared.{name.Name.{Name}, profile.Profile.{Profile}, profile.Profile.TheVariants.{One, Two}}
-use Rattle.pmf_ledger.specs.{declared.form.Form.{Form}, declared.joining.JoinFault.{JoinFault}, declared.joining.JoinFault.TheVariants.{ProfileMismatch, Conflict, OutOfMemory}, declared.loading.LedgerFault.{LedgerFault}, Gathered.{GathersBoth, IsLeastClash, IsLedgerOf, Unites}, Joining.{AgreeTogether}, Ending.{has_end}, LedgerValue.{LedgerValue}, Loading.{LoadsAs, reading_of}}
-use Rattle.pmf_stream.specs.{declared.joining.JoinTextFault.{JoinTextFault}, Joining.{AllHaveEnds, IsFirstRefusal, IsJoinFaultOf, IsJoinOf, IsJoinOfTwo, IsJoinedAt, IsOfProfile, IsRefusalOfTexts, IsRefusedAlone, IsRefusedAt, IsRefusedForItsEnd, IsRefusedInTurn, blocks_of}}
+use Rattle.pmf_ledger.specs.{declared.form.Form.{Form}, declared.joining.JoinFault.{JoinFault}, declared.joining.JoinFault.TheVariants.{ProfileMismatch, Conflict, OutOfMemory}, declared.loading.LedgerFault.{LedgerFault}, Gathered.{GathersBoth, IsLeastClash, IsLedgerOf, Unites}, Joining.{AgreeTogether}, LedgerValue.{LedgerValue}, Loading.{LoadsAs, reading_of}}
+use Rattle.pmf_stream.specs.{declared.joining.JoinTextFault.{JoinTextFault}, Joining.{IsJoinFaultOf, IsJoinOf, IsJoinOfTwo, IsJoinedAt, IsOfProfile, IsRefusalOfTexts, IsRefusedAt, IsRefusedInTurn, blocks_of}}
 use Rattle.pmf_stream.specs.declared.joining.JoinTextFault.TheVariants as texts
 
 -- profiles that don't differ are the same
@@ -66,13 +66,6 @@ pub IfSome-both : (some others : List (List ℕ)) (before after : LedgerValue) (
 IfSome-both some others before after (Ok new) one is other joined = IsJoinOf-both some others before after new one is other joined
 IfSome-both some others before after (Err fault) one is other joined = tt
 
--- a text that is refused itself is refused behind any others
-pub IsRefusedAt-alone : (before : LedgerValue) (index : ℕ) (text : List ℕ) (found : JoinTextFault) → IsRefusedAlone index text found → IsRefusedAt before index text found
-IsRefusedAt-alone before index text (texts.Load told fault) refused = refused
-IsRefusedAt-alone before index text texts.OutOfMemory refused = inl refused
-IsRefusedAt-alone before index text (texts.Join fault) refused = absurd refused
-IsRefusedAt-alone before index text texts.TooLong refused = absurd refused
-
 -- the text of this index after those before it: joined to them, or the first that is refused
 pub MatchResult-next : (texts : List (List ℕ)) (index : ℕ) (text : List ℕ) (before : LedgerValue) (result : Result LedgerValue JoinTextFault) → index < length texts → text ≡ get_or texts index [] → IsJoinOf (take index texts) before →
     IfOk result (IsJoinedAt before index text) → IfErr result (IsRefusedAt before index text) → MatchResult result (IsJoinOf (take (index + 1) texts)) (IsRefusedInTurn texts)
@@ -109,18 +102,9 @@ IsJoinFaultOf-refused a b ProfileMismatch mismatch conflict memory = mismatch.0 
 IsJoinFaultOf-refused a b (Conflict name) mismatch conflict memory = (conflict name).0 refl
 IsJoinFaultOf-refused a b OutOfMemory mismatch conflict memory = memory refl
 
--- the first refusal is why texts are refused, want of memory aside
-pub IsRefusalOfTexts-first : (form : Form) (ts : List (List ℕ)) (found : JoinTextFault) → found ≢ texts.OutOfMemory → IsFirstRefusal ts found → IsRefusalOfTexts form ts found
-IsRefusalOfTexts-first form ts (texts.Load index fault) other first = first
-IsRefusalOfTexts-first form ts (texts.Join fault) other first = first
-IsRefusalOfTexts-first form ts texts.TooLong other (inl (index, first, at)) = absurd at
-IsRefusalOfTexts-first form ts texts.TooLong other (inr (ends, (index, before, reached, at))) = absurd at
-IsRefusalOfTexts-first form ts texts.OutOfMemory other first = absurd (other refl)
-
--- the texts before this one have ends
-module _ (ts : List (List ℕ)) (index : ℕ) (within : index < length ts) (before : AllHaveEnds (take index ts)) where
-  pub AllHaveEnds-more : has_end (get_or ts index []) ≡ true → AllHaveEnds (take (index + 1) ts)
-  AllHaveEnds-more has = All-more (λ text. has_end text ≡ true) ts index [] within before has
-
-  pub IsRefusedForItsEnd-here : (found : JoinTextFault) → (has_end (get_or ts index []) ≡ false) × IsRefusedAlone index (get_or ts index []) found → IsRefusedForItsEnd ts found
-  IsRefusedForItsEnd-here found (lacking, refused) = (index, record { within = within; before = before; lacking = lacking }, refused)
+-- a refusal in turn is why texts are refused, want of memory aside
+pub IsRefusalOfTexts-in_turn : (form : Form) (ts : List (List ℕ)) (found : JoinTextFault) → found ≢ texts.OutOfMemory → IsRefusedInTurn ts found → IsRefusalOfTexts form ts found
+IsRefusalOfTexts-in_turn form ts (texts.Load index fault) other refused = refused
+IsRefusalOfTexts-in_turn form ts (texts.Join fault) other refused = refused
+IsRefusalOfTexts-in_turn form ts texts.TooLong other (index, before, reached, at) = absurd at
+IsRefusalOfTexts-in_turn form ts texts.OutOfMemory other refused = absurd (other refl)

@@ -179,28 +179,24 @@ fn load_fault(index: usize, fault: LedgerFault) -> JoinTextFault {
 }
 
 #[test]
-fn the_first_text_without_an_end_is_told_before_all_other_refusals(
-    rt: HostRuntime,
-) -> Result<(), Fail> {
+fn a_text_that_was_cut_off_is_told_in_its_turn(rt: HostRuntime) -> Result<(), Fail> {
     let cut = LedgerFault::NotALedger { line: 3 };
     let name = Name { run: 0, number: 7 };
-    for (texts, index, fault) in [
-        ([LEDGER, FENCES[0], CUT], 2, cut),
-        ([CUT, FAULTY, FENCES[0]], 0, cut),
-        ([FAULTY, FENCES[0], CUT], 2, cut),
+    let rows = LedgerFault::FalseRows { name };
+    let profiles = JoinTextFault::Join(JoinFault::ProfileMismatch);
+    for (texts, fault) in [
+        ([LEDGER, FENCES[0], CUT], load_fault(2, cut)),
+        ([LEDGER, CUT, OTHER], load_fault(1, cut)),
+        ([CUT, FAULTY, FENCES[0]], load_fault(0, cut)),
         // Section 0.1 of both differs.
-        ([LEDGER, OTHER, CUT], 2, cut),
-        ([EMPTY, EMPTY_TWO, CUT], 2, cut),
-        ([FAULTY, CUT, CUT_WITH_FALSE_ROWS], 1, cut),
-        (
-            [FAULTY, CUT_WITH_FALSE_ROWS, CUT],
-            1,
-            LedgerFault::FalseRows { name },
-        ),
-        ([FAULTY, FAULTY, ""], 2, LedgerFault::NotALedger { line: 1 }),
+        ([LEDGER, OTHER, CUT], CONFLICT),
+        ([EMPTY, EMPTY_TWO, CUT], profiles),
+        ([EMPTY, CUT, EMPTY_TWO], load_fault(1, cut)),
+        ([LEDGER, FAULTY, CUT], NOT_LOADED),
+        ([CUT_WITH_FALSE_ROWS, CUT, FAULTY], load_fault(0, rows)),
     ] {
         let sink = ByteSink::new(rt.alloc());
-        let refused = Err(StreamFault::Refused(load_fault(index, fault)));
+        let refused = Err(StreamFault::Refused(fault));
         writes(&rt, rt.alloc(), &texts, sink, Form::Report, refused, b"")?;
     }
     Ok(())

@@ -26,17 +26,17 @@ const TEXT: &str = "0.0 4 ORDERED FAIL byte=0x10040 after=0x10000 crash=3
   event    record 11 FLUSH;0x20000;0x40
   cause    written back already, by record 10
   cure     leave out record 11
-           this row then passes
+           this row is then gone
 0.0 12 TXEND UNMATCHED
   event    record 12 PMT.TXEND
   cause    no transaction has begun
   cure     leave out record 12
-           this row then passes
+           this row is then gone
 0.0 14 SECTION UNCLOSED start=13
   event    the section's end
   cause    the scope that record 13 opened is still open
   cure     at the end: PMT.CHECKEND
-           this row then passes
+           this row is then gone
 rows=5 told=5 untold=0; with all cures: pass=4 fail=0
 ";
 

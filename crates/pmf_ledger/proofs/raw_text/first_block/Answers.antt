@@ -1,6 +1,6 @@
-use Rattle.std.proofs.Common.{◌≡◌, ◌∙◌, ◌+◌, ◌-◌, ◌<◌, ◌≤◌, List, ℕ, sym, ap, subst, take, drop, length}
+use Rattle.std.proofs.Common.{◌≡◌, ◌∙◌, ◌+◌, ◌-◌, ◌<◌, ◌≤◌, List, ℕ, sym, ap, subst, take, drop, length, arith}
 use Rattle.memchr.specs.Find.{IsFirstByte, is_byte}
-use Rattle.pmf_ledger.{specs.Loading.{lines_of}, specs.RawText.{IsFirstLines}, proofs.lemmas.RawTextLemmas.{block_whole, block_within, head_within, not_eventless, not_headless, not_rowless, not_unended}, proofs.lemmas.TextFrontLemmas.{rest_is}}
+use Rattle.pmf_ledger.{specs.Loading.{lines_of}, specs.RawText.{IsFirstLines}, proofs.lemmas.RawTextLemmas.{block_whole, block_within, head_within, not_eventless, not_headless, not_rowless, not_unended, rows_here}, proofs.lemmas.TextFrontLemmas.{rest_is}}
 use Rattle.pmf_ledger.proofs.raw_text.first_block.Goals as goal
 
 -- the rest of the rest of some bytes
@@ -38,4 +38,6 @@ returns c =
     let found = subst (IsFirstByte (is_byte 10) bytes) c.in_ok-end.was c.memchr.ensures in
     let first = subst (λ xs. IsFirstLines xs head.events events) (rest_is bytes (k + 1) (head_within bytes k found)) c.in_ok-events.ensures in
     let second = subst (λ xs. IsFirstLines xs head.rows c.in_ok-rows.rows) (rest_of_rest bytes (k + 1) events (head_within bytes k found) first.within) c.in_ok-rows.ensures in
-    (block_within bytes k events c.in_ok-rows.rows head found (sym c.read_head.ensures ∙ c.in_ok-head.was) first second, block_whole bytes k events c.in_ok-rows.rows head found (sym c.read_head.ensures ∙ c.in_ok-head.was) first second)
+    let rows = c.in_ok-rows.rows in
+    let is_head = sym c.read_head.ensures ∙ c.in_ok-head.was in
+    (block_within bytes k events rows head found is_head first second, block_whole bytes k events rows head found is_head first second, (omega arith, rows_here bytes k events rows head found is_head first second))

@@ -1,7 +1,7 @@
 use Rattle.std.{proofs.{Common.{◌≡◌, ◌<◌, ◌≤◌, ℕ, [], length, map, get_or, Some, None, refl, sym, ◌∙◌, subst, arith, rules}, lemmas.List.{get_or_default, length-map, length-set, map-set}, lemmas.List.Elements.{All-set}}, specs.Io.KnownBytes.{Appends}}
 use Rattle.pmf_device.{specs.Failures.{CanCountOneMore}, proofs.PageLemmas.{stops_so}}
 use Rattle.pmf_ledger.proofs.lemmas.SummaryLemmas.{told_whole}
-use Rattle.pmf_merge.{specs.Heads.{IsLast, IsMerging, IsLeast}, specs.Merging.{IsMergeFaultOf, Merges}, proofs.lemmas.OverLemmas.{are_all, is_merge}, proofs.lemmas.ConflictLemmas.{of_tell}, proofs.lemmas.SourceLemmas.{IfOk_map, left_at}, proofs.merging.merge_to.Goals.{in-Some-index+in_ok-tell, in_default-index}}
+use Rattle.pmf_merge.{specs.Heads.{IsLast, IsMerging, IsLeast}, specs.Merging.{IsMergeFaultOf, Merges}, specs.Refusing.{WritesFront}, specs.Written.{IsTextOfSome}, proofs.lemmas.FrontLemmas.{front_of_none, front_of_some}, proofs.lemmas.OverLemmas.{are_all, is_merge}, proofs.lemmas.ConflictLemmas.{of_tell}, proofs.lemmas.SourceLemmas.{IfOk_map, left_at}, proofs.merging.merge_to.Goals.{in-Some-index+in_ok-tell, in_default-index}}
 use Rattle.pmf_merge.proofs.merging.merge_to.Goals as goal
 
 pub loop-index-init : goal.loop-index-init
@@ -109,3 +109,40 @@ returns-in_err-last-clause-refused g c =
     let at_left = left_at left sources index c.index_mut.result.now c.index_mut.ensures.value in_sources in
     stops_so _ (IsMergeFaultOf starts) c.from_residual-in_err-last.result c.in_err-last.field-0.0 c.from_residual-in_err-last.ensures
     (c.in_err-last.ensures.refused starts lefts state.0 state.1 within at_left)
+
+pub returns-in_err-heads-clause-front : goal.returns-in_err-heads-clause-front
+returns-in_err-heads-clause-front g c =
+    let held = g.W.Sink.held c.args.writer.now in
+    stops_so _ (λ found. WritesFront (IsTextOfSome c.args.form) held held) c.from_residual.result c.in_err-heads.field-0.0 c.from_residual.ensures (front_of_none c.args.form held)
+
+pub returns-in-Err-clause-front : goal.returns-in-Err-clause-front
+returns-in-Err-clause-front g c = front_of_none c.args.form (g.W.Sink.held c.args.writer.now)
+
+pub returns-in_default-checked_add-clause-front : goal.returns-in_default-checked_add-clause-front
+returns-in_default-checked_add-clause-front g c =
+    let state = c.loop-index.invariant.state in front_of_some c.args.form c.loop-index.heads.profile (g.W.Sink.held c.args.writer.now) _ state.0 c.loop-index.written state.2
+
+pub returns-in_err-tell-clause-front : goal.returns-in_err-tell-clause-front
+returns-in_err-tell-clause-front g c =
+    let state = c.loop-index.invariant.state in let held = g.W.Sink.held c.args.writer.now in
+    stops_so _ (λ found. WritesFront (IsTextOfSome c.args.form) held (g.W.Sink.held c.tell.new.writer)) c.from_residual-in_err-tell.result c.in_err-tell.field-0.0 c.from_residual-in_err-tell.ensures
+    (c.in_err-tell.ensures.front c.args.form c.loop-index.heads.profile held state.0 state.2)
+
+pub returns-in_err-last-clause-front : goal.returns-in_err-last-clause-front
+returns-in_err-last-clause-front g c =
+    let state = c.loop-index.invariant.state in let out = state.0 in let m = state.1 in let profile = c.loop-index.heads.profile in
+    let heads = c.loop-index.heads.heads.items in let index = c.in-Some.index in let held = g.W.Sink.held c.args.writer.now in
+    let starts = map g.R.Source.left c.args.sources.now.items in
+    let inside : index < length heads = c.in-Some.ensures.0 in let long = m.heads_are in let within : index < length starts = omega (arith, inside, long) in
+    stops_so _ (λ found. WritesFront (IsTextOfSome c.args.form) held (g.W.Sink.held c.match-index.writer)) c.from_residual-in_err-last.result c.in_err-last.field-0.0 c.from_residual-in_err-last.ensures
+    (elim c.match-index.branch [
+      | in-Some-index+in_ok-tell w ↦
+          let at : get_or heads index None ≡ Some w.in-Some-index.verdict = sym (get_or_default heads index c.index.result.now None inside) ∙ sym c.index.ensures ∙ w.in-Some-index.is in
+          let told = w.in_ok-tell.ensures.told c.args.form profile held out state.2 state.3 m.rises m.checked (m.head index w.in-Some-index.verdict within at).1 in
+          front_of_some c.args.form profile held _ told.0 c.match-index.written (rw (w.writer-is, w.written-is) told.3)
+      | in_default-index w ↦ front_of_some c.args.form profile held _ out c.match-index.written (rw (w.writer-is, w.written-is) state.2)
+    ])
+
+pub returns-clause-front : goal.returns-clause-front
+returns-clause-front g c =
+    let state = c.loop-index.invariant.state in c.end.ensures.front c.args.form c.loop-index.heads.profile (g.W.Sink.held c.args.writer.now) state.0 state.2

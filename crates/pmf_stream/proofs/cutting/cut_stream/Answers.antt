@@ -28,4 +28,4 @@ returns-clause-cut g c =
     let room : 0 < length c.read_piece-2.new.buffer = omega (arith, c.read_piece-2.auto.buffer, before.1) in
     cut-of _ _ (g.R.Source.left c.loop-total.reader) _ _ (g.W.Outlet.held_in c.loop-total.writer) _ c.loop-total.cutter c.end.new.cutter _ so_far
     (Consumes-trans _ (g.R.Source.left c.loop-total-test.reader) _ [] [] before.0
-    (subst (λ n. Consumes (g.R.Source.left c.loop-total-test.reader) (g.R.Source.left c.read_piece-2.new.reader) (take n c.read_piece-2.new.buffer)) none last.0)) (last.1 none room) c.in_ok-end.ensures.all c.in_ok-write_out.ensures.written
+    (subst (λ n. Consumes (g.R.Source.left c.loop-total-test.reader) (g.R.Source.left c.read_piece-2.new.reader) (take n c.read_piece-2.new.buffer)) none last.0)) (last.1 none room) c.in_ok-end.ensures.all c.in_ok-write_out.ensures.written c.told.result c.told.ensures

@@ -1,10 +1,9 @@
 use Rattle.std.proofs.Common.{◌≤◌, rules}
-use Rattle.pmf_stream.proofs.lemmas.TextJoiningLemmas.{IsRefusedAt-alone}
 use Rattle.pmf_stream.proofs.joining.join_text.Goals as goal
 
 pub returns-in-Err-clause-refused : goal.returns-in-Err-clause-refused
 returns-in-Err-clause-refused c =
-    IsRefusedAt-alone c.args.before c.args.index c.args.text.now c.fault_at.result (c.fault_at.ensures.refused c.args.text.now c.in-Err.ensures.loads c.in-Err.ensures.memory)
+    c.fault_at.ensures.refused c.args.before c.args.text.now c.in-Err.ensures.loads c.in-Err.ensures.memory
 
 pub returns-in-Err-join_two-clause-refused : goal.returns-in-Err-join_two-clause-refused
 returns-in-Err-join_two-clause-refused c =

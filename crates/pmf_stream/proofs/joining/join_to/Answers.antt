@@ -1,7 +1,7 @@
 use Rattle.std.proofs.Common.{map, sym, ap, rules, ◌∙◌}
 use Rattle.pmf_ledger.specs.declared.totals.Totals.{Totals}
 use Rattle.pmf_ledger.proofs.lemmas.AllKeptLemmas.{no_fail_is_kept, no_empty_is_filled}
-use Rattle.pmf_stream.{specs.Joining.{IsJoinedText, IsRefusalOfTexts}, proofs.lemmas.AnsweringLemmas.{Answers-written}, proofs.lemmas.TextJoiningLemmas.{IsRefusalOfTexts-first}}
+use Rattle.pmf_stream.{specs.Joining.{IsJoinedText, IsRefusalOfTexts}, proofs.lemmas.AnsweringLemmas.{Answers-written}, proofs.lemmas.TextJoiningLemmas.{IsRefusalOfTexts-in_turn}}
 use Rattle.pmf_stream.proofs.joining.join_to.Goals as goal
 
 pub returns-clause-answer : goal.returns-clause-answer
@@ -21,4 +21,4 @@ returns-clause-answer g c =
 
 pub returns-in-Err-clause-answer : goal.returns-in-Err-clause-answer
 returns-in-Err-clause-answer g c =
-    IsRefusalOfTexts-first c.args.form (map (λ text. text.items) c.args.texts.now) c.in-Err.fault (search rules) c.in-Err.ensures
+    IsRefusalOfTexts-in_turn c.args.form (map (λ text. text.items) c.args.texts.now) c.in-Err.fault (search rules) c.in-Err.ensures

@@ -6,5 +6,5 @@ pub returns-then-are_among : goal.returns-then-are_among
 returns-then-are_among c =
     let checked = c.args.bad.now.taken.verdict.now in
     let plan = c.args.bad.now.taken.plan.now.edits.items in
-    let trial = subst (λ o. MatchOption o (plan ≡ []) (IsTrial checked plan)) c.in-Some-trial.is c.requires in
-    (c.is_cured-2.ensures checked plan trial c.if-is_cured-2.true, subst (λ (all : List Edit). All (λ e. Contains all e) c.args.edits.now) c.deref-then-is_cured-2.ensures.value (c.are_among.ensures c.if-are_among.true))
+    let trial = subst (λ o. MatchOption o (plan ≡ []) (IsTrial checked plan)) c.in-Some.is c.requires in
+    (c.is_cured.ensures checked plan trial c.if-not-is_cured.false, subst (λ (all : List Edit). All (λ e. Contains all e) c.args.edits.now) c.deref-2.ensures.value (c.are_among.ensures c.if-are_among.true))

@@ -8,7 +8,8 @@ returns-then-trust c =
     let f = found_of c.args.join.now in
     let stream = flag-named f (codes "stream") c.get_flag-stream.result c.get_flag-stream.ensures.value c.get_flag-stream.ensures.other in
     let trust = flag-named f (codes "trust") c.get_flag-trust.result c.get_flag-trust.ensures.value c.get_flag-trust.ensures.other in
-    record { trust = λ given. ((λ out. not-both _ c.if-not-stream.false (stream.left_out out)), refl); merge = λ out _. not-both _ c.if-trust.true (trust.left_out out); load = λ out _. not-both _ c.if-trust.true (trust.left_out out) }
+    let summary = flag-named f (codes "summary") c.get_flag-summary.result c.get_flag-summary.ensures.value c.get_flag-summary.ensures.other in
+    record { trust = λ given. ((λ out. not-both _ c.if-not-stream.false (stream.left_out out)), (λ given. not-both _ (summary.given given) c.if-summary.false), refl); merge = λ out _. not-both _ c.if-trust.true (trust.left_out out); load = λ out _. not-both _ c.if-trust.true (trust.left_out out) }
 
 pub returns-then-stream : goal.returns-then-stream
 returns-then-stream c =

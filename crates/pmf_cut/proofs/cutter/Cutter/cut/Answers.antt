@@ -14,7 +14,7 @@ returns c = λ section is begins step records handed number at cuts.
         has =
             cut_as _ step records handed _ _ _ _ _ _ _ _ _ (part.current_is ∙ named.same.current_is) (ap (get nat_cmp) (part.places ∙ named.same.places)) (ap (get nat_cmp) part.names) (part.sections ∙ ap (λ list. set list.items c.args.place part.renewed) named.same.sections)
             (renewed step records handed _ _ _ _ _ cuts.has number c.args.place section at is c.name.new.self.outputs _ _ c.in-Some.name part.file part.renewed c.args.next.part c.args.next.head.items
-            (subst (λ (s : Cutting). IsNamed (get nat_cmp c.args.self.now.names) (get nat_cmp c.name.new.self.names) c.in-Some.name s.number) its named.named) above begins part.has named.more part.there part.says);
+            (subst (λ (s : Cutting). IsNamed (get nat_cmp c.args.self.now.names) (get nat_cmp c.name.new.self.names) c.in-Some.name s.number) its named.named) above begins.behind begins.none_waits part.has named.more part.there part.says);
       },
       ap (λ places. get nat_cmp places number) (part.places ∙ named.same.places) ∙ at,
     )

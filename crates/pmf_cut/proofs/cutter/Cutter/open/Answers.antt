@@ -12,7 +12,7 @@ returns c = λ none step records handed cuts.
         has =
             cut_as _ step records handed _ _ _ _ _ _ _ _ _ named.same.current_is refl refl (c.in_ok-push.ensures.items ∙ ap (λ list. list.items ++ c.new.result ∷ []) named.same.sections)
             (begun step records handed _ _ _ _ _ cuts.has _ _ _ c.args.number c.newest-file.result c.new.result none named.named (updates.1 ∙ ap Some place) (λ other apart. search (arith, common_steps))
-            named.more c.newest-file.ensures c.new.ensures.has c.new.ensures.part.0 c.new.ensures.part.1 c.new.ensures.part.2);
+            named.more c.newest-file.ensures c.new.ensures.has c.new.ensures.part.0 c.new.ensures.part.1 c.new.ensures.part.2 c.new.ensures.past);
       },
       updates.1,
     )

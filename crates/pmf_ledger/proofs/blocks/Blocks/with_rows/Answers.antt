@@ -1,4 +1,4 @@
-use Rattle.std.proofs.Common.{◌<◌, length, drop, List, refl, sym, ◌∙◌, ap, subst}
+use Rattle.std.proofs.Common.{◌<◌, length, drop, List, refl, sym, ◌∙◌, subst}
 use Rattle.pmf_event.specs.declared.row.Row.{Row}
 use Rattle.pmf_verdict.specs.Checked.{rows_in}
 use Rattle.pmf_ledger.{specs.Following.{StandsFor}, specs.Loading.{AtRows}, proofs.lemmas.ReadingLemmas.{HasRead_at, own_profile, rows_more}}

@@ -1,5 +1,4 @@
-use Rattle.std.proofs.Common.{sym, subst, ◌∷◌, ◌++◌, []}
-use Rattle.pmf_ledger.{specs.Together.{AreLedgersOf}, proofs.lemmas.BlockReadingLemmas.{emptied_pile, popped}}
+use Rattle.pmf_ledger.{proofs.lemmas.BlockReadingLemmas.{emptied_pile, popped}}
 use Rattle.pmf_ledger.proofs.pile.Pile.pop.Goals as goal
 
 pub returns : goal.returns

@@ -7,6 +7,5 @@ returns c = λ es p walked. record {
   fences = walked.fences;
   idle = walked.idle;
   overwriting = walked.overwriting;
-  misread = walked.misread;
   empty = walked.empty;
 }

@@ -1,6 +1,6 @@
 use Rattle.std.proofs.{Common.{Contains, ◌≡◌, ◌∷◌, ◌++◌, [], Some, refl, sym, ◌∙◌, ap, subst}, lemmas.Bool.{true≢false}, lemmas.Slice.Eq.{bytes_eq-Decides}}
 use Rattle.pmf_ledger.specs.RawText.{RawBlock}
-use Rattle.pmf_merge.{specs.RawWritten.{IsLastTold, IsRawWritten}, proofs.lemmas.RawTellingLemmas.{adds_new, adds_same, one_raw, told_last}, proofs.lemmas.TellingLemmas.{OnOk_map}}
+use Rattle.pmf_merge.{specs.RawWritten.{IsLastTold, IsRawWritten}, proofs.lemmas.FrontLemmas.{front_of_blocks}, proofs.lemmas.RawTellingLemmas.{adds_new, adds_same, one_raw, told_last}, proofs.lemmas.TellingLemmas.{OnOk_map}}
 use Rattle.pmf_merge.proofs.raw_written.RawWritten.tell.Goals as goal
 
 pub returns-then-eq-clause-told : goal.returns-then-eq-clause-told
@@ -34,3 +34,15 @@ returns-clause-told g c = λ profile held out v written rises named is upto.
     let one = one_raw v c.args.name c.args.block.now named is in
     let added = subst (λ b. IsRawWritten profile held (g.W.Sink.held c.args.writer.now) (out ++ b ∷ []) c.add.new.self) (sym one) (c.in-Ok.ensures profile held (g.W.Sink.held c.args.writer.now) out written) in
     OnOk_map c.write.result _ _ (c.write.ensures.written profile held (out ++ v ∷ []) added) (λ now. (out ++ v ∷ [], adds_new out c.args.self.now.name c.args.self.now.last.items v written.last rises upto other, now))
+
+pub returns-else-eq-clause-front : goal.returns-else-eq-clause-front
+returns-else-eq-clause-front g c = λ profile held out written.
+    front_of_blocks profile held _ out c.args.self.now written
+
+pub returns-in-Err-clause-front : goal.returns-in-Err-clause-front
+returns-in-Err-clause-front g c = λ profile held out written.
+    front_of_blocks profile held _ out c.args.self.now written
+
+pub returns-clause-front : goal.returns-clause-front
+returns-clause-front g c = λ profile held out written.
+    c.write.ensures.front profile held (out ++ record { name = c.args.name; bytes = c.args.block.now } ∷ []) (c.in-Ok.ensures profile held (g.W.Sink.held c.args.writer.now) out written)
