@@ -4,21 +4,21 @@ _pmfarm_trace() {
     COMPREPLY=()
     for ((at = 1; at < COMP_CWORD; at++)); do
         case ${COMP_WORDS[at]} in
-            --log | --pmem | --range | --stacks | --sections) ((++at)) ;;
+            --log | --pmem | --range | --stacks | --sections | --hold) ((++at)) ;;
             -*) ;;
             *) return ;; # (the words of the program that is traced; bash offers the names of files)
         esac
     done
     case $before in
         --sections) words='threads none' ;;
-        --stacks | --range) compopt +o default 2>/dev/null ;;
+        --stacks | --range | --hold) compopt +o default 2>/dev/null ;;
         --log | --pmem | *[\<\>]*) ;;
         *)
             if [[ "$word" != [-./]* ]]; then
                 mapfile -t COMPREPLY < <(compgen -c -- "$word")
                 return
             fi
-            words='--log --pmem --range --stacks --persist-at-end --clflush-fence --lock-fence --sections --help'
+            words='--log --pmem --range --stacks --persist-at-end --clflush-fence --lock-fence --sections --hold --help'
             ;;
     esac
     mapfile -t COMPREPLY < <(compgen -W "$words" -- "$word")

@@ -1,5 +1,5 @@
 # fish completion for pmfarm-trace
-complete -c pmfarm-trace -x -a '(__fish_complete_subcommand -- --log --pmem --range --stacks --sections)'
+complete -c pmfarm-trace -x -a '(__fish_complete_subcommand -- --log --pmem --range --stacks --sections --hold)'
 complete -c pmfarm-trace -l log -r -F -d 'the file of the log'
 complete -c pmfarm-trace -l pmem -r -F -d 'files whose path begins so are persistent memory'
 complete -c pmfarm-trace -l range -x -d 'a range of memory, FIRST;SIZE'
@@ -8,4 +8,5 @@ complete -c pmfarm-trace -l persist-at-end -d 'assert that each range is durable
 complete -c pmfarm-trace -l clflush-fence -d 'CLFLUSH counts as a fence'
 complete -c pmfarm-trace -l lock-fence -d 'an instruction with a LOCK prefix, or XCHG, counts as a fence'
 complete -c pmfarm-trace -l sections -x -a 'threads none' -d 'whose sections the events have'
+complete -c pmfarm-trace -l hold -x -d 'each traced process keeps this descriptor open until it ends'
 complete -c pmfarm-trace -l help -d 'print help'

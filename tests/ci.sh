@@ -28,32 +28,33 @@ guide() {
 }
 
 missing_fence=$PWD/examples/traced_append_without_a_fence
-write_baseline='pmfarm-rows --format text --log pmfarm.out/store.log --source-root . --write-baseline known.json pmfarm.out/store.report'
+write_baseline='pmfarm-rows --format text --log pmfarm.out/1/store.log --source-root . --write-baseline known.json pmfarm.out/1/store.report'
 
 # What passes is in the files that are kept, and joins to the report.
 ci_passes() {
     guide "echo '[]' > known.json" && guide './ci.sh 1 ./my-test' && ci_project && in_ci 0 "$top/examples/traced_append.log" ./ci.sh 7 true &&
         same /dev/null "$scratch/rows" && same /dev/null "$scratch/diagnostics" || return
-    sed 's/^section 0/section 7/' examples/traced_append.report | same - "$project/pmfarm.out/store.report" &&
-        "$program" join "$project/pmfarm.out/7.ledger" | same "$project/pmfarm.out/store.report" - &&
-        grep -q 'tests="10" failures="0"' "$project/pmfarm.out/store.xml" && grep -q '"results": \[' "$project/pmfarm.out/store.sarif" || return
-    in_ci 0 "$top/examples/traced_append.log" ./ci.sh 8 true && (cd "$project/pmfarm.out" && printf '%s\n' *) |
-        said $'8.ledger\nstore.log\nstore.report\nstore.sarif\nstore.warnings\nstore.xml' -
+    left=$project/pmfarm.out/7
+    sed 's/^section 0/section 7/' examples/traced_append.report | same - "$left/store.report" &&
+        "$program" join "$left/7.ledger" | same "$left/store.report" - &&
+        grep -q 'tests="10" failures="0"' "$left/store.xml" && grep -q '"results": \[' "$left/store.sarif" || return
+    in_ci 0 "$top/examples/traced_append.log" ./ci.sh 8 true && (cd "$project/pmfarm.out" && printf '%s\n' */*) |
+        said "$(printf '%s\n' {7/7.ledger,7/store.{log,report,sarif,xml},8/8.ledger,8/store.{log,report,sarif,xml}})" -
 }
 
 # A failure that is new is shown, also as an annotation of its line; one that is known is not, and fails nothing.
 ci_fails_but_for_what_is_known() {
     local rows=$'7.0 5 ORDERED FAIL byte=0x10040 after=0x10000 crash=4\n7.0 14 ORDERED FAIL byte=0x10058 after=0x10000 crash=13
 7.0 23 ORDERED FAIL byte=0x10070 after=0x10000 crash=22'
-    ci_project && in_ci 1 "$missing_fence.log" ./ci.sh 7 true && said "$rows" "$scratch/rows" || return
+    ci_project && in_ci 1 "$missing_fence.log" ./ci.sh 7 true && said "$rows" "$scratch/rows" && in_ci 1 "$missing_fence.log" ./ci.sh 1 true || return
     in_ci 1 "$missing_fence.log" env GITHUB_ACTIONS=true ./ci.sh 7 true && cut -d % -f 1 "$scratch/rows" |
         said "$(sed 's/^/::error file=src\/append_log.c,line=59,title=ORDERED FAIL::/' <<<"$rows")" - &&
-        grep -q 'tests="10" failures="3"' "$project/pmfarm.out/store.xml" && grep -q '"uri": "src/append_log.c"' "$project/pmfarm.out/store.sarif" &&
+        grep -q 'tests="10" failures="3"' "$project/pmfarm.out/7/store.xml" && grep -q '"uri": "src/append_log.c"' "$project/pmfarm.out/7/store.sarif" &&
         guide "$write_baseline" && in_ci 0 '' $write_baseline || return
     said $'[\n{"key": "ORDERED-FAIL src/append_log.c:59", "count": 3}\n]' "$project/known.json" &&
         in_ci 0 "$missing_fence.log" ./ci.sh 7 true && sed 's/$/ (known)/' <<<"$rows" | same - "$scratch/rows" &&
         in_ci 0 "$missing_fence.log" env GITHUB_ACTIONS=true ./ci.sh 7 true && same /dev/null "$scratch/rows" &&
-        grep -q 'tests="10" failures="0" errors="0" skipped="3"' "$project/pmfarm.out/store.xml" || return
+        grep -q 'tests="10" failures="0" errors="0" skipped="3"' "$project/pmfarm.out/7/store.xml" || return
     in_ci 0 "$top/examples/traced_append.log" ./ci.sh 8 true && said 'gone: ORDERED-FAIL src/append_log.c:59 (3 of 3)' "$scratch/diagnostics"
 }
 
@@ -66,14 +67,74 @@ ci_warns_and_refuses() {
         said 'rows: known.json: No such file or directory' "$scratch/diagnostics"
 }
 
-# Where another test runs, or was killed, there is no verdict; a child whose log fails has the test fail.
-ci_is_alone_and_sees_children() {
-    local running='ci.sh: another ci.sh runs here, or was killed and left pmfarm.out/running'
-    ci_project && mkdir -p "$project/pmfarm.out/running" && in_ci 4 "$top/examples/traced_append.log" ./ci.sh 7 true &&
-        said "$running" "$scratch/diagnostics" && rmdir "$project/pmfarm.out/running" && in_ci 2 '' ./ci.sh 7 || return
-    in_ci 1 "$top/examples/traced_append.log" ./ci.sh 7 cp "$missing_fence.log" pmfarm.out/store.log.436 &&
-        cut -d ' ' -f 1-4 "$scratch/rows" | said $'7.0 5 ORDERED FAIL\n7.0 14 ORDERED FAIL\n7.0 23 ORDERED FAIL' - &&
-        [ ! -e "$project/pmfarm.out/running" ] && in_ci 1 "$missing_fence.log" ./ci.sh 7 cp "$top/examples/traced_append.log" pmfarm.out/store.log.436 && in_ci 0 "$top/examples/traced_append.log" ./ci.sh 7 true
+# Of one number one test runs at a time. A number that is none is refused before the trace.
+ci_is_alone() {
+    ci_project && mkdir -p "$project/pmfarm.out/7" && exec {running}<"$project/pmfarm.out/7" && flock -n "$running" || return
+    in_ci 4 "$top/examples/traced_append.log" ./ci.sh 7 true && said 'ci.sh: another test of run 7 runs here' "$scratch/diagnostics" &&
+        in_ci 0 "$top/examples/traced_append.log" ./ci.sh 8 true && exec {running}<&- && in_ci 0 "$top/examples/traced_append.log" ./ci.sh 7 true || return
+    in_ci 2 '' ./ci.sh 7 && in_ci 2 '' ./ci.sh --wait && in_ci 2 '' ./ci.sh --wait x 7 true && in_ci 2 "$missing_fence.log" ./ci.sh x touch traced &&
+        in_ci 2 "$missing_fence.log" ./ci.sh 18446744073709551616 touch traced && [ ! -e "$project/traced" ]
+}
+
+# child STATUS LOG COMMAND: a test that passes, beside a child process whose log is this, put there by the command.
+child() {
+    in_ci "$1" "$top/examples/traced_append.log" ./ci.sh --wait 2 7 sh -c "$3" "$2"
+}
+
+# A child has a part in all that the test leaves, also where it ends behind its parent. One that goes on, or that has no whole log, is no verdict.
+ci_sees_children() {
+    local now='cp "$0" pmfarm.out/7/store.log.436' late='(sleep 1; cp "$0" pmfarm.out/7/store.log.436) &'
+    local rows=$'7.1000000000000 5 ORDERED FAIL byte=0x10040 after=0x10000 crash=4\n7.1000000000000 14 ORDERED FAIL byte=0x10058 after=0x10000 crash=13
+7.1000000000000 23 ORDERED FAIL byte=0x10070 after=0x10000 crash=22'
+    ci_project && child 1 "$missing_fence.log" "$now" && said "$rows" "$scratch/rows" && child 1 "$missing_fence.log" "$late" && said "$rows" "$scratch/rows" || return
+    "$program" join "$project/pmfarm.out/7/7.ledger" >"$scratch/report"
+    ended 1 $? && tail -n 1 "$scratch/report" | said 'total sections=2 pass=17 fail=3 warn=0 empty=0' - &&
+        grep -q 'tests="20" failures="3"' "$project/pmfarm.out/7/store.xml" && grep -q '"uri": "src/append_log.c"' "$project/pmfarm.out/7/store.sarif" || return
+    in_ci 0 '' ${write_baseline//out\/1/out\/7} && child 0 "$missing_fence.log" "$now" && sed 's/$/ (known)/' <<<"$rows" | same - "$scratch/rows" || return
+    child 2 "$missing_fence.log" 'sleep 4 &' && said 'ci.sh: a child of the program still runs after 2 seconds' "$scratch/diagnostics" || return
+    printf 'STORE;8;1;8\nPMT.REFUSED;why\n' >"$scratch/refused.log" && : >"$scratch/empty.log" && printf 'PMT.SECTION;1234567890123\n' >"$scratch/wide.log" &&
+        child 2 "$scratch/refused.log" "$now" && grep -q ': unknown marker$' "$scratch/diagnostics" && child 4 "$scratch/empty.log" "$now" && child 4 "$scratch/wide.log" "$now"
+}
+
+# A signal ends the program, too, and the next test runs.
+ci_is_ended() {
+    local log=$top/examples/traced_append.log sleeps='echo $$ >pid; exec sleep 60' status tried=0
+    ci_project && in_ci 124 "$log" timeout 1 ./ci.sh 7 sh -c "$sleeps" && ! kill -0 "$(<"$project/pid")" 2>/dev/null && rm "$project/pid" || return
+    (cd "$project" && played=$log PATH=$commands/bin:$PATH exec ./ci.sh 7 sh -c "$sleeps") >/dev/null 2>&1 &
+    until [ -s "$project/pid" ] || [ $((tried += 1)) -gt 100 ]; do
+        sleep 0.1
+    done
+    kill -TERM $!
+    wait $!
+    ended 143 $? && ! kill -0 "$(<"$project/pid")" 2>/dev/null && in_ci 0 "$log" ./ci.sh 7 true
+}
+
+# on_small_disk PAGES: a test that passes, where what it leaves has so many pages of room. With a verdict all is there.
+on_small_disk() {
+    rm -rf "$project/pmfarm.out" && mkdir "$project/pmfarm.out" && unshare -rm bash -c '
+        mount -t tmpfs -o size="$1k" none "$2/pmfarm.out" && cd "$2" && ./ci.sh 7 true
+        status=$?
+        cp -r pmfarm.out kept
+        exit "$status"' _ "$((4 * $1))" "$project" >"$scratch/rows" 2>"$scratch/diagnostics"
+}
+
+ci_on_a_full_disk() {
+    local pages status whole=0
+    ci_project && export played=$top/examples/traced_append.log PATH=$commands/bin:$PATH || return
+    for pages in {1..12}; do
+        rm -rf "$project/kept"
+        on_small_disk "$pages"
+        status=$?
+        if [ "$status" = 0 ]; then
+            whole=$((whole + 1))
+            grep -q '</testsuites>' "$project/kept/7/store.xml" && python3 -m json.tool "$project/kept/7/store.sarif" >/dev/null &&
+                "$program" join "$project/kept/7/7.ledger" | same "$project/kept/7/store.report" - || return
+        elif [ "$status" = 1 ] || [ ! -s "$scratch/diagnostics" ]; then
+            echo "$pages pages: status $status"
+            return 1
+        fi
+    done
+    [ "$whole" -gt 0 ] && [ "$whole" -lt 12 ]
 }
 
 day='total sections=2 pass=17 fail=3 warn=0 empty=0
@@ -89,8 +150,9 @@ kept_ledgers() {
 }
 
 ci_joins_a_day() {
-    kept_ledgers && in_ci 0 '' ./ci-day.sh kept/{7,8}.ledger && said "$day" "$scratch/rows" && in_ci 0 '' ./ci-day.sh 'none/*.ledger' &&
-        same /dev/null "$scratch/rows" && in_ci 2 '' ./ci-day.sh kept/7.ledger "$top/examples/forged.ledger"
+    kept_ledgers && in_ci 0 '' ./ci-day.sh kept/{7,8}.ledger && said "$day" "$scratch/rows" && in_ci 4 '' ./ci-day.sh 'none/*.ledger' &&
+        same /dev/null "$scratch/rows" && [ ! -e "$project/day.report" ] && in_ci 4 '' ./ci-day.sh kept/7.ledger kept/9.ledger && in_ci 2 '' ./ci-day.sh &&
+        in_ci 2 '' ./ci-day.sh kept/7.ledger "$top/examples/forged.ledger"
 }
 
 # night_of FILE: the script that a file of YAML has for each night.
@@ -114,7 +176,7 @@ ci_night_of_github() {
 case $* in
     "run list --workflow persistent-memory.yaml --status completed --created $(date -u -d yesterday +%F) "*) printf '70\n80\n90\n' ;;
     'run download 90 '*) exit 1 ;;
-    'run download '[78]'0 --pattern ledger-* --dir ledgers') mkdir -p "ledgers/ledger-${3%0}" && cp "kept/${3%0}.ledger" "ledgers/ledger-${3%0}" ;;
+    'run download '[78]'0 --pattern ledger-* --dir ledgers') mkdir -p "ledgers/ledger-${3%0}/${3%0}" && cp "kept/${3%0}.ledger" "ledgers/ledger-${3%0}/${3%0}" ;;
     *) exit 9 ;;
 esac
 SH
@@ -132,7 +194,11 @@ case ${url#https://gitlab/projects/3/jobs} in
     *'&page=2') printf '[{"id": 8, "name": "persistent memory", "created_at": "%s"}, {"id": 5, "name": "persistent memory",
         "created_at": "2001-01-01T10:00:00.000Z"}]\n' "$day" ;;
     *'&page='*) printf '[]\n' ;;
-    /[78]/artifacts/pmfarm.out/[78].ledger) cat "kept/${url##*/}" ;;
+    /[78]/artifacts)
+        job=${url%/*} job=${job##*/}
+        mkdir -p "pmfarm.out/1$job" && cp "kept/$job.ledger" "pmfarm.out/1$job" && python3 -m zipfile -c one.zip pmfarm.out && cat one.zip
+        rm -r pmfarm.out one.zip
+        ;;
     *) exit 22 ;;
 esac
 SH
@@ -142,8 +208,8 @@ SH
 
 # The files of the systems have what these ask for, and name what ci.sh leaves.
 ci_files_are_whole() {
-    grep -qF "junit testResults: 'pmfarm.out/store.xml'" examples/recipes/Jenkinsfile &&
-        grep -qF "archiveArtifacts artifacts: 'pmfarm.out/*'" examples/recipes/Jenkinsfile && python3 - <<'PY'
+    grep -qF "junit testResults: 'pmfarm.out/*/store.xml'" examples/recipes/Jenkinsfile &&
+        grep -qF "archiveArtifacts artifacts: 'pmfarm.out/**'" examples/recipes/Jenkinsfile && python3 - <<'PY'
 import yaml
 
 with open("examples/recipes/github.yaml") as file:
@@ -157,17 +223,27 @@ for job in (check, day):
     assert all(("uses" in step) != ("run" in step) for step in job["steps"])
 uses = {step["uses"].split("@")[0]: step for step in check["steps"] if "uses" in step}
 sarif, kept = uses["github/codeql-action/upload-sarif"], uses["actions/upload-artifact"]
-assert sarif["with"]["sarif_file"] == "pmfarm.out/store.sarif" and sarif["if"].startswith("always()")
+assert sarif["with"]["sarif_file"] == "pmfarm.out/${{ github.run_number }}/store.sarif" and sarif["if"].startswith("always()")
 assert kept["with"]["path"] == "pmfarm.out/" and kept["if"] == "always()"
 with open("examples/recipes/gitlab.yaml") as file:
     whole = yaml.safe_load(file)
 job, day = whole["persistent memory"], whole["persistent memory of a day"]
-assert job["artifacts"] == {"when": "always", "paths": ["pmfarm.out/"], "reports": {"junit": "pmfarm.out/store.xml"}}
+assert job["artifacts"] == {"when": "always", "paths": ["pmfarm.out/"], "reports": {"junit": "pmfarm.out/*/store.xml"}}
 assert day["rules"] == [{"if": '$CI_PIPELINE_SOURCE == "schedule"'}]
 with open("docs/GUIDE.md") as file:
     shown = yaml.safe_load(file.read().partition("```yaml\n")[2].partition("```")[0])
 assert shown == {"persistent memory": job}
 PY
+}
+
+# The image has a package for each command that the files of the systems, ci.sh and the tracer call, and for the tracer's build.
+ci_image_is_whole() {
+    local package packages
+    packages=" $(sed -n '/apt-get install/,/&& rm/p' examples/recipes/Containerfile.ci | tr -s '\\\n ' ' ') "
+    for package in gcc libc6-dev make git valgrind python3 util-linux curl jq gh; do
+        [[ $packages = *" $package "* ]] || { echo "no $package" && return 1; }
+    done
+    ! grep -hoE '^ *(- )?image: .*|docker \{ image .* \}|^ *container: .*' examples/recipes/{github.yaml,gitlab.yaml,Jenkinsfile} | grep -v registry.example/pmfarm:latest
 }
 
 # The tracer as it is: a program of the project whose failure is shown at its line.
@@ -182,11 +258,15 @@ try_ci() {
     check 'ci.sh leaves what a CI system shows and keeps' ci_passes
     check 'ci.sh fails where a failure is new' ci_fails_but_for_what_is_known
     check 'ci.sh fails where check warns, and where there is no verdict' ci_warns_and_refuses
-    check 'ci.sh runs alone, and checks the logs of child processes' ci_is_alone_and_sees_children
+    check 'ci.sh runs once for each number' ci_is_alone
+    check 'ci.sh waits for child processes, and takes their logs' ci_sees_children
+    check 'ci.sh that is ended by a signal ends the program, and holds up no test' ci_is_ended
+    check_by 'mounts of its own' 'ci.sh on a full disk has no verdict without its files' ci_on_a_full_disk
     check 'ci-day.sh joins the ledgers of a day' ci_joins_a_day
     check_by 'a YAML parser for Python' 'the night of GitHub, played' ci_night_of_github
     check_by jq 'the night of GitLab, played' ci_night_of_gitlab
     check_by 'a YAML parser for Python' 'the files for GitHub, GitLab and Jenkins have what these ask for' ci_files_are_whole
+    check 'the image of these files has what they call' ci_image_is_whole
     check_by shellcheck 'the recipes pass shellcheck' well_formed shellcheck examples/recipes/*.sh
     check_by "$tracer" 'ci.sh traces a program of a project' ci_traces
 }

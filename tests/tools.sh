@@ -331,6 +331,27 @@ releases() {
     ended 2 $?
 }
 
+# not_released [WORD..]: tools/release to its folder, by this command, makes no file.
+not_released() {
+    local room=$scratch/release
+    [ "$kind" = proved ] || local quick=yes
+    rm -rf "$room" && mkdir "$room" || return
+    "$@" tools/release --no-build ${quick+--quick} "$room" >"$scratch/report" 2>"$scratch/diagnostics"
+    ended 1 $? && same /dev/null "$scratch/report" && grep -qx 'release: the file is not made' "$scratch/diagnostics" && [ -z "$(ls "$room")" ]
+}
+
+# Where tar fails midway, or the disk is full, there is no file, nor a part of one. Modes are the same whatever the user's mask is.
+# shellcheck disable=SC2016
+releases_whole() {
+    local first
+    mkdir -p "$scratch/played" && printf '#!/bin/sh\nhead -c 100000 /dev/zero\nexit 2\n' >"$scratch/played/tar" && chmod +x "$scratch/played/tar" &&
+        not_released env PATH="$scratch/played:$PATH" || return
+    if has 'mounts of its own'; then
+        not_released unshare -rm bash -c 'mount -t tmpfs -o size=64k none "${@: -1}" && "$@" && exit; status=$?; [ -z "$(ls "${@: -1}")" ] && exit "$status"' _ || return
+    fi
+    release_of && first=$(sha256sum <"$scratch"/release/*.gz) && (umask 077 && release_of) && [ "$(sha256sum <"$scratch"/release/*.gz)" = "$first" ]
+}
+
 # In a root that has the C library and no other file: what is unpacked there checks a log.
 release_alone() {
     local root=$scratch/unpacked file
@@ -465,6 +486,7 @@ try_tools() {
     check_by 'a static C library' 'tools/install --static installs a program that needs no C library, and answers the same' installs_static
     check_by 'a static C library and a root by unshare' 'the static program alone in an empty root' static_alone
     check 'tools/release makes a file that is unpacked as told, the same each time' releases
+    check 'tools/release makes a whole file or none' releases_whole
     check_by 'a root by unshare' 'what is released checks a log in a root that has the C library alone' release_alone
     check 'tools/install installs the tools, below a prefix that is then moved' installs_tools
     check 'the installed pmfarm-rows finds the installed program' installed_rows

@@ -31,7 +31,15 @@ traced() {
     local status=$1 log=$2 diagnostics=$3 tried=$4 case=$5
     shift 5
     trace "$@" "$room/$tried" "$room/pool" "$case"
-    ended "$status" $? && said "$log" "$scratch/log" && said "$diagnostics" "$scratch/diagnostics"
+    ended "$status" $? && grep -Ev '^(PMT.REFUSED;.*)?$' "$scratch/log" | said "$log" - && said "$diagnostics" "$scratch/diagnostics" &&
+        refused_as_told "$status"
+}
+
+# refused_as_told STATUS: each record of the log that no command takes says what was told, and with status 4 there is one.
+refused_as_told() {
+    sed -nE 's/:[0-9]+\)/:N)/g; s/^PMT.REFUSED;/trace: /p' "$scratch/log" >"$scratch/refused"
+    [ "$1" != 4 ] || [ -s "$scratch/refused" ] || return
+    ! grep -vxFf "$scratch/diagnostics" "$scratch/refused"
 }
 
 no_store='trace: no store to a range was seen: is a file mapped, shared, whose path begins with a prefix of --pmem?'
@@ -187,6 +195,40 @@ $(durable 0x10000000 0x10100000)" 'trace: the addresses from 0x10000000 on are u
         traced 4 "$(durable 0x10000000)" 'trace: the range from 0x10000000 on is moved to 0x10100000: the log takes its bytes for others' lives move
 }
 
+# no_verdict: no command takes what this log has.
+no_verdict() {
+    "$program" check "$1" >"$scratch/report" 2>"$scratch/diagnostics"
+    ended 2 $? && grep -Eqx 'pmfarm: record [0-9]+: unknown marker' "$scratch/diagnostics"
+}
+
+# What makes a verdict of a fork wrong stands in its log, whatever its parent ends with; where it has none, in that of its parent, whose
+# reader has not seen its end before.
+forks_are_refused() {
+    local moved='PMT.REFUSED;the range from 0x10000000 on is moved to 0x10100000: the log takes its bytes for others' it
+    rm -f "$room"/forked.*
+    trace --log "$room/forked.log" "$room/lives" "$room/pool" forkmove
+    ended 0 $? && said $'STORE;0x10000000;0x0;0x8\n'"$moved" "$room"/forked.log.[0-9]* && no_verdict "$room"/forked.log.[0-9]* || return
+    for it in forkmove orphan; do
+        rm -f "$room/pool"
+        tools/trace --pmem "$room/pool" "$room/lives" "$room/pool" "$it" 2>/dev/null | cat >"$scratch/log"
+        ended 0 "${PIPESTATUS[0]}" && no_verdict "$scratch/log" || return
+    done
+    rm -f "$room/pool" && tools/trace --pmem "$room/pool" --log "$scratch/log" --hold 3 "$room/lives" "$room/pool" orphan 2>/dev/null \
+        3> >(cat && cat "$scratch"/log.[0-9]* >"$scratch/whole") && until [ -s "$scratch/whole" ]; do sleep 0.1; done
+    said 'STORE;0x10000040;0x0;0x8' "$scratch/whole"
+}
+
+# The log of a fork that its disk has no room for tells so at its end.
+without_room() {
+    has 'mounts of its own' || return 0
+    mkdir "$room/small" && unshare -rm bash -c '
+        mount -t tmpfs -o size=16k none "$1/small" && tools/trace --pmem "$1/pool" --log "$1/small/log" "$1/lives" "$1/pool" forkbusy
+        status=$?
+        cp "$1"/small/log.[0-9]* "$1/cut.log"
+        exit "$status"' _ "$room" 2>/dev/null
+    ended 0 $? && tail -n 1 "$room/cut.log" | said 'PMT.REFUSED;the log is not whole' - && no_verdict "$room/cut.log"
+}
+
 # The log of a fork has its process in its name; without a file for it the run has no verdict.
 forks_and_exec() {
     traced 4 "$(durable 0x10000000 0x10000080)" 'trace: a fork stores to a range, and its records have no log: --log FILE gives it one, FILE.PROCESS' \
@@ -208,7 +250,7 @@ programs_end() {
     trace "$room/lives" "$room/pool" abort
     ended 134 $? && { durable 0x10000000 && echo 'STORE;0x10000040;0x0;0x8'; } | same - "$scratch/log" || return
     trace "$room/lives" "$room/pool" unknown
-    ended 4 $? && said 'STORE;0x10000000;0x0;0x8' "$scratch/log" && head -n 1 "$scratch/diagnostics" |
+    ended 4 $? && head -n 1 "$scratch/log" | said 'STORE;0x10000000;0x0;0x8' - && refused_as_told 4 && head -n 1 "$scratch/diagnostics" |
         said 'trace: an instruction that this Valgrind does not know: 62 f1 fd 48 6f 00, in unknown (lives.c:N)' -
 }
 
@@ -328,6 +370,7 @@ trace_refuses() {
         spoken 2 'unknown word --stack: see tools/trace --help' --stack 3 true && spoken 2 '--log needs a value' --log &&
         spoken 2 '--stacks: 33 is no number from 0 to 32' --stacks 33 true && spoken 2 '--stacks: x is no number from 0 to 32' --stacks x true &&
         spoken 2 '--range: 0x1000 is no FIRST;SIZE' --range 0x1000 true && spoken 2 '--range: 0x1000;0 is no FIRST;SIZE' --range '0x1000;0' true &&
+        spoken 2 '--hold: 99 is no descriptor that is open for writing' --hold 99 true && spoken 2 '--hold: x is no descriptor that is open for writing' --hold x true &&
         spoken 2 '--sections: one is neither threads nor none' --sections one true && spoken 2 '--pmem: the prefix is empty' --pmem '' true
 }
 
@@ -451,6 +494,8 @@ try_trace() {
     check_by "$tracer" 'traced: requests become markers' requests_become_markers
     check_by "$tracer" 'traced: mappings that end, move, or show bytes twice' mappings_end_and_move
     check_by "$tracer" 'traced: forks and exec' forks_and_exec
+    check_by "$tracer" 'traced: what makes a verdict of a fork wrong stands in a log' forks_are_refused
+    check_by "$tracer" 'traced: a fork whose log has no room' without_room
     check_by "$tracer" 'traced: what a program writes, its status, its signals' programs_end
     check_by "$tracer" 'traced: a program that is killed midway' killed_midway
     check_by "$tracer" 'traced: a program that kills itself at each of its first 30 records' killed_at_each_record

@@ -15,9 +15,12 @@
 /* (of the core: a descriptor where the program can't reach it) */
 extern Int VG_(safe_fd)(Int descriptor);
 
-enum { FAULT = 4 };
+enum { FAULT = 4, LONGEST_FAULT = 1024 };
 
-struct settings settings = {0, False, False, False, True, NULL, NULL, -1};
+struct settings settings = {0, False, False, False, True, NULL, NULL, -1, -1};
+
+/* In a fork: the log of its parent. Who reads that has not seen its end while the fork runs. */
+static Int log_of_parent = -1;
 
 static Bool is_told[SUBJECTS];
 static Bool has_fault, is_child;
@@ -49,12 +52,18 @@ void say(const HChar *format, ...)
 
 void say_fault(const HChar *format, ...)
 {
+    HChar text[LONGEST_FAULT];
     va_list words;
 
     has_fault = True;
     va_start(words, format);
-    say_words(format, words);
+    VG_(vsnprintf)(text, sizeof text, format, words);
     va_end(words);
+    say("%s", text);
+    if (is_child && !settings.log)
+        refuse_log_of_parent(text);
+    else
+        record_refusal(text);
 }
 
 Bool had_a_fault(void)
@@ -100,6 +109,7 @@ static Bool take_word(const HChar *word)
 
     if (VG_STR_CLO(word, "--pmf-log", settings.log)) {
     } else if (VG_INT_CLO(word, "--pmf-file", settings.log_file)) {
+    } else if (VG_INT_CLO(word, "--pmf-hold", settings.held)) {
     } else if (VG_STR_CLO(word, "--pmf-path", text)) {
         VG_(addToXA)(settings.prefixes, &text);
     } else if (VG_STR_CLO(word, "--pmf-range", text)) {
@@ -138,10 +148,18 @@ void open_log_of_fork(void)
     opened = VG_(open)(path, VKI_O_WRONLY | VKI_O_CREAT | VKI_O_TRUNC, 0666);
     if (sr_isError(opened)) {
         say("the log %s can't be opened", path);
+        refuse_log_of_parent("the log of a fork can't be opened");
         stop();
     }
     settings.log_file = VG_(safe_fd)(sr_Res(opened));
     say("process %d is a fork, and its log is %s", VG_(getpid)(), path);
+}
+
+/* (a fork without a log of its own says in that of its parent that this is not whole) */
+void refuse_log_of_parent(const HChar *why)
+{
+    if (log_of_parent >= 0)
+        write_refusal(log_of_parent, why);
 }
 
 /* (its log has its own faults, each of which it tells anew) */
@@ -153,8 +171,11 @@ static void is_forked(ThreadId tid)
     has_fault = False;
     VG_(memset)(is_told, 0, sizeof is_told);
     is_told[EXEC_OF_FORK] = has_told_exec;
-    if (settings.log_file >= 0)
-        VG_(close)(settings.log_file);
+    if (settings.log_file >= 0) {
+        if (log_of_parent >= 0)
+            VG_(close)(log_of_parent);
+        log_of_parent = settings.log_file;
+    }
     settings.log_file = -1;
     records_are_of_child();
     sections_are_of_child();
@@ -180,6 +201,8 @@ static void begin(void)
         VG_(exit)(2);
     }
     settings.log_file = VG_(safe_fd)(settings.log_file);
+    if (settings.held >= 0)
+        settings.held = VG_(safe_fd)(settings.held);
     VG_(atfork)(before_fork, has_forked, is_forked);
 }
 

@@ -10,7 +10,7 @@
 #include "pub_tool_threadstate.h"
 #include "pub_tool_vki.h"
 
-enum { BUFFER = 1 << 16, LONGEST_MERGED = 1 << 30, MAY_WRITE = 4 /* POLLOUT */ };
+enum { BUFFER = 1 << 16, LONGEST_MERGED = 1 << 30, LONGEST_REFUSAL = 256, MAY_WRITE = 4 /* POLLOUT */ };
 
 /* The frames of a record: return addresses, the first the instruction itself. */
 struct frames {
@@ -55,6 +55,8 @@ void write_out(void)
             continue;
         if (now <= 0) {
             say("the log can't be written: write failed after %llu bytes", written);
+            write_refusal(settings.log_file, "the log is not whole");
+            refuse_log_of_parent("the log of a fork is not whole");
             stop();
         }
         done += now;
@@ -91,6 +93,25 @@ static void put_field(const HChar *text)
         one[0] = *text == '|' || *text == '\n' || *text == '\r' ? '?' : *text;
         put(one);
     }
+}
+
+/* A record that no command takes, between any two others. */
+void record_refusal(const HChar *why)
+{
+    put("PMT.REFUSED");
+    put_field(why);
+    put("\n");
+}
+
+/* The same at once, where others write, too, or where there may be no room for more: then it takes the place of what stands last. */
+void write_refusal(Int file, const HChar *why)
+{
+    HChar text[LONGEST_REFUSAL];
+    Int size = VG_(snprintf)(text, sizeof text, "\nPMT.REFUSED;%s\n", why);
+
+    text[size - 1] = '\n'; /* (where it is cut) */
+    if (VG_(write)(file, text, size) != size && VG_(lseek)(file, -size, VKI_SEEK_END) >= 0)
+        VG_(write)(file, text, size);
 }
 
 /* The frames of the instruction that runs. */

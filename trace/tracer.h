@@ -19,13 +19,14 @@ struct settings {
     XArray *prefixes;      /* of const HChar *: the paths of persistent memory */
     const HChar *log;      /* its absolute path, where it is a file */
     Int log_file;          /* its descriptor */
+    Int held;              /* one that stays open until the process ends; below 0: none */
 };
 
 extern struct settings settings;
 
 void say(const HChar *format, ...) PRINTF_CHECK(1, 2);
 
-/* A verdict could be wrong by this: the run ends in status 4. */
+/* A verdict could be wrong by this: the run ends in status 4, and no command takes the log. */
 void say_fault(const HChar *format, ...) PRINTF_CHECK(1, 2);
 Bool had_a_fault(void);
 
@@ -35,6 +36,7 @@ enum subject { EXEC, EXEC_OF_FORK, UNKNOWN_INSTRUCTION, STRANGE_WRITE_BACK, SHAR
 Bool is_first(enum subject subject);
 Bool is_fork(void);
 void open_log_of_fork(void);
+void refuse_log_of_parent(const HChar *why);
 
 void *room(SizeT size); /* memory, cleared */
 XArray *array_of(SizeT size);
@@ -121,6 +123,8 @@ void record_text(struct section *section, Addr place, const HChar *text);
 void record_store(struct section *section, Addr place, Addr start, Addr end, Bool is_repeated);
 void record_flush(struct section *section, Addr place, Addr start, Addr end);
 void record_non_temporal(struct section *section, Addr place, Addr start, Addr end);
+void record_refusal(const HChar *why);
+void write_refusal(Int file, const HChar *why);
 void write_out(void);
 void records_are_of_child(void);
 void records_end(void);

@@ -3,12 +3,12 @@
 #
 #     ci-day.sh LEDGER..
 #
-# Ends with 0 where all ledgers were joined, whatever their rows are, and where there is none: each run had its own verdict.
+# Ends with 0 where all ledgers were joined, whatever their rows are: each run had its own verdict. Else, as where one is not there, with
+# 2 or above.
 set -u
 rm -f day.report
-[ -e "${1-}" ] || exit 0
 pmfarm join "$@" >day.report
 status=$?
-[ "$status" -le 1 ] || exit "$status"
+[ "$status" -le 1 ] || { rm -f day.report; exit "$status"; }
 tail -n 1 day.report
 pmfarm-rows --fail day.report

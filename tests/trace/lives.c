@@ -31,6 +31,40 @@ static void forked(void)
     exit(WEXITSTATUS(status));
 }
 
+/* (the child is not told in the status of its parent) */
+static void forked_and_moved(void)
+{
+    pid_t child = fork();
+
+    if (child == 0) {
+        store(pool, 1);
+        mremap(pool, POOL_SIZE, POOL_SIZE, MREMAP_MAYMOVE | MREMAP_FIXED, POOL + 0x100000);
+        exit(0);
+    }
+    waitpid(child, NULL, 0);
+}
+
+static void orphaned(void)
+{
+    make_durable(pool, 1);
+    if (fork() == 0) {
+        usleep(700000);
+        store(pool + 64, 2);
+    }
+    exit(0);
+}
+
+/* (a log of some 30,000 bytes) */
+static void forked_and_busy(void)
+{
+    pid_t child = fork();
+    int i;
+
+    for (i = 0; child == 0 && i < 500; i++)
+        make_durable(pool, i);
+    waitpid(child, NULL, 0);
+}
+
 static void started(void)
 {
     store(pool, 1);
@@ -279,7 +313,7 @@ int main(int count, char **words)
     static const struct {
         const char *name;
         void (*run)(void);
-    } cases[] = {{"fork", forked}, {"exec", started}, {"moveexec", moved_and_started}, {"threads", threads}, {"line", one_line}, {"unmap", unmapped},
+    } cases[] = {{"fork", forked}, {"forkmove", forked_and_moved}, {"orphan", orphaned}, {"forkbusy", forked_and_busy}, {"exec", started}, {"moveexec", moved_and_started}, {"threads", threads}, {"line", one_line}, {"unmap", unmapped},
         {"again", mapped_again}, {"open", mapped_again_open}, {"back", mapped_back}, {"twice", mapped_twice}, {"move", moved}, {"shrink", shrunk},
         {"private", private}, {"msync", synchronized}, {"kill", killed}, {"wait", waiting}, {"abort", aborted}, {"unknown", unknown},
         {"neighbours", neighbours}, {"locked", locked}, {"talk", talking}, {"mark", marking}, {"request", requesting}, {"take", taking}, {"turn", turning}, {"ask", asking}, {"nothing", nothing}};
