@@ -180,6 +180,25 @@ trust_refused() {
         [ "$(head -n 1 "$scratch/diagnostics")" = "pmfarm: error: the argument '--trust' needs '--stream', and cannot be used with '--summary'" ]
 }
 
+# helped STATUS LINES WORD..: the program ends so, and says these lines, the last of which tell what may help.
+helped() {
+    local status=$1 lines=$2
+    shift 2
+    "$program" "$@" >"$scratch/report" 2>"$scratch/diagnostics"
+    ended "$status" $? && same /dev/null "$scratch/report" && said "$lines" "$scratch/diagnostics"
+}
+
+# A list with carriage returns, and more files than a process may open: each fault is told with its cure.
+join_helps() {
+    printf 'examples/shared_a.ledger\r\n' >"$scratch/list" && helped 4 $'pmfarm: examples/shared_a.ledger\r: read failed
+pmfarm: hint: No such file or directory (os error 2)
+pmfarm: hint: the name ends in a carriage return: lines of a list end in a line feed alone' join --files-from "$scratch/list" || return
+    (ulimit -n 20 && helped 4 $'pmfarm: examples/shared_a.ledger: read failed
+pmfarm: hint: Too many open files (os error 24)
+pmfarm: hint: `ulimit -n` raises how many files are open at once, and a tree of joins takes some at a time' \
+        join --stream $(printf 'examples/shared_a.ledger %.0s' {1..30}))
+}
+
 # The ledgers of two runs, of which the second has a section that passes and one that fails and warns.
 runs_to_summarize() {
     printf 'STORE;0x1000;0;8|FLUSH;0x1000;8|FENCE|PMT.PERSIST;0x1000;8' | "$program" check --ledger --run 1 >"$scratch/1.ledger" || return
@@ -304,6 +323,7 @@ try_join() {
     check 'a front of a ledger is not merged on trust' joins 2 /dev/null "pmfarm: $scratch/cut_off/cut: line 4: not a ledger" --stream --trust "$scratch/cut_off/cut"
     check 'trust is for a merge' trust_refused
     check 'trust writes no summary' trust_refused --stream --summary
+    check 'join tells what may help' join_helps
     check 'a merge by no worker is refused' refused join --stream --workers 0 examples/shared_a.ledger
     check 'a merge by 65 workers is refused' refused join --stream --workers 65 examples/shared_a.ledger
     check 'a merge without a file is refused' joins 2 /dev/null 'pmfarm: error: no ledger is named' --stream

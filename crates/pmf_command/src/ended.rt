@@ -15,7 +15,7 @@ use crate::diagnostics::{
     refuse_words,
 };
 use crate::ending::Ending;
-use crate::hints::{print_hint, print_reason};
+use crate::hints::{print_end, print_hint, print_reason, say};
 use crate::shelf::Unread;
 use crate::status::Status;
 use pmf_device::{Cut, Device, Sink, Source, write_text};
@@ -85,6 +85,7 @@ pub(crate) fn unread<R: Eprint>(rt: &R, name: &str, why: Unread) -> Ended
         Unread::Failed(reason) => {
             let status = fail_file(rt, name, "read failed", Status::DeviceFault);
             print_reason(rt, reason);
+            print_end(rt, name);
             status
         }
     };
@@ -101,10 +102,14 @@ pub(crate) fn unanswered<R: Eprint, E: Ending + Display + Drop>(
     ensures { result ≡ status_of_fault E.ends_as fault }
 {
     let cause = fault.cause();
+    let hint = fault.hint();
     let status = fault.status();
     let status = fail(rt, fault, status);
     if let Some(cause) = cause {
         print_hint(rt, cause, refused.text());
+    }
+    if let Some(hint) = hint {
+        say(rt, hint);
     }
     print_reason(rt, reason);
     Ended { status }

@@ -28,6 +28,11 @@ pub trait Ending {
     fn cause(&self) -> Option<Cause> {
         None
     }
+
+    /// What may help, where the fault alone tells it.
+    fn hint(&self) -> Option<&'static str> {
+        None
+    }
 }
 
 fn status_of_fails(fails: u128) -> Status
@@ -118,6 +123,15 @@ impl Ending for CheckLogFault {
         match self {
             CheckLogFault::Log(fault) => fault.cause(),
             CheckLogFault::Farm(_) | CheckLogFault::TooLong => None,
+        }
+    }
+
+    fn hint(&self) -> Option<&'static str> {
+        match self {
+            CheckLogFault::TooLong => Some(
+                "`pmfarm cut --files PREFIX` cuts the log, and `pmfarm join --stream` joins ledgers of any length",
+            ),
+            CheckLogFault::Log(_) | CheckLogFault::Farm(_) => None,
         }
     }
 }
@@ -309,6 +323,13 @@ impl Ending for JoinTextFault {
             JoinTextFault::OutOfMemory => Status::NoMemory,
         }
     }
+
+    fn hint(&self) -> Option<&'static str> {
+        match self {
+            JoinTextFault::TooLong => Some("`pmfarm join --stream` joins ledgers of any length"),
+            _ => None,
+        }
+    }
 }
 
 /// There is no such world.
@@ -356,6 +377,13 @@ impl<E: Ending> Ending for StreamFault<E> {
     fn cause(&self) -> Option<Cause> {
         match self {
             StreamFault::Refused(found) => found.cause(),
+            _ => None,
+        }
+    }
+
+    fn hint(&self) -> Option<&'static str> {
+        match self {
+            StreamFault::Refused(found) => found.hint(),
             _ => None,
         }
     }

@@ -23,14 +23,35 @@ pub(crate) fn print_hint<R: Eprint>(rt: &R, cause: Cause, record: &[u8]) {
     }
 }
 
+/// How the system tells that a process has no descriptor left.
+const TOO_MANY_FILES: i32 = 24;
+
 /// Says what the system said of a read that failed, where that is known.
 pub(crate) fn print_reason<R: Eprint>(rt: &R, reason: Option<io::Error>) {
     if let Some(error) = reason {
+        let is_limit = error.raw_os_error() == Some(TOO_MANY_FILES);
         say(rt, error);
+        if is_limit {
+            say(
+                rt,
+                "`ulimit -n` raises how many files are open at once, and a tree of joins takes some at a time",
+            );
+        }
     }
 }
 
-fn say<R: Eprint, D: Display + Drop>(rt: &R, hint: D) {
+/// Says of a file that is not there if its name may be one of a list with carriage returns.
+pub(crate) fn print_end<R: Eprint>(rt: &R, name: &str) {
+    if name.as_bytes().last() == Some(&b'\r') {
+        say(
+            rt,
+            "the name ends in a carriage return: lines of a list end in a line feed alone",
+        );
+    }
+}
+
+/// Says what may help.
+pub(crate) fn say<R: Eprint, D: Display + Drop>(rt: &R, hint: D) {
     let _ = eprintln!(rt; "pmfarm: hint: {hint}");
 }
 

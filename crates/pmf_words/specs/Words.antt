@@ -113,7 +113,7 @@ abbrev pub join_words : App
 join_words =
     with_rule (with_rule (with_rule (with_rule (with_rule (with_rule (with_rule (new_app (codes "join"))
     (flag (codes "ledger"))) (flag (codes "summary"))) (option (codes "files-from"))) (flag (codes "stream"))) (flag (codes "trust")))
-    (number (codes "workers") thread_count (codes "1"))) file_words
+    (maybe_number (codes "workers") thread_count)) file_words
 
 abbrev pub sim_words : App
 sim_words =
@@ -141,6 +141,10 @@ pub record HasWords (words : App) (c : Command) : Type 0 where
 -- n is the number that the option names, where its word is that number's decimal text
 abbrev pub IsNumberOf : List Row → Text → ℕ → ℕ → Type 0
 IsNumberOf rows name bits n = (k : ℕ) → k < 2 ^ bits → one_of name rows ≡ Some (decimal k) → n ≡ k
+
+-- the option names no number
+abbrev pub IsNoNumberOf : List Row → Text → ℕ → Type 0
+IsNoNumberOf rows name bits = (k : ℕ) → k < 2 ^ bits → one_of name rows ≡ Some (decimal k) → ⊥
 
 -- n is the number that the option names so, and there is none where it isn't given
 pub record IsMaybeNumberOf (rows : List Row) (name : Text) (bits : ℕ) (n : Option ℕ) : Type 0 where
@@ -241,7 +245,7 @@ pub record IsWantedOf (rows : List Row) (w : Wanted) : Type 0 where
 pub record IsJoiningOf (rows : List Row) (w : Joining) : Type 0 where
   pub trust : one_of (codes "trust") rows ≡ Some (codes "true") → (one_of (codes "stream") rows ≡ Some (codes "false") → ⊥) × (one_of (codes "summary") rows ≡ Some (codes "true") → ⊥) × (w ≡ joining.Trust)
   pub merge : one_of (codes "trust") rows ≡ Some (codes "false") → one_of (codes "stream") rows ≡ Some (codes "true") → w ≡ joining.Merge
-  pub load : one_of (codes "trust") rows ≡ Some (codes "false") → one_of (codes "stream") rows ≡ Some (codes "false") → w ≡ joining.Load
+  pub load : one_of (codes "trust") rows ≡ Some (codes "false") → one_of (codes "stream") rows ≡ Some (codes "false") → IsNoNumberOf rows (codes "workers") 32 × (w ≡ joining.Load)
 
 -- the files are those that the words of `join` name, in their order, or none; the list is the one that they name, if any
 pub record IsJoinOf (rows : List Row) (f : Files) : Type 0 where
@@ -249,6 +253,7 @@ pub record IsJoinOf (rows : List Row) (f : Files) : Type 0 where
   pub list : option_map (λ s. s.now) f.list ≡ first_of (codes "files-from") rows
   pub joining : IsJoiningOf rows f.joining
   pub workers : IsNumberOf rows (codes "workers") 32 f.workers
+  pub alone : one_of (codes "workers") rows ≡ None → f.workers ≡ 1
   pub wanted : IsWantedOf rows f.wanted
 
 -- the world is the one that the words of `sim` name

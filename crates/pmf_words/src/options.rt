@@ -285,12 +285,12 @@ pub(crate) fn trust<'a>(alloc: Global) -> Arg<'a>
 }
 
 pub(crate) fn merge_workers<'a>(alloc: Global) -> Arg<'a>
-    ensures rule { rule_of result ≡ number (codes "workers") thread_count (codes "1") }
+    ensures rule { rule_of result ≡ maybe_number (codes "workers") thread_count }
     ensures local { result.global ≡ false }
 {
-    let help = "With --stream: how many threads check the sections, as for check";
+    let help = "With --stream: how many threads check the sections, 1 to 64; 1 where it is left out";
     let parser = value_parser!(u32).range(1..=64);
-    parsed(alloc, "workers", "N", help, parser).default_value("1")
+    parsed(alloc, "workers", "N", help, parser)
 }
 
 pub(crate) fn file<'a>(alloc: Global) -> Arg<'a>

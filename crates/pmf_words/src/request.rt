@@ -317,7 +317,7 @@ fn wanted_of(alloc: Global, join: &ArgMatches<'_>) -> Result<Wanted, Error>
     let summary = join.get_flag("summary");
     if ledger {
         if summary {
-            return Err(two_wanted(alloc)?);
+            return Err(conflict(alloc, TWO_WANTED)?);
         }
         return Ok(Wanted::Ledger);
     }
@@ -327,15 +327,7 @@ fn wanted_of(alloc: Global, join: &ArgMatches<'_>) -> Result<Wanted, Error>
     Ok(Wanted::Report)
 }
 
-// The error of both flags, in the form of the parser's own.
-fn two_wanted(alloc: Global) -> Result<Error, AllocError>
-    ensures { IfOk result (HasKind own_kinds) }
-{
-    let message = "the argument '--ledger' cannot be used with '--summary'";
-    program(alloc, false, false)?.error(ErrorKind::ArgumentConflict, message)
-}
-
-// How they are joined. Trust is for a merge that writes a ledger.
+// How they are joined. Trust is for a merge that writes a ledger, and workers are for a merge.
 fn joining_of(alloc: Global, join: &ArgMatches<'_>) -> Result<Joining, Error>
     ensures { MatchResult result (IsJoiningOf (rows_of (found_of join.now))) (HasKind own_kinds) }
 {
@@ -344,21 +336,28 @@ fn joining_of(alloc: Global, join: &ArgMatches<'_>) -> Result<Joining, Error>
     let trust = join.get_flag("trust");
     if trust {
         if !stream || summary {
-            return Err(no_trust(alloc)?);
+            return Err(conflict(alloc, NO_TRUST)?);
         }
         return Ok(Joining::Trust);
     }
     if stream {
         return Ok(Joining::Merge);
     }
-    Ok(Joining::Load)
+    match join.get_one::<u32>("workers") {
+        Some(_) => Err(conflict(alloc, NO_WORKERS)?),
+        None => Ok(Joining::Load),
+    }
 }
 
-// The error of trust that is asked for elsewhere.
-fn no_trust(alloc: Global) -> Result<Error, AllocError>
+const TWO_WANTED: &str = "the argument '--ledger' cannot be used with '--summary'";
+const NO_TRUST: &str =
+    "the argument '--trust' needs '--stream', and cannot be used with '--summary'";
+const NO_WORKERS: &str = "the argument '--workers' needs '--stream'";
+
+// The error of words that do not go together, in the form of the parser's own.
+fn conflict(alloc: Global, message: &str) -> Result<Error, AllocError>
     ensures { IfOk result (HasKind own_kinds) }
 {
-    let message = "the argument '--trust' needs '--stream', and cannot be used with '--summary'";
     program(alloc, false, false)?.error(ErrorKind::ArgumentConflict, message)
 }
 

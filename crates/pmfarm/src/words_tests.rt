@@ -406,6 +406,8 @@ const REFUSED: &[&str] = &[
     "join --files-from",
     "join --files-from l --files-from l",
     "join --run 1 a",
+    "join --workers 1 a",
+    "join --workers 0 --stream a",
     "explain",
     "explain --ledger --section 0 --event 1",
     "explain --all --all",

@@ -1,5 +1,5 @@
-use Rattle.std.proofs.Common.{◌++◌, map, ◌∙◌, ap, arith, codes, rules}
-use Rattle.clap.{specs.Words.{found_of}, proofs.WalkLemmas.{first_value-rows, raw_values-rows}}
+use Rattle.std.proofs.Common.{◌++◌, map, ◌∙◌, ap, arith, codes, rules, unwrap_or}
+use Rattle.clap.{specs.Words.{found_of}, proofs.WalkLemmas.{first_value-rows, one_text-rows, raw_values-rows}}
 use Rattle.pmf_words.proofs.RequestLemmas.{number-named, texts-named}
 use Rattle.pmf_words.proofs.request.files_of.Goals as goal
 
@@ -12,5 +12,6 @@ returns c =
       list = c.get_str.ensures ∙ first_value-rows f (codes "files-from");
       joining = c.in_ok-joining.ensures;
       workers = number-named 32 f (codes "workers") c.get_one.result c.unwrap_or-2.result 1 (λ k below. omega (arith, below)) c.get_one.ensures.value c.unwrap_or-2.ensures;
+      alone = λ is. c.unwrap_or-2.ensures ∙ ap (λ o. unwrap_or o 1) (c.get_one.ensures.none (one_text-rows f (codes "workers") ∙ is));
       wanted = c.in_ok-wanted.ensures;
     }
