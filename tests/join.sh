@@ -180,6 +180,13 @@ trust_refused() {
         [ "$(head -n 1 "$scratch/diagnostics")" = "pmfarm: error: the argument '--trust' needs '--stream', and cannot be used with '--summary'" ]
 }
 
+# The list of ledgers on standard input.
+lists_by_input() {
+    "$program" join examples/shared_{a,b}.ledger >"$scratch/wanted"
+    printf '%s\n' examples/shared_{a,b}.ledger | "$program" join --files-from - >"$scratch/report"
+    ended 0 $? && same "$scratch/wanted" "$scratch/report"
+}
+
 # helped STATUS LINES WORD..: the program ends so, and says these lines, the last of which tell what may help.
 helped() {
     local status=$1 lines=$2
@@ -323,6 +330,7 @@ try_join() {
     check 'a front of a ledger is not merged on trust' joins 2 /dev/null "pmfarm: $scratch/cut_off/cut: line 4: not a ledger" --stream --trust "$scratch/cut_off/cut"
     check 'trust is for a merge' trust_refused
     check 'trust writes no summary' trust_refused --stream --summary
+    check 'a list of ledgers on standard input' lists_by_input
     check 'join tells what may help' join_helps
     check 'a merge by no worker is refused' refused join --stream --workers 0 examples/shared_a.ledger
     check 'a merge by 65 workers is refused' refused join --stream --workers 65 examples/shared_a.ledger

@@ -1,5 +1,5 @@
 -- How each request is answered, from the bytes that are read to the status with which the process ends. Defined here.
-use Rattle.std.specs.Prelude.{◌≡◌, ◌⊎◌, ◌+◌, ◌<◌, ◌≤◌, ℕ, Bool, true, false, ◌&&◌, not, ◌==◌, nat_le, nat_lt, List, [], ◌∷◌, ◌++◌, length, map, filter, take, codes, All, IsUtf8, Option, None, Some, Result, MatchResult, IfOk}
+use Rattle.std.specs.Prelude.{◌≡◌, ◌⊎◌, ◌+◌, ◌<◌, ◌≤◌, ℕ, Bool, true, false, ◌&&◌, not, ◌==◌, nat_le, nat_lt, List, [], ◌∷◌, ◌++◌, length, map, filter, take, codes, All, IsUtf8, Option, None, Some, Result, MatchResult, IfOk, bytes_eq, if◌then◌else◌}
 use Rattle.std.specs.{Borrow.{Bor}, List.{slice_split}}
 use Rattle.clap.specs.{Words.{Row, one_of, subcommand_of}, declared.{builder.value_parser.ValueParser.{ValueParser}, error.kind.{ErrorKind.{ErrorKind}, ErrorKind.TheVariants.{DisplayHelp, DisplayVersion}}}}
 use Rattle.pmf_event.specs.declared.section.TheConstants.{EVENT_LIMIT}
@@ -84,10 +84,14 @@ names_in list = filter is_filled (slice_split is_line_end list)
 abbrev pub names_of : Files → List ℕ → List (List ℕ)
 names_of files list = map (λ name. name.now) files.names.items ++ names_in list
 
+-- the file of the list with this name: `-` is standard input
+abbrev pub list_file : List ℕ → List ℕ
+list_file name = if bytes_eq name (codes "-") then codes "/dev/stdin" else name
+
 -- what was read of the list; where there is none, it names nothing
 abbrev pub IsListOf : Option (Bor (List ℕ)) → (List ℕ → Option (List ℕ)) → List ℕ → Type 0
 IsListOf None known list = list ≡ []
-IsListOf (Some name) known list = IsReadOf LEDGER_LIMIT (known name.now) list
+IsListOf (Some name) known list = IsReadOf LEDGER_LIMIT (known (list_file name.now)) list
 
 -- the list is no longer than a ledger, and each of its names is UTF-8
 pub record CanName (list : List ℕ) : Type 0 where

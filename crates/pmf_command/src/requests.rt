@@ -3,7 +3,7 @@
 ghost use Rattle.std.specs.Prelude.{◌≡◌, ◌⊎◌, is_none, map, All, IfErr, IfOk};
 ghost use Rattle.pmf_ledger.specs.declared.loading.TheConstants.{LEDGER_LIMIT};
 ghost use Rattle.pmf_device.specs.Failures.{CanCountOneMore};
-ghost use Rattle.pmf_command.specs.{Answered.{AreOpened, AreRead, IsAnswered, IsAnsweredFrom, IsListOf, IsUnread, JoinsFiles, JoinsNamed, JoinsRead, MergesOpened, Simulates, TrustsOpened, can_cut, form_of, input_of}, declared.status.Status.{Status}};
+ghost use Rattle.pmf_command.specs.{Answered.{AreOpened, AreRead, IsAnswered, IsAnsweredFrom, IsListOf, IsUnread, list_file, JoinsFiles, JoinsNamed, JoinsRead, MergesOpened, Simulates, TrustsOpened, can_cut, form_of, input_of}, declared.status.Status.{Status}};
 
 use crate::ended::{
     Ended, answer_to, check_to, cut_to, exhausted, join_all, merge_all, play_to, recite_to,
@@ -208,6 +208,13 @@ fn form_of(wanted: Wanted) -> Form
     }
 }
 
+// The file of the list with this name: `-` is standard input.
+fn list_file(name: &str) -> &str
+    ensures { result.now ≡ list_file name.now }
+{
+    if name == "-" { "/dev/stdin" } else { name }
+}
+
 // What the list says that names ledgers, or how the program ends without it.
 fn list_of<R: Eprint, F: Shelf>(
     rt: &R,
@@ -221,6 +228,7 @@ fn list_of<R: Eprint, F: Shelf>(
     let Some(name) = list else {
         return Ok(Vec::new(alloc));
     };
+    let name = list_file(name);
     match bytes_of(shelf, alloc, name, LEDGER_LIMIT) {
         Ok(bytes) => Ok(bytes),
         Err(why) => Err(unread(rt, name, why)),

@@ -264,7 +264,7 @@ pub(crate) fn files_from<'a>(alloc: Global) -> Arg<'a>
     ensures rule { rule_of result ≡ option (codes "files-from") }
     ensures local { result.global ≡ false }
 {
-    let help = "Join the ledgers as well that this file names, one on a line";
+    let help = "Join the ledgers as well that this file names, one on a line; - is standard input";
     option(alloc, "files-from", "LIST", help)
 }
 
@@ -288,7 +288,8 @@ pub(crate) fn merge_workers<'a>(alloc: Global) -> Arg<'a>
     ensures rule { rule_of result ≡ maybe_number (codes "workers") thread_count }
     ensures local { result.global ≡ false }
 {
-    let help = "With --stream: how many threads check the sections, 1 to 64; 1 where it is left out";
+    let help =
+        "With --stream: how many threads check the sections, 1 to 64; 1 where it is left out";
     let parser = value_parser!(u32).range(1..=64);
     parsed(alloc, "workers", "N", help, parser)
 }

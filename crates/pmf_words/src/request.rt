@@ -350,8 +350,10 @@ fn joining_of(alloc: Global, join: &ArgMatches<'_>) -> Result<Joining, Error>
 }
 
 const TWO_WANTED: &str = "the argument '--ledger' cannot be used with '--summary'";
+
 const NO_TRUST: &str =
     "the argument '--trust' needs '--stream', and cannot be used with '--summary'";
+
 const NO_WORKERS: &str = "the argument '--workers' needs '--stream'";
 
 // The error of words that do not go together, in the form of the parser's own.
