@@ -254,6 +254,29 @@ ci_traces() {
         cut -d : -f 1-3 "$scratch/rows" | sort -u | said '::error file=src/append_log.c,line=59,title=ORDERED FAIL' -
 }
 
+# The shell scripts that ship, and those that call the tests.
+scripts_that_ship() {
+    local file
+    git ls-files | grep -v -e '^tests/' -e '^crates/' | while IFS= read -r file; do
+        case $file:$(head -n 1 "$file" | tr -d '\0') in
+            *:'#!'*sh | tools/sources:* | completions/*.bash:*) printf '%s\n' "$file" ;;
+        esac
+    done
+}
+
+scripts_pass_shellcheck() {
+    local scripts
+    mapfile -t scripts < <(scripts_that_ship)
+    [ "${#scripts[@]}" -gt 25 ] && shellcheck -x "${scripts[@]}"
+}
+
+# `cd` of a relative folder takes CDPATH, and tells where it went.
+scripts_go_nowhere_else() {
+    local scripts
+    mapfile -t scripts < <(scripts_that_ship)
+    grep -L '^unset CDPATH$' "${scripts[@]}" | xargs grep -nE '(^|[^[:alnum:]_-])cd [^/]*dirname' | grep -v "CDPATH='' cd" | said '' -
+}
+
 try_ci() {
     check 'ci.sh leaves what a CI system shows and keeps' ci_passes
     check 'ci.sh fails where a failure is new' ci_fails_but_for_what_is_known
@@ -268,5 +291,7 @@ try_ci() {
     check_by 'a YAML parser for Python' 'the files for GitHub, GitLab and Jenkins have what these ask for' ci_files_are_whole
     check 'the image of these files has what they call' ci_image_is_whole
     check_by shellcheck 'the recipes pass shellcheck' well_formed shellcheck examples/recipes/*.sh
+    check_by shellcheck 'each other script that ships passes shellcheck' scripts_pass_shellcheck
+    check 'no script that ships goes where CDPATH leads' scripts_go_nowhere_else
     check_by "$tracer" 'ci.sh traces a program of a project' ci_traces
 }

@@ -279,6 +279,16 @@ installs() {
     DESTDIR=$root tools/install --uninstall /usr >"$scratch/report" && same /dev/null "$scratch/report"
 }
 
+# Where CDPATH has a folder of the name of theirs, the scripts stay in their own: no line tells another one.
+stays_in_its_folder() {
+    local root=$scratch/stays quick=
+    [ "$kind" = proved ] || quick=--quick
+    mkdir -p "$scratch/elsewhere/tools" && (export CDPATH=$scratch/elsewhere && install_built "$root") >"$scratch/report" 2>"$scratch/diagnostics"
+    ended 0 $? && files "$root" | are_installed || { cat "$scratch/diagnostics" && return 1; }
+    (export CDPATH=$scratch/elsewhere && tools/release --no-build ${quick:+"$quick"} "$scratch/stays") >"$scratch/report" 2>"$scratch/diagnostics"
+    ended 0 $? && ended 1 "$(wc -l <"$scratch/report")" && [ -s "$(<"$scratch/report")" ]
+}
+
 # answers PROGRAM: what it says of each example, on both streams, with its status.
 answers() {
     local log
@@ -483,6 +493,7 @@ try_tools() {
     check 'a program tells its commit, its kit and whether it was proved here, and no other program is stamped' stamped
     check 'tools/install installs what is there, and removes it' installs
     check 'tools/install builds the program first' installs_what_it_builds
+    check 'tools/install and tools/release stay in their folder' stays_in_its_folder
     check_by 'a static C library' 'tools/install --static installs a program that needs no C library, and answers the same' installs_static
     check_by 'a static C library and a root by unshare' 'the static program alone in an empty root' static_alone
     check 'tools/release makes a file that is unpacked as told, the same each time' releases
