@@ -85,11 +85,11 @@ a_stale_file_is_told() {
     ended 1 $? && said 'promises: docs/DEFINITIONS.md is stale; run tools/promises' "$scratch/diagnostics"
 }
 
-# needs ENGINE: what has to be installed for it. Slurm and Grid Engine are played.
+# needs ENGINE: what has to be installed for it. Slurm, Grid Engine and Kubernetes are played.
 needs() {
     case $1 in
         parallel) echo 'GNU parallel' ;;
-        slurm | grid-engine) echo xargs ;;
+        slurm | grid-engine | kubernetes) echo xargs ;;
         *) echo "$1" ;;
     esac
 }
@@ -115,18 +115,38 @@ try_farms() {
     farm 'the scripts of the farm are well-formed' parse
     farm 'docs/FARM.md quotes the files of the farm' quoted
     farm 'jobs of several logs check what is missing' chunks xargs
-    for engine in xargs make ninja parallel slurm grid-engine; do
+    for engine in xargs make ninja parallel slurm grid-engine kubernetes; do
         farm "a log that was changed, by $engine" "a_changed_log $engine" "$(needs "$engine")"
+        farm "a log that changes and changes back while it is checked, by $engine" "changes_back $engine" "$(needs "$engine")"
+        farm "a log that was added to the list, by $engine" "a_log_added $engine" "$(needs "$engine")"
         farm "a log that was taken off the list, by $engine" "a_log_taken_off $engine" "$(needs "$engine")"
         farm "an empty list, by $engine" "an_empty_list $engine" "$(needs "$engine")"
+        farm "a list with carriage returns, by $engine" "a_list_of_another_system $engine" "$(needs "$engine")"
+        farm "names with blanks and a newline, by $engine" "names_with_blanks $engine" "$(needs "$engine")"
+        farm "another profile, by $engine" "another_profile $engine" "$(needs "$engine")"
         farm "a log that is refused holds up no other, by $engine" "other_logs_go_on $engine" "$(needs "$engine")"
         farm "a job that is killed, by $engine" "goes_wrong killed_at_once $engine" "$(needs "$engine")"
+        farm "a ledger that was cut off, by $engine" "goes_wrong cut_off $engine" "$(needs "$engine")"
         farm "a forged ledger, by $engine" "goes_wrong forged $engine" "$(needs "$engine")"
         farm "a full disk, by $engine" "on_a_full_disk $engine" "$(has 'mounts of its own' && needs "$engine" || echo 'mounts of its own')"
+        farm "a log that nobody may read, by $engine" "no_permission $engine" "$(has 'mounts of its own' && needs "$engine" || echo 'mounts of its own')"
+        if [ "$engine" != kubernetes ]; then
+            farm "two calls at once in one folder, by $engine" "two_at_once $engine" "$(needs "$engine")"
+            farm "words that are no numbers, by $engine" "numbers $engine" "$(needs "$engine")"
+            farm "an exported CDPATH, by $engine" "in_a_path_of_folders $engine" "$(needs "$engine")"
+        fi
     done
+    farm 'two jobs of one file of tasks at once, by kubernetes' two_jobs_of_pods xargs
     farm 'two maps of one run at once' two_maps
-    farm 'two trees of joins by make in one folder' 'two_at_once make' make
-    farm 'two trees of joins by ninja in one folder' 'two_at_once ninja' ninja
+    farm 'a tree of joins of before is not told, by make' 'a_tree_of_before make' make
+    farm 'a tree of joins of before is not told, by ninja' 'a_tree_of_before ninja' ninja
+    farm 'a log that changes back in each way gives its own ledger or none' a_log_that_changes_back
+    farm 'a job for each processor, and runs that are no numbers' without_jobs xargs
+    farm 'the room of a killed map goes a day later' a_room_of_a_killed_map
+    farm 'lists that are cut short are told' lists_are_cut xargs
+    farm 'lists on a full disk are told' lists_on_a_full_disk 'mounts of its own'
+    farm 'lists on a full disk are told by the tools of busybox' 'lists_on_a_full_disk busybox' "$(has 'mounts of its own' && echo busybox || echo 'mounts of its own')"
+    farm 'temporary files on a full disk are told' temporary_files_on_a_full_disk 'mounts of its own'
     farm 'a lost job of the farm is told' a_lost_job xargs
     farm 'a killed job of the farm leaves no ledger' a_killed_job
     farm 'a refused log of the farm leaves no ledger' a_refused_log

@@ -7,7 +7,8 @@
 # The hosts share this folder, and the program is on the PATH of each. A dead host gets no job, and the jobs of one that dies
 # go to others.
 set -u
-FARM=$(cd "$(dirname "$0")" && pwd) || exit 4
+FARM=$(CDPATH='' cd "$(dirname "$0")" && pwd) || exit 4
+"$FARM/number.sh" CHUNK "${4:-1}" || exit
 LIST=$1 OUT=$2 hosts=
 # (--filter-hosts asks five things of each host side by side, and may take the answers for a fault of its own.)
 for host in $(printf '%s\n' "${3:-}" | tr , ' '); do

@@ -3,17 +3,24 @@
 #
 #     slurm.sh LIST OUT [CHUNK]
 set -u
-farm=$(cd "$(dirname "$0")" && pwd) && mkdir -p "$2" && tasks=$(mktemp "$2/tasks.XXXXXX") && chmod +r "$tasks" || exit 4
-"$farm/missing.sh" "$1" "$2" 2>/dev/null | xargs -r -n "${3:-1}" >"$tasks"
+farm=$(CDPATH='' cd "$(dirname "$0")" && pwd) || exit 4
+"$farm/number.sh" CHUNK "${3:-1}" || exit
+mkdir -p "$2" && tasks=$(mktemp "$2/tasks.XXXXXX") && chmod +r "$tasks" || exit 4
+trap 'rm -f "$tasks" "$tasks.ended"' EXIT
+runs=$("$farm/missing.sh" "$1" "$2" 2>/dev/null)
+printf '%s\n' "$runs" | xargs -r -n "${3:-1}" >"$tasks"
+if [ "$(tr ' ' '\n' <"$tasks")" != "$runs" ]; then
+    printf 'slurm.sh: %s: write failed\n' "$tasks" >&2
+    exit 4
+fi
 if [ -s "$tasks" ]; then
     job=$(sbatch --parsable --array="1-$(sed -n '$=' "$tasks")" "$farm/task.sh" "$farm" "$1" "$2" "$tasks") || exit 4
     # (a status of srun itself is no verdict)
     # shellcheck disable=SC2016
     srun --ntasks=1 --dependency="afterany:${job%%;*}" sh -c '"$@"; echo $? >"$0"' "$tasks.ended" "$farm/report.sh" "$1" "$2"
-    status=$(cat "$tasks.ended") || status=4
+    status=$(cat "$tasks.ended")
 else
     "$farm/report.sh" "$1" "$2"
     status=$?
 fi
-rm -f "$tasks" "$tasks.ended"
-exit "$status"
+exit "${status:-4}"

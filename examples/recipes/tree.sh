@@ -6,11 +6,12 @@
 # The last one is OUT/joins/1-N.ledger, of all N logs. A ledger that is there has no line. FORCE stands behind the needs of each
 # file, since all are made anew: no time of a file tells whether a join is that of its ledgers.
 set -u
-if [ "$3" -lt 2 ]; then
-    printf 'tree.sh: FAN is 2 or more\n' >&2
-    exit 2
-fi
-"$(dirname "$0")/missing.sh" "$1" "$2" | OUT=$2 awk -v logs="$(sed -n '$=' "$1")" -v fan="$3" '
+farm=$(dirname "$0")
+"$farm/number.sh" FAN "$3" 2 || exit
+missing=$("$farm/missing.sh" "$1" "$2")
+status=$?
+[ "$status" -eq 0 ] || { [ "$status" -eq 2 ] && [ -n "$missing" ]; } || exit "$status"
+printf '%s\n' "$missing" | OUT=$2 awk -v logs="$(sed -n '$=' "$1")" -v fan="$3" '
     { missing[$1] }
     END {
         out = ENVIRON["OUT"]
