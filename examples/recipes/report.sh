@@ -8,9 +8,9 @@ set -u
 "$(dirname "$0")/missing.sh" "$1" "$2" >&2 || exit
 logs=$(sed -n '$=' "$1")
 
-# is_join LEDGER OUT: whether it has the blocks of these ledgers, in the order of runs. The join of others, as of an earlier list, has not.
+# is_join OUT: whether file 3 has the blocks of these ledgers, in the order of runs. The join of others, as of an earlier list, has not.
 is_join() {
-    OUT=$2 awk -v logs="$logs" 'BEGIN {
+    OUT=$1 awk -v logs="$logs" 'BEGIN {
         for (run = 1; run <= logs; run++) {
             file = ENVIRON["OUT"] "/" run ".ledger"
             if ((getline line <file) > 0 && run == 1) print line
@@ -18,10 +18,15 @@ is_join() {
             close(file)
         }
         printf "end verdicts=%d\n", verdicts
-    }' | cmp -s - "$1"
+    }' | cmp -s - /dev/fd/3
 }
 
-[ $# -eq 2 ] || ! is_join "$3" "$2" || exec pmfarm join "$3"
+# (it is opened once: another tree of joins may put its own there)
+if [ $# -gt 2 ] && [ -r "$3" ]; then
+    exec 3<"$3"
+    ! is_join "$2" || exec pmfarm join /dev/fd/3
+    exec 3<&-
+fi
 names=$(mktemp "$2/names.XXXXXX") || exit 4
 trap 'rm -f "$names"' EXIT
 OUT=$2 awk '{ print ENVIRON["OUT"] "/" NR ".ledger" }' "$1" >"$names"
