@@ -187,25 +187,6 @@ lists_by_input() {
     ended 0 $? && same "$scratch/wanted" "$scratch/report"
 }
 
-# helped STATUS LINES WORD..: the program ends so, and says these lines, the last of which tell what may help.
-helped() {
-    local status=$1 lines=$2
-    shift 2
-    "$program" "$@" >"$scratch/report" 2>"$scratch/diagnostics"
-    ended "$status" $? && same /dev/null "$scratch/report" && said "$lines" "$scratch/diagnostics"
-}
-
-# A list with carriage returns, and more files than a process may open: each fault is told with its cure.
-join_helps() {
-    printf 'examples/shared_a.ledger\r\n' >"$scratch/list" && helped 4 $'pmfarm: examples/shared_a.ledger\r: read failed
-pmfarm: hint: No such file or directory (os error 2)
-pmfarm: hint: the name ends in a carriage return: lines of a list end in a line feed alone' join --files-from "$scratch/list" || return
-    (ulimit -n 20 && helped 4 $'pmfarm: examples/shared_a.ledger: read failed
-pmfarm: hint: Too many open files (os error 24)
-pmfarm: hint: `ulimit -n` raises how many files are open at once, and a tree of joins takes some at a time' \
-        join --stream $(printf 'examples/shared_a.ledger %.0s' {1..30}))
-}
-
 # The ledgers of two runs, of which the second has a section that passes and one that fails and warns.
 runs_to_summarize() {
     printf 'STORE;0x1000;0;8|FLUSH;0x1000;8|FENCE|PMT.PERSIST;0x1000;8' | "$program" check --ledger --run 1 >"$scratch/1.ledger" || return
@@ -288,7 +269,7 @@ try_join() {
     check 'a list stands behind the words' joins_list 4 'other.ledger' /dev/null "$no_ledger" no.ledger
     check 'the words stand before a list' joins_list 0 'shared_b.ledger\n' examples/shared.ledger '' --ledger shared_a.ledger
     check 'a list in a pipe' a_list_in_a_pipe
-    check 'a list with CR LF names other files' joins_list 4 'shared_a.ledger\r\n' /dev/null "${no_ledger/no.ledger/$'shared_a.ledger\r'}"
+    check 'a list with CR LF names other files' joins_list 4 'shared_a.ledger\r\n' /dev/null "${no_ledger/no.ledger/$'shared_a.ledger\r'}"$'\npmfarm: hint: the name ends in a carriage return: lines of a list end in a line feed alone'
     check 'a ledger that a list names is told by its name' joins_list 2 'shared_a.ledger\nforged.ledger\n' /dev/null "$(cat examples/forged.fault)"
     check 'a name that is not UTF-8 is refused' joins_list 2 'shared_a.ledger\n\xff\n' /dev/null 'pmfarm: error: a name in the list of ledgers is not UTF-8'
     check 'an empty list is refused' joins_list 2 '\n\n' /dev/null 'pmfarm: error: no ledger is named'
@@ -331,7 +312,6 @@ try_join() {
     check 'trust is for a merge' trust_refused
     check 'trust writes no summary' trust_refused --stream --summary
     check 'a list of ledgers on standard input' lists_by_input
-    check 'join tells what may help' join_helps
     check 'a merge by no worker is refused' refused join --stream --workers 0 examples/shared_a.ledger
     check 'a merge by 65 workers is refused' refused join --stream --workers 65 examples/shared_a.ledger
     check 'a merge without a file is refused' joins 2 /dev/null 'pmfarm: error: no ledger is named' --stream

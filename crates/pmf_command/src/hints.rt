@@ -1,5 +1,6 @@
 //! What is said behind the line of a fault: what may help.
 
+use crate::shelf::Unread;
 use pmf_lint::near;
 use pmf_storelog::{Cause, read_number_in_front};
 use std::fmt::Display;
@@ -8,6 +9,9 @@ use std::{fmt, io};
 
 /// How many bytes of a field are shown, at most.
 const SHOWN: usize = 60;
+
+/// How the system tells that a process has no descriptor left.
+const TOO_MANY_FILES: i32 = 24;
 
 /// Says what may help against the fault of a log, by the record in which it stands.
 pub(crate) fn print_hint<R: Eprint>(rt: &R, cause: Cause, record: &[u8]) {
@@ -23,15 +27,17 @@ pub(crate) fn print_hint<R: Eprint>(rt: &R, cause: Cause, record: &[u8]) {
     }
 }
 
-/// How the system tells that a process has no descriptor left.
-const TOO_MANY_FILES: i32 = 24;
-
 /// Says what the system said of a read that failed, where that is known.
 pub(crate) fn print_reason<R: Eprint>(rt: &R, reason: Option<io::Error>) {
     if let Some(error) = reason {
-        let is_limit = error.raw_os_error() == Some(TOO_MANY_FILES);
         say(rt, error);
-        if is_limit {
+    }
+}
+
+/// Says of a file that is opened beside others if that are too many.
+pub(crate) fn print_limit<R: Eprint>(rt: &R, why: Unread) {
+    if let Unread::Failed(Some(error)) = why {
+        if error.raw_os_error() == Some(TOO_MANY_FILES) {
             say(
                 rt,
                 "`ulimit -n` raises how many files are open at once, and a tree of joins takes some at a time",

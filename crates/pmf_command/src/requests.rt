@@ -9,6 +9,7 @@ use crate::ended::{
     Ended, answer_to, check_to, cut_to, exhausted, join_all, merge_all, play_to, recite_to,
     refused, trust_all, unanswered, unread,
 };
+use crate::hints::print_limit;
 use crate::list::all_names;
 use crate::shelf::{Shelf, bytes_of};
 use pmf_device::{Device, Sink, Source};
@@ -335,7 +336,11 @@ fn opened<R: Eprint, F: Shelf>(
     for name in names {
         let source = match shelf.open(*name) {
             Ok(source) => source,
-            Err(why) => return Err(unread(rt, *name, why)),
+            Err(why) => {
+                let ended = unread(rt, *name, why);
+                print_limit(rt, why);
+                return Err(ended);
+            }
         };
         match sources.push(source) {
             Ok(()) => {}
