@@ -204,7 +204,7 @@ no_verdict() {
 # What makes a verdict of a fork wrong stands in its log, whatever its parent ends with; where it has none, in that of its parent, whose
 # reader has not seen its end before.
 forks_are_refused() {
-    local moved='PMT.REFUSED;the range from 0x10000000 on is moved to 0x10100000: the log takes its bytes for others' it
+    local moved='PMT.REFUSED;the range from 0x10000000 on is moved to 0x10100000: the log takes its bytes for others' it tried=0
     rm -f "$room"/forked.*
     trace --log "$room/forked.log" "$room/lives" "$room/pool" forkmove
     ended 0 $? && said $'STORE;0x10000000;0x0;0x8\n'"$moved" "$room"/forked.log.[0-9]* && no_verdict "$room"/forked.log.[0-9]* || return
@@ -214,7 +214,7 @@ forks_are_refused() {
         ended 0 "${PIPESTATUS[0]}" && no_verdict "$scratch/log" || return
     done
     rm -f "$room/pool" && tools/trace --pmem "$room/pool" --log "$scratch/log" --hold 3 "$room/lives" "$room/pool" orphan 2>/dev/null \
-        3> >(cat && cat "$scratch"/log.[0-9]* >"$scratch/whole") && until [ -s "$scratch/whole" ]; do sleep 0.1; done
+        3> >(cat && cat "$scratch"/log.[0-9]* >"$scratch/whole") && until [ -s "$scratch/whole" ] || [ $((tried += 1)) -gt 100 ]; do sleep 0.1; done
     said 'STORE;0x10000040;0x0;0x8' "$scratch/whole"
 }
 

@@ -44,10 +44,15 @@ static void forked_and_moved(void)
     waitpid(child, NULL, 0);
 }
 
+/* (as a daemon, which closes what it was given) */
 static void orphaned(void)
 {
+    int it;
+
     make_durable(pool, 1);
     if (fork() == 0) {
+        for (it = 0; it < 256; it++)
+            close(it);
         usleep(700000);
         store(pool + 64, 2);
     }
