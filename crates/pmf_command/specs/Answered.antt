@@ -18,7 +18,7 @@ use Rattle.pmf_lint.specs.{Linting.{Overviews}, Warnings.{are_due, warnings_of}}
 use Rattle.pmf_why.specs.{Patching.{IsPatch, IsPatchRefusal}, Why.{IsWhy, IsWhyRefusal}}
 use Rattle.pmf_stream.specs.{Answering.{Answers}, Asked.{IsAnswerOf, IsRefusalOf}, Checking.{IsCheckFaultOf, IsLogOf, IsReportOf}, Files.{IsCutOf}, Joining.{IsJoinedText, IsRefusalOfTexts}, Reading.{HasReadAll}, Simulated.{IsSimRefusalOf, IsSimulationOf}, declared.cutting.Pieces.{Pieces}, declared.fault.StreamFault.{StreamFault}}
 use Rattle.pmf_ledger.specs.declared.totals.Totals.{Totals}
-use Rattle.pmf_merge.specs.{Merging.{IsMergeFaultOf, Merges}, Trusting.{IsTrustFaultOf, Trusts}, declared.fault.MergeFault.{MergeFault}}
+use Rattle.pmf_merge.specs.{Merging.{IsMergeFaultOf, Merges}, RawWritten.{IsTextOfBlocks}, Refusing.{WritesFront}, Trusting.{IsTrustFaultOf, Trusts}, Written.{IsTextOfSome}, declared.fault.MergeFault.{MergeFault}}
 use Rattle.pmf_world.specs.declared.simulating.{TheConstants.{SCHEDULE_LIMIT}}
 use Rattle.pmf_command.specs.{Statuses.{IsAnswerTo, status_of, status_of_asked, status_of_check_fault, status_of_cut_fault, status_of_done, status_of_event_refusal, status_of_joined, status_of_linted, status_of_log_refusal, status_of_merge, status_of_patch_refusal, status_of_pieces, status_of_sim_fault, status_of_text_fault, status_of_trust}, declared.status.{Status.{Status}, Status.TheVariants.{NoFail, Refused, NoMemory, DeviceFault}}}
 
@@ -110,17 +110,24 @@ JoinsRead form names known held holds status =
     (texts : List (List ℕ)) × AreRead LEDGER_LIMIT known names texts
     × EndsAs status_of_joined status_of_text_fault (IsJoinedText form texts) (IsRefusalOfTexts form texts) held holds status
 
+-- they are not merged: for this fault of what was read, and a front of such a text was written
+abbrev pub IsUnmerged : Form → List (Option (List ℕ)) → Option (List ℕ) → Option (List ℕ) → MergeFault → Type 0
+IsUnmerged form starts held holds fault = IsMergeFaultOf starts fault × WritesFront (IsTextOfSome form) held holds
+
+abbrev pub IsUntrusted : List (Option (List ℕ)) → Option (List ℕ) → Option (List ℕ) → MergeFault → Type 0
+IsUntrusted starts held holds fault = IsTrustFaultOf starts fault × WritesFront IsTextOfBlocks held holds
+
 -- they were opened, and their ledgers merged as they were read
 abbrev pub MergesOpened : Form → List (List ℕ) → (List ℕ → Option (List ℕ)) → Option (List ℕ) → Option (List ℕ) → Status → Type 0
 MergesOpened form names known held holds status =
     (starts : List (Option (List ℕ))) × AreOpened known names starts
-    × ((answer : Result Totals MergeFault) × (status ≡ status_of_merge answer) × MatchResult answer (Merges form starts held holds) (IsMergeFaultOf starts))
+    × ((answer : Result Totals MergeFault) × (status ≡ status_of_merge answer) × MatchResult answer (Merges form starts held holds) (IsUnmerged form starts held holds))
 
 -- they were opened, and merged as they stand
 abbrev pub TrustsOpened : List (List ℕ) → (List ℕ → Option (List ℕ)) → Option (List ℕ) → Option (List ℕ) → Status → Type 0
 TrustsOpened names known held holds status =
     (starts : List (Option (List ℕ))) × AreOpened known names starts
-    × ((answer : Result Bool MergeFault) × (status ≡ status_of_trust answer) × MatchResult answer (Trusts starts held holds) (IsTrustFaultOf starts))
+    × ((answer : Result Bool MergeFault) × (status ≡ status_of_trust answer) × MatchResult answer (Trusts starts held holds) (IsUntrusted starts held holds))
 
 -- the files with these names were joined so, in the way that is asked for
 abbrev pub JoinsAs : Joining → Form → List (List ℕ) → (List ℕ → Option (List ℕ)) → Option (List ℕ) → Option (List ℕ) → Status → Type 0

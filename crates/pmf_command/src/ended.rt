@@ -6,9 +6,9 @@ ghost use Rattle.pmf_device.specs.Failures.{CanCountOneMore};
 ghost use Rattle.pmf_stream.specs.{Simulated.{IsSimRefusalOf, IsSimulationOf}, Answering.{Answers, TellsFaults, TellsFaultsOfParts, failed_reads, failed_writes}, Asked.{IsAnswerOf, IsRefusalOf}, Checking.{IsCheckFaultOf, IsReportOf}, Files.{IsCutOf}, Joining.{IsJoinedText, IsRefusalOfTexts}, declared.checking.CheckLogFault.{CheckLogFault}, declared.checking.Done.{Done}, declared.cutting.Pieces.{Pieces}, declared.fault.StreamFault.{StreamFault}, declared.joining.Joined.{Joined}, declared.joining.JoinTextFault.{JoinTextFault}};
 ghost use Rattle.pmf_cut.specs.declared.fault.CutFault.{CutFault};
 ghost use Rattle.pmf_ledger.specs.declared.totals.Totals.{Totals};
-ghost use Rattle.pmf_merge.specs.{Merging.{IsMergeFaultOf, Merges}, Trusting.{IsTrustFaultOf, Trusts}, declared.fault.MergeFault.{MergeFault}};
+ghost use Rattle.pmf_merge.specs.{Merging.{Merges}, Trusting.{Trusts}, declared.fault.MergeFault.{MergeFault}};
 ghost use Rattle.pmf_world.specs.declared.simulating.SimFault.{SimFault};
-ghost use Rattle.pmf_command.specs.{Statuses.{IsAnswerTo, exit_code_of, status_of, status_of_asked, status_of_check_fault, status_of_cut_fault, status_of_done, status_of_fault, status_of_joined, status_of_merge, status_of_pieces, status_of_sim_fault, status_of_text_fault, status_of_trust}, declared.status.Status.{Status}};
+ghost use Rattle.pmf_command.specs.{Answered.{IsUnmerged, IsUntrusted}, Statuses.{IsAnswerTo, exit_code_of, status_of, status_of_asked, status_of_check_fault, status_of_cut_fault, status_of_done, status_of_fault, status_of_joined, status_of_merge, status_of_pieces, status_of_sim_fault, status_of_text_fault, status_of_trust}, declared.status.Status.{Status}};
 
 use crate::diagnostics::{
     Spoken, fail, fail_file, out_of_memory, print_cuts, print_skipped, print_trust, print_warnings,
@@ -274,7 +274,7 @@ pub(crate) fn merge_all<R: Eprint, T: Threads + Sync, S: Source, W: Sink>(
     requires writes { CanCountOneMore (W.failed_calls sink.old) }
     ensures { (answer : Result Totals MergeFault) × (result ≡ status_of_merge answer)
         × MatchResult answer (Merges form (map S.left sources.old.items) (W.held sink.old) (W.held sink.new))
-        (IsMergeFaultOf (map S.left sources.old.items)) }
+        (IsUnmerged form (map S.left sources.old.items) (W.held sink.old) (W.held sink.new)) }
 {
     let answer = merge_to(threads, alloc, workers, sources, sink, form);
     let status = match answer {
@@ -300,7 +300,7 @@ pub(crate) fn trust_all<R: Eprint, S: Source, W: Sink>(
     requires writes { CanCountOneMore (W.failed_calls sink.old) }
     ensures { (answer : Result Bool MergeFault) × (result ≡ status_of_trust answer)
         × MatchResult answer (Trusts (map S.left sources.old.items) (W.held sink.old) (W.held sink.new))
-        (IsTrustFaultOf (map S.left sources.old.items)) }
+        (IsUntrusted (map S.left sources.old.items) (W.held sink.old) (W.held sink.new)) }
 {
     let answer = trust_to(alloc, sources, sink);
     let status = match answer {
